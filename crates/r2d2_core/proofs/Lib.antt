@@ -1,0 +1,12 @@
+pub mod Delays
+pub mod Openings
+pub mod Tasks
+pub mod Counting
+pub mod Ids
+pub mod Accounted
+pub mod Filters
+pub mod Sifting
+pub mod Steady
+pub mod Sounds
+pub mod Wholes
+pub mod Deeds

@@ -1,0 +1,13 @@
+use Rattle.std.proofs.Common.{rules, ◌≡◌, arith, subst}
+use Rattle.std.proofs.lemmas.Grind.{common_steps}
+use Rattle.std.specs.Duration.{as_nanos}
+use Rattle.r2d2_core.specs.Picture.{IsSound}
+use Rattle.r2d2_core.specs.Table.{after_close}
+use Rattle.r2d2_core.proofs.Sounds.{sound_close}
+use Rattle.r2d2_core.proofs.Wholes.{whole}
+use Rattle.r2d2_core.proofs.machine.Core.close.Goals as goal
+
+pub invariant_of-self : goal.invariant_of-self
+invariant_of-self g c =
+    let s : IsSound c.args.self.now = subst IsSound c.self.view_is c.self.invariant.sound in
+    whole (after_close c.args.self.now) (grind (arith, common_steps)) (sound_close s) (search rules)

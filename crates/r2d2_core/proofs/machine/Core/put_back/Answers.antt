@@ -1,0 +1,18 @@
+use Rattle.std.proofs.Common.{rules, ◌≡◌, arith, subst}
+use Rattle.std.proofs.lemmas.Grind.{common_steps}
+use Rattle.std.specs.Duration.{as_nanos}
+use Rattle.r2d2_core.specs.Picture.{IsSound}
+use Rattle.r2d2_core.specs.Table.{after_return}
+use Rattle.r2d2_core.proofs.Sounds.{sound_return}
+use Rattle.r2d2_core.proofs.Wholes.{whole}
+use Rattle.r2d2_core.proofs.machine.Core.put_back.Goals as goal
+
+pub invariant_of-self : goal.invariant_of-self
+invariant_of-self g c =
+    let s : IsSound c.args.self.now = subst IsSound c.self.view_is c.self.invariant.sound in
+    whole (after_return (as_nanos c.args.now) c.args.id c.args.value c.args.broken c.args.self.now) (grind (arith, common_steps)) (sound_return (as_nanos c.args.now) c.args.id c.args.value c.args.broken s) (search rules)
+
+pub invariant_of-self-else-is_closed : goal.invariant_of-self-else-is_closed
+invariant_of-self-else-is_closed g c =
+    let s : IsSound c.args.self.now = subst IsSound c.self.view_is c.self.invariant.sound in
+    whole (after_return (as_nanos c.args.now) c.args.id c.args.value c.args.broken c.args.self.now) (grind (arith, common_steps)) (sound_return (as_nanos c.args.now) c.args.id c.args.value c.args.broken s) (search rules)

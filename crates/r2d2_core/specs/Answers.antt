@@ -1,0 +1,152 @@
+-- Which steps are refused, what each step answers, and what a core shows.
+use Rattle.std.specs.Prelude.{ℕ, ◌+◌, ◌-◌, min, ◌^◌, Bool, ◌==◌, ◌||◌, not, nat_lt, if◌then◌else◌, List, [], ◌∷◌, map, length, filter, Option, Some, None, Result, Ok, Err, String}
+use Rattle.std.specs.List.{list_any}
+use Rattle.r2d2_core.specs.declared.run.Step.{Step}
+use Rattle.r2d2_core.specs.declared.run.Step.TheVariants as step
+use Rattle.r2d2_core.specs.declared.machine.answers.Refusal.{Refusal}
+use Rattle.r2d2_core.specs.declared.machine.answers.Refusal.TheVariants as refusal
+use Rattle.r2d2_core.specs.Limits.{wanted_of, later_by, delay_of, has_reached}
+use Rattle.r2d2_core.specs.Ids.{last_of}
+use Rattle.r2d2_core.specs.Connections.{IdleConnection, is_expired, closing, closed_of, pair_of}
+use Rattle.r2d2_core.specs.Refusals.{refused_if}
+use Rattle.r2d2_core.specs.Reply.{Reply, Taken, Taking, Found, Empty, Begun, Numbered, Admitted, Failed, CheckFailed, CameBack, Return, Kept, Closed, Reaped, Told, Left}
+use Rattle.r2d2_core.specs.Picture.{Picture}
+use Rattle.r2d2_core.specs.Table.{or_text, taking}
+use Rattle.r2d2_core.specs.History.{History, Made, Then, limits_of, is_closed, now_of, moment_of}
+use Rattle.r2d2_core.specs.Deeds.{connections_of, idle_of, lent_of, birth_of}
+use Rattle.r2d2_core.specs.Pending.{pending_of, task_of, in_work_at, next_id_of, numbered_of, on_order_of}
+
+module _ {T : Type 0} where
+  -- REFUSALS
+
+  abbrev pub is_lent : History T → ℕ → Bool
+  is_lent h id = list_any (λ c. c.id == id) (lent_of h)
+
+  abbrev pub is_numbered : History T → ℕ → Bool
+  is_numbered h id = list_any (λ i. i == id) (numbered_of h)
+
+  abbrev pub is_in_work : History T → ℕ → Bool
+  is_in_work h tries = nat_lt 0 (in_work_at h tries)
+
+  -- why a step after h is refused, if it is
+  abbrev pub refusal_of : History T → Step T → Option Refusal
+  refusal_of h (step.Number tries) = refused_if (is_closed h) refusal.Closed (refused_if (not (is_in_work h tries)) refusal.NoOpening (refused_if (next_id_of h == 2 ^ 64 - 1) refusal.IdsUsedUp None))
+  refusal_of h (step.Admit now id value) = refused_if (is_closed h) refusal.Closed (refused_if (not (is_numbered h id)) refusal.NotNumbered None)
+  refusal_of h (step.Fail now tries text) = refused_if (is_closed h) refusal.Closed (refused_if (not (is_in_work h tries)) refusal.NoOpening None)
+  refusal_of h (step.FailCheck now id text) = refused_if (not (is_lent h id)) refusal.NotLent None
+  refusal_of h (step.PutBack now id value broken) = refused_if (not (is_lent h id)) refusal.NotLent None
+  refusal_of h _ = None
+
+  -- the answer to a refused step: the payload comes back
+  abbrev pub refused_with : Step T → Refusal → Reply T
+  refused_with (step.Number tries) why = Numbered (Err why)
+  refused_with (step.Admit now id value) why = Admitted (Err (why, value))
+  refused_with (step.Fail now tries text) why = Failed (Err why)
+  refused_with (step.FailCheck now id text) why = CheckFailed (Err why)
+  refused_with (step.PutBack now id value broken) why = CameBack (Err (why, value))
+  -- no other step is refused
+  refused_with _ why = Told None
+
+  -- THE LAST ERROR
+
+  -- the latest text since the last admission or taking of it
+  abbrev pub last_error_of : History T → Option (List ℕ)
+  last_error_of (Made limits moment first) = None
+  last_error_of (Then h (step.Admit now id value) r) = None
+  last_error_of (Then h step.TakeError r) = None
+  last_error_of (Then h (step.Fail now tries text) r) = or_text text (last_error_of h)
+  last_error_of (Then h (step.FailCheck now id text) r) = or_text text (last_error_of h)
+  last_error_of (Then h _ r) = last_error_of h
+
+  -- ANSWERS
+
+  -- how long ago an id was admitted
+  abbrev pub age_of : History T → ℕ → ℕ → ℕ
+  age_of h t id = t - birth_of h id
+
+  -- one that comes back is closed where it is broken or too old, or the core is closed
+  abbrev pub closes : History T → ℕ → ℕ → Bool → Bool
+  closes h t id broken = broken || (has_reached (limits_of h).max_lifetime (age_of h t id) || is_closed h)
+
+  abbrev pub return_with : Bool → T → ℕ → ℕ → Return T
+  return_with b value age n = if b then Closed value age n else Kept
+
+  -- the answer to a step that is accepted, were it to order n openings
+  abbrev pub reply_with : History T → ℕ → Step T → Reply T
+  reply_with h n (step.Take now or_order) = Taken (taking (last_of (idle_of h)) n)
+  reply_with h n (step.Begin now) = Begun (task_of h (moment_of h (step.Begin now)))
+  reply_with h n (step.Number tries) = Numbered (Ok (next_id_of h))
+  reply_with h n (step.Admit now id value) = Admitted (Ok tt)
+  reply_with h n (step.Fail now tries text) = Failed (Ok (later_by (moment_of h (step.Fail now tries text)) (delay_of (limits_of h) (tries + 1))))
+  reply_with h n (step.FailCheck now id text) = CheckFailed (Ok (record { age = age_of h (moment_of h (step.FailCheck now id text)) id; ordered = n }))
+  reply_with h n (step.PutBack now id value broken) =
+      let t = moment_of h (step.PutBack now id value broken) in
+      CameBack (Ok (return_with (closes h t id broken) value (age_of h t id) n))
+  reply_with h n (step.Reap now) = Reaped (closed_of (limits_of h) (moment_of h (step.Reap now)) (idle_of h)) n
+  reply_with h n step.TakeError = Told (last_error_of h)
+  reply_with h n step.Close = Left (map pair_of (idle_of h))
+
+  -- ORDERS
+
+  -- what is wanted beside the idle ones after a step, as far as there is room
+  abbrev pub top_up_after : History T → History T → ℕ
+  top_up_after h after = min (wanted_of (limits_of h) - length (idle_of after)) ((limits_of h).max_size - connections_of after - pending_of h)
+
+  -- one where a miss asks for it, as far as there is room
+  abbrev pub order_on_miss : History T → Bool → ℕ
+  order_on_miss h or_order = if or_order then min 1 ((limits_of h).max_size - connections_of h - pending_of h) else 0
+
+  -- how many openings a step with that answer orders, where after is h and the step
+  abbrev pub orders_by : History T → History T → Step T → Reply T → ℕ
+  orders_by h after s (Taken (Found id birth value n)) = top_up_after h after
+  orders_by h after (step.Take now or_order) (Taken (Empty n)) = order_on_miss h or_order
+  orders_by h after s (CheckFailed (Ok gone)) = top_up_after h after
+  orders_by h after s (CameBack (Ok (Closed value age n))) = top_up_after h after
+  orders_by h after s (Reaped closed n) = top_up_after h after
+  orders_by h after s _ = 0
+
+  -- how many openings a step orders; neither what is idle nor the connections depend on the number that an answer names
+  unfoldable pub orders_of : History T → Step T → ℕ
+  orders_of h s = if is_closed h then 0 else orders_by h (Then h s (reply_with h 0 s)) s (reply_with h 0 s)
+
+  -- A STEP
+
+  abbrev pub answer_by : History T → Step T → Option Refusal → Reply T
+  answer_by h s None = reply_with h (orders_of h s) s
+  answer_by h s (Some why) = refused_with s why
+
+  -- the answer to a step after h
+  abbrev pub answer_of : History T → Step T → Reply T
+  answer_of h s = answer_by h s (refusal_of h s)
+
+  abbrev pub after_by : History T → Step T → Option Refusal → History T
+  after_by h s None = Then h s (reply_with h (orders_of h s) s)
+  after_by h s (Some why) = h
+
+  -- the history with a step, if it is accepted
+  abbrev pub after : History T → Step T → History T
+  after h s = after_by h s (refusal_of h s)
+
+  -- A LIST OF STEPS
+
+  -- the answers, each after the accepted ones before it
+  abbrev pub answers_of : History T → List (Step T) → List (Reply T)
+  answers_of h [] = []
+  answers_of h (s ∷ steps) = answer_of h s ∷ answers_of (after h s) steps
+
+  -- the history with the accepted ones
+  abbrev pub after_all : History T → List (Step T) → History T
+  after_all h [] = h
+  after_all h (s ∷ steps) = after_all (after h s) steps
+
+  -- THE PICTURE
+
+  unfoldable pub picture_of : History T → Picture T
+  picture_of h = record {
+    latest = now_of h;
+    idle = idle_of h;
+    lent = lent_of h;
+    on_order = on_order_of h;
+    connections = connections_of h;
+    last_error = last_error_of h;
+  }

@@ -1,0 +1,130 @@
+-- Which connections are idle and lent: each accepted step did something to ids, and the latest deed of an id says where its connection is.
+use Rattle.std.specs.Prelude.{ℕ, ◌+◌, ◌-◌, Bool, true, false, ◌==◌, if◌then◌else◌, List, [], ◌∷◌, ◌++◌, map, length, filter_map, Option, Some, None, option_map, Ok}
+use Rattle.std.specs.List.{list_any}
+use Rattle.r2d2_core.specs.declared.run.Step.{Step}
+use Rattle.r2d2_core.specs.declared.run.Step.TheVariants as step
+use Rattle.r2d2_core.specs.Connections.{IdleConnection, LentConnection, idle_connection, lent_connection}
+use Rattle.r2d2_core.specs.Reply.{Reply, Taken, Found, CameBack, Kept, Closed, Reaped, Left, CheckFailed}
+use Rattle.r2d2_core.specs.History.{History, Made, Then, moment_of}
+
+-- what was done to a connection; where it came to be idle, with the payload that was handed in
+pub data What (T : Type 0) : Type 0 where
+  Admission : (value : T) → What T
+  Taking_out : What T
+  Keeping : (value : T) → What T
+  Going : What T
+
+pub record Deed (T : Type 0) : Type 0 where
+  pub id : ℕ
+  pub at : ℕ
+  pub what : What T
+
+module _ {T : Type 0} where
+  abbrev pub deed : ℕ → ℕ → What T → Deed T
+  deed i at what = record { id = i; at = at; what = what }
+
+  -- DEEDS OF A STEP, by its answer
+
+  abbrev pub take_deeds : ℕ → Reply T → List (Deed T)
+  take_deeds at (Taken (Found id birth value ordered)) = deed id at Taking_out ∷ []
+  take_deeds at _ = []
+
+  abbrev pub return_deeds : ℕ → ℕ → T → Reply T → List (Deed T)
+  return_deeds at id value (CameBack (Ok Kept)) = deed id at (Keeping value) ∷ []
+  return_deeds at id value (CameBack (Ok (Closed v age ordered))) = deed id at Going ∷ []
+  return_deeds at id value _ = []
+
+  abbrev pub reap_deeds : ℕ → Reply T → List (Deed T)
+  reap_deeds at (Reaped closed ordered) = map (λ c. deed c.id at Going) closed
+  reap_deeds at _ = []
+
+  abbrev pub close_deeds : ℕ → Reply T → List (Deed T)
+  close_deeds at (Left left) = map (λ p. deed p.0 at Going) left
+  close_deeds at _ = []
+
+  abbrev pub deeds_in : ℕ → Step T → Reply T → List (Deed T)
+  deeds_in at (step.Take now or_order) r = take_deeds at r
+  deeds_in at (step.Admit now id value) r = deed id at (Admission value) ∷ []
+  deeds_in at (step.FailCheck now id text) r = deed id at Going ∷ []
+  deeds_in at (step.PutBack now id value broken) r = return_deeds at id value r
+  deeds_in at (step.Reap now) r = reap_deeds at r
+  deeds_in at step.Close r = close_deeds at r
+  deeds_in at (step.Begin now) r = []
+  deeds_in at (step.Number tries) r = []
+  deeds_in at (step.Fail now tries text) r = []
+  deeds_in at step.TakeError r = []
+
+  -- all deeds, oldest first
+  abbrev pub deeds_of : History T → List (Deed T)
+  deeds_of (Made limits moment first) = []
+  deeds_of (Then h s r) = deeds_of h ++ deeds_in (moment_of h s) s r
+
+  -- those that no later deed of their id follows
+  abbrev pub latest : List (Deed T) → List (Deed T)
+  latest [] = []
+  latest (d ∷ later) = if list_any (λ e. e.id == d.id) later then latest later else d ∷ latest later
+
+  -- BIRTHS
+
+  -- whether a step is the admission of an id
+  abbrev pub admits : Step T → ℕ → Bool
+  admits (step.Admit now id value) i = id == i
+  admits _ i = false
+
+  -- the moment at which an id was admitted
+  abbrev pub birth_of : History T → ℕ → ℕ
+  birth_of (Made limits moment first) i = 0
+  birth_of (Then h s r) i = if admits s i then moment_of h s else birth_of h i
+
+  -- IDLE AND LENT
+
+  -- the payload that an admission or a kept return handed in
+  abbrev pub value_in : What T → Option T
+  value_in (Admission value) = Some value
+  value_in (Keeping value) = Some value
+  value_in Taking_out = None
+  value_in Going = None
+
+  abbrev pub is_taking : What T → Bool
+  is_taking Taking_out = true
+  is_taking _ = false
+
+  -- an idle connection, of this birth, where the deed leaves one
+  abbrev pub as_idle : ℕ → Deed T → Option (IdleConnection T)
+  as_idle birth d = option_map (idle_connection d.id birth d.at) (value_in d.what)
+
+  -- a lent one
+  abbrev pub as_lent : ℕ → Deed T → Option LentConnection
+  as_lent birth d = if is_taking d.what then Some (lent_connection d.id birth) else None
+
+  -- the connections whose latest deed is an admission or a kept return, in the order of those deeds
+  unfoldable pub idle_of : History T → List (IdleConnection T)
+  idle_of h = filter_map (λ d. as_idle (birth_of h d.id) d) (latest (deeds_of h))
+
+  -- those whose latest deed is a take, in the order of those deeds
+  unfoldable pub lent_of : History T → List LentConnection
+  lent_of h = filter_map (λ d. as_lent (birth_of h d.id) d) (latest (deeds_of h))
+
+  -- HOW MANY
+
+  -- how many ids were admitted
+  abbrev pub admitted_count : History T → ℕ
+  admitted_count (Made limits moment first) = 0
+  admitted_count (Then h (step.Admit now id value) r) = admitted_count h + 1
+  admitted_count (Then h _ r) = admitted_count h
+
+  abbrev pub gone_count_after : ℕ → Reply T → ℕ
+  gone_count_after n (CheckFailed (Ok gone)) = n + 1
+  gone_count_after n (CameBack (Ok (Closed value age ordered))) = n + 1
+  gone_count_after n (Reaped closed ordered) = n + length closed
+  gone_count_after n (Left left) = n + length left
+  gone_count_after n _ = n
+
+  -- how many are gone
+  abbrev pub gone_count : History T → ℕ
+  gone_count (Made limits moment first) = 0
+  gone_count (Then h s r) = gone_count_after (gone_count h) r
+
+  -- how many ids were admitted, less how many are gone
+  unfoldable pub connections_of : History T → ℕ
+  connections_of h = admitted_count h - gone_count h

@@ -1,0 +1,41 @@
+-- Lists of things with ids.
+use Rattle.std.specs.Prelude.{◌≡◌, ◌≢◌, ◌<◌, ℕ, ◌+◌, ◌-◌, ◌==◌, if◌then◌else◌, List, [], ◌∷◌, length, take, slice_index_or, Option, Some, None}
+
+-- the last of a list
+abbrev pub last_of : {X : Type 0} → List X → Option X
+last_of [] = None
+last_of (x ∷ []) = Some x
+last_of (x ∷ y ∷ ys) = last_of (y ∷ ys)
+
+-- all but the last
+abbrev pub front : {X : Type 0} → List X → List X
+front xs = take (length xs - 1) xs
+
+-- the first with the id, if there is one
+abbrev pub found : {X : Type 0} → (X → ℕ) → ℕ → List X → Option X
+found id_of i [] = None
+found id_of i (x ∷ xs) = if id_of x == i then Some x else found id_of i xs
+
+-- all but the first with the id
+abbrev pub without : {X : Type 0} → (X → ℕ) → ℕ → List X → List X
+without id_of i [] = []
+without id_of i (x ∷ xs) = if id_of x == i then xs else x ∷ without id_of i xs
+
+-- a number is its own id
+abbrev pub same_id : ℕ → ℕ
+same_id i = i
+
+-- how often an id stands in a list
+abbrev pub copies_of : ℕ → List ℕ → ℕ
+copies_of i [] = 0
+copies_of i (x ∷ xs) = (if x == i then 1 else 0) + copies_of i xs
+
+-- none of the first n has the id
+abbrev pub NoneBelow : {X : Type 0} → (X → ℕ) → ℕ → List X → ℕ → Type 0
+NoneBelow {X} id_of i xs n = (k : ℕ) (d : X) → k < n → id_of (slice_index_or xs k d) ≢ i
+
+-- the first with the id stands at p
+pub record IsFirst {X : Type 0} (id_of : X → ℕ) (i : ℕ) (xs : List X) (p : ℕ) : Type 0 where
+  pub within : p < length xs
+  pub here : (d : X) → id_of (slice_index_or xs p d) ≡ i
+  pub none_before : NoneBelow id_of i xs p

@@ -1,0 +1,46 @@
+-- What a core shows. A contract sees a core as its picture.
+use Rattle.std.specs.Prelude.{◌≡◌, ◌⊎◌, ℕ, ◌+◌, ◌≤◌, true, false, List, [], ◌++◌, length, map, Option}
+use Rattle.std.specs.List.{All}
+use Rattle.std.specs.List.Sorted.{IsNonDecreasingBy}
+use Rattle.r2d2_core.specs.Limits.{wanted_of}
+use Rattle.r2d2_core.specs.Ids.{copies_of}
+use Rattle.r2d2_core.specs.Connections.{IdleConnection, LentConnection, id_of_idle, id_of_lent, since_of}
+use Rattle.r2d2_core.specs.OnOrder.{OnOrder, IsAccounted}
+
+pub record Picture (T : Type 0) : Type 0 where
+  -- the latest moment
+  pub latest : ℕ
+  -- the oldest first
+  pub idle : List (IdleConnection T)
+  -- in the order of the takes
+  pub lent : List LentConnection
+  pub on_order : OnOrder
+  pub connections : ℕ
+  pub last_error : Option (List ℕ)
+
+module _ {T : Type 0} where
+  -- the ids of all that is idle, lent or numbered
+  abbrev pub ids_in : Picture T → List ℕ
+  ids_in p = map id_of_idle p.idle ++ (map id_of_lent p.lent ++ p.on_order.numbered)
+
+  -- what holds of each picture of a core
+  pub record IsSound (p : Picture T) : Type 0 where
+    -- no id stands twice, and none is one that is still to be given
+    pub apart : (i : ℕ) → copies_of i (ids_in p) ≤ 1
+    pub below_next : (i : ℕ) → p.on_order.next_id ≤ i → copies_of i (ids_in p) ≡ 0
+    -- connections are the idle ones and the lent ones
+    pub counted : p.connections ≡ length p.idle + length p.lent
+    -- pending openings are scheduled, in work or numbered
+    pub accounted : IsAccounted p.on_order
+    -- connections and pending openings are at most `max_size`
+    pub fits : p.connections + p.on_order.pending ≤ p.on_order.limits.max_size
+    -- unless closed, what is idle and pending reaches what is wanted, or there is no more room
+    pub replenished : p.on_order.closed ≡ false → (wanted_of p.on_order.limits ≤ length p.idle + p.on_order.pending) ⊎ (p.connections + p.on_order.pending ≡ p.on_order.limits.max_size)
+    -- the idle ones stand in the order in which they came to be idle, none after the latest moment
+    pub in_order : IsNonDecreasingBy since_of p.idle
+    pub seen : All (λ c. c.since ≤ p.latest) p.idle
+    -- each was admitted before
+    pub born : All (λ c. c.birth ≤ c.since) p.idle
+    pub born_lent : All (λ c. c.birth ≤ p.latest) p.lent
+    -- once closed, nothing is idle
+    pub none_once_closed : p.on_order.closed ≡ true → p.idle ≡ []

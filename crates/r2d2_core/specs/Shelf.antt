@@ -1,0 +1,15 @@
+-- What a contract sees of a list that has its room from the start.
+use Rattle.std.specs.Prelude.{ℕ, List, [], Option, Some, None, Vec, vec_capacity}
+
+-- what it holds, and how many it may hold
+pub record Shelf (X : Type 0) : Type 0 where
+  pub items : List X
+  pub room : ℕ
+
+abbrev pub shelf : {X : Type 0} → List X → ℕ → Shelf X
+shelf xs n = record { items = xs; room = n }
+
+-- one that was closed holds nothing
+abbrev pub shelf_of : {X A : Type 0} → Option (Vec X A) → Shelf X
+shelf_of None = shelf [] 0
+shelf_of (Some v) = shelf v.items (vec_capacity v)

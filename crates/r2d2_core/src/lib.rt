@@ -1,0 +1,11 @@
+//! The core of a generic connection pool: which connections are idle, lent or on order, and what each step does to them.
+//! It uses no thread, lock or atomic, and takes memory only where it is made.
+#![tactic(auto)]
+
+pub mod machine;
+pub mod run;
+pub mod schedule;
+
+pub use machine::{Core, Gone, Leftover, Refusal, Released, Returned, Take};
+pub use run::{Answer, Step};
+pub use schedule::{Job, Limits, Schedule};

@@ -1,0 +1,354 @@
+// The machine of a pool: what each step does, in place.
+ghost use Rattle.std.specs.Prelude.{◌≡◌, ◌≤◌, max, map, length, option_map, slice_get, string_bytes, vec_len, vec_capacity, IfOk};
+ghost use Rattle.std.specs.Duration.{as_nanos};
+
+pub use crate::schedule::Limits;
+pub use answers::{Gone, Refusal, Released, Returned, Take};
+use crate::schedule::Job;
+use idle::{Entry, Idle, reached};
+pub use leftover::Leftover;
+use loan::Loan;
+use openings::Openings;
+use shelf::Shelf;
+use std::alloc::{AllocError, Allocator, Global};
+use std::marker::Model;
+use std::time::Duration;
+
+pub(crate) mod answers;
+pub(crate) mod idle;
+pub(crate) mod leftover;
+pub(crate) mod loan;
+pub(crate) mod openings;
+pub(crate) mod shelf;
+
+/// Which connections there are, and which openings are pending.
+///
+/// `T` is what the owner keeps of a connection, and the core never drops it. All memory is taken at the making: no step
+/// takes any. A moment is a `Duration` since the pool was made; a step with an earlier one counts as at the latest so far.
+#[derive(Drop)]
+pub struct Core<T, A: Allocator = Global> {
+    latest: Duration,
+    idle: Idle<T, A>,
+    lent: Shelf<Loan, A>,
+    openings: Openings<A>,
+    last_error: Option<String>,
+}
+
+impl<T, A: Allocator> Model for Core<T, A> {
+    ghost use Rattle.r2d2_core.specs.Picture.{Picture};
+
+    ghost Value = { Picture T };
+
+    ghost use Rattle.r2d2_core.specs.View.{view_of, IsWhole};
+
+    ghost view = { view_of };
+
+    ghost invariant = { IsWhole };
+}
+
+impl<T, A: Allocator> Core<T, A> {
+    ghost use Rattle.r2d2_core.specs.Limits.{settings_of};
+    ghost use Rattle.r2d2_core.specs.Connections.{id_of_idle, id_of_lent};
+    ghost use Rattle.r2d2_core.specs.Picture.{IsSound};
+    ghost use Rattle.r2d2_core.specs.Table.{first_picture};
+
+    /// A core whose ids are counted from 0, made at the moment `now`, with nothing but the openings that are wanted.
+    /// The error comes only where its memory is refused.
+    pub fn new(alloc: A, limits: Limits, now: Duration) -> Result<Core<T, A>, AllocError>
+    where
+        T: Drop,
+        A: Copy,
+        ensures { IfOk result (λ core. core ≡ first_picture (settings_of limits) (as_nanos now) 0) }
+    {
+        Core::with_first_id(alloc, limits, now, 0)
+    }
+
+    /// The same, with its ids counted from `first_id`.
+    pub fn with_first_id(
+        alloc: A,
+        limits: Limits,
+        now: Duration,
+        first_id: u64,
+    ) -> Result<Core<T, A>, AllocError>
+    where
+        T: Drop,
+        A: Copy,
+        ensures { IfOk result (λ core. core ≡ first_picture (settings_of limits) (as_nanos now) first_id) }
+    {
+        let room = limits.max_size() as usize;
+        let idle = Idle::new(alloc, room)?;
+        let lent = Shelf::new(alloc, room)?;
+        let openings = Openings::new(alloc, limits, now, first_id)?;
+        Ok(Core {
+            latest: now,
+            idle,
+            lent,
+            openings,
+            last_error: None,
+        })
+    }
+
+    /// How many connections there are, idle and lent.
+    pub fn connections(&self) -> u32
+        ensures value { result ≡ self.now.connections }
+        ensures sound { IsSound self.now }
+    {
+        let _max_size = self.openings.limits().max_size();
+        self.count() as u32
+    }
+
+    /// How many connections are idle.
+    pub fn idle(&self) -> u32
+        ensures value { result ≡ length self.now.idle }
+        ensures sound { IsSound self.now }
+    {
+        let _max_size = self.openings.limits().max_size();
+        self.idle.len() as u32
+    }
+
+    /// How many openings are ordered and not admitted.
+    pub fn pending(&self) -> u32
+        ensures value { result ≡ self.now.on_order.pending }
+        ensures sound { IsSound self.now }
+    {
+        self.openings.pending()
+    }
+
+    pub fn is_closed(&self) -> bool
+        ensures value { result ≡ self.now.on_order.closed }
+        ensures sound { IsSound self.now }
+    {
+        self.openings.is_closed()
+    }
+
+    /// The limits that the core was made with.
+    pub fn limits(&self) -> Limits
+        ensures value { settings_of result ≡ self.now.on_order.limits }
+        ensures sound { IsSound self.now }
+    {
+        self.openings.limits()
+    }
+
+    // How many connections there are.
+    fn count(&self) -> usize
+        ensures value { result ≡ self.now.connections }
+        ensures sound { IsSound self.now }
+    {
+        let _max_size = self.openings.limits().max_size();
+        self.idle.len() + self.lent.len()
+    }
+}
+
+impl<T, A: Allocator> Core<T, A> {
+    ghost use Rattle.r2d2_core.specs.Reply.{seen_take, seen_return, seen_gone, seen_released, map_ok};
+    ghost use Rattle.r2d2_core.specs.Tasks.{seen_job};
+    ghost use Rattle.r2d2_core.specs.Table.{take_answer, after_take, begin_answer, after_begin, number_answer, after_number, admit_answer, after_admit, fail_answer, after_fail, return_answer, after_return, check_answer, after_check, reap_closed, reap_orders, after_reap, after_take_error, close_answer, after_close};
+
+    /// Lends the newest idle connection and tops up; where none is idle, orders one if `or_order` says so and there is room.
+    pub fn take(&mut self, now: Duration, or_order: bool) -> Take<T>
+        ensures answer { seen_take result ≡ take_answer or_order self.old }
+        ensures after { self.new ≡ after_take (as_nanos now) or_order self.old }
+    {
+        self.latest = later(self.latest, now);
+        match self.idle.take() {
+            Some(entry) => {
+                self.lent.add(Loan::new(entry.id, entry.birth));
+                let ordered = self
+                    .openings
+                    .top_up(self.idle.len(), self.lent.len(), self.latest);
+                Take::Found {
+                    id: entry.id,
+                    birth: entry.birth,
+                    value: entry.value,
+                    ordered,
+                }
+            }
+            None => {
+                let connections = self.idle.len() + self.lent.len();
+                let ordered = self
+                    .openings
+                    .order_missed(or_order, connections, self.latest);
+                Take::Empty { ordered }
+            }
+        }
+    }
+
+    /// What a worker is to do at the moment `now`: the least opening, or the reap that is due before it.
+    pub fn begin(&mut self, now: Duration) -> Job
+        ensures answer { seen_job result ≡ begin_answer (as_nanos now) self.old }
+        ensures after { self.new ≡ after_begin (as_nanos now) self.old }
+    {
+        self.latest = later(self.latest, now);
+        self.openings.begin(self.latest)
+    }
+
+    /// Gives an id to the connection of an opening in work with these tries. It is refused where the core is closed, where
+    /// no such opening is in work, and where the next id would be `u64::MAX`.
+    pub fn number(&mut self, tries: u32) -> Result<u64, Refusal>
+        ensures answer { result ≡ number_answer tries self.old }
+        ensures after { self.new ≡ after_number tries self.old }
+    {
+        self.openings.number(tries)
+    }
+
+    /// Takes in a connection that was numbered, as the newest idle one. It is refused, and the value comes back, where
+    /// the core is closed and where the id does not await its admission.
+    pub fn admit(&mut self, now: Duration, id: u64, value: T) -> Result<(), (Refusal, T)>
+        ensures answer { result ≡ admit_answer id value self.old }
+        ensures after { self.new ≡ after_admit (as_nanos now) id value self.old }
+    {
+        match self.openings.admit(id) {
+            Ok(()) => {
+                self.latest = later(self.latest, now);
+                self.idle.add(Entry {
+                    id,
+                    birth: self.latest,
+                    since: self.latest,
+                    value,
+                });
+                self.last_error = None;
+                Ok(())
+            }
+            Err(why) => Err((why, value)),
+        }
+    }
+
+    /// Puts off an opening in work that failed, records the text, and says when the opening is due again. It is refused where
+    /// the core is closed and where no opening with these tries is in work.
+    pub fn fail(
+        &mut self,
+        now: Duration,
+        tries: u32,
+        text: Option<String>,
+    ) -> Result<Duration, Refusal>
+        ensures answer { map_ok as_nanos result ≡ fail_answer (as_nanos now) tries self.old }
+        ensures after { self.new ≡ after_fail (as_nanos now) tries text self.old }
+    {
+        let latest = later(self.latest, now);
+        match self.openings.fail(latest, tries) {
+            Ok(due) => {
+                self.latest = latest;
+                record(&mut self.last_error, text);
+                Ok(due)
+            }
+            Err(why) => Err(why),
+        }
+    }
+
+    /// Closes a lent connection whose check failed, records the text, and tops up. It is refused where the id is not lent.
+    pub fn fail_check(
+        &mut self,
+        now: Duration,
+        id: u64,
+        text: Option<String>,
+    ) -> Result<Gone, Refusal>
+        ensures answer { map_ok seen_gone result ≡ check_answer (as_nanos now) id self.old }
+        ensures after { self.new ≡ after_check (as_nanos now) id text self.old }
+    {
+        match self.lent.remove(id) {
+            Some(loan) => {
+                self.latest = later(self.latest, now);
+                let age = self.latest.saturating_sub(loan.birth());
+                let ordered = self
+                    .openings
+                    .top_up(self.idle.len(), self.lent.len(), self.latest);
+                record(&mut self.last_error, text);
+                Ok(Gone { age, ordered })
+            }
+            None => Err(Refusal::NotLent),
+        }
+    }
+
+    /// Takes back a lent connection: it is the newest idle one, or comes back to be closed where it is broken, where it is as
+    /// old as `max_lifetime`, and where the core is closed; then the core tops up. It is refused, and the value comes
+    /// back, where the id is not lent.
+    pub fn put_back(
+        &mut self,
+        now: Duration,
+        id: u64,
+        value: T,
+        broken: bool,
+    ) -> Result<Returned<T>, (Refusal, T)>
+        ensures answer { map_ok seen_return result ≡ return_answer (as_nanos now) id value broken self.old }
+        ensures after { self.new ≡ after_return (as_nanos now) id value broken self.old }
+    {
+        match self.lent.remove(id) {
+            Some(loan) => {
+                self.latest = later(self.latest, now);
+                let birth = loan.birth();
+                let age = self.latest.saturating_sub(birth);
+                let limits = self.openings.limits();
+                if broken || reached(limits.max_lifetime(), age) || self.openings.is_closed() {
+                    let ordered = self
+                        .openings
+                        .top_up(self.idle.len(), self.lent.len(), self.latest);
+                    Ok(Returned::Closed {
+                        value,
+                        age,
+                        ordered,
+                    })
+                } else {
+                    self.idle.add(Entry {
+                        id,
+                        birth,
+                        since: self.latest,
+                        value,
+                    });
+                    Ok(Returned::Kept)
+                }
+            }
+            None => Err((Refusal::NotLent, value)),
+        }
+    }
+
+    /// Closes the idle connections that are idle too long or too old: they stand in the caller's list then, oldest first. The
+    /// others keep their order. It tops up, also where it closed none, and answers how many openings it ordered.
+    pub fn reap(&mut self, now: Duration, out: &mut Vec<Released<T>>) -> u32
+        requires empty { vec_len out.old ≡ 0 }
+        requires room { self.old.on_order.limits.max_size ≤ vec_capacity out.old }
+        ensures released { map seen_released out.new.items ≡ reap_closed (as_nanos now) self.old }
+        ensures answer { result ≡ reap_orders (as_nanos now) self.old }
+        ensures after { self.new ≡ after_reap (as_nanos now) self.old }
+    {
+        self.latest = later(self.latest, now);
+        self.idle.reap(&self.openings.limits(), self.latest, out);
+        self.openings
+            .top_up(self.idle.len(), self.lent.len(), self.latest)
+    }
+
+    /// The latest text that was recorded since the last admission, and none from then on.
+    pub fn take_error(&mut self) -> Option<String>
+        ensures answer { option_map string_bytes result ≡ self.old.last_error }
+        ensures after { self.new ≡ after_take_error self.old }
+    {
+        self.last_error.take()
+    }
+
+    /// Hands out all idle values, and forgets all openings, for good. Lent connections stay lent.
+    pub fn close(&mut self) -> Leftover<T, A>
+        ensures answer { result ≡ close_answer self.old }
+        ensures after { self.new ≡ after_close self.old }
+    {
+        let left = self.idle.close();
+        self.openings.close();
+        left
+    }
+}
+
+// The later of two moments.
+fn later(a: Duration, b: Duration) -> Duration
+    ensures { as_nanos result ≡ max (as_nanos a) (as_nanos b) }
+{
+    if a.as_nanos() < b.as_nanos() { b } else { a }
+}
+
+ghost use Rattle.r2d2_core.specs.Table.{or_text};
+
+// A text takes the place of the last one; where there is none, that stays.
+fn record(last_error: &mut Option<String>, text: Option<String>)
+    ensures { option_map string_bytes last_error.new ≡ or_text text (option_map string_bytes last_error.old) }
+{
+    if let Some(text) = text {
+        *last_error = Some(text);
+    }
+}

@@ -1,0 +1,54 @@
+// What a close hands out.
+ghost use Rattle.std.specs.Prelude.{◌≡◌, map, length};
+ghost use Rattle.std.specs.Iterator.{at_most};
+ghost use Rattle.std.specs.Map.Iter.{TakesFirst};
+ghost use Rattle.r2d2_core.specs.Connections.{pair_of};
+ghost use Rattle.r2d2_core.specs.Shelf.{shelf_of};
+
+use super::idle::Entry;
+use std::alloc::{Allocator, Global};
+use std::marker::Model;
+
+/// The idle values that a close hands out, oldest first, each with its id.
+#[derive(Drop)]
+pub struct Leftover<T, A: Allocator = Global> {
+    rest: Option<Vec<Entry<T>, A>>,
+}
+
+impl<T, A: Allocator> Model for Leftover<T, A> {
+    ghost use Rattle.std.specs.Prelude.{ℕ, List, map};
+
+    ghost Value = { List (ℕ × T) };
+
+    ghost use Rattle.r2d2_core.specs.Connections.{pair_of};
+    ghost use Rattle.r2d2_core.specs.Shelf.{shelf_of};
+
+    ghost view = { λ a. map pair_of (shelf_of a.rest).items };
+}
+
+impl<T, A: Allocator> Leftover<T, A> {
+    pub(crate) fn of(rest: Option<Vec<Entry<T>, A>>) -> Leftover<T, A>
+        ensures { result ≡ map pair_of (shelf_of rest).items }
+    {
+        Leftover { rest }
+    }
+}
+
+impl<T: Drop, A: Allocator> Iterator for Leftover<T, A> {
+    type Item = (u64, T);
+
+    ghost next_gives = { TakesFirst (λ x. x) };
+
+    ghost remaining = { λ s. at_most (length s) };
+
+    fn next(&mut self) -> Option<(u64, T)> {
+        let Some(rest) = &mut self.rest else {
+            return None;
+        };
+        if rest.is_empty() {
+            return None;
+        }
+        let entry = rest.remove(0);
+        Some((entry.id, entry.value))
+    }
+}
