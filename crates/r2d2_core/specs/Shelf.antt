@@ -1,5 +1,7 @@
 -- What a contract sees of a list that has its room from the start.
 use Rattle.std.specs.Prelude.{ℕ, List, [], Option, Some, None, Vec, vec_capacity}
+use Rattle.std.specs.Vec.Iter.{into_iter_items}
+use Rattle.std.specs.declared.vec.IntoIter.{IntoIter}
 
 -- what it holds, and how many it may hold
 pub record Shelf (X : Type 0) : Type 0 where
@@ -13,3 +15,8 @@ shelf xs n = record { items = xs; room = n }
 abbrev pub shelf_of : {X A : Type 0} → Option (Vec X A) → Shelf X
 shelf_of None = shelf [] 0
 shelf_of (Some v) = shelf v.items (vec_capacity v)
+
+-- what is still to come of one that is given out
+abbrev pub left_of : {X A : Type 0} → Option (IntoIter X A) → List X
+left_of None = []
+left_of (Some rest) = into_iter_items rest

@@ -8,11 +8,13 @@ ghost use Rattle.r2d2_core.specs.Shelf.{shelf_of};
 use super::idle::Entry;
 use std::alloc::{Allocator, Global};
 use std::marker::Model;
+use std::vec;
 
-/// The idle values that a close hands out, oldest first, each with its id.
+/// The idle values that a close hands out, oldest first, each with its id. It takes no memory: it goes through the list that held
+/// them.
 #[derive(Drop)]
 pub struct Leftover<T, A: Allocator = Global> {
-    rest: Option<Vec<Entry<T>, A>>,
+    rest: Option<vec::IntoIter<Entry<T>, A>>,
 }
 
 impl<T, A: Allocator> Model for Leftover<T, A> {
@@ -21,16 +23,18 @@ impl<T, A: Allocator> Model for Leftover<T, A> {
     ghost Value = { List (ℕ × T) };
 
     ghost use Rattle.r2d2_core.specs.Connections.{pair_of};
-    ghost use Rattle.r2d2_core.specs.Shelf.{shelf_of};
+    ghost use Rattle.r2d2_core.specs.Shelf.{left_of};
 
-    ghost view = { λ a. map pair_of (shelf_of a.rest).items };
+    ghost view = { λ a. map pair_of (left_of a.rest) };
 }
 
 impl<T, A: Allocator> Leftover<T, A> {
     pub(crate) fn of(rest: Option<Vec<Entry<T>, A>>) -> Leftover<T, A>
         ensures { result ≡ map pair_of (shelf_of rest).items }
     {
-        Leftover { rest }
+        Leftover {
+            rest: rest.map(|entries| entries.into_iter()),
+        }
     }
 }
 
@@ -42,13 +46,12 @@ impl<T: Drop, A: Allocator> Iterator for Leftover<T, A> {
     ghost remaining = { λ s. at_most (length s) };
 
     fn next(&mut self) -> Option<(u64, T)> {
-        let Some(rest) = &mut self.rest else {
-            return None;
-        };
-        if rest.is_empty() {
-            return None;
+        match &mut self.rest {
+            Some(rest) => {
+                let entry = rest.next()?;
+                Some((entry.id, entry.value))
+            }
+            None => None,
         }
-        let entry = rest.remove(0);
-        Some((entry.id, entry.value))
     }
 }

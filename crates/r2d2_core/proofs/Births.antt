@@ -1,0 +1,38 @@
+-- What is idle was born when its id was admitted.
+use Rattle.std.proofs.Common.{◌≡◌, ℕ, List, [], ◌∷◌, Option, Some, None, refl, subst}
+use Rattle.std.specs.Prelude.{filter_map}
+use Rattle.std.specs.List.{AllByRecursion}
+use Rattle.std.specs.Option.{MatchOption}
+use Rattle.r2d2_core.specs.Ids.{last_of}
+use Rattle.r2d2_core.specs.Connections.{IdleConnection}
+use Rattle.r2d2_core.specs.History.{History}
+use Rattle.r2d2_core.specs.Deeds.{What, Admission, Taking_out, Keeping, Going, deeds_of, latest, birth_of, as_idle, idle_of}
+
+-- what is so of each is so of the last
+last_holds : {Y : Type 0} (P : Y → Type 0) (xs : List Y) (c : Y) → AllByRecursion P xs → last_of xs ≡ Some c → P c
+last_holds P [] c all e = absurd cc
+last_holds P (x ∷ []) c all e = let same : x ≡ c = cc in subst P same all.0
+last_holds P (x ∷ y ∷ ys) c all e = last_holds P (y ∷ ys) c all.1 e
+
+shown_step : {X Y : Type 0} (P : Y → Type 0) (f : X → Option Y) (o : Option Y) (x : X) (xs : List X) → f x ≡ o → MatchOption o (Unit {0}) P → AllByRecursion P (filter_map f xs) → AllByRecursion P (filter_map f (x ∷ xs))
+shown_step P f None x xs e p all = rw e all
+shown_step P f (Some y) x xs e p all = rw e (p, all)
+
+-- what is so of each that is shown is so of all of them
+pub shown_all : {X Y : Type 0} (P : Y → Type 0) (f : X → Option Y) → ((x : X) → MatchOption (f x) (Unit {0}) P) → (xs : List X) → AllByRecursion P (filter_map f xs)
+shown_all P f p [] = tt
+shown_all P f p (x ∷ xs) = shown_step P f (f x) x xs refl (p x) (shown_all P f p xs)
+
+birth_shown : {T : Type 0} (birth : ℕ → ℕ) (i at : ℕ) (w : What T) → MatchOption (as_idle (birth i) (record { id = i; at = at; what = w })) (Unit {0}) (λ c. c.birth ≡ birth c.id)
+birth_shown birth i at (Admission v) = refl
+birth_shown birth i at (Keeping v) = refl
+birth_shown birth i at Taking_out = tt
+birth_shown birth i at Going = tt
+
+pub births_of-idle : {T : Type 0} (h : History T) → AllByRecursion (λ c. c.birth ≡ birth_of h c.id) (idle_of h)
+unfolding idle_of
+births_of-idle h = shown_all (λ c. c.birth ≡ birth_of h c.id) (λ d. as_idle (birth_of h d.id) d) (λ d. birth_shown (birth_of h) d.id d.at d.what) (latest (deeds_of h))
+
+-- the last idle one too
+pub birth_of-last : {T : Type 0} (h : History T) (c : IdleConnection T) → last_of (idle_of h) ≡ Some c → c.birth ≡ birth_of h c.id
+birth_of-last h c e = last_holds (λ c. c.birth ≡ birth_of h c.id) (idle_of h) c (births_of-idle h) e
