@@ -14,7 +14,7 @@ use Rattle.r2d2_core.specs.Deeds.{Going, deed, deeds_in, idle_of, lent_of, admit
 use Rattle.r2d2_core.specs.Pending.{on_order_of}
 use Rattle.r2d2_core.specs.Answers.{orders_of, picture_of}
 use Rattle.r2d2_core.specs.Follows.{IsKept, Follows}
-use Rattle.r2d2_core.proofs.Sifting.{length-filter_le}
+use Rattle.std.proofs.lemmas.List.Filters.{length-filter_both}
 use Rattle.r2d2_core.proofs.GoingOnes.{less_gone, going_deeds, idle_of-going, lent_of-going, admitted_are}
 use Rattle.r2d2_core.proofs.Orders.{IsOrdering, orders_if_closed, orders_of-top_up, picture_of-ordered, kept_ordered}
 use Rattle.r2d2_core.proofs.Following.{follows_accepted}
@@ -55,8 +55,9 @@ module _ {T : Type 0} where
 
   -- the expired ones were admitted
   gone_of-reap : (h : History T) (now : Duration) → IsKept h → gone_count h + length (closed_of (limits_of h) (reaped_at h now) (idle_of h)) ≤ admitted_count h
+  unfolding is_expired is_kept
   gone_of-reap h now kept =
-      omega (arith, admitted_are h kept, length-closed_of h now, length-filter_le (is_expired (limits_of h) (reaped_at h now)) (idle_of h))
+      omega (arith, admitted_are h kept, length-closed_of h now, length-filter_both (is_expired (limits_of h) (reaped_at h now)) (is_kept (limits_of h) (reaped_at h now)) (λ c. refl) (idle_of h))
 
   -- what a reap orders
   orders_of-reap : (h : History T) (now : Duration) → IsKept h → orders_of h (step.Reap now) ≡ reap_orders (as_nanos now) (picture_of h)

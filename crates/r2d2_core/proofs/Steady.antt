@@ -5,6 +5,7 @@ use Rattle.std.specs.List.Sorted.{IsNonDecreasingBy}
 use Rattle.std.specs.Prelude.{slice_index}
 use Rattle.std.proofs.lemmas.List.{length_push, map-id}
 use Rattle.std.proofs.lemmas.List.Elements.{All-take, All-filter}
+use Rattle.std.proofs.lemmas.List.Filters.{length-filter_both}
 use Rattle.std.proofs.lemmas.List.Kept.{IsNonDecreasingBy-filter}
 use Rattle.std.proofs.lemmas.List.Sorted.{IsNonDecreasingBy-take, IsNonDecreasingBy-push}
 use Rattle.std.proofs.lemmas.Bool.{cases_lt, cases_eq}
@@ -15,8 +16,8 @@ use Rattle.r2d2_core.specs.Connections.{IdleConnection, LentConnection, idle_con
 use Rattle.r2d2_core.specs.OnOrder.{OnOrder, IsAccounted, IsEmpty, room_beside, with_orders, admitted_one, numbered_one, emptied}
 use Rattle.r2d2_core.specs.Picture.{Picture, IsSound, ids_in}
 use Rattle.r2d2_core.specs.Table.{at, with_on_order, ordered, top_up_of, topped_up, miss_order_of, lent_out, admitted_at, kept, lost, swept}
+use Rattle.r2d2_core.proofs.Filters.{copies_of-filter}
 use Rattle.r2d2_core.proofs.Ids.{copies_of-append, copies_of-append3, copies_of-one, copies_of-other, copies_of-push, copies_of-last, copies_of-without, length-front, length-without, All-without, All-found, All-push, All-last, All-weaker}
-use Rattle.r2d2_core.proofs.Sifting.{length-filter_le}
 use Rattle.r2d2_core.proofs.Accounted.{is_not, accounted_orders}
 
 -- HOW MANY ARE ORDERED
@@ -341,14 +342,6 @@ module _ {T : Type 0} where
 
   -- REAP
 
-  copies_of-filter_step : (i : ℕ) (b : Bool) (c : IdleConnection T) (xs ys : List (IdleConnection T)) → copies_of i (map id_of_idle xs) ≤ copies_of i (map id_of_idle ys) → copies_of i (map id_of_idle (cond b (c ∷ xs) xs)) ≤ copies_of i (map id_of_idle (c ∷ ys))
-  copies_of-filter_step i true c xs ys le = omega arith
-  copies_of-filter_step i false c xs ys le = omega arith
-
-  copies_of-filter : (i : ℕ) (q : IdleConnection T → Bool) (xs : List (IdleConnection T)) → copies_of i (map id_of_idle (filter q xs)) ≤ copies_of i (map id_of_idle xs)
-  copies_of-filter i q [] = omega arith
-  copies_of-filter i q (c ∷ xs) = copies_of-filter_step i (q c) c (filter q xs) xs (copies_of-filter i q xs)
-
   pub steady_swept : {p : Picture T} → IsSteady p → IsSteady (swept p)
   unfolding is_kept is_expired
   steady_swept {p} s =
@@ -358,12 +351,12 @@ module _ {T : Type 0} where
         arith,
         copies_of-append3 i (map id_of_idle p.idle) (map id_of_lent p.lent) p.on_order.numbered,
         copies_of-append3 i (map id_of_idle (filter stays p.idle)) (map id_of_lent p.lent) p.on_order.numbered,
-        copies_of-filter i stays p.idle,
+        copies_of-filter stays id_of_idle i p.idle,
       )) s in
       record {
         apart = ids.0;
         below_next = ids.1;
-        counted = omega (arith, s.counted, length-filter_le goes p.idle);
+        counted = omega (arith, s.counted, length-filter_both goes stays (λ c. refl) p.idle);
         accounted = s.accounted;
         fits = omega (arith, s.fits);
         in_order = IsNonDecreasingBy-filter since_of stays p.idle s.in_order;

@@ -3,7 +3,8 @@ use Rattle.std.specs.Duration.{as_nanos}
 use Rattle.std.proofs.lemmas.List.{get_or_default}
 use Rattle.r2d2_core.specs.Limits.{settings_of}
 use Rattle.r2d2_core.specs.Connections.{is_expired, is_kept}
-use Rattle.r2d2_core.proofs.Sifting.{Sifted, sifted_closed, sifted_kept, sifted_fits, sifted_all, length-filter_le}
+use Rattle.r2d2_core.proofs.Sifting.{Sifted, sifted_closed, sifted_kept, sifted_fits, sifted_all}
+use Rattle.std.proofs.lemmas.List.Filters.{length-filter_both}
 use Rattle.r2d2_core.proofs.machine.idle.sift.Goals as goal
 use Rattle.r2d2_core.proofs.machine.idle.sift.Goals.{then-is_expired, else-is_expired}
 
@@ -38,7 +39,7 @@ pub returns-clause-count : goal.returns-clause-count
 unfolding is_kept is_expired
 returns-clause-count g c =
     let all = sifted_all c.loop.invariant.sifted (omega (arith, c.loop.invariant.over)) in
-    rw all.0 (omega (arith, length-filter_le (is_expired (settings_of c.args.limits.now) (as_nanos c.args.now)) c.args.stack.now.items))
+    rw all.0 (omega (arith, length-filter_both (is_expired (settings_of c.args.limits.now) (as_nanos c.args.now)) (is_kept (settings_of c.args.limits.now) (as_nanos c.args.now)) (λ e. refl) c.args.stack.now.items))
 
 pub returns-clause-kept : goal.returns-clause-kept
 unfolding is_kept is_expired
