@@ -6,7 +6,6 @@ use Rattle.std.specs.Duration.{as_nanos}
 use Rattle.std.specs.declared.time.Duration.{Duration}
 use Rattle.std.proofs.lemmas.List.{append-nil, map-id}
 use Rattle.std.proofs.lemmas.Bool.{eq-eqb, ne_eqb}
-use Rattle.r2d2_core.specs.declared.run.Step.{Step}
 use Rattle.r2d2_core.specs.declared.run.Step.TheVariants as step
 use Rattle.r2d2_core.specs.declared.machine.answers.Refusal.{Refusal}
 use Rattle.r2d2_core.specs.declared.machine.answers.Refusal.TheVariants as refusal
@@ -14,7 +13,7 @@ use Rattle.r2d2_core.specs.Ids.{found, without, same_id, copies_of}
 use Rattle.r2d2_core.specs.Connections.{idle_connection, id_of_idle, id_of_lent}
 use Rattle.r2d2_core.specs.Refusals.{refused_if, ok_or_back, unless_refused}
 use Rattle.r2d2_core.specs.Reply.{Admitted}
-use Rattle.r2d2_core.specs.OnOrder.{admit_refusal, admitted_one}
+use Rattle.r2d2_core.specs.OnOrder.{admit_refusal}
 use Rattle.r2d2_core.specs.Picture.{IsSound}
 use Rattle.r2d2_core.specs.Table.{admitted_at, admit_answer, after_admit}
 use Rattle.r2d2_core.specs.History.{History, Then, now_of, is_closed}
@@ -24,7 +23,7 @@ use Rattle.r2d2_core.specs.Answers.{refusal_of, picture_of}
 use Rattle.r2d2_core.specs.Follows.{IsKept, Follows}
 use Rattle.r2d2_core.proofs.Ids.{copies_of-append3, copies_of-without}
 use Rattle.r2d2_core.proofs.Filters.{filter-absent, filter-once, filter-both}
-use Rattle.r2d2_core.proofs.Deeds.{is_other, idle_of-then, lent_of-then, one_other}
+use Rattle.r2d2_core.proofs.Deeds.{idle_of-then, lent_of-then, one_other}
 use Rattle.r2d2_core.proofs.Accounted.{found_numbered}
 use Rattle.r2d2_core.proofs.Orders.{same_on_order, picture_of-is, in_work_of-same}
 use Rattle.r2d2_core.proofs.Following.{follows_accepted, follows_refused}

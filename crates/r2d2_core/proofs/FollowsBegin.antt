@@ -1,11 +1,9 @@
 -- A worker's asking what to do follows the history.
-use Rattle.std.proofs.Common.{◌≡◌, ℕ, ◌+◌, ◌*◌, ◌≤◌, min, max, Bool, true, false, cond, List, Option, Some, None, refl, sym, ◌∙◌, ap, subst, arith}
+use Rattle.std.proofs.Common.{◌≡◌, ℕ, ◌+◌, ◌*◌, ◌≤◌, Bool, true, false, cond, Some, None, refl, sym, ◌∙◌, ap, subst, arith}
 use Rattle.std.specs.Prelude.{◌==◌, ◌&&◌, not}
-use Rattle.std.specs.Option.{option_map}
-use Rattle.std.specs.Duration.{as_nanos, max_nanos}
+use Rattle.std.specs.Duration.{as_nanos}
 use Rattle.std.specs.declared.time.Duration.{Duration}
 use Rattle.std.proofs.lemmas.Bool.{ne_eqb}
-use Rattle.r2d2_core.specs.declared.run.Step.{Step}
 use Rattle.r2d2_core.specs.declared.run.Step.TheVariants as step
 use Rattle.r2d2_core.specs.Limits.{later_by, has_reaps}
 use Rattle.r2d2_core.specs.Tasks.{Task, Open, Reap, Wait, Nothing, Ended, first_task}
@@ -15,8 +13,8 @@ use Rattle.r2d2_core.specs.OnOrder.{begun_by}
 use Rattle.r2d2_core.specs.Picture.{IsSound}
 use Rattle.r2d2_core.specs.Table.{at, with_on_order, begin_answer, after_begin}
 use Rattle.r2d2_core.specs.History.{History, Then, limits_of, start_of, is_closed, moment_of}
-use Rattle.r2d2_core.specs.Deeds.{connections_of, gone_count, admitted_count}
-use Rattle.r2d2_core.specs.Pending.{begun_of, ended_of, scheduled_of, next_id_of, numbered_of, reaps_of, next_reap_of, task_of, on_order_of}
+use Rattle.r2d2_core.specs.Deeds.{connections_of}
+use Rattle.r2d2_core.specs.Pending.{begun_of, scheduled_of, next_id_of, numbered_of, reaps_of, next_reap_of, task_of, on_order_of}
 use Rattle.r2d2_core.specs.Answers.{picture_of}
 use Rattle.r2d2_core.specs.Follows.{IsKept, Follows}
 use Rattle.r2d2_core.proofs.Deeds.{idle_of-none, lent_of-none}

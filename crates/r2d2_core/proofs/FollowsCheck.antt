@@ -1,5 +1,5 @@
 -- A failed check follows the history.
-use Rattle.std.proofs.Common.{◌≡◌, ℕ, ◌+◌, ◌-◌, ◌≤◌, max, Bool, true, not, length, Option, Some, None, Ok, Err, String, Global, refl, sym, ◌∙◌, ap, subst, arith}
+use Rattle.std.proofs.Common.{◌≡◌, ℕ, ◌-◌, max, true, not, length, Option, Some, None, Ok, String, Global, refl, sym, ◌∙◌, ap, subst, arith}
 use Rattle.std.specs.Duration.{as_nanos}
 use Rattle.std.specs.declared.time.Duration.{Duration}
 use Rattle.r2d2_core.specs.declared.run.Step.{Step}
@@ -10,9 +10,9 @@ use Rattle.r2d2_core.specs.Refusals.{ok_unless, unless_refused}
 use Rattle.r2d2_core.specs.Reply.{Reply, Loss, CheckFailed}
 use Rattle.r2d2_core.specs.OnOrder.{top_up}
 use Rattle.r2d2_core.specs.Picture.{Picture, IsSound}
-use Rattle.r2d2_core.specs.Table.{at, ordered, top_up_of, topped_up, lent_refusal, lent_birth, lost, with_text, loss, check_answer, after_check}
+use Rattle.r2d2_core.specs.Table.{at, ordered, topped_up, lent_refusal, lent_birth, lost, with_text, loss, check_answer, after_check}
 use Rattle.r2d2_core.specs.History.{History, Then, is_closed, now_of}
-use Rattle.r2d2_core.specs.Deeds.{Going, birth_of, idle_of, connections_of, admitted_count, gone_count}
+use Rattle.r2d2_core.specs.Deeds.{Going, birth_of, idle_of, connections_of}
 use Rattle.r2d2_core.specs.Pending.{on_order_of}
 use Rattle.r2d2_core.specs.Answers.{refusal_of, is_lent, orders_of, picture_of}
 use Rattle.r2d2_core.specs.Follows.{IsKept, Follows}
@@ -76,12 +76,16 @@ module _ {T : Type 0} where
   follows_check h now id text kept = by (refusal_of h s) refl where
     s : Step T
     s = checking now id text
+
     n : ℕ
     n = orders_of h s
+
     lost_at : ℕ → Loss
     lost_at birth = loss id birth (at (as_nanos now) (picture_of h))
+
     new : Picture T
     new = topped_up (lost id (with_text text (at (as_nanos now) (picture_of h))))
+
     by : (why : Option Refusal) → refusal_of h s ≡ why → Follows h s (CheckFailed (check_answer (as_nanos now) id (picture_of h))) (after_check (as_nanos now) id text (picture_of h))
     by None accepted =
         let none : lent_refusal id (picture_of h) ≡ None = lent_refusal-is h id ∙ accepted in

@@ -1,33 +1,28 @@
 -- A failed opening follows the history.
-use Rattle.std.proofs.Common.{◌≡◌, ℕ, ◌+◌, ◌-◌, ◌<◌, ◌≤◌, min, max, Bool, true, false, cond, not, List, Option, Some, None, Ok, Err, String, Global, refl, sym, ◌∙◌, ap, subst, arith}
-use Rattle.std.specs.Prelude.{nat_lt, slice_index}
+use Rattle.std.proofs.Common.{◌≡◌, ℕ, ◌+◌, ◌-◌, max, true, false, cond, not, Option, Some, None, Ok, String, Global, refl, sym, ◌∙◌, ap, subst, arith}
 use Rattle.std.specs.Duration.{as_nanos}
 use Rattle.std.specs.declared.time.Duration.{Duration}
 use Rattle.r2d2_core.specs.declared.run.Step.{Step}
 use Rattle.r2d2_core.specs.declared.run.Step.TheVariants as step
 use Rattle.r2d2_core.specs.declared.machine.answers.Refusal.{Refusal}
 use Rattle.r2d2_core.specs.declared.machine.answers.Refusal.TheVariants as refusal
-use Rattle.r2d2_core.specs.Connections.{IdleConnection, LentConnection}
 use Rattle.r2d2_core.specs.Limits.{later_by, delay_of}
-use Rattle.r2d2_core.specs.Openings.{opening, with_opening}
 use Rattle.r2d2_core.specs.Refusals.{refused_if, ok_unless, unless_refused}
 use Rattle.r2d2_core.specs.Reply.{Reply, Failed}
-use Rattle.r2d2_core.specs.OnOrder.{OnOrder, fail_refusal, failed_one, due_again}
+use Rattle.r2d2_core.specs.OnOrder.{fail_refusal, failed_one}
 use Rattle.r2d2_core.specs.Picture.{Picture, IsSound}
-use Rattle.r2d2_core.specs.Table.{at, fail_answer, failed, after_fail, or_text}
-use Rattle.r2d2_core.specs.History.{History, Then, is_closed, now_of, limits_of, moment_of}
-use Rattle.r2d2_core.specs.Deeds.{idle_of, lent_of, connections_of, admitted_count}
-use Rattle.r2d2_core.specs.Pending.{ordered_of, pending_of, scheduled_of, in_work_of, in_work_at, numbered_of, next_reap_of, next_id_of, on_order_of}
-use Rattle.r2d2_core.specs.Answers.{refusal_of, is_in_work, last_error_of, picture_of}
+use Rattle.r2d2_core.specs.Table.{fail_answer, failed, after_fail}
+use Rattle.r2d2_core.specs.History.{History, Then, is_closed, now_of, limits_of}
+use Rattle.r2d2_core.specs.Deeds.{connections_of, admitted_count}
+use Rattle.r2d2_core.specs.Pending.{ordered_of, pending_of, numbered_of, next_reap_of, next_id_of, on_order_of}
+use Rattle.r2d2_core.specs.Answers.{refusal_of, is_in_work, picture_of}
 use Rattle.r2d2_core.specs.Follows.{IsKept, Follows}
 use Rattle.r2d2_core.proofs.Deeds.{idle_of-none, lent_of-none}
 use Rattle.r2d2_core.proofs.InWork.{in_work_of-one_less, is_in_work-on_order, ended_fits}
 use Rattle.r2d2_core.proofs.Accounted.{passes, not_false}
+use Rattle.r2d2_core.proofs.Orders.{same_on_order, picture_of-is}
 use Rattle.r2d2_core.proofs.Following.{follows_accepted, follows_refused}
 use Rattle.r2d2_core.proofs.Sounds.{sound_fail}
-
-same_order : (o : OnOrder) {w w' : List ℕ} {n n' : ℕ} → w ≡ w' → n ≡ n' → ◌≡◌ {A = OnOrder} (record o { in_work = w; pending = n }) (record o { in_work = w'; pending = n' })
-same_order o e1 e2 = rw (e1, e2)
 
 module _ {T : Type 0} where
   -- when it is due again
@@ -48,20 +43,17 @@ module _ {T : Type 0} where
   unfolding on_order_of pending_of numbered_of next_reap_of next_id_of
   on_order_of-fail h now tries text =
       let same : ordered_of h + 0 ≡ ordered_of h = omega arith in
-      same_order (record (on_order_of h) { scheduled = with_opening (opening (due h (as_nanos now) tries) (min (tries + 1) 99)) (scheduled_of h) })
-      (in_work_of-one_less h (then_failed h now tries text) tries refl (λ j. refl) (λ j. refl))
-      (ap (λ n. cond (is_closed h) 0 (n - admitted_count h)) same)
-
-  same_picture : (p : Picture T) {idle idle' : List (IdleConnection T)} {lent lent' : List LentConnection} {o o' : OnOrder} → idle ≡ idle' → lent ≡ lent' → o ≡ o'
-      → ◌≡◌ {A = Picture T} (record p { idle = idle; lent = lent; on_order = o }) (record p { idle = idle'; lent = lent'; on_order = o' })
-  same_picture p e1 e2 e3 = rw (e1, e2, e3)
+      same_on_order (on_order_of h) refl
+      (in_work_of-one_less h (then_failed h now tries text) tries refl (λ j. refl) (λ j. refl)) refl refl refl
+      (ap (λ n. cond (is_closed h) 0 (n - admitted_count h)) same) refl
 
   picture_of-fail : (h : History T) (now : Duration) (tries : ℕ) (text : Option (String Global)) → picture_of (then_failed h now tries text) ≡ failed (as_nanos now) tries text (picture_of h)
   unfolding picture_of connections_of
   picture_of-fail h now tries text =
       let s = failing now tries text in
       let r : Reply T = Failed (Ok (due h (as_nanos now) tries)) in
-      same_picture (failed (as_nanos now) tries text (picture_of h)) (idle_of-none h s r refl (λ i. refl)) (lent_of-none h s r refl (λ i. refl)) (on_order_of-fail h now tries text)
+      picture_of-is (then_failed h now tries text) (failed (as_nanos now) tries text (picture_of h))
+      refl (idle_of-none h s r refl (λ i. refl)) (lent_of-none h s r refl (λ i. refl)) (on_order_of-fail h now tries text) refl refl
 
   kept_fail : (h : History T) (now : Duration) (tries : ℕ) (text : Option (String Global)) → IsKept h → is_closed h ≡ false → is_in_work h tries ≡ true
       → IsSound (failed (as_nanos now) tries text (picture_of h)) → IsKept (then_failed h now tries text)
@@ -81,10 +73,13 @@ module _ {T : Type 0} where
   follows_fail h now tries text kept = by (refusal_of h s) refl where
     s : Step T
     s = failing now tries text
+
     reply : Reply T
     reply = Failed (fail_answer (as_nanos now) tries (picture_of h))
+
     new : Picture T
     new = after_fail (as_nanos now) tries text (picture_of h)
+
     by : (why : Option Refusal) → refusal_of h s ≡ why → Follows h s reply new
     by None accepted =
         let none : fail_refusal tries (picture_of h).on_order ≡ None = same_refusal h now tries text kept ∙ accepted in

@@ -1,10 +1,9 @@
 -- A numbering follows the history.
-use Rattle.std.proofs.Common.{◌≡◌, ℕ, ◌+◌, ◌-◌, ◌^◌, ◌<◌, ◌≤◌, Bool, true, false, cond, List, [], ◌∷◌, ◌++◌, length, Option, Some, None, refl, sym, ◌∙◌, ap, subst, arith, Ok}
-use Rattle.std.specs.Prelude.{filter, ◌==◌, not, slice_index}
+use Rattle.std.proofs.Common.{◌≡◌, ℕ, ◌+◌, ◌-◌, ◌^◌, ◌<◌, ◌≤◌, Bool, true, false, cond, List, [], ◌∷◌, ◌++◌, Option, Some, None, refl, sym, ◌∙◌, ap, subst, arith, Ok}
+use Rattle.std.specs.Prelude.{filter, ◌==◌, not}
 use Rattle.std.proofs.lemmas.List.{length_push}
 use Rattle.std.proofs.lemmas.List.Elements.{filter-append}
 use Rattle.std.proofs.lemmas.Bool.{eqb-true}
-use Rattle.r2d2_core.specs.declared.run.Step.{Step}
 use Rattle.r2d2_core.specs.declared.run.Step.TheVariants as step
 use Rattle.r2d2_core.specs.declared.machine.answers.Refusal.{Refusal}
 use Rattle.r2d2_core.specs.declared.machine.answers.Refusal.TheVariants as refusal
@@ -15,7 +14,7 @@ use Rattle.r2d2_core.specs.Picture.{IsSound}
 use Rattle.r2d2_core.specs.Table.{with_on_order, number_answer, after_number}
 use Rattle.r2d2_core.specs.History.{History, Then, is_closed}
 use Rattle.r2d2_core.specs.Deeds.{connections_of}
-use Rattle.r2d2_core.specs.Pending.{begun_of, ended_of, in_work_of, in_work_at, ids_of, is_admitted, numbered_of, next_id_of, next_reap_of, on_order_of}
+use Rattle.r2d2_core.specs.Pending.{begun_of, ended_of, in_work_at, ids_of, is_admitted, numbered_of, next_id_of, next_reap_of, on_order_of}
 use Rattle.r2d2_core.specs.Answers.{refusal_of, picture_of}
 use Rattle.r2d2_core.specs.Follows.{IsKept, Follows}
 use Rattle.r2d2_core.proofs.Deeds.{idle_of-none, lent_of-none}

@@ -1,22 +1,20 @@
 -- A take follows the history.
-use Rattle.std.proofs.Common.{◌≡◌, ℕ, ◌+◌, ◌≤◌, max, min, Bool, true, cond, List, [], ◌∷◌, ◌++◌, map, length, Option, Some, None, refl, sym, ◌∙◌, ap, subst, arith}
+use Rattle.std.proofs.Common.{◌≡◌, ℕ, ◌+◌, Bool, true, cond, [], ◌∷◌, ◌++◌, map, length, Option, Some, None, refl, sym, ◌∙◌, ap, subst, arith}
 use Rattle.std.specs.Prelude.{filter, ◌==◌, not}
 use Rattle.std.specs.Duration.{as_nanos}
 use Rattle.std.specs.declared.time.Duration.{Duration}
 use Rattle.std.proofs.lemmas.List.{append-nil}
 use Rattle.std.proofs.lemmas.Bool.{eq-eqb}
-use Rattle.r2d2_core.specs.declared.run.Step.{Step}
 use Rattle.r2d2_core.specs.declared.run.Step.TheVariants as step
 use Rattle.r2d2_core.specs.Ids.{last_of, front, copies_of}
 use Rattle.r2d2_core.specs.Connections.{IdleConnection, lent_connection, id_of_idle, id_of_lent}
-use Rattle.r2d2_core.specs.Reply.{Reply, Taken, Found, Empty}
-use Rattle.r2d2_core.specs.OnOrder.{top_up}
-use Rattle.r2d2_core.specs.Picture.{Picture, IsSound}
+use Rattle.r2d2_core.specs.Reply.{Taken, Found, Empty}
+use Rattle.r2d2_core.specs.Picture.{IsSound}
 use Rattle.r2d2_core.specs.Table.{at, ordered, lent_out, taking, take_orders, taken, take_answer, after_take}
 use Rattle.r2d2_core.specs.History.{History, Then, is_closed, moment_of}
 use Rattle.r2d2_core.specs.Deeds.{Deed, deed, Taking_out, birth_of, idle_of, lent_of, connections_of, gone_count}
-use Rattle.r2d2_core.specs.Pending.{on_order_of, pending_of}
-use Rattle.r2d2_core.specs.Answers.{orders_of, orders_by, reply_with, picture_of}
+use Rattle.r2d2_core.specs.Pending.{on_order_of}
+use Rattle.r2d2_core.specs.Answers.{orders_of, orders_by, picture_of}
 use Rattle.r2d2_core.specs.Follows.{IsKept, Follows}
 use Rattle.r2d2_core.proofs.Ids.{copies_of-append3, copies_of-last, last_is}
 use Rattle.r2d2_core.proofs.Filters.{filter-absent, filter-last}

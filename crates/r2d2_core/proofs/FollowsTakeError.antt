@@ -1,5 +1,5 @@
 -- A taking of the last error follows the history.
-use Rattle.std.proofs.Common.{◌≡◌, ℕ, refl, sym, subst}
+use Rattle.std.proofs.Common.{◌≡◌, refl, sym, subst}
 use Rattle.r2d2_core.specs.declared.run.Step.TheVariants as step
 use Rattle.r2d2_core.specs.Reply.{Reply, Told}
 use Rattle.r2d2_core.specs.Picture.{IsSound}

@@ -1,5 +1,5 @@
 -- How many openings are in work, for each number of tries.
-use Rattle.std.proofs.Common.{◌≡◌, ◌≢◌, ℕ, ◌+◌, ◌-◌, ◌<◌, ◌≤◌, Bool, true, false, cond, ◌==◌, List, map, length, get_or, refl, sym, ◌∙◌, ap, arith, length-set, get_or-set_same, get_or-set_other, ext_get_or}
+use Rattle.std.proofs.Common.{◌≡◌, ◌≢◌, ℕ, ◌+◌, ◌-◌, ◌<◌, ◌≤◌, Bool, true, false, cond, ◌==◌, map, length, get_or, refl, sym, ◌∙◌, ap, arith, length-set, get_or-set_same, get_or-set_other, ext_get_or}
 use Rattle.std.specs.Prelude.{slice_index, slice_set, nat_lt, if◌then◌else◌}
 use Rattle.std.specs.List.{range_with_len}
 use Rattle.std.proofs.lemmas.List.{get_or_past}
@@ -19,13 +19,13 @@ map_changed f g n k v here other =
     ext_get_or 0 (map g (range_with_len 0 n)) (slice_set (map f (range_with_len 0 n)) k v)
     (long ∙ sym (length-set (map f (range_with_len 0 n)) k v ∙ was))
     (λ i lt. at i (omega arith) was (i == k) refl) where
-  at : (i : ℕ) → i < n → length (map f (range_with_len 0 n)) ≡ n → (b : Bool) → (i == k) ≡ b → get_or (map g (range_with_len 0 n)) i 0 ≡ get_or (slice_set (map f (range_with_len 0 n)) k v) i 0
-  at i lt was true is =
-      let same : i ≡ k = eqb-true i k is in
-      rw same (get_or-map-range_with_len g 0 n k k 0 (omega arith) (omega arith) ∙ here (omega arith) ∙ sym (get_or-set_same (map f (range_with_len 0 n)) k v 0 (omega arith)))
-  at i lt was false is =
-      let ne : i ≢ k = eqb-false i k is in
-      get_or-map-range_with_len g 0 n i i 0 lt (omega arith) ∙ (other i ne ∙ sym (get_or-set_other (map f (range_with_len 0 n)) k i v 0 ne ∙ get_or-map-range_with_len f 0 n i i 0 lt (omega arith)))
+      at : (i : ℕ) → i < n → length (map f (range_with_len 0 n)) ≡ n → (b : Bool) → (i == k) ≡ b → get_or (map g (range_with_len 0 n)) i 0 ≡ get_or (slice_set (map f (range_with_len 0 n)) k v) i 0
+      at i lt was true is =
+          let same : i ≡ k = eqb-true i k is in
+          rw same (get_or-map-range_with_len g 0 n k k 0 (omega arith) (omega arith) ∙ here (omega arith) ∙ sym (get_or-set_same (map f (range_with_len 0 n)) k v 0 (omega arith)))
+      at i lt was false is =
+          let ne : i ≢ k = eqb-false i k is in
+          get_or-map-range_with_len g 0 n i i 0 lt (omega arith) ∙ (other i ne ∙ sym (get_or-set_other (map f (range_with_len 0 n)) k i v 0 ne ∙ get_or-map-range_with_len f 0 n i i 0 lt (omega arith)))
 
 work_more : (closed here : Bool) (begun ended : ℕ) → closed ≡ false → here ≡ true → ended ≤ begun → cond closed 0 (begun + cond here 1 0 - ended) ≡ cond closed 0 (begun - ended) + 1
 work_more true here begun ended e is le = absurd cc

@@ -1,6 +1,6 @@
 -- Steps that order openings, and do nothing else to what is on order.
 use Rattle.std.proofs.Common.{◌≡◌, ℕ, ◌+◌, ◌-◌, ◌≤◌, min, Bool, true, false, cond, List, [], map, length, Option, refl, sym, ◌∙◌, ap, arith}
-use Rattle.std.specs.Prelude.{filter, not, if◌then◌else◌}
+use Rattle.std.specs.Prelude.{filter, not}
 use Rattle.std.specs.List.{range_with_len}
 use Rattle.std.proofs.Math.Path.{fun_ext}
 use Rattle.r2d2_core.specs.declared.run.Step.{Step}
