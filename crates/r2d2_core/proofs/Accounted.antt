@@ -1,5 +1,5 @@
 -- Each change of what is on order keeps every pending opening accounted for.
-use Rattle.std.proofs.Common.{◌≡◌, ℕ, zero, suc, ◌+◌, ◌-◌, ◌<◌, ◌≤◌, ◌^◌, min, Bool, true, false, cond, not, List, [], ◌∷◌, ◌++◌, length, Option, Some, None, refl, ◌∙◌, ap, subst, arith, sum, drop, replicate, length-set, nat_lt, rules}
+use Rattle.std.proofs.Common.{◌≡◌, ℕ, ◌+◌, ◌<◌, ◌≤◌, ◌^◌, min, Bool, true, false, cond, not, List, [], ◌∷◌, length, Option, Some, None, refl, ◌∙◌, ap, subst, arith, drop, length-set, rules}
 use Rattle.std.specs.Prelude.{slice_index, is_some}
 use Rattle.std.specs.List.{All}
 use Rattle.std.proofs.lemmas.List.{length_push}
@@ -8,12 +8,11 @@ use Rattle.std.proofs.lemmas.Bool.{ltb-true}
 use Rattle.r2d2_core.specs.declared.machine.answers.Refusal.{Refusal}
 use Rattle.r2d2_core.specs.declared.machine.answers.Refusal.TheVariants as refusal
 use Rattle.r2d2_core.specs.Limits.{Settings, wanted_of}
-use Rattle.r2d2_core.specs.Ids.{found, without, same_id}
-use Rattle.r2d2_core.specs.Openings.{Opening, opening, with_opening, with_many, one_more, one_less}
+use Rattle.r2d2_core.specs.Ids.{found, same_id}
+use Rattle.r2d2_core.specs.Openings.{Opening, opening, with_many}
 use Rattle.r2d2_core.specs.Tasks.{Task, Open, Reap, Wait, Nothing, Ended, first_task}
-use Rattle.r2d2_core.specs.Plan.{next_by}
 use Rattle.r2d2_core.specs.Refusals.{refused_if, unless_refused}
-use Rattle.r2d2_core.specs.OnOrder.{OnOrder, IsAccounted, IsEmpty, with_orders, first_on_order, task_at, begun_by, begun, is_in_work, number_refusal, numbered_one, after_numbering, admit_refusal, admitted_one, fail_refusal, failed_one, due_again, emptied}
+use Rattle.r2d2_core.specs.OnOrder.{OnOrder, IsAccounted, with_orders, first_on_order, begun_by, begun, is_in_work, number_refusal, numbered_one, after_numbering, admit_refusal, admitted_one, fail_refusal, failed_one, due_again, emptied}
 use Rattle.r2d2_core.proofs.Openings.{length-with, length-with_many}
 use Rattle.r2d2_core.proofs.Counting.{All-with_many, All-with, sum-one_more, sum-one_less, get_or-sum_le}
 use Rattle.r2d2_core.proofs.Ids.{length-without, found_self}

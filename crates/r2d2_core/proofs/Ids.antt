@@ -1,12 +1,12 @@
 -- Lists of things with ids.
-use Rattle.std.proofs.Common.{◌≡◌, ℕ, zero, suc, ◌+◌, ◌-◌, ◌<◌, ◌≤◌, Bool, true, false, cond, not, List, [], ◌∷◌, ◌++◌, map, length, take, get_or, Option, Some, None, refl, sym, ◌∙◌, ap, subst, arith, add-one}
+use Rattle.std.proofs.Common.{◌≡◌, ℕ, zero, suc, ◌+◌, ◌-◌, ◌<◌, ◌≤◌, Bool, true, false, cond, List, [], ◌∷◌, ◌++◌, map, length, take, get_or, Option, Some, None, refl, sym, ◌∙◌, ap, subst, arith}
 use Rattle.std.specs.Prelude.{◌==◌}
 use Rattle.std.specs.List.{remove, All}
 use Rattle.std.specs.Option.{option_to_list, IsSome, is_some}
 use Rattle.std.proofs.lemmas.List.{take_at, length_push, map-append}
 use Rattle.std.proofs.lemmas.Bool.{eq-eqb, ne_eqb, eqb-true, cond-true, cond-false}
 use Rattle.std.proofs.lemmas.List.Elements.{All-append}
-use Rattle.r2d2_core.specs.Ids.{last_of, front, found, without, same_id, NoneBelow, IsFirst, copies_of}
+use Rattle.r2d2_core.specs.Ids.{last_of, front, found, without, same_id, NoneBelow, copies_of}
 
 module _ {X : Type 0} where
   pub last_of-push : (xs : List X) (x : X) → last_of (xs ++ x ∷ []) ≡ Some x

@@ -1,5 +1,5 @@
 -- Openings in order: which list has the same openings, and which opening is first.
-use Rattle.std.proofs.Common.{◌≡◌, ℕ, ◌+◌, ◌<◌, ◌≤◌, List, [], ◌∷◌, ◌++◌, length, Bool, true, false, refl, sym, ap, ◌∙◌, inl, inr, arith, get_or, set, suc, zero}
+use Rattle.std.proofs.Common.{◌≡◌, ℕ, ◌+◌, ◌<◌, List, [], ◌∷◌, ◌++◌, length, true, false, refl, sym, ap, ◌∙◌, inl, inr, arith, get_or, set, suc, zero}
 use Rattle.std.proofs.Common.{cond, length-set, get_or-set_same, get_or-set_other}
 use Rattle.std.specs.List.{swap, swap_remove, All}
 use Rattle.std.specs.List.Sorted.{IsPermutation}
@@ -7,7 +7,6 @@ use Rattle.std.proofs.lemmas.List.Sorted.{IsPermutation-keeps, IsPermutation-swa
 use Rattle.std.proofs.lemmas.List.{get_or_read}
 use Rattle.std.proofs.lemmas.Bool.{cases_Bool, cases_eq, cond-true, cond-false}
 use Rattle.std.proofs.lemmas.Bool.Decides.{nat_tests}
-use Rattle.std.proofs.lemmas.Grind.{common_steps}
 use Rattle.r2d2_core.specs.Openings.{Opening, is_before, with_opening, in_order, with_many, IsLeast}
 
 abbrev opening : ℕ → ℕ → Opening

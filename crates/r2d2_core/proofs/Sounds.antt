@@ -1,21 +1,19 @@
 -- Each step keeps a picture sound.
-use Rattle.std.proofs.Common.{◌≡◌, ◌⊎◌, ℕ, ◌+◌, ◌≤◌, max, Bool, true, false, cond, not, ◌||◌, List, [], ◌++◌, map, length, Option, Some, None, refl, ap, subst, arith, drop, String, inl}
+use Rattle.std.proofs.Common.{◌≡◌, ℕ, ◌≤◌, max, Bool, true, false, not, ◌||◌, [], map, Option, Some, None, refl, subst, arith, String, inl}
 use Rattle.std.specs.Prelude.{option_map, is_some, unwrap_or}
 use Rattle.r2d2_core.specs.declared.machine.answers.Refusal.{Refusal}
 use Rattle.r2d2_core.specs.declared.machine.answers.Refusal.TheVariants as refusal
-use Rattle.r2d2_core.specs.Limits.{Settings, wanted_of, has_reached}
-use Rattle.r2d2_core.specs.Ids.{last_of, found, same_id, copies_of}
-use Rattle.r2d2_core.specs.Openings.{opening, with_opening, one_less}
+use Rattle.r2d2_core.specs.Limits.{Settings, wanted_of}
+use Rattle.r2d2_core.specs.Ids.{last_of, found}
 use Rattle.r2d2_core.specs.Tasks.{Task, Open, Reap, Wait, Nothing, Ended}
-use Rattle.r2d2_core.specs.Plan.{next_by}
-use Rattle.r2d2_core.specs.Refusals.{refused_if, unless_refused}
+use Rattle.r2d2_core.specs.Refusals.{unless_refused}
 use Rattle.r2d2_core.specs.Connections.{IdleConnection, LentConnection, id_of_idle, id_of_lent, birth_in}
-use Rattle.r2d2_core.specs.OnOrder.{IsAccounted, task_at, begun_by, begun, number_refusal, numbered_one, after_numbering, admit_refusal, admitted_one, fail_refusal, failed_one, emptied}
-use Rattle.r2d2_core.specs.Picture.{Picture, IsSound, ids_in}
-use Rattle.r2d2_core.specs.Table.{at, with_on_order, topped_up, first_picture, taken, after_take, after_begin, after_number, admitted_at, after_admit, or_text, failed, after_fail, lent_refusal, lent_birth, is_closing, lost, returned_by, returned, after_return, with_text, after_check, swept, after_reap, after_take_error, after_close}
+use Rattle.r2d2_core.specs.OnOrder.{IsAccounted, task_at, begun_by, number_refusal, numbered_one, admit_refusal, admitted_one, fail_refusal, failed_one}
+use Rattle.r2d2_core.specs.Picture.{Picture, IsSound}
+use Rattle.r2d2_core.specs.Table.{at, with_on_order, topped_up, first_picture, taken, after_take, after_begin, after_number, admitted_at, after_admit, or_text, failed, after_fail, lent_refusal, lent_birth, is_closing, lost, returned_by, returned, after_return, with_text, after_check, after_reap, after_take_error, after_close}
 use Rattle.r2d2_core.proofs.Ids.{copies_of-append3}
-use Rattle.r2d2_core.proofs.Accounted.{unless_refused-keeps, passes, not_false, is_not, found_in_work, found_numbered, accounted_first, accounted_begun, accounted_numbering, accounted_admitted, accounted_failed, accounted_emptied}
-use Rattle.r2d2_core.proofs.Steady.{steady, sound, apart_still, sound_at, sound_topped_up, sound_missed, sound_rescheduled, sound_told, steady_lent_out, steady_lost, sound_kept, sound_numbered, sound_admitted, steady_swept}
+use Rattle.r2d2_core.proofs.Accounted.{unless_refused-keeps, passes, not_false, is_not, found_numbered, accounted_first, accounted_begun, accounted_numbering, accounted_admitted, accounted_failed, accounted_emptied}
+use Rattle.r2d2_core.proofs.Steady.{steady, apart_still, sound_at, sound_topped_up, sound_missed, sound_rescheduled, sound_told, steady_lent_out, steady_lost, sound_kept, sound_numbered, sound_admitted, steady_swept}
 
 -- what is accepted is the new one
 accepted_is : {X : Type 0} (P : X → Type 0) (why : Option Refusal) (new old : X) → why ≡ None → P (unless_refused why new old) → P new
@@ -80,16 +78,16 @@ module _ {T : Type 0} where
   sound_admit t id value {p} s =
       unless_refused-keeps IsSound (admit_refusal id p.on_order) (admitted_at (max p.latest t) id value p) p
       (λ accepted.
-          let there = found_numbered id p.on_order accepted in
-          let a = accepted_is IsAccounted (admit_refusal id p.on_order) (admitted_one id p.on_order) p.on_order accepted (accounted_admitted id p.on_order s.accounted) in
-          sound_admitted id value there.1 there.0 a (sound_at t s)) s
+      let there = found_numbered id p.on_order accepted in
+      let a = accepted_is IsAccounted (admit_refusal id p.on_order) (admitted_one id p.on_order) p.on_order accepted (accounted_admitted id p.on_order s.accounted) in
+      sound_admitted id value there.1 there.0 a (sound_at t s)) s
 
   pub sound_fail : {A : Type 0} (t tries : ℕ) (text : Option (String A)) {p : Picture T} → IsSound p → IsSound (after_fail t tries text p)
   sound_fail t tries text {p} s =
       unless_refused-keeps IsSound (fail_refusal tries p.on_order) (failed t tries text p) p
       (λ accepted.
-          let a = accepted_is IsAccounted (fail_refusal tries p.on_order) (failed_one (max p.latest t) tries p.on_order) p.on_order accepted (accounted_failed (max p.latest t) tries p.on_order s.accounted) in
-          sound_told (or_text text p.last_error) (sound_rescheduled _ _ _ a (sound_at t s))) s
+      let a = accepted_is IsAccounted (fail_refusal tries p.on_order) (failed_one (max p.latest t) tries p.on_order) p.on_order accepted (accounted_failed (max p.latest t) tries p.on_order s.accounted) in
+      sound_told (or_text text p.last_error) (sound_rescheduled _ _ _ a (sound_at t s))) s
 
   -- RETURN, FAILED CHECK
 
@@ -107,16 +105,16 @@ module _ {T : Type 0} where
   sound_return t id value broken {p} s =
       unless_refused-keeps IsSound (lent_refusal id p) (returned id (lent_birth id p) value broken (at t p)) p
       (λ accepted.
-          let l = found_lent id p accepted in
-          subst (λ (b : ℕ). IsSound (returned id b value broken (at t p))) l.2
-          (sound_returned (is_closing l.0.birth broken (at t p)) id value l.0 (at t p) l.1 (none_holds broken _ p.on_order.closed) (sound_at t s))) s
+      let l = found_lent id p accepted in
+      subst (λ (b : ℕ). IsSound (returned id b value broken (at t p))) l.2
+      (sound_returned (is_closing l.0.birth broken (at t p)) id value l.0 (at t p) l.1 (none_holds broken _ p.on_order.closed) (sound_at t s))) s
 
   pub sound_check : {A : Type 0} (t id : ℕ) (text : Option (String A)) {p : Picture T} → IsSound p → IsSound (after_check t id text p)
   sound_check t id text {p} s =
       unless_refused-keeps IsSound (lent_refusal id p) (topped_up (lost id (with_text text (at t p)))) p
       (λ accepted.
-          let l = found_lent id p accepted in
-          sound_topped_up (steady_lost id l.0 l.1 (steady (sound_told (or_text text p.last_error) (sound_at t s))))) s
+      let l = found_lent id p accepted in
+      sound_topped_up (steady_lost id l.0 l.1 (steady (sound_told (or_text text p.last_error) (sound_at t s))))) s
 
   -- REAP, TAKE ERROR, CLOSE
 

@@ -1,19 +1,18 @@
 -- What keeps with the changes of a picture that the steps are made of.
-use Rattle.std.proofs.Common.{◌≡◌, ◌⊎◌, ℕ, ◌+◌, ◌-◌, ◌<◌, ◌≤◌, min, max, Bool, true, false, cond, List, [], ◌∷◌, ◌++◌, map, length, take, Option, Some, None, refl, sym, ◌∙◌, ap, arith, inl, inr}
+use Rattle.std.proofs.Common.{◌≡◌, ◌⊎◌, ℕ, ◌+◌, ◌-◌, ◌<◌, ◌≤◌, min, max, Bool, true, false, cond, List, [], ◌∷◌, ◌++◌, map, length, Option, Some, refl, ap, arith, inl, inr}
 use Rattle.std.specs.List.{All, filter}
 use Rattle.std.specs.List.Sorted.{IsNonDecreasingBy}
-use Rattle.std.specs.Prelude.{slice_index}
 use Rattle.std.proofs.lemmas.List.{length_push, map-id}
 use Rattle.std.proofs.lemmas.List.Elements.{All-take, All-filter}
 use Rattle.std.proofs.lemmas.List.Filters.{length-filter_both}
 use Rattle.std.proofs.lemmas.List.Kept.{IsNonDecreasingBy-filter}
 use Rattle.std.proofs.lemmas.List.Sorted.{IsNonDecreasingBy-take, IsNonDecreasingBy-push}
 use Rattle.std.proofs.lemmas.Bool.{cases_lt, cases_eq}
-use Rattle.r2d2_core.specs.Limits.{Settings, wanted_of}
+use Rattle.r2d2_core.specs.Limits.{wanted_of}
 use Rattle.r2d2_core.specs.Ids.{same_id, last_of, front, found, without, copies_of}
 use Rattle.r2d2_core.specs.Openings.{Opening}
 use Rattle.r2d2_core.specs.Connections.{IdleConnection, LentConnection, idle_connection, lent_connection, id_of_idle, id_of_lent, since_of, is_expired, is_kept}
-use Rattle.r2d2_core.specs.OnOrder.{OnOrder, IsAccounted, IsEmpty, room_beside, with_orders, admitted_one, numbered_one, emptied}
+use Rattle.r2d2_core.specs.OnOrder.{IsAccounted, admitted_one, numbered_one}
 use Rattle.r2d2_core.specs.Picture.{Picture, IsSound, ids_in}
 use Rattle.r2d2_core.specs.Table.{at, with_on_order, ordered, top_up_of, topped_up, miss_order_of, lent_out, admitted_at, kept, lost, swept}
 use Rattle.r2d2_core.proofs.Filters.{copies_of-filter}

@@ -1,12 +1,12 @@
 -- Which of the openings and the next reap is first.
-use Rattle.std.proofs.Common.{◌≡◌, ℕ, ◌<◌, ◌≤◌, List, [], ◌∷◌, true, false, refl, sym, ap, ◌∙◌, cond, arith, get_or, Option, Some, None, nat_lt, nat_le, Bool}
+use Rattle.std.proofs.Common.{◌≡◌, ℕ, ◌<◌, ◌≤◌, List, [], ◌∷◌, true, false, refl, cond, get_or, Option, Some, None, nat_lt, nat_le, Bool}
 use Rattle.std.specs.Option.{option_map}
 use Rattle.std.specs.Duration.{as_nanos}
 use Rattle.std.specs.declared.time.Duration.{Duration}
 use Rattle.std.proofs.lemmas.Bool.{cond-true, cond-false, ltb-true, ltb-false, le-leb, lt-leb}
 use Rattle.r2d2_core.specs.Openings.{Opening, in_order, IsLeast}
-use Rattle.r2d2_core.specs.Plan.{Plan, is_some_below}
-use Rattle.r2d2_core.specs.Tasks.{Task, Wait, Open, Reap, first_task, open_or_wait, reap_or_wait}
+use Rattle.r2d2_core.specs.Plan.{is_some_below}
+use Rattle.r2d2_core.specs.Tasks.{Wait, Open, Reap, first_task, open_or_wait, reap_or_wait}
 use Rattle.r2d2_core.proofs.Openings.{in_order-from_least}
 
 opening_first : (now : ℕ) (xs rest : List Opening) (x : Opening) (reap : Option Duration) → xs ≡ x ∷ rest → is_some_below reap x.due ≡ false → first_task now xs (option_map as_nanos reap) ≡ open_or_wait now x

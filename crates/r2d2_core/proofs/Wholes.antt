@@ -1,6 +1,5 @@
 -- A core is whole where its picture is a sound one, and openings keep where what is on order is accounted for.
 use Rattle.std.proofs.Common.{◌≡◌, sym, subst}
-use Rattle.std.specs.Duration.{as_nanos}
 use Rattle.r2d2_core.specs.declared.machine.Core.TheInside.{Inside}
 use Rattle.r2d2_core.specs.declared.machine.openings.Openings.TheInside.{Inside as OpeningsInside}
 use Rattle.r2d2_core.specs.OnOrder.{OnOrder, IsAccounted}

@@ -1,5 +1,5 @@
 -- Which steps are refused, what each step answers, and what a core shows.
-use Rattle.std.specs.Prelude.{ℕ, ◌+◌, ◌-◌, min, ◌^◌, Bool, ◌==◌, ◌||◌, not, nat_lt, if◌then◌else◌, List, [], ◌∷◌, map, length, filter, Option, Some, None, Result, Ok, Err, String}
+use Rattle.std.specs.Prelude.{ℕ, ◌+◌, ◌-◌, min, ◌^◌, Bool, ◌==◌, ◌||◌, not, nat_lt, if◌then◌else◌, List, [], ◌∷◌, map, length, Option, Some, None, Ok, Err}
 use Rattle.std.specs.List.{list_any}
 use Rattle.r2d2_core.specs.declared.run.Step.{Step}
 use Rattle.r2d2_core.specs.declared.run.Step.TheVariants as step
@@ -7,9 +7,9 @@ use Rattle.r2d2_core.specs.declared.machine.answers.Refusal.{Refusal}
 use Rattle.r2d2_core.specs.declared.machine.answers.Refusal.TheVariants as refusal
 use Rattle.r2d2_core.specs.Limits.{wanted_of, later_by, delay_of, has_reached}
 use Rattle.r2d2_core.specs.Ids.{last_of}
-use Rattle.r2d2_core.specs.Connections.{IdleConnection, is_expired, closing, closed_of, pair_of}
+use Rattle.r2d2_core.specs.Connections.{closed_of, pair_of}
 use Rattle.r2d2_core.specs.Refusals.{refused_if}
-use Rattle.r2d2_core.specs.Reply.{Reply, Taken, Taking, Found, Empty, Begun, Numbered, Admitted, Failed, CheckFailed, CameBack, Return, Kept, Closed, Reaped, Told, Left}
+use Rattle.r2d2_core.specs.Reply.{Reply, Taken, Found, Empty, Begun, Numbered, Admitted, Failed, CheckFailed, CameBack, Return, Kept, Closed, Reaped, Told, Left}
 use Rattle.r2d2_core.specs.Picture.{Picture}
 use Rattle.r2d2_core.specs.Table.{or_text, taking}
 use Rattle.r2d2_core.specs.History.{History, Made, Then, limits_of, is_closed, now_of, moment_of}

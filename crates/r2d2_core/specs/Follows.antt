@@ -1,5 +1,5 @@
 -- What it is for a core to follow a history: it answers as the definitions say, and shows the history's picture.
-use Rattle.std.specs.Prelude.{◌≡◌, ℕ, ◌≤◌, true, false, map, option_map, string_bytes}
+use Rattle.std.specs.Prelude.{◌≡◌, ℕ, ◌≤◌, false, map, option_map, string_bytes}
 use Rattle.std.specs.Duration.{as_nanos}
 use Rattle.r2d2_core.specs.declared.run.Step.{Step}
 use Rattle.r2d2_core.specs.declared.run.Answer.{Answer}

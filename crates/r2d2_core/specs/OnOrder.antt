@@ -1,5 +1,5 @@
 -- What is on order: the openings that were ordered and not admitted, and what becomes of them.
-use Rattle.std.specs.Prelude.{◌≡◌, ℕ, ◌+◌, ◌-◌, ◌^◌, ◌≤◌, min, Bool, true, false, not, ◌==◌, nat_lt, if◌then◌else◌, List, [], ◌∷◌, ◌++◌, length, sum, drop, replicate, slice_index, Option, Some, None, is_some, Result}
+use Rattle.std.specs.Prelude.{◌≡◌, ℕ, ◌+◌, ◌-◌, ◌^◌, ◌≤◌, min, Bool, true, false, not, ◌==◌, nat_lt, if◌then◌else◌, List, [], ◌∷◌, ◌++◌, length, sum, drop, replicate, slice_index, Option, None, is_some}
 use Rattle.std.specs.List.{All}
 use Rattle.std.specs.Duration.{as_nanos}
 use Rattle.r2d2_core.specs.declared.machine.answers.Refusal.{Refusal}
@@ -9,7 +9,7 @@ use Rattle.r2d2_core.specs.Ids.{found, without, same_id}
 use Rattle.r2d2_core.specs.Openings.{Opening, opening, with_opening, with_many, one_more, one_less}
 use Rattle.r2d2_core.specs.Tasks.{Task, Open, Reap, Wait, Nothing, Ended, first_task}
 use Rattle.r2d2_core.specs.Plan.{first_reap, next_by}
-use Rattle.r2d2_core.specs.Refusals.{refused_if, ok_unless, unless_refused}
+use Rattle.r2d2_core.specs.Refusals.{refused_if, unless_refused}
 
 pub record OnOrder : Type 0 where
   pub limits : Settings

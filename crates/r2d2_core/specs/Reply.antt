@@ -1,5 +1,5 @@
 -- What a caller sees of an answer: moments and ages in nanoseconds, lists as lists, texts as bytes.
-use Rattle.std.specs.Prelude.{ℕ, List, map, Option, option_map, Result, Ok, Err, string_bytes}
+use Rattle.std.specs.Prelude.{ℕ, List, Option, Result, Ok, Err}
 use Rattle.std.specs.Duration.{as_nanos}
 use Rattle.r2d2_core.specs.declared.machine.answers.Refusal.{Refusal}
 use Rattle.r2d2_core.specs.declared.machine.answers.Take.{Take}

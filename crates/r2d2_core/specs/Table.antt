@@ -1,11 +1,11 @@
 -- What each step answers, and what it makes of the picture. A step's moment is raised to the latest so far.
-use Rattle.std.specs.Prelude.{ℕ, ◌+◌, ◌-◌, max, Bool, true, false, ◌||◌, not, List, [], ◌∷◌, ◌++◌, length, map, filter, Option, Some, None, is_some, option_map, unwrap_or, Result, String, string_bytes}
+use Rattle.std.specs.Prelude.{ℕ, ◌+◌, ◌-◌, max, Bool, true, false, ◌||◌, not, List, [], ◌∷◌, ◌++◌, length, map, filter, Option, Some, None, is_some, unwrap_or, Result, String, string_bytes}
 use Rattle.r2d2_core.specs.declared.machine.answers.Refusal.{Refusal}
 use Rattle.r2d2_core.specs.declared.machine.answers.Refusal.TheVariants as refusal
 use Rattle.r2d2_core.specs.Limits.{Settings, has_reached}
 use Rattle.r2d2_core.specs.Ids.{last_of, front, without}
 use Rattle.r2d2_core.specs.Tasks.{Task}
-use Rattle.r2d2_core.specs.Connections.{IdleConnection, LentConnection, Closing, idle_connection, lent_connection, id_of_lent, pair_of, birth_in, is_expired, is_kept, closed_of}
+use Rattle.r2d2_core.specs.Connections.{IdleConnection, Closing, idle_connection, lent_connection, id_of_lent, pair_of, birth_in, is_expired, is_kept, closed_of}
 use Rattle.r2d2_core.specs.Refusals.{refused_if, ok_unless, ok_or_back, unless_refused}
 use Rattle.r2d2_core.specs.OnOrder.{OnOrder, top_up, miss_order, with_orders, first_on_order, task_at, begun, number_refusal, after_numbering, admit_refusal, admitted_one, fail_refusal, due_again, failed_one, emptied}
 use Rattle.r2d2_core.specs.Picture.{Picture}

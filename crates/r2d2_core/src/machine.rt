@@ -2,9 +2,9 @@
 ghost use Rattle.std.specs.Prelude.{◌≡◌, ◌≤◌, max, map, length, option_map, slice_get, string_bytes, vec_len, vec_capacity, IfOk};
 ghost use Rattle.std.specs.Duration.{as_nanos};
 
+use crate::schedule::Job;
 pub use crate::schedule::Limits;
 pub use answers::{Gone, Refusal, Released, Returned, Take};
-use crate::schedule::Job;
 use idle::{Entry, Idle, reached};
 pub use leftover::Leftover;
 use loan::Loan;

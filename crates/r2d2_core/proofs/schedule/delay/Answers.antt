@@ -1,4 +1,4 @@
-use Rattle.std.proofs.Common.{arith, rules, ◌≡◌, ℕ, ◌*◌, ◌^◌, ◌<◌, ◌∙◌}
+use Rattle.std.proofs.Common.{arith, rules, ◌≡◌, ◌*◌, ◌^◌, ◌<◌, ◌∙◌}
 use Rattle.std.specs.Duration.{as_nanos}
 use Rattle.r2d2_core.proofs.Delays.{min-doubled_long, doubled_fits, doubled-mod}
 use Rattle.r2d2_core.proofs.schedule.delay.Goals as goal

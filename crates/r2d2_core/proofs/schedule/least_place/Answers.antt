@@ -1,4 +1,4 @@
-use Rattle.std.proofs.Common.{arith, ◌≡◌, ℕ, ◌+◌, ◌<◌, length, true, false, get_or, refl, sym, ◌∙◌, List, below_more}
+use Rattle.std.proofs.Common.{arith, ◌≡◌, ℕ, ◌+◌, ◌<◌, length, true, false, get_or, sym, ◌∙◌, List, below_more}
 use Rattle.std.proofs.lemmas.List.{get_or_read}
 use Rattle.r2d2_core.specs.Openings.{Opening, is_before}
 use Rattle.r2d2_core.proofs.Openings.{not_before_itself, not_before_through}

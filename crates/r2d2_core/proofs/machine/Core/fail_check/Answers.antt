@@ -1,4 +1,4 @@
-use Rattle.std.proofs.Common.{rules, ◌≡◌, arith, subst}
+use Rattle.std.proofs.Common.{rules, arith, subst}
 use Rattle.std.proofs.lemmas.Grind.{common_steps}
 use Rattle.std.specs.Duration.{as_nanos}
 use Rattle.r2d2_core.specs.Picture.{IsSound}

@@ -1,11 +1,11 @@
-use Rattle.std.proofs.Common.{arith, rules, ◌≡◌, ℕ, ◌<◌, ◌≤◌, ◌∙◌, ◌∷◌, List, true, false, ap, sym, refl, get_or, drop, Option, Some, []}
+use Rattle.std.proofs.Common.{arith, rules, ◌≡◌, ℕ, ◌∙◌, List, true, false, ap, sym, refl, drop, Option, Some, []}
 use Rattle.std.specs.Vec.{vec_len}
 use Rattle.std.specs.Option.{option_map}
 use Rattle.std.specs.Duration.{as_nanos}
 use Rattle.std.specs.declared.time.Duration.{Duration}
 use Rattle.std.proofs.lemmas.List.{get_or_read, nil_from_length}
 use Rattle.r2d2_core.specs.Openings.{Opening, in_order, IsLeast}
-use Rattle.r2d2_core.specs.Plan.{Plan, is_some_below, with_openings}
+use Rattle.r2d2_core.specs.Plan.{is_some_below}
 use Rattle.r2d2_core.specs.Tasks.{Wait, Open, first_task, reap_or_wait}
 use Rattle.r2d2_core.proofs.Openings.{in_order-from_least}
 use Rattle.r2d2_core.proofs.Tasks.{opening_is_first, reap_is_first, reap_is_alone, opening_waits, opening_opens, reap_waits, reap_reaps}

@@ -1,5 +1,4 @@
-use Rattle.std.proofs.Common.{arith, rules, ◌≡◌, ◌<◌, ◌^◌, ◌∙◌, ◌++◌, ◌∷◌, [], ap, sym, refl, length}
-use Rattle.std.specs.Vec.{vec_len, vec_capacity}
+use Rattle.std.proofs.Common.{arith, rules, ◌≡◌, ◌∙◌, ◌++◌, ◌∷◌, [], ap, sym, refl, length}
 use Rattle.r2d2_core.specs.Openings.{in_order, with_opening}
 use Rattle.r2d2_core.specs.Plan.{Plan}
 use Rattle.r2d2_core.proofs.Openings.{length-in_order, in_order-push}

@@ -1,4 +1,4 @@
-use Rattle.std.proofs.Common.{arith, ◌≡◌, ◌∙◌, sym, ap, ℕ, List, refl, ◌<◌, length}
+use Rattle.std.proofs.Common.{arith, ◌∙◌, sym, ap, ◌<◌, length}
 use Rattle.std.specs.Option.{IsSome}
 use Rattle.r2d2_core.specs.Ids.{last_of}
 use Rattle.r2d2_core.specs.Shelf.{shelf_of}

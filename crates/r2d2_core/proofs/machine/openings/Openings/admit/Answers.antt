@@ -1,8 +1,7 @@
-use Rattle.std.proofs.Common.{rules, ◌≡◌, ◌<◌, ◌≤◌, ◌+◌, arith, subst}
+use Rattle.std.proofs.Common.{rules, arith, subst}
 use Rattle.std.proofs.lemmas.Grind.{common_steps}
-use Rattle.std.specs.Duration.{as_nanos}
 use Rattle.r2d2_core.specs.Refusals.{unless_refused}
-use Rattle.r2d2_core.specs.OnOrder.{IsAccounted, with_orders, begun, after_numbering, admit_refusal, admitted_one, fail_refusal, failed_one, emptied}
+use Rattle.r2d2_core.specs.OnOrder.{IsAccounted, admit_refusal, admitted_one}
 use Rattle.r2d2_core.proofs.Accounted.{accounted_admitted}
 use Rattle.r2d2_core.proofs.Wholes.{keeping}
 use Rattle.r2d2_core.proofs.machine.openings.Openings.admit.Goals as goal

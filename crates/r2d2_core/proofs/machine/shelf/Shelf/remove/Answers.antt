@@ -1,4 +1,4 @@
-use Rattle.std.proofs.Common.{arith, ◌≡◌, ◌∙◌, sym, ap, Some, refl}
+use Rattle.std.proofs.Common.{◌∙◌, sym, ap, Some, refl}
 use Rattle.r2d2_core.specs.Ids.{NoneBelow, IsFirst}
 use Rattle.r2d2_core.proofs.Ids.{found_none, found_first, without_none, without_first}
 use Rattle.r2d2_core.proofs.machine.shelf.Shelf.remove.Goals as goal
