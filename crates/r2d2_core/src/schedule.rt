@@ -13,22 +13,24 @@ use std::time::Duration;
 mod entry;
 pub(crate) mod limits;
 
-/// What is to be done now.
+/// What a worker is to do now.
 #[derive(Clone, Copy, PartialEq, Eq, Debug)]
 pub enum Job {
-    /// Open a connection; opening it failed so many times.
+    /// Open a connection; opening it failed `tries` times so far, counted up to 99.
     Open { tries: u32 },
-    /// Close what is idle or alive too long.
+    /// Close what is idle too long or too old.
     Reap,
     /// Nothing before that moment.
     Wait(Duration),
     /// Nothing until something is ordered.
     Nothing,
-    /// Nothing ever again.
+    /// Nothing, ever again: the core is closed.
     Closed,
 }
 
-/// The openings that are ordered, and the next reap.
+/// Openings by the moment at which they are due, and the next reap.
+///
+/// All memory is taken at the making; no other call takes any.
 #[derive(Drop)]
 pub struct Schedule<A: Allocator = Global> {
     max_size: u32,
@@ -63,7 +65,8 @@ impl<A: Allocator> Schedule<A> {
     ghost use Rattle.r2d2_core.specs.Plan.{first_plan, joined, cleared, with_openings, after_task};
     ghost use Rattle.r2d2_core.specs.Tasks.{seen_job, first_task};
 
-    /// No openings, room for as many as there may be connections, and the first reap.
+    /// No openings, room for `max_size` of them, and the first reap, where an age or an idle time is limited: `reap_every` after `now`. The
+    /// error comes only where memory is refused.
     pub fn new(alloc: A, limits: Limits, now: Duration) -> Result<Schedule<A>, AllocError>
         ensures { IfOk result (λ schedule. schedule ≡ first_plan (settings_of limits) (as_nanos now)) }
     {
@@ -91,12 +94,12 @@ impl<A: Allocator> Schedule<A> {
         self.entries.len() as u32
     }
 
-    /// Adds an opening.
+    /// Adds an opening that is due at `due` and failed `tries` times. There is room while `len` is below `max_size`.
     pub fn order(&mut self, due: Duration, tries: u32)
         requires { length self.old.openings < self.old.max_size }
         ensures { self.new ≡ joined (opening (as_nanos due) tries) self.old }
     {
-        self.entries.push(Entry::new(due, tries)).unwrap();
+        self.entries.push_reserved(Entry::new(due, tries));
     }
 
     /// Adds so many openings that never failed.
@@ -109,7 +112,8 @@ impl<A: Allocator> Schedule<A> {
         }
     }
 
-    /// What is to be done at the moment `now`.
+    /// What is to be done at the moment `now`, and taken out then: the opening that is due first, by its tries among equals, or the next reap if
+    /// that is due before it. What is not due yet stays: then the answer is to wait for it.
     pub fn next(&mut self, now: Duration) -> Job
         ensures answer { seen_job result ≡ first_task (as_nanos now) self.old.openings self.old.next_reap }
         ensures after { self.new ≡ after_task (seen_job result) self.old }
@@ -139,7 +143,7 @@ impl<A: Allocator> Schedule<A> {
         }
     }
 
-    /// Drops the openings and the next reap.
+    /// Forgets the openings and the next reap.
     pub fn clear(&mut self)
         ensures { self.new ≡ cleared self.old }
     {
@@ -162,7 +166,7 @@ fn least_place(entries: &[Entry]) -> usize
     place
 }
 
-/// The k-th delay in a row of one opening: half the timeout, or 200 ms doubled k times if that is less.
+/// The `k`-th delay in a row of one opening: 200 ms doubled `k` times, or half of `connection_timeout` if that is less.
 pub fn delay(connection_timeout: Duration, k: u32) -> Duration
     ensures { as_nanos result ≡ min (as_nanos connection_timeout / 2) (200_000_000 * 2 ^ k) }
 {

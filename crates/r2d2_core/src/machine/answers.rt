@@ -18,7 +18,7 @@ pub enum Refusal {
 }
 
 /// What a take gave.
-#[derive(Drop)]
+#[derive(Drop, Debug)]
 pub enum Take<T> {
     /// The newest idle connection.
     Found {
@@ -46,7 +46,7 @@ pub struct Gone {
 }
 
 /// What became of a connection that came back.
-#[derive(Drop)]
+#[derive(Drop, Debug)]
 pub enum Returned<T> {
     /// It is the newest idle one.
     Kept,
@@ -61,7 +61,7 @@ pub enum Returned<T> {
 }
 
 /// A connection that a reap closed.
-#[derive(Drop)]
+#[derive(Drop, Debug)]
 pub struct Released<T> {
     pub id: u64,
     /// How long ago it was admitted.

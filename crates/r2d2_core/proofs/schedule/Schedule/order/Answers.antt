@@ -4,23 +4,23 @@ use Rattle.r2d2_core.specs.Plan.{Plan}
 use Rattle.r2d2_core.proofs.Openings.{length-in_order, in_order-push}
 use Rattle.r2d2_core.proofs.schedule.Schedule.order.Goals as goal
 
-pub unwrap-requires : goal.unwrap-requires
-unwrap-requires g c =
+pub push_reserved-requires : goal.push_reserved-requires
+push_reserved-requires g c =
     let entries = c.self.inside.entries in
     let held : length c.args.self.now.openings ≡ length entries.items = ap (λ (p : Plan). length p.openings) (sym c.self.view_is) ∙ length-in_order entries.items in
     let size : c.args.self.now.max_size ≡ c.self.inside.max_size = ap (λ (p : Plan). p.max_size) (sym c.self.view_is) in
-    c.push.ensures.succeeds (omega (arith, entries.ok.0, c.requires))
+    omega (arith, entries.ok.0, c.requires)
 
 pub invariant_of-self : goal.invariant_of-self
 invariant_of-self g c =
     let entries = c.self.inside.entries in
     let held : length c.args.self.now.openings ≡ length entries.items = ap (λ (p : Plan). length p.openings) (sym c.self.view_is) ∙ length-in_order entries.items in
     let size : c.args.self.now.max_size ≡ c.self.inside.max_size = ap (λ (p : Plan). p.max_size) (sym c.self.view_is) in
-    (omega (arith, entries.ok.0, c.requires, c.push.ensures.upper_bound), omega (arith, c.push.ensures.capacity), omega arith)
+    (omega (arith, entries.ok.0, c.requires, c.push_reserved.ensures.len), omega (arith, c.push_reserved.ensures.capacity), omega arith)
 
 pub returns : goal.returns
 returns g c =
     let items = c.self.inside.entries.items in
-    let pushed : c.push.new.self.items ≡ items ++ c.new.result ∷ [] = search rules in
-    let joined : in_order c.push.new.self.items ≡ with_opening c.new.result (in_order items) = ap in_order pushed ∙ in_order-push items c.new.result in
+    let pushed : c.push_reserved.new.self.items ≡ items ++ c.new.result ∷ [] = search rules in
+    let joined : in_order c.push_reserved.new.self.items ≡ with_opening c.new.result (in_order items) = ap in_order pushed ∙ in_order-push items c.new.result in
     rw (← c.self.view_is) (rw joined (rw c.new.ensures refl))
