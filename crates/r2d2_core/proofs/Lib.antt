@@ -28,3 +28,4 @@ pub mod FollowsReap
 pub mod FollowsTakeError
 pub mod FollowsClose
 pub mod Runs
+pub mod Rows

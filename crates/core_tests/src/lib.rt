@@ -1,0 +1,27 @@
+//! Tests of the core of a pool: rows of steps whose answers were worked out by hand, and what no contract says.
+#![tactic(auto)]
+
+#[cfg(test)]
+mod closing;
+#[cfg(test)]
+mod errors;
+#[cfg(test)]
+mod extremes;
+#[cfg(test)]
+mod lending;
+#[cfg(test)]
+mod lines;
+#[cfg(test)]
+mod memory;
+#[cfg(test)]
+mod opening;
+#[cfg(test)]
+mod ordering;
+#[cfg(test)]
+mod reaping;
+#[cfg(test)]
+mod refusing;
+#[cfg(test)]
+mod rows;
+#[cfg(test)]
+mod steps;
