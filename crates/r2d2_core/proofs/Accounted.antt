@@ -65,7 +65,7 @@ accounted_orders n due o within none a = record {
   empty_once_closed = λ closed.
       let e = a.empty_once_closed closed in
       let z : n ≡ 0 = none closed in
-      record { pending = omega (arith, e.pending); scheduled = none_more n (opening due 0) o.scheduled z ∙ e.scheduled; in_work = e.in_work; numbered = e.numbered };
+      record { pending = omega (arith, e.pending); scheduled = none_more n (opening due 0) o.scheduled z ∙ e.scheduled; in_work = e.in_work; numbered = e.numbered; next_reap = e.next_reap };
 }
 
 pub accounted_first : (limits : Settings) (now first_id : ℕ) → wanted_of limits ≤ limits.max_size → IsAccounted (first_on_order limits now first_id)
@@ -94,20 +94,20 @@ accounted_open x rest o is is_open a =
       empty_once_closed = λ closed. absurd (is_not o.closed closed is_open);
     }
 
-accounted_reap : (o : OnOrder) → IsAccounted o → IsAccounted (begun_by Reap o)
-accounted_reap o a = record {
+accounted_reap : (o : OnOrder) → o.closed ≡ false → IsAccounted o → IsAccounted (begun_by Reap o)
+accounted_reap o is_open a = record {
   placed = a.placed;
   within = a.within;
   tries = a.tries;
   lanes = a.lanes;
-  empty_once_closed = λ closed. let e = a.empty_once_closed closed in record { pending = e.pending; scheduled = e.scheduled; in_work = e.in_work; numbered = e.numbered };
+  empty_once_closed = λ closed. absurd (is_not o.closed closed is_open);
 }
 
 accounted_task : (task : Task) (now : ℕ) (o : OnOrder) → task ≡ first_task now o.scheduled o.next_reap → o.closed ≡ false → IsAccounted o → IsAccounted (begun_by task o)
 accounted_task (Open tries) now o is is_open a =
     let first = opens_first tries now o.scheduled o.next_reap is in
     subst (λ (k : ℕ). IsAccounted (begun_by (Open k) o)) first.3 (accounted_open first.0 first.1 o first.2 is_open a)
-accounted_task Reap now o is is_open a = accounted_reap o a
+accounted_task Reap now o is is_open a = accounted_reap o is_open a
 accounted_task (Wait due) now o is is_open a = a
 accounted_task Nothing now o is is_open a = a
 accounted_task Ended now o is is_open a = a
@@ -183,5 +183,5 @@ accounted_emptied o = record {
   within = omega arith;
   tries = λ k d lt. absurd (omega arith);
   lanes = refl;
-  empty_once_closed = λ closed. record { pending = refl; scheduled = refl; in_work = refl; numbered = refl };
+  empty_once_closed = λ closed. record { pending = refl; scheduled = refl; in_work = refl; numbered = refl; next_reap = refl };
 }

@@ -10,7 +10,8 @@ use Rattle.r2d2_core.specs.Ids.{last_of, front, copies_of}
 use Rattle.r2d2_core.specs.Connections.{IdleConnection, lent_connection, id_of_idle, id_of_lent}
 use Rattle.r2d2_core.specs.Reply.{Taken, Found, Empty}
 use Rattle.r2d2_core.specs.Picture.{IsSound}
-use Rattle.r2d2_core.specs.Table.{at, ordered, lent_out, taking, take_orders, taken, take_answer, after_take}
+use Rattle.r2d2_core.specs.Table.{at, ordered, lent_out, take_orders, taken, take_answer, after_take}
+use Rattle.r2d2_core.specs.Reply.{taking}
 use Rattle.r2d2_core.specs.History.{History, Then, is_closed, moment_of}
 use Rattle.r2d2_core.specs.Deeds.{Deed, deed, Taking_out, birth_of, idle_of, lent_of, connections_of, gone_count}
 use Rattle.r2d2_core.specs.Pending.{on_order_of}

@@ -10,7 +10,8 @@ use Rattle.r2d2_core.specs.Refusals.{unless_refused}
 use Rattle.r2d2_core.specs.Connections.{IdleConnection, LentConnection, id_of_idle, id_of_lent, birth_in}
 use Rattle.r2d2_core.specs.OnOrder.{IsAccounted, task_at, begun_by, number_refusal, numbered_one, admit_refusal, admitted_one, fail_refusal, failed_one}
 use Rattle.r2d2_core.specs.Picture.{Picture, IsSound}
-use Rattle.r2d2_core.specs.Table.{at, with_on_order, topped_up, first_picture, taken, after_take, after_begin, after_number, admitted_at, after_admit, or_text, failed, after_fail, lent_refusal, lent_birth, is_closing, lost, returned_by, returned, after_return, with_text, after_check, after_reap, after_take_error, after_close}
+use Rattle.r2d2_core.specs.Table.{at, with_on_order, topped_up, first_picture, taken, after_take, after_begin, after_number, admitted_at, after_admit, failed, after_fail, lent_refusal, lent_birth, is_closing, lost, returned_by, returned, after_return, with_text, after_check, after_reap, after_take_error, after_close}
+use Rattle.r2d2_core.specs.Reply.{or_text}
 use Rattle.r2d2_core.proofs.Ids.{copies_of-append3}
 use Rattle.r2d2_core.proofs.Accounted.{unless_refused-keeps, passes, not_false, is_not, found_numbered, accounted_first, accounted_begun, accounted_numbering, accounted_admitted, accounted_failed, accounted_emptied}
 use Rattle.r2d2_core.proofs.Steady.{steady, apart_still, sound_at, sound_topped_up, sound_missed, sound_rescheduled, sound_told, steady_lent_out, steady_lost, sound_kept, sound_numbered, sound_admitted, steady_swept}

@@ -5,11 +5,11 @@ use Rattle.std.specs.Duration.{as_nanos}
 use Rattle.std.specs.declared.time.Duration.{Duration}
 use Rattle.std.proofs.lemmas.Bool.{cond-true, cond-false, ltb-true, ltb-false, le-leb, lt-leb}
 use Rattle.r2d2_core.specs.Openings.{Opening, in_order, IsLeast}
-use Rattle.r2d2_core.specs.Plan.{is_some_below}
+use Rattle.r2d2_core.specs.Plan.{is_due_before}
 use Rattle.r2d2_core.specs.Tasks.{Wait, Open, Reap, first_task, open_or_wait, reap_or_wait}
 use Rattle.r2d2_core.proofs.Openings.{in_order-from_least}
 
-opening_first : (now : ℕ) (xs rest : List Opening) (x : Opening) (reap : Option Duration) → xs ≡ x ∷ rest → is_some_below reap x.due ≡ false → first_task now xs (option_map as_nanos reap) ≡ open_or_wait now x
+opening_first : (now : ℕ) (xs rest : List Opening) (x : Opening) (reap : Option Duration) → xs ≡ x ∷ rest → is_due_before reap x.due ≡ false → first_task now xs (option_map as_nanos reap) ≡ open_or_wait now x
 opening_first now xs rest x None e h = rw e refl
 opening_first now xs rest x (Some r) e h = rw e (cond-true _ _ _ (le-leb x.due (as_nanos r) (ltb-false (as_nanos r) x.due h)))
 
@@ -17,11 +17,11 @@ reap_first : (now : ℕ) (xs rest : List Opening) (x : Opening) (r : ℕ) → xs
 reap_first now xs rest x r e h = rw e (cond-false _ _ _ (lt-leb x.due r (ltb-true r x.due h)))
 
 -- the opening at a least place is the entry
-pub opening_is_first : (now : ℕ) (items : List Opening) (place : ℕ) (x : Opening) (reap : Option Duration) → IsLeast items place → x ≡ get_or items place x → is_some_below reap x.due ≡ false → first_task now (in_order items) (option_map as_nanos reap) ≡ open_or_wait now x
+pub opening_is_first : (now : ℕ) (items : List Opening) (place : ℕ) (x : Opening) (reap : Option Duration) → IsLeast items place → x ≡ get_or items place x → is_due_before reap x.due ≡ false → first_task now (in_order items) (option_map as_nanos reap) ≡ open_or_wait now x
 opening_is_first now items place x reap least read h = opening_first now (in_order items) _ x reap (in_order-from_least items place x least read) h
 
 -- the reap is the entry
-pub reap_is_first : (now : ℕ) (items : List Opening) (place : ℕ) (x : Opening) (reap : Duration) → IsLeast items place → x ≡ get_or items place x → is_some_below (Some reap) x.due ≡ true → first_task now (in_order items) (Some (as_nanos reap)) ≡ reap_or_wait now (as_nanos reap)
+pub reap_is_first : (now : ℕ) (items : List Opening) (place : ℕ) (x : Opening) (reap : Duration) → IsLeast items place → x ≡ get_or items place x → is_due_before (Some reap) x.due ≡ true → first_task now (in_order items) (Some (as_nanos reap)) ≡ reap_or_wait now (as_nanos reap)
 reap_is_first now items place x reap least read h = reap_first now (in_order items) _ x (as_nanos reap) (in_order-from_least items place x least read) h
 
 pub reap_is_alone : (now : ℕ) (items : List Opening) (r : ℕ) → items ≡ [] → first_task now (in_order items) (Some r) ≡ reap_or_wait now r

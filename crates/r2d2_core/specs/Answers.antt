@@ -7,11 +7,12 @@ use Rattle.r2d2_core.specs.declared.machine.answers.Refusal.{Refusal}
 use Rattle.r2d2_core.specs.declared.machine.answers.Refusal.TheVariants as refusal
 use Rattle.r2d2_core.specs.Limits.{wanted_of, later_by, delay_of, has_reached}
 use Rattle.r2d2_core.specs.Ids.{last_of}
-use Rattle.r2d2_core.specs.Connections.{closed_of, pair_of}
+use Rattle.r2d2_core.specs.Connections.{closed_of, pair_of, Closing}
 use Rattle.r2d2_core.specs.Refusals.{refused_if}
 use Rattle.r2d2_core.specs.Reply.{Reply, Taken, Found, Empty, Begun, Numbered, Admitted, Failed, CheckFailed, CameBack, Return, Kept, Closed, Reaped, Told, Left}
 use Rattle.r2d2_core.specs.Picture.{Picture}
-use Rattle.r2d2_core.specs.Table.{or_text, taking}
+use Rattle.r2d2_core.specs.Reply.{taking}
+use Rattle.r2d2_core.specs.Reply.{or_text}
 use Rattle.r2d2_core.specs.History.{History, Made, Then, limits_of, is_closed, now_of, moment_of}
 use Rattle.r2d2_core.specs.Deeds.{connections_of, idle_of, lent_of, birth_of}
 use Rattle.r2d2_core.specs.Pending.{pending_of, task_of, in_work_at, next_id_of, numbered_of, on_order_of}
@@ -68,6 +69,10 @@ module _ {T : Type 0} where
   abbrev pub closes : History T → ℕ → ℕ → Bool → Bool
   closes h t id broken = broken || (has_reached (limits_of h).max_lifetime (age_of h t id) || is_closed h)
 
+  -- what a reap at a moment after h closes, oldest first
+  abbrev pub reaped_of : History T → ℕ → List (Closing T)
+  reaped_of h t = closed_of (limits_of h) t (idle_of h)
+
   abbrev pub return_with : Bool → T → ℕ → ℕ → Return T
   return_with b value age n = if b then Closed value age n else Kept
 
@@ -82,7 +87,7 @@ module _ {T : Type 0} where
   reply_with h n (step.PutBack now id value broken) =
       let t = moment_of h (step.PutBack now id value broken) in
       CameBack (Ok (return_with (closes h t id broken) value (age_of h t id) n))
-  reply_with h n (step.Reap now) = Reaped (closed_of (limits_of h) (moment_of h (step.Reap now)) (idle_of h)) n
+  reply_with h n (step.Reap now) = Reaped (reaped_of h (moment_of h (step.Reap now))) n
   reply_with h n step.TakeError = Told (last_error_of h)
   reply_with h n step.Close = Left (map pair_of (idle_of h))
 

@@ -50,7 +50,7 @@ module _ {T : Type 0} where
 
   -- or keeps it
   unfoldable pub is_kept : Settings → ℕ → IdleConnection T → Bool
-  is_kept limits now c = not (has_reached limits.idle_timeout (now - c.since) || has_reached limits.max_lifetime (now - c.birth))
+  is_kept limits now c = not (is_expired limits now c)
 
   -- what a reap at the moment hands out of it
   unfoldable pub closing : ℕ → IdleConnection T → Closing T

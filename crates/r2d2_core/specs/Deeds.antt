@@ -71,7 +71,7 @@ module _ {T : Type 0} where
   admits (step.Admit now id value) i = id == i
   admits _ i = false
 
-  -- the moment at which an id was admitted
+  -- the moment at which an id was admitted; 0 where it never was
   abbrev pub birth_of : History T → ℕ → ℕ
   birth_of (Made limits moment first) i = 0
   birth_of (Then h s r) i = if admits s i then moment_of h s else birth_of h i

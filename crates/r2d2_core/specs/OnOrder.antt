@@ -24,12 +24,13 @@ pub record OnOrder : Type 0 where
   pub pending : ℕ
   pub closed : Bool
 
--- nothing is on order
+-- nothing is on order, and no reap is due any more
 pub record IsEmpty (o : OnOrder) : Type 0 where
   pub pending : o.pending ≡ 0
   pub scheduled : o.scheduled ≡ []
   pub in_work : o.in_work ≡ replicate 100 0
   pub numbered : o.numbered ≡ []
+  pub next_reap : o.next_reap ≡ None
 
 -- each pending opening stands in one of three places
 pub record IsAccounted (o : OnOrder) : Type 0 where

@@ -44,6 +44,6 @@ after_task Nothing p = p
 after_task Ended p = p
 
 -- the reap is due before that moment
-abbrev pub is_some_below : Option Duration → ℕ → Bool
-is_some_below None due = false
-is_some_below (Some reap) due = nat_lt (as_nanos reap) due
+abbrev pub is_due_before : Option Duration → ℕ → Bool
+is_due_before None due = false
+is_due_before (Some reap) due = nat_lt (as_nanos reap) due

@@ -1,5 +1,5 @@
 -- What a caller sees of an answer: moments and ages in nanoseconds, lists as lists, texts as bytes.
-use Rattle.std.specs.Prelude.{ℕ, List, Option, Result, Ok, Err}
+use Rattle.std.specs.Prelude.{ℕ, List, Option, Result, Ok, Err, Some, None, String, string_bytes}
 use Rattle.std.specs.Duration.{as_nanos}
 use Rattle.r2d2_core.specs.declared.machine.answers.Refusal.{Refusal}
 use Rattle.r2d2_core.specs.declared.machine.answers.Take.{Take}
@@ -8,7 +8,7 @@ use Rattle.r2d2_core.specs.declared.machine.answers.Gone.{Gone}
 use Rattle.r2d2_core.specs.declared.machine.answers.Returned.{Returned}
 use Rattle.r2d2_core.specs.declared.machine.answers.Returned.TheVariants as returned
 use Rattle.r2d2_core.specs.declared.machine.answers.Released.{Released}
-use Rattle.r2d2_core.specs.Connections.{Closing}
+use Rattle.r2d2_core.specs.Connections.{IdleConnection, Closing}
 use Rattle.r2d2_core.specs.Tasks.{Task}
 
 -- what a take gave
@@ -20,6 +20,11 @@ pub data Taking (T : Type 0) : Type 0 where
 pub data Return (T : Type 0) : Type 0 where
   Kept : Return T
   Closed : (value : T) (age ordered : ℕ) → Return T
+
+-- what a take of that idle connection gives, where it orders n
+abbrev pub taking : {T : Type 0} → Option (IdleConnection T) → ℕ → Taking T
+taking None n = Empty n
+taking (Some c) n = Found c.id c.birth c.value n
 
 -- a connection whose check failed is gone
 pub record Loss : Type 0 where
@@ -56,3 +61,8 @@ seen_released r = record { id = r.id; age = as_nanos r.age; value = r.value }
 abbrev pub map_ok : {X Y E : Type 0} → (X → Y) → Result X E → Result Y E
 map_ok f (Ok x) = Ok (f x)
 map_ok f (Err e) = Err e
+
+-- a text is recorded; where there is none, what was there stays
+abbrev pub or_text : {A : Type 0} → Option (String A) → Option (List ℕ) → Option (List ℕ)
+or_text None before = before
+or_text (Some text) before = Some (string_bytes text)

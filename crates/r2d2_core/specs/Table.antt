@@ -9,12 +9,7 @@ use Rattle.r2d2_core.specs.Connections.{IdleConnection, Closing, idle_connection
 use Rattle.r2d2_core.specs.Refusals.{refused_if, ok_unless, ok_or_back, unless_refused}
 use Rattle.r2d2_core.specs.OnOrder.{OnOrder, top_up, miss_order, with_orders, first_on_order, task_at, begun, number_refusal, after_numbering, admit_refusal, admitted_one, fail_refusal, due_again, failed_one, emptied}
 use Rattle.r2d2_core.specs.Picture.{Picture}
-use Rattle.r2d2_core.specs.Reply.{Taking, Found, Empty, Return, Kept, Closed, Loss}
-
--- a text is recorded; where there is none, what was there stays
-abbrev pub or_text : {A : Type 0} → Option (String A) → Option (List ℕ) → Option (List ℕ)
-or_text None before = before
-or_text (Some text) before = Some (string_bytes text)
+use Rattle.r2d2_core.specs.Reply.{Taking, Found, Empty, Return, Kept, Closed, Loss, taking, or_text}
 
 module _ {T : Type 0} where
   -- the raised moment becomes the latest
@@ -47,10 +42,6 @@ module _ {T : Type 0} where
 
   abbrev pub lent_out : IdleConnection T → Picture T → Picture T
   lent_out c p = record p { idle = front p.idle; lent = p.lent ++ lent_connection c.id c.birth ∷ [] }
-
-  abbrev pub taking : Option (IdleConnection T) → ℕ → Taking T
-  taking None n = Empty n
-  taking (Some c) n = Found c.id c.birth c.value n
 
   abbrev pub take_orders : Option (IdleConnection T) → Bool → Picture T → ℕ
   take_orders None or_order p = miss_order_of or_order p

@@ -23,8 +23,8 @@ pub(crate) mod shelf;
 
 /// Which connections there are, and which openings are pending.
 ///
-/// `T` is what the owner keeps of a connection, and the core never drops it. All memory is taken at the making: no step
-/// takes any. A moment is a `Duration` since the pool was made; a step with an earlier one counts as at the latest so far.
+/// `T` is what the owner keeps of a connection. No step drops one: each comes back in an answer. All memory is taken at the
+/// making: no step takes any. A moment is a `Duration` since the pool was made; a step with an earlier one counts as at the latest so far.
 #[derive(Drop)]
 pub struct Core<T, A: Allocator = Global> {
     latest: Duration,
@@ -316,7 +316,7 @@ impl<T, A: Allocator> Core<T, A> {
             .top_up(self.idle.len(), self.lent.len(), self.latest)
     }
 
-    /// The latest text that was recorded since the last admission, and none from then on.
+    /// The latest text recorded since the last admission, if it was not told yet: each is told once.
     pub fn take_error(&mut self) -> Option<String>
         ensures answer { option_map string_bytes result ≡ self.old.last_error }
         ensures after { self.new ≡ after_take_error self.old }
@@ -342,7 +342,7 @@ fn later(a: Duration, b: Duration) -> Duration
     if a.as_nanos() < b.as_nanos() { b } else { a }
 }
 
-ghost use Rattle.r2d2_core.specs.Table.{or_text};
+ghost use Rattle.r2d2_core.specs.Reply.{or_text};
 
 // A text takes the place of the last one; where there is none, that stays.
 fn record(last_error: &mut Option<String>, text: Option<String>)

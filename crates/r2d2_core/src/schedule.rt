@@ -2,7 +2,7 @@
 ghost use Rattle.std.specs.Prelude.{◌≡◌, ℕ, ◌+◌, ◌*◌, ◌/◌, ◌^◌, ◌<◌, ◌≤◌, min, length, IfOk};
 ghost use Rattle.std.specs.Duration.{as_nanos};
 ghost use Rattle.r2d2_core.specs.Openings.{IsLeast};
-ghost use Rattle.r2d2_core.specs.Plan.{is_some_below};
+ghost use Rattle.r2d2_core.specs.Plan.{is_due_before};
 
 use entry::Entry;
 pub use limits::Limits;
@@ -184,7 +184,7 @@ pub fn delay(connection_timeout: Duration, k: u32) -> Duration
 
 // The reap is due before that moment.
 fn is_reap_before(next_reap: Option<Duration>, due: Duration) -> bool
-    ensures { result ≡ is_some_below next_reap (as_nanos due) }
+    ensures { result ≡ is_due_before next_reap (as_nanos due) }
 {
     match next_reap {
         None => false,

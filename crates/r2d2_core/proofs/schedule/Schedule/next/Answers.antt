@@ -5,7 +5,7 @@ use Rattle.std.specs.Duration.{as_nanos}
 use Rattle.std.specs.declared.time.Duration.{Duration}
 use Rattle.std.proofs.lemmas.List.{get_or_read, nil_from_length}
 use Rattle.r2d2_core.specs.Openings.{Opening, in_order, IsLeast}
-use Rattle.r2d2_core.specs.Plan.{is_some_below}
+use Rattle.r2d2_core.specs.Plan.{is_due_before}
 use Rattle.r2d2_core.specs.Tasks.{Wait, Open, first_task, reap_or_wait}
 use Rattle.r2d2_core.proofs.Openings.{in_order-from_least}
 use Rattle.r2d2_core.proofs.Tasks.{opening_is_first, reap_is_first, reap_is_alone, opening_waits, opening_opens, reap_waits, reap_reaps}
@@ -19,7 +19,7 @@ returns-then-as_nanos-clause-answer g c =
     let place = c.least_place-place.result in
     let x = c.index.result.now in
     let least : IsLeast items place = rw c.deref.ensures.value at c.least_place-place.ensures in
-    let no_reap : is_some_below c.self.inside.next_reap x.due ≡ false = search rules in
+    let no_reap : is_due_before c.self.inside.next_reap x.due ≡ false = search rules in
     let first = opening_is_first now items place x c.self.inside.next_reap least c.index.ensures no_reap in
     rw (← c.self.view_is) (ap Wait c.due-due.ensures ∙ sym (first ∙ opening_waits now x (omega arith)))
 
@@ -32,7 +32,7 @@ returns-then-not-is_reap_before-clause-answer g c =
     let least : IsLeast items place = rw c.deref.ensures.value at c.least_place-place.ensures in
     let same : c.index.result.now ≡ x = get_or_read items place c.index.result.now least.within c.index.ensures x ∙ sym c.swap_remove-least.ensures.value in
     let due : as_nanos c.due-due.result ≡ x.due = c.due-due.ensures ∙ ap (λ (o : Opening). o.due) same in
-    let no_reap : is_some_below c.self.inside.next_reap x.due ≡ false = search rules in
+    let no_reap : is_due_before c.self.inside.next_reap x.due ≡ false = search rules in
     let first = opening_is_first now items place x c.self.inside.next_reap least c.swap_remove-least.ensures.value no_reap in
     rw (← c.self.view_is) (ap Open c.tries.ensures ∙ sym (first ∙ opening_opens now x (omega arith)))
 
@@ -62,9 +62,9 @@ returns-then-as_nanos-2-clause-answer g c =
       | then-not-is_empty+else-not-is_reap_before w ↦
           let x = w.index.result.now in
           let least : IsLeast items w.least_place-place.result = rw w.deref.ensures.value at w.least_place-place.ensures in
-          let before : is_some_below (Some reap) x.due ≡ true =
-          sym (ap (λ (o : Option Duration). is_some_below o x.due) there)
-          ∙ sym (ap (λ (n : ℕ). is_some_below c.self.inside.next_reap n) w.due-due.ensures)
+          let before : is_due_before (Some reap) x.due ≡ true =
+          sym (ap (λ (o : Option Duration). is_due_before o x.due) there)
+          ∙ sym (ap (λ (n : ℕ). is_due_before c.self.inside.next_reap n) w.due-due.ensures)
           ∙ sym w.is_reap_before.ensures ∙ w.if-not-is_reap_before.false in
           reap_is_first now items w.least_place-place.result x reap least w.index.ensures before
       | else-not-is_empty w ↦
@@ -86,9 +86,9 @@ returns-else-as_nanos-2-clause-answer g c =
       | then-not-is_empty+else-not-is_reap_before w ↦
           let x = w.index.result.now in
           let least : IsLeast items w.least_place-place.result = rw w.deref.ensures.value at w.least_place-place.ensures in
-          let before : is_some_below (Some reap) x.due ≡ true =
-          sym (ap (λ (o : Option Duration). is_some_below o x.due) there)
-          ∙ sym (ap (λ (n : ℕ). is_some_below c.self.inside.next_reap n) w.due-due.ensures)
+          let before : is_due_before (Some reap) x.due ≡ true =
+          sym (ap (λ (o : Option Duration). is_due_before o x.due) there)
+          ∙ sym (ap (λ (n : ℕ). is_due_before c.self.inside.next_reap n) w.due-due.ensures)
           ∙ sym w.is_reap_before.ensures ∙ w.if-not-is_reap_before.false in
           reap_is_first now items w.least_place-place.result x reap least w.index.ensures before
       | else-not-is_empty w ↦
