@@ -22,6 +22,8 @@ mod reaping;
 #[cfg(test)]
 mod refusing;
 #[cfg(test)]
+mod reuse;
+#[cfg(test)]
 mod rows;
 #[cfg(test)]
 mod steps;

@@ -29,3 +29,5 @@ pub mod FollowsTakeError
 pub mod FollowsClose
 pub mod Runs
 pub mod Rows
+pub mod InOrder
+pub mod Choices

@@ -1,5 +1,5 @@
 -- Worked rows: what lists of steps answer, and what they leave, computed from the definitions. A row's name says what it shows.
-use Rattle.std.proofs.Common.{◌≡◌, ℕ, zero, suc, ◌+◌, ◌*◌, ◌/◌, ◌%◌, min, true, false, List, [], ◌∷◌, ◌++◌, length, replicate, Option, Some, None, option_map, Ok, Err, String, string_bytes, Global, refl}
+use Rattle.std.proofs.Common.{◌≡◌, ℕ, zero, suc, ◌*◌, ◌/◌, ◌%◌, min, true, false, List, [], ◌∷◌, ◌++◌, length, replicate, Option, Some, None, option_map, Ok, Err, String, string_bytes, Global, refl}
 use Rattle.std.specs.declared.time.Duration.{Duration}
 use Rattle.r2d2_core.specs.declared.run.Step.{Step}
 use Rattle.r2d2_core.specs.declared.run.Step.TheVariants as step

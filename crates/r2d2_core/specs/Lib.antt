@@ -17,3 +17,4 @@ pub mod Deeds
 pub mod Pending
 pub mod Answers
 pub mod Follows
+pub mod Reuse

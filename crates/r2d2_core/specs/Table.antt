@@ -1,5 +1,5 @@
 -- What each step answers, and what it makes of the picture. A step's moment is raised to the latest so far.
-use Rattle.std.specs.Prelude.{ℕ, ◌+◌, ◌-◌, max, Bool, true, false, ◌||◌, not, List, [], ◌∷◌, ◌++◌, length, map, filter, Option, Some, None, is_some, unwrap_or, Result, String, string_bytes}
+use Rattle.std.specs.Prelude.{ℕ, ◌+◌, ◌-◌, max, Bool, true, false, ◌||◌, not, List, [], ◌∷◌, ◌++◌, length, map, filter, Option, Some, None, is_some, unwrap_or, Result, String}
 use Rattle.r2d2_core.specs.declared.machine.answers.Refusal.{Refusal}
 use Rattle.r2d2_core.specs.declared.machine.answers.Refusal.TheVariants as refusal
 use Rattle.r2d2_core.specs.Limits.{Settings, has_reached}
@@ -9,7 +9,7 @@ use Rattle.r2d2_core.specs.Connections.{IdleConnection, Closing, idle_connection
 use Rattle.r2d2_core.specs.Refusals.{refused_if, ok_unless, ok_or_back, unless_refused}
 use Rattle.r2d2_core.specs.OnOrder.{OnOrder, top_up, miss_order, with_orders, first_on_order, task_at, begun, number_refusal, after_numbering, admit_refusal, admitted_one, fail_refusal, due_again, failed_one, emptied}
 use Rattle.r2d2_core.specs.Picture.{Picture}
-use Rattle.r2d2_core.specs.Reply.{Taking, Found, Empty, Return, Kept, Closed, Loss, taking, or_text}
+use Rattle.r2d2_core.specs.Reply.{Taking, Return, Kept, Closed, Loss, taking, or_text}
 
 module _ {T : Type 0} where
   -- the raised moment becomes the latest

@@ -3,6 +3,7 @@
 #![tactic(auto)]
 
 pub mod machine;
+pub mod reuse;
 pub mod run;
 pub mod schedule;
 

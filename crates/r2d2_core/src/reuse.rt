@@ -1,0 +1,172 @@
+// Newest-first compared with every other choice of the connection to lend.
+ghost use Rattle.std.specs.Prelude.{◌≡◌, ◌≤◌, ◌↔◌, ◌++◌, ◌∷◌, [], Some, None, map, IsTrue, OnOk, IfOk, IfSome, IsSomeAnd};
+ghost use Rattle.std.specs.Bool.{OnTrue, OnFalse};
+ghost use Rattle.std.specs.Duration.{as_nanos};
+ghost use Rattle.r2d2_core.specs.Reuse.{IsInOrder, moment_of, picked, after_pick, newest_list, other_list, raised_now, expired, IsNeverBehind};
+
+use std::alloc::{AllocError, Global};
+use std::marker::Model;
+use std::time::Duration;
+
+/// What happens to the idle connections, at a moment.
+#[derive(Clone, Copy, PartialEq, Eq, Debug)]
+pub enum Move {
+    /// A connection is lent, if one is idle.
+    Take(Duration),
+    /// A connection comes to be idle.
+    Add(Duration),
+}
+
+/// How many connections are expired in the end.
+#[derive(Clone, Copy, PartialEq, Eq, Debug)]
+pub struct Comparison {
+    /// Where each take lends the newest one.
+    pub newest_first: usize,
+    /// Where each take lends the one that a pick names.
+    pub other: usize,
+}
+
+/// Whether the list never falls: no moment is before one that stands in front of it.
+pub fn is_in_order(idle: &[Duration]) -> bool
+    ensures { IsTrue result ↔ IsInOrder idle.now }
+{
+    let mut seen = Duration::ZERO;
+    for moment in idle {
+        if moment.as_nanos() < seen.as_nanos() {
+            return false;
+        }
+        seen = *moment;
+    }
+    true
+}
+
+/// Plays the moves on two lists that start as `idle`, and counts what is expired in each in the end.
+///
+/// `idle` has the moments since which connections are idle, oldest first. A take removes the newest from the first list,
+/// and from the second the place that the next pick names, counted from 0; on an empty list it removes nothing and uses no
+/// pick. An add appends its moment to both. Expired are those whose moment is at least `limit` before `now`. No moment runs
+/// backwards: each, `now` included, counts as the latest so far, beginning with the last of `idle`.
+///
+/// `None` says that a take on a list that is not empty had no pick left, or one that names no place. Picks left over are
+/// ignored. It takes memory for two lists.
+///
+/// Whatever the picks, newest-first leaves at least as many expired; the clause `at_every_threshold` says why.
+///
+/// It takes time in proportion to `idle` and `moves`, and for each take what removing from the second list costs: at most
+/// its length.
+pub fn compare(
+    alloc: Global,
+    idle: &[Duration],
+    moves: &[Move],
+    picks: &[usize],
+    now: Duration,
+    limit: Duration,
+) -> Result<Option<Comparison>, AllocError>
+    requires { IsInOrder idle.now }
+    ensures newest_first { IfOk result (λ answer. IfSome answer (λ c.
+        c.newest_first ≡ expired (raised_now idle.now moves.now now) limit (newest_list idle.now moves.now))) }
+    ensures other { IfOk result (λ answer. IfSome answer (λ c.
+        IsSomeAnd (other_list idle.now moves.now picks.now)
+        (λ left. c.other ≡ expired (raised_now idle.now moves.now now) limit left))) }
+    ensures none { IfOk result (λ answer. (answer ≡ None) ↔ (other_list idle.now moves.now picks.now ≡ None)) }
+
+    ensures at_least { IfOk result (λ answer. IfSome answer (λ c. c.other ≤ c.newest_first)) }
+    // This holds of every idle list in order, whether memory was there or not.
+    ensures at_every_threshold { IfSome (other_list idle.now moves.now picks.now) (IsNeverBehind (newest_list idle.now moves.now)) }
+{
+    let mut newest = nanos_of(alloc, idle)?;
+    let mut other = Picked {
+        kept: nanos_of(alloc, idle)?,
+        picks,
+    };
+    let mut seen = newest.last().copied().unwrap_or(0);
+    for step in moves {
+        seen = seen.max(nanos_at(step));
+        match step {
+            Move::Take(_) => {
+                newest.pop();
+                if !other.take() {
+                    return Ok(None);
+                }
+            }
+            Move::Add(_) => {
+                newest.push(seen)?;
+                other.add(seen)?;
+            }
+        }
+    }
+    let now = seen.max(now.as_nanos());
+    Ok(Some(Comparison {
+        newest_first: count_expired(now, limit, &newest),
+        other: count_expired(now, limit, &other.kept),
+    }))
+}
+
+// The list that lends by picks, with the picks that are left.
+#[derive(Drop)]
+struct Picked<'a> {
+    kept: Vec<u128>,
+    picks: &'a [usize],
+}
+
+impl<'a> Model for Picked<'a> {
+    ghost use Rattle.r2d2_core.specs.Reuse.{Picked, picked};
+
+    ghost Value = { Picked };
+
+    ghost view = { λ a. picked a.kept.items a.picks.now };
+}
+
+impl<'a> Picked<'a> {
+    // Lends the one that the next pick names; false where no pick is left or it names none.
+    fn take(&mut self) -> bool
+        ensures served { OnTrue result (after_pick self.old.kept self.old.picks ≡ Some self.new) }
+        ensures unserved { OnFalse result (after_pick self.old.kept self.old.picks ≡ None) }
+    {
+        if self.kept.is_empty() {
+            return true;
+        }
+        match self.picks {
+            [pick, rest @ ..] if *pick < self.kept.len() => {
+                self.kept.remove(*pick);
+                self.picks = rest;
+                true
+            }
+            _ => false,
+        }
+    }
+
+    fn add(&mut self, moment: u128) -> Result<(), AllocError>
+        ensures { OnOk result (self.new ≡ picked (self.old.kept ++ moment ∷ []) self.old.picks) }
+    {
+        self.kept.push(moment)?;
+        Ok(())
+    }
+}
+
+fn nanos_of(alloc: Global, moments: &[Duration]) -> Result<Vec<u128>, AllocError>
+    ensures { IfOk result (λ nanos. nanos.items ≡ map as_nanos moments.now) }
+{
+    moments
+        .iter()
+        .map(|moment| moment.as_nanos())
+        .collect(alloc)
+}
+
+fn nanos_at(step: &Move) -> u128
+    ensures { result ≡ moment_of step.now }
+{
+    match step {
+        Move::Take(at) | Move::Add(at) => at.as_nanos(),
+    }
+}
+
+fn count_expired(now: u128, limit: Duration, moments: &[u128]) -> usize
+    ensures { result ≡ expired now limit moments.now }
+{
+    let limit = limit.as_nanos();
+    moments
+        .iter()
+        .filter(|moment| limit <= now.saturating_sub(**moment))
+        .count()
+}
