@@ -9,6 +9,7 @@ pub mod Accounted
 pub mod Steady
 pub mod Sounds
 pub mod Wholes
+pub mod Latest
 pub mod Deeds
 pub mod Births
 pub mod Orders
@@ -28,3 +29,11 @@ pub mod FollowsReap
 pub mod FollowsTakeError
 pub mod FollowsClose
 pub mod Runs
+pub mod RecordRows
+pub mod Replaying
+pub mod RecordedTakes
+pub mod RecordedReturns
+pub mod RecordedReaps
+pub mod Books
+pub mod Listing
+pub mod Reporting

@@ -3,6 +3,7 @@ use Rattle.std.proofs.Common.{◌≡◌, List, [], ◌∷◌, ◌++◌, map, ref
 use Rattle.std.proofs.lemmas.List.{map-append}
 use Rattle.r2d2_core.specs.declared.run.Step.{Step}
 use Rattle.r2d2_core.specs.declared.run.Answer.{Answer}
+use Rattle.r2d2_core.specs.Reply.{Reply}
 use Rattle.r2d2_core.specs.Picture.{Picture}
 use Rattle.r2d2_core.specs.History.{History}
 use Rattle.r2d2_core.specs.Answers.{answer_of, after, answers_of, after_all, picture_of}
@@ -16,6 +17,15 @@ module _ {T : Type 0} where
   pub answers_of-push : (h : History T) (steps : List (Step T)) (s : Step T) → answers_of h (steps ++ s ∷ []) ≡ answers_of h steps ++ answer_of (after_all h steps) s ∷ []
   answers_of-push h [] s = refl
   answers_of-push h (x ∷ steps) s = ap (λ l. answer_of h x ∷ l) (answers_of-push (after h x) steps s)
+
+  -- a core that shows h answers, and goes on, as the table says of the picture of h
+  pub follows_there : (h : History T) (s : Step T) (answer : Picture T → Reply T) (goes : Picture T → Picture T) {core new : Picture T} {reply : Reply T}
+      → core ≡ picture_of h → reply ≡ answer core → new ≡ goes core → Follows h s (answer (picture_of h)) (goes (picture_of h)) → Follows h s reply new
+  follows_there h s answer goes is answered went f = record {
+    answer_is = answered ∙ (ap answer is ∙ f.answer_is);
+    picture_is = went ∙ (ap goes is ∙ f.picture_is);
+    kept = f.kept;
+  }
 
   -- the answers and the picture are those of the steps
   pub record IsRun (start : History T) (steps : List (Step T)) (answers : List (Answer T)) (core : Picture T) : Type 0 where

@@ -17,3 +17,9 @@ pub mod Deeds
 pub mod Pending
 pub mod Answers
 pub mod Follows
+pub mod Records
+pub mod Replay
+pub mod Recorded
+pub mod Log
+pub mod Book
+pub mod Reports

@@ -2,9 +2,9 @@
 ghost use Rattle.std.specs.Prelude.{◌≡◌, ◌≤◌, max, map, length, option_map, slice_get, string_bytes, vec_len, vec_capacity, IfOk};
 ghost use Rattle.std.specs.Duration.{as_nanos};
 
+use crate::schedule::Job;
 pub use crate::schedule::Limits;
 pub use answers::{Gone, Refusal, Released, Returned, Take};
-use crate::schedule::Job;
 use idle::{Entry, Idle, reached};
 pub use leftover::Leftover;
 use loan::Loan;
@@ -127,6 +127,28 @@ impl<T, A: Allocator> Core<T, A> {
         ensures sound { IsSound self.now }
     {
         self.openings.limits()
+    }
+
+    /// The latest moment so far.
+    pub(crate) fn latest(&self) -> Duration
+        ensures value { as_nanos result ≡ self.now.latest }
+        ensures sound { IsSound self.now }
+    {
+        self.latest
+    }
+
+    /// The id of the idle connection at a place, from the oldest.
+    pub(crate) fn idle_id(&self, place: u32) -> Option<u64>
+        ensures { result ≡ option_map id_of_idle (slice_get self.now.idle place) }
+    {
+        self.idle.id_at(place)
+    }
+
+    /// The id of the lent connection at a place, from the one that was taken first.
+    pub(crate) fn lent_id(&self, place: u32) -> Option<u64>
+        ensures { result ≡ option_map id_of_lent (slice_get self.now.lent place) }
+    {
+        self.lent.id_at(place)
     }
 
     // How many connections there are.
@@ -336,7 +358,7 @@ impl<T, A: Allocator> Core<T, A> {
 }
 
 // The later of two moments.
-fn later(a: Duration, b: Duration) -> Duration
+pub(crate) fn later(a: Duration, b: Duration) -> Duration
     ensures { as_nanos result ≡ max (as_nanos a) (as_nanos b) }
 {
     if a.as_nanos() < b.as_nanos() { b } else { a }

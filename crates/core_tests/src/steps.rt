@@ -1,0 +1,140 @@
+// Limits and steps in few words. Moments and lengths of time are in milliseconds.
+
+use r2d2_core::{Limits, Step};
+use std::alloc::{AllocError, Global};
+use std::time::Duration;
+
+pub(crate) fn ms(n: u64) -> Duration {
+    Duration::from_millis(n)
+}
+
+pub(crate) fn limits(
+    max_size: u32,
+    min_idle: Option<u32>,
+    max_lifetime: Option<u64>,
+    idle_timeout: Option<u64>,
+    connection_timeout: u64,
+    reap_every: u64,
+) -> Option<Limits> {
+    let max_lifetime = max_lifetime.map(|n| Duration::from_millis(n));
+    let idle_timeout = idle_timeout.map(|n| Duration::from_millis(n));
+    Limits::of(
+        max_size,
+        min_idle,
+        max_lifetime,
+        idle_timeout,
+        ms(connection_timeout),
+        ms(reap_every),
+    )
+}
+
+// A size alone, with half a minute for a connection and from reap to reap.
+pub(crate) fn sized(max_size: u32) -> Option<Limits> {
+    limits(max_size, None, None, None, 30_000, 30_000)
+}
+
+pub(crate) fn take(now: u64) -> Step<u64> {
+    Step::Take {
+        now: ms(now),
+        or_order: false,
+    }
+}
+
+// A take that orders on a miss.
+pub(crate) fn want(now: u64) -> Step<u64> {
+    Step::Take {
+        now: ms(now),
+        or_order: true,
+    }
+}
+
+pub(crate) fn begin(now: u64) -> Step<u64> {
+    Step::Begin { now: ms(now) }
+}
+
+pub(crate) fn number(tries: u32) -> Step<u64> {
+    Step::Number { tries }
+}
+
+pub(crate) fn admit(now: u64, id: u64, value: u64) -> Step<u64> {
+    Step::Admit {
+        now: ms(now),
+        id,
+        value,
+    }
+}
+
+pub(crate) fn fail(now: u64, tries: u32) -> Step<u64> {
+    Step::Fail {
+        now: ms(now),
+        tries,
+        text: None,
+    }
+}
+
+pub(crate) fn fail_by(
+    alloc: Global,
+    now: u64,
+    tries: u32,
+    text: &str,
+) -> Result<Step<u64>, AllocError> {
+    let text = Some(String::from_str(alloc, text)?);
+    Ok(Step::Fail {
+        now: ms(now),
+        tries,
+        text,
+    })
+}
+
+// A failed check.
+pub(crate) fn bad(now: u64, id: u64) -> Step<u64> {
+    Step::FailCheck {
+        now: ms(now),
+        id,
+        text: None,
+    }
+}
+
+pub(crate) fn bad_by(
+    alloc: Global,
+    now: u64,
+    id: u64,
+    text: &str,
+) -> Result<Step<u64>, AllocError> {
+    let text = Some(String::from_str(alloc, text)?);
+    Ok(Step::FailCheck {
+        now: ms(now),
+        id,
+        text,
+    })
+}
+
+pub(crate) fn put_back(now: u64, id: u64, value: u64) -> Step<u64> {
+    Step::PutBack {
+        now: ms(now),
+        id,
+        value,
+        broken: false,
+    }
+}
+
+pub(crate) fn broken(now: u64, id: u64, value: u64) -> Step<u64> {
+    Step::PutBack {
+        now: ms(now),
+        id,
+        value,
+        broken: true,
+    }
+}
+
+pub(crate) fn reap(now: u64) -> Step<u64> {
+    Step::Reap { now: ms(now) }
+}
+
+pub(crate) fn error() -> Step<u64> {
+    Step::TakeError
+}
+
+pub(crate) fn close() -> Step<u64> {
+    Step::Close
+}
