@@ -8,6 +8,8 @@ mod errors;
 #[cfg(test)]
 mod extremes;
 #[cfg(test)]
+mod journal;
+#[cfg(test)]
 mod lending;
 #[cfg(test)]
 mod lines;
@@ -21,6 +23,8 @@ mod ordering;
 mod reaping;
 #[cfg(test)]
 mod refusing;
+#[cfg(test)]
+mod replays;
 #[cfg(test)]
 mod reuse;
 #[cfg(test)]

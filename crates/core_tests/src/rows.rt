@@ -1,5 +1,6 @@
 // A row: the steps that a new core is given, and the lines that it answers.
 
+use crate::journal::{answers_of_a_book, book_for, push_state_of_a_book, report_replays};
 use crate::lines::{push_state, tell};
 use crate::steps::{admit, begin, number};
 use r2d2_core::run::run;
@@ -46,24 +47,42 @@ fn lines(
     Ok(text)
 }
 
-// What a core with so many idle connections answers to the steps, and then its state.
-fn answered(
+// What was answered to a row.
+#[derive(Drop)]
+struct Answered {
+    by_the_core: String,
+    by_a_book: String,
+    // The records of the book come to what its report counts.
+    replays: bool,
+}
+
+// What a core with so many idle connections answers to the steps, and then its state; and the same of a book.
+fn answers_to(
     alloc: Global,
     opened: u32,
     limits: Limits,
     steps: Vec<Step<u64>>,
-) -> Result<String, AllocError> {
+) -> Result<Answered, AllocError> {
     let mut all = openings(alloc, opened)?;
     let first = all.len();
     all.extend(steps)?;
     let ids: Vec<u64> = all.iter().map(|step| id_of(step)).collect(alloc)?;
+    let same_ids: Vec<u64> = all.iter().map(|step| id_of(step)).collect(alloc)?;
+    let mut book = book_for(alloc, limits)?;
+    let answers = answers_of_a_book(alloc, &mut book, &all)?;
+    let mut by_a_book = lines(alloc, same_ids, answers, first)?;
+    push_state_of_a_book(&mut by_a_book, &book)?;
     let (core, answers) = run(alloc, limits, Duration::ZERO, all)?;
-    let mut text = lines(alloc, ids, answers, first)?;
-    push_state(&mut text, &core)?;
-    Ok(text)
+    let mut by_the_core = lines(alloc, ids, answers, first)?;
+    push_state(&mut by_the_core, &core)?;
+    Ok(Answered {
+        by_the_core,
+        by_a_book,
+        replays: report_replays(alloc, &book)?,
+    })
 }
 
-// After so many openings the steps answer that.
+// After so many openings the steps answer that, those of a core and those of a book.
 pub(crate) fn row<R: Abort + AllocGlobal, const N: usize>(
     rt: &R,
     opened: u32,
@@ -74,7 +93,9 @@ pub(crate) fn row<R: Abort + AllocGlobal, const N: usize>(
     let alloc = rt.alloc();
     let limits = limits.expect(rt, "the limits are legal");
     let steps = Vec::from_array(alloc, steps)?;
-    let text = answered(alloc, opened, limits, steps)?;
-    assert_eq!(rt; text.as_str(), wanted);
+    let found = answers_to(alloc, opened, limits, steps)?;
+    assert_eq!(rt; found.by_the_core.as_str(), wanted);
+    assert_eq!(rt; found.by_a_book.as_str(), wanted);
+    assert!(rt; found.replays, "the records come to what the report counts");
     Ok(())
 }

@@ -3,10 +3,10 @@ use Rattle.std.proofs.Common.{◌≡◌, ℕ, List, [], ◌∷◌, Option, Some,
 use Rattle.std.specs.Prelude.{filter_map}
 use Rattle.std.specs.List.{AllByRecursion}
 use Rattle.std.specs.Option.{MatchOption}
-use Rattle.r2d2_core.specs.Ids.{last_of}
+use Rattle.r2d2_core.specs.Ids.{latest, last_of}
 use Rattle.r2d2_core.specs.Connections.{IdleConnection}
 use Rattle.r2d2_core.specs.History.{History}
-use Rattle.r2d2_core.specs.Deeds.{What, Admission, Taking_out, Keeping, Going, deeds_of, latest, birth_of, as_idle, idle_of}
+use Rattle.r2d2_core.specs.Deeds.{What, Admission, Taking_out, Keeping, Going, deeds_of, id_of_deed, birth_of, as_idle, idle_of}
 
 -- what is so of each is so of the last
 last_holds : {Y : Type 0} (P : Y → Type 0) (xs : List Y) (c : Y) → AllByRecursion P xs → last_of xs ≡ Some c → P c
@@ -31,7 +31,7 @@ birth_shown birth i at Going = tt
 
 pub births_of-idle : {T : Type 0} (h : History T) → AllByRecursion (λ c. c.birth ≡ birth_of h c.id) (idle_of h)
 unfolding idle_of
-births_of-idle h = shown_all (λ c. c.birth ≡ birth_of h c.id) (λ d. as_idle (birth_of h d.id) d) (λ d. birth_shown (birth_of h) d.id d.at d.what) (latest (deeds_of h))
+births_of-idle h = shown_all (λ c. c.birth ≡ birth_of h c.id) (λ d. as_idle (birth_of h d.id) d) (λ d. birth_shown (birth_of h) d.id d.at d.what) (latest id_of_deed (deeds_of h))
 
 -- the last idle one too
 pub birth_of-last : {T : Type 0} (h : History T) (c : IdleConnection T) → last_of (idle_of h) ≡ Some c → c.birth ≡ birth_of h c.id

@@ -1,34 +1,17 @@
 -- What one more deed does to the latest deeds, and so to what is idle and lent.
-use Rattle.std.proofs.Common.{◌≡◌, ℕ, Bool, true, false, cond, ◌||◌, not, ◌==◌, List, [], ◌∷◌, ◌++◌, Option, Some, None, refl, ◌∙◌, ap}
+use Rattle.std.proofs.Common.{◌≡◌, ℕ, Bool, true, false, cond, List, [], ◌∷◌, ◌++◌, Option, Some, None, refl, ◌∙◌, ap}
 use Rattle.std.specs.Prelude.{filter, filter_map}
-use Rattle.std.specs.List.{list_any, cons_option}
+use Rattle.std.specs.List.{cons_option}
 use Rattle.std.specs.Option.{MatchOption}
-use Rattle.std.proofs.lemmas.List.Folds.{list_any-append}
 use Rattle.std.proofs.lemmas.List.{append-nil}
-use Rattle.std.proofs.lemmas.List.Elements.{filter_map-append, filter_agree}
+use Rattle.std.proofs.lemmas.List.Elements.{filter_map-append}
 use Rattle.r2d2_core.specs.declared.run.Step.{Step}
+use Rattle.r2d2_core.specs.Ids.{latest}
 use Rattle.r2d2_core.specs.History.{History, Then, moment_of}
-use Rattle.r2d2_core.specs.Deeds.{Deed, What, Admission, Taking_out, Keeping, Going, deeds_of, deeds_in, latest, birth_of, admits, as_idle, as_lent, idle_of, lent_of}
+use Rattle.r2d2_core.specs.Deeds.{Deed, What, Admission, Taking_out, Keeping, Going, deeds_of, deeds_in, id_of_deed, birth_of, admits, as_idle, as_lent, idle_of, lent_of}
 use Rattle.r2d2_core.specs.Reply.{Reply}
 use Rattle.r2d2_core.proofs.Filters.{filter_true}
-
--- no deed of es is of the id of d
-abbrev pub is_other : {T : Type 0} → List (Deed T) → ℕ → Bool
-is_other es i = not (list_any (λ e. e.id == i) es)
-
-step : {T : Type 0} (b c : Bool) (x : Deed T) (p : Deed T → Bool) (L M N : List (Deed T)) → p x ≡ not c → L ≡ filter p M ++ N
-    → cond (b || c) L (x ∷ L) ≡ filter p (cond b M (x ∷ M)) ++ N
-step true c x p L M N e ih = ih
-step false true x p L M N e ih = rw e ih
-step false false x p L M N e ih = rw e (ap (λ l. x ∷ l) ih)
-
--- later deeds replace those of their ids
-pub latest-append : {T : Type 0} (ds es : List (Deed T)) → latest (ds ++ es) ≡ filter (λ d. is_other es d.id) (latest ds) ++ latest es
-latest-append [] es = refl
-latest-append (x ∷ xs) es =
-    let more = latest (xs ++ es) in
-    ap (λ b. cond b more (x ∷ more)) (list_any-append (λ e. e.id == x.id) xs es)
-    ∙ step (list_any (λ e. e.id == x.id) xs) (list_any (λ e. e.id == x.id) es) x (λ d. is_other es d.id) more (latest xs) (latest es) refl (latest-append xs es)
+use Rattle.r2d2_core.proofs.Latest.{is_other, latest-append}
 
 keeps_step : {X Y : Type 0} (b : Bool) (o : Option Y) (q : Y → Bool) (f : X → Option Y) (x : X) (xs : List X) (ys zs : List Y)
     → f x ≡ o → MatchOption o (Unit {0}) (λ y. q y ≡ b) → filter_map f xs ≡ filter q ys
@@ -45,13 +28,13 @@ filter_map-filter f p q h [] = refl
 filter_map-filter f p q h (x ∷ xs) = keeps_step (p x) (f x) q f x (filter p xs) (filter_map f xs) [] refl (h x) (filter_map-filter f p q h xs)
 
 -- a test of ids sees what is shown as it sees the deed
-idle_keeps : {T : Type 0} (q : ℕ → Bool) (birth i at : ℕ) (w : What T) → MatchOption (as_idle birth (record { id = i; at = at; what = w })) (Unit {0}) (λ c. q c.id ≡ q i)
+pub idle_keeps : {T : Type 0} (q : ℕ → Bool) (birth i at : ℕ) (w : What T) → MatchOption (as_idle birth (record { id = i; at = at; what = w })) (Unit {0}) (λ c. q c.id ≡ q i)
 idle_keeps q birth i at (Admission v) = refl
 idle_keeps q birth i at (Keeping v) = refl
 idle_keeps q birth i at Taking_out = tt
 idle_keeps q birth i at Going = tt
 
-lent_keeps : {T : Type 0} (q : ℕ → Bool) (birth i at : ℕ) (w : What T) → MatchOption (as_lent birth (record { id = i; at = at; what = w })) (Unit {0}) (λ c. q c.id ≡ q i)
+pub lent_keeps : {T : Type 0} (q : ℕ → Bool) (birth i at : ℕ) (w : What T) → MatchOption (as_lent birth (record { id = i; at = at; what = w })) (Unit {0}) (λ c. q c.id ≡ q i)
 lent_keeps q birth i at (Admission v) = tt
 lent_keeps q birth i at (Keeping v) = tt
 lent_keeps q birth i at Taking_out = refl
@@ -68,39 +51,31 @@ filter_map-agree p f g e (x ∷ xs) = births_step (p x) f g x (filter p xs) (e x
 
 -- what is idle after a step: what was, but for the ids of its deeds, and what its deeds leave
 pub idle_of-then : {T : Type 0} (h : History T) (s : Step T) (r : Reply T) (es : List (Deed T)) → deeds_in (moment_of h s) s r ≡ es
-    → ((i : ℕ) → is_other es i ≡ true → admits s i ≡ false)
-    → idle_of (Then h s r) ≡ filter (λ c. is_other es c.id) (idle_of h) ++ filter_map (λ d. as_idle (birth_of (Then h s r) d.id) d) (latest es)
+    → ((i : ℕ) → is_other id_of_deed es i ≡ true → admits s i ≡ false)
+    → idle_of (Then h s r) ≡ filter (λ c. is_other id_of_deed es c.id) (idle_of h) ++ filter_map (λ d. as_idle (birth_of (Then h s r) d.id) d) (latest id_of_deed es)
 unfolding idle_of
 idle_of-then h s r es e new =
     let now = λ (d : Deed _). as_idle (birth_of (Then h s r) d.id) d in
-    ap (λ ds. filter_map now (latest (deeds_of h ++ ds))) e
-    ∙ (ap (filter_map now) (latest-append (deeds_of h) es)
-    ∙ (filter_map-append now (filter (λ d. is_other es d.id) (latest (deeds_of h))) (latest es)
-    ∙ ap (λ l. l ++ filter_map now (latest es))
-    (filter_map-agree (λ d. is_other es d.id) now (λ d. as_idle (birth_of h d.id) d) (λ d other. ap (λ b. as_idle (cond b (moment_of h s) (birth_of h d.id)) d) (new d.id other)) (latest (deeds_of h))
-    ∙ filter_map-filter (λ d. as_idle (birth_of h d.id) d) (λ d. is_other es d.id) (λ c. is_other es c.id) (λ d. idle_keeps (is_other es) (birth_of h d.id) d.id d.at d.what) (latest (deeds_of h)))))
+    ap (λ ds. filter_map now (latest id_of_deed (deeds_of h ++ ds))) e
+    ∙ (ap (filter_map now) (latest-append id_of_deed (deeds_of h) es)
+    ∙ (filter_map-append now (filter (λ d. is_other id_of_deed es d.id) (latest id_of_deed (deeds_of h))) (latest id_of_deed es)
+    ∙ ap (λ l. l ++ filter_map now (latest id_of_deed es))
+    (filter_map-agree (λ d. is_other id_of_deed es d.id) now (λ d. as_idle (birth_of h d.id) d) (λ d other. ap (λ b. as_idle (cond b (moment_of h s) (birth_of h d.id)) d) (new d.id other)) (latest id_of_deed (deeds_of h))
+    ∙ filter_map-filter (λ d. as_idle (birth_of h d.id) d) (λ d. is_other id_of_deed es d.id) (λ c. is_other id_of_deed es c.id) (λ d. idle_keeps (is_other id_of_deed es) (birth_of h d.id) d.id d.at d.what) (latest id_of_deed (deeds_of h)))))
 
 -- the same of what is lent
 pub lent_of-then : {T : Type 0} (h : History T) (s : Step T) (r : Reply T) (es : List (Deed T)) → deeds_in (moment_of h s) s r ≡ es
-    → ((i : ℕ) → is_other es i ≡ true → admits s i ≡ false)
-    → lent_of (Then h s r) ≡ filter (λ c. is_other es c.id) (lent_of h) ++ filter_map (λ d. as_lent (birth_of (Then h s r) d.id) d) (latest es)
+    → ((i : ℕ) → is_other id_of_deed es i ≡ true → admits s i ≡ false)
+    → lent_of (Then h s r) ≡ filter (λ c. is_other id_of_deed es c.id) (lent_of h) ++ filter_map (λ d. as_lent (birth_of (Then h s r) d.id) d) (latest id_of_deed es)
 unfolding lent_of
 lent_of-then h s r es e new =
     let now = λ (d : Deed _). as_lent (birth_of (Then h s r) d.id) d in
-    ap (λ ds. filter_map now (latest (deeds_of h ++ ds))) e
-    ∙ (ap (filter_map now) (latest-append (deeds_of h) es)
-    ∙ (filter_map-append now (filter (λ d. is_other es d.id) (latest (deeds_of h))) (latest es)
-    ∙ ap (λ l. l ++ filter_map now (latest es))
-    (filter_map-agree (λ d. is_other es d.id) now (λ d. as_lent (birth_of h d.id) d) (λ d other. ap (λ b. as_lent (cond b (moment_of h s) (birth_of h d.id)) d) (new d.id other)) (latest (deeds_of h))
-    ∙ filter_map-filter (λ d. as_lent (birth_of h d.id) d) (λ d. is_other es d.id) (λ c. is_other es c.id) (λ d. lent_keeps (is_other es) (birth_of h d.id) d.id d.at d.what) (latest (deeds_of h)))))
-
-or_false : (b : Bool) → not (b || false) ≡ not b
-or_false true = refl
-or_false false = refl
-
--- the ids of one deed
-pub one_other : {T Y : Type 0} (d : Deed T) (id_of : Y → ℕ) (ys : List Y) → filter (λ y. is_other (d ∷ []) (id_of y)) ys ≡ filter (λ y. not (d.id == id_of y)) ys
-one_other d id_of ys = filter_agree (λ y. is_other (d ∷ []) (id_of y)) (λ y. not (d.id == id_of y)) (λ y. or_false (d.id == id_of y)) ys
+    ap (λ ds. filter_map now (latest id_of_deed (deeds_of h ++ ds))) e
+    ∙ (ap (filter_map now) (latest-append id_of_deed (deeds_of h) es)
+    ∙ (filter_map-append now (filter (λ d. is_other id_of_deed es d.id) (latest id_of_deed (deeds_of h))) (latest id_of_deed es)
+    ∙ ap (λ l. l ++ filter_map now (latest id_of_deed es))
+    (filter_map-agree (λ d. is_other id_of_deed es d.id) now (λ d. as_lent (birth_of h d.id) d) (λ d other. ap (λ b. as_lent (cond b (moment_of h s) (birth_of h d.id)) d) (new d.id other)) (latest id_of_deed (deeds_of h))
+    ∙ filter_map-filter (λ d. as_lent (birth_of h d.id) d) (λ d. is_other id_of_deed es d.id) (λ c. is_other id_of_deed es c.id) (λ d. lent_keeps (is_other id_of_deed es) (birth_of h d.id) d.id d.at d.what) (latest id_of_deed (deeds_of h)))))
 
 -- a step with no deeds leaves what is idle and lent
 pub idle_of-none : {T : Type 0} (h : History T) (s : Step T) (r : Reply T) → deeds_in (moment_of h s) s r ≡ [] → ((i : ℕ) → admits s i ≡ false) → idle_of (Then h s r) ≡ idle_of h

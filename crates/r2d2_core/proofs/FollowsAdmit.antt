@@ -17,13 +17,14 @@ use Rattle.r2d2_core.specs.OnOrder.{admit_refusal}
 use Rattle.r2d2_core.specs.Picture.{IsSound}
 use Rattle.r2d2_core.specs.Table.{admitted_at, admit_answer, after_admit}
 use Rattle.r2d2_core.specs.History.{History, Then, now_of, is_closed}
-use Rattle.r2d2_core.specs.Deeds.{Deed, deed, Admission, birth_of, idle_of, lent_of, connections_of, admitted_count, gone_count}
+use Rattle.r2d2_core.specs.Deeds.{Deed, deed, id_of_deed, Admission, birth_of, idle_of, lent_of, connections_of, admitted_count, gone_count}
 use Rattle.r2d2_core.specs.Pending.{ordered_of, pending_of, ids_of, is_admitted, numbered_of, next_id_of, next_reap_of, on_order_of}
 use Rattle.r2d2_core.specs.Answers.{refusal_of, picture_of}
 use Rattle.r2d2_core.specs.Follows.{IsKept, Follows}
 use Rattle.r2d2_core.proofs.Ids.{copies_of-append3, copies_of-without}
 use Rattle.r2d2_core.proofs.Filters.{filter-absent, filter-once, filter-both}
-use Rattle.r2d2_core.proofs.Deeds.{idle_of-then, lent_of-then, one_other}
+use Rattle.r2d2_core.proofs.Deeds.{idle_of-then, lent_of-then}
+use Rattle.r2d2_core.proofs.Latest.{one_other}
 use Rattle.r2d2_core.proofs.Accounted.{found_numbered}
 use Rattle.r2d2_core.proofs.Orders.{same_on_order, picture_of-is, in_work_of-same}
 use Rattle.r2d2_core.proofs.Following.{follows_accepted, follows_refused}
@@ -86,7 +87,7 @@ module _ {T : Type 0} where
       let d : Deed T = deed id t (Admission value) in
       let none : copies_of id (map id_of_idle (idle_of h)) ≡ 0 = omega (arith, copies_in h id sound, copies_of-found id (numbered_of h) e) in
       idle_of-then h (step.Admit now id value) (Admitted (Ok tt)) (d ∷ []) refl (other_admits id)
-      ∙ (ap (λ l. l ++ idle_connection id (cond (id == id) t (birth_of h id)) t value ∷ []) (one_other d id_of_idle (idle_of h) ∙ filter-absent id_of_idle id (idle_of h) none)
+      ∙ (ap (λ l. l ++ idle_connection id (cond (id == id) t (birth_of h id)) t value ∷ []) (one_other id_of_deed d id_of_idle (idle_of h) ∙ filter-absent id_of_idle id (idle_of h) none)
       ∙ ap (λ b. idle_of h ++ idle_connection id (cond b t (birth_of h id)) t value ∷ []) (eq-eqb id id refl))
 
   lent_of-admit : (h : History T) (now : Duration) (id : ℕ) (value : T) → found same_id id (numbered_of h) ≡ Some id → IsSound (picture_of h)
@@ -96,7 +97,7 @@ module _ {T : Type 0} where
       let d : Deed T = deed id t (Admission value) in
       let none : copies_of id (map id_of_lent (lent_of h)) ≡ 0 = omega (arith, copies_in h id sound, copies_of-found id (numbered_of h) e) in
       lent_of-then h (step.Admit now id value) (Admitted (Ok tt)) (d ∷ []) refl (other_admits id)
-      ∙ (append-nil _ ∙ (one_other d id_of_lent (lent_of h) ∙ filter-absent id_of_lent id (lent_of h) none))
+      ∙ (append-nil _ ∙ (one_other id_of_deed d id_of_lent (lent_of h) ∙ filter-absent id_of_lent id (lent_of h) none))
 
   numbered_of-open : (h : History T) → is_closed h ≡ false → numbered_of h ≡ filter (λ i. not (is_admitted h i)) (ids_of h)
   unfolding numbered_of

@@ -13,13 +13,14 @@ use Rattle.r2d2_core.specs.Picture.{IsSound}
 use Rattle.r2d2_core.specs.Table.{at, ordered, lent_out, take_orders, taken, take_answer, after_take}
 use Rattle.r2d2_core.specs.Reply.{taking}
 use Rattle.r2d2_core.specs.History.{History, Then, is_closed, moment_of}
-use Rattle.r2d2_core.specs.Deeds.{Deed, deed, Taking_out, birth_of, idle_of, lent_of, connections_of, gone_count}
+use Rattle.r2d2_core.specs.Deeds.{Deed, deed, id_of_deed, Taking_out, birth_of, idle_of, lent_of, connections_of, gone_count}
 use Rattle.r2d2_core.specs.Pending.{on_order_of}
 use Rattle.r2d2_core.specs.Answers.{orders_of, orders_by, picture_of}
 use Rattle.r2d2_core.specs.Follows.{IsKept, Follows}
 use Rattle.r2d2_core.proofs.Ids.{copies_of-append3, copies_of-last, last_is}
 use Rattle.r2d2_core.proofs.Filters.{filter-absent, filter-last}
-use Rattle.r2d2_core.proofs.Deeds.{idle_of-then, lent_of-then, one_other, idle_of-none, lent_of-none}
+use Rattle.r2d2_core.proofs.Latest.{one_other}
+use Rattle.r2d2_core.proofs.Deeds.{idle_of-then, lent_of-then, idle_of-none, lent_of-none}
 use Rattle.r2d2_core.proofs.Births.{birth_of-last}
 use Rattle.r2d2_core.proofs.Orders.{IsOrdering, orders_if_closed, orders_of-top_up, picture_of-ordered, kept_ordered}
 use Rattle.r2d2_core.proofs.Following.{follows_accepted}
@@ -48,7 +49,7 @@ module _ {T : Type 0} where
       let d : Deed T = deed c.id (moment_of h (step.Take now or_order)) Taking_out in
       idle_of-then h (step.Take now or_order) (Taken (Found c.id c.birth c.value n)) (d ∷ []) refl (λ i other. refl)
       ∙ (append-nil _
-      ∙ (one_other d id_of_idle (idle_of h)
+      ∙ (one_other id_of_deed d id_of_idle (idle_of h)
       ∙ (ap (filter (λ y. not (c.id == y.id))) (last_is (idle_of h) c e)
       ∙ filter-last id_of_idle (front (idle_of h)) c (once_in_front h c e sound))))
 
@@ -57,7 +58,7 @@ module _ {T : Type 0} where
   lent_of-take h now or_order c n e sound =
       let d : Deed T = deed c.id (moment_of h (step.Take now or_order)) Taking_out in
       lent_of-then h (step.Take now or_order) (Taken (Found c.id c.birth c.value n)) (d ∷ []) refl (λ i other. refl)
-      ∙ (ap (λ l. l ++ lent_connection c.id (birth_of h c.id) ∷ []) (one_other d id_of_lent (lent_of h) ∙ filter-absent id_of_lent c.id (lent_of h) (idle_not_lent h c e sound))
+      ∙ (ap (λ l. l ++ lent_connection c.id (birth_of h c.id) ∷ []) (one_other id_of_deed d id_of_lent (lent_of h) ∙ filter-absent id_of_lent c.id (lent_of h) (idle_not_lent h c e sound))
       ∙ ap (λ b. lent_of h ++ lent_connection c.id b ∷ []) (sym (birth_of-last h c e)))
 
   connections_of-take : (h : History T) (now : Duration) (or_order : Bool) (m : Option (IdleConnection T)) (n : ℕ) → connections_of (Then h (step.Take now or_order) (Taken (taking m n))) ≡ connections_of h

@@ -1,22 +1,23 @@
 -- Many connections that go in one step: what stays idle, and what stays lent.
-use Rattle.std.proofs.Common.{◌≡◌, ℕ, ◌+◌, ◌-◌, ◌≤◌, Bool, true, false, cond, ◌||◌, not, ◌==◌, List, [], ◌∷◌, ◌++◌, map, length, Option, None, refl, ◌∙◌, ap, arith}
+use Rattle.std.proofs.Common.{◌≡◌, ℕ, ◌+◌, ◌-◌, ◌≤◌, Bool, false, not, ◌==◌, List, [], ◌++◌, map, length, refl, ◌∙◌, ap, arith}
 use Rattle.std.specs.Prelude.{filter, filter_map}
-use Rattle.std.specs.List.{list_any, cons_option}
+use Rattle.std.specs.List.{list_any}
 use Rattle.std.proofs.lemmas.List.{append-nil}
 use Rattle.std.proofs.lemmas.List.Elements.{filter_agree}
 use Rattle.r2d2_core.specs.declared.run.Step.{Step}
 use Rattle.r2d2_core.specs.Connections.{IdleConnection, LentConnection, id_of_idle, id_of_lent}
-use Rattle.r2d2_core.specs.Ids.{copies_of}
+use Rattle.r2d2_core.specs.Ids.{copies_of, latest}
 use Rattle.r2d2_core.specs.Reply.{Reply}
 use Rattle.r2d2_core.specs.History.{History, Then, moment_of}
-use Rattle.r2d2_core.specs.Deeds.{Deed, Going, deed, deeds_in, latest, birth_of, admits, as_idle, as_lent, idle_of, lent_of, connections_of, admitted_count, gone_count}
+use Rattle.r2d2_core.specs.Deeds.{Deed, Going, deed, deeds_in, id_of_deed, birth_of, admits, as_idle, as_lent, idle_of, lent_of, connections_of, admitted_count, gone_count}
 use Rattle.r2d2_core.specs.Picture.{IsSound}
 use Rattle.r2d2_core.specs.Pending.{numbered_of, on_order_of}
 use Rattle.r2d2_core.specs.Answers.{picture_of}
 use Rattle.r2d2_core.specs.Follows.{IsKept}
-use Rattle.r2d2_core.proofs.Deeds.{is_other, idle_of-then, lent_of-then}
+use Rattle.r2d2_core.proofs.Deeds.{idle_of-then, lent_of-then}
 use Rattle.r2d2_core.proofs.Filters.{copies_of-filter, filter-outside, filter-apart}
 use Rattle.r2d2_core.proofs.Ids.{copies_of-append3}
+use Rattle.r2d2_core.proofs.Latest.{is_other, any_id, none_left}
 
 -- HOW MANY GO
 
@@ -25,24 +26,12 @@ less_gone admitted gone n m e = omega (arith, e)
 
 -- DEEDS BY WHICH MANY GO
 
--- the deeds by which many go are of their ids
-pub going_ids : (T : Type 0) {Y : Type 0} (of : Y → ℕ) (t i : ℕ) (cs : List Y) → list_any (λ e. e.id == i) (map (λ c. deed {T = T} (of c) t Going) cs) ≡ list_any (λ c. of c == i) cs
-going_ids T of t i [] = refl
-going_ids T of t i (c ∷ cs) = ap (λ b. (of c == i) || b) (going_ids T of t i cs)
-
 module _ {T : Type 0} where
+  abbrev pub going : {Y : Type 0} → (Y → ℕ) → ℕ → Y → Deed T
+  going of t c = deed (of c) t Going
+
   abbrev pub going_deeds : {Y : Type 0} → (Y → ℕ) → ℕ → List Y → List (Deed T)
-  going_deeds of t cs = map (λ c. deed (of c) t Going) cs
-
-  left_step : {Z : Type 0} (b : Bool) (f : Deed T → Option Z) (d : Deed T) (ds : List (Deed T)) → f d ≡ None → filter_map f ds ≡ [] → filter_map f (cond b ds (d ∷ ds)) ≡ []
-  left_step true f d ds e ih = ih
-  left_step false f d ds e ih = ap (λ o. cons_option o (filter_map f ds)) e ∙ ih
-
-  -- they leave none of them
-  pub none_left : {Y Z : Type 0} (f : Deed T → Option Z) (of : Y → ℕ) (t : ℕ) (cs : List Y) → ((i : ℕ) → f (deed i t Going) ≡ None) → filter_map f (latest (going_deeds of t cs)) ≡ []
-  none_left f of t [] e = refl
-  none_left f of t (c ∷ cs) e =
-      left_step (list_any (λ e. e.id == of c) (going_deeds of t cs)) f (deed (of c) t Going) (latest (going_deeds of t cs)) (e (of c)) (none_left f of t cs e)
+  going_deeds of t cs = map (going of t) cs
 
   -- the ids of the idle ones are apart
   pub idle_apart : (h : History T) → IsSound (picture_of h) → (i : ℕ) → copies_of i (map id_of_idle (idle_of h)) ≤ 1
@@ -59,12 +48,12 @@ module _ {T : Type 0} where
       → IsSound (picture_of h) → idle_of (Then h s r) ≡ filter (λ c. not (p c)) (idle_of h)
   idle_of-going h s r t p e none sound =
       let es : List (Deed T) = going_deeds id_of_idle t (filter p (idle_of h)) in
-      let stay : List (IdleConnection T) = filter (λ c. is_other es c.id) (idle_of h) in
-      let left : filter_map (λ d. as_idle (birth_of (Then h s r) d.id) d) (latest es) ≡ [] = none_left _ id_of_idle t (filter p (idle_of h)) (λ i. refl) in
+      let stay : List (IdleConnection T) = filter (λ c. is_other id_of_deed es c.id) (idle_of h) in
+      let left : filter_map (λ d. as_idle (birth_of (Then h s r) d.id) d) (latest id_of_deed es) ≡ [] = none_left id_of_deed _ (going id_of_idle t) (filter p (idle_of h)) (λ c. refl) in
       idle_of-then h s r es e (λ i other. none i)
       ∙ (ap (λ l. stay ++ l) left
       ∙ (append-nil stay
-      ∙ (filter_agree (λ c. is_other es c.id) (λ c. not (list_any (λ x. x.id == c.id) (filter p (idle_of h)))) (λ c. ap not (going_ids T id_of_idle t c.id (filter p (idle_of h)))) (idle_of h)
+      ∙ (filter_agree (λ c. is_other id_of_deed es c.id) (λ c. not (list_any (λ x. x.id == c.id) (filter p (idle_of h)))) (λ c. ap not (any_id id_of_deed (going id_of_idle t) c.id (filter p (idle_of h)))) (idle_of h)
       ∙ filter-outside p id_of_idle (idle_of h) (idle_apart h sound))))
 
   -- and what is lent stays
@@ -73,12 +62,12 @@ module _ {T : Type 0} where
   lent_of-going h s r t p e none sound =
       let cs : List (IdleConnection T) = filter p (idle_of h) in
       let es : List (Deed T) = going_deeds id_of_idle t cs in
-      let stay : List LentConnection = filter (λ c. is_other es c.id) (lent_of h) in
-      let left : filter_map (λ d. as_lent (birth_of (Then h s r) d.id) d) (latest es) ≡ [] = none_left _ id_of_idle t cs (λ i. refl) in
+      let stay : List LentConnection = filter (λ c. is_other id_of_deed es c.id) (lent_of h) in
+      let left : filter_map (λ d. as_lent (birth_of (Then h s r) d.id) d) (latest id_of_deed es) ≡ [] = none_left id_of_deed _ (going id_of_idle t) cs (λ c. refl) in
       lent_of-then h s r es e (λ i other. none i)
       ∙ (ap (λ l. stay ++ l) left
       ∙ (append-nil stay
-      ∙ (filter_agree (λ c. is_other es c.id) (λ c. not (list_any (λ x. x.id == c.id) cs)) (λ c. ap not (going_ids T id_of_idle t c.id cs)) (lent_of h)
+      ∙ (filter_agree (λ c. is_other id_of_deed es c.id) (λ c. not (list_any (λ x. x.id == c.id) cs)) (λ c. ap not (any_id id_of_deed (going id_of_idle t) c.id cs)) (lent_of h)
       ∙ filter-apart id_of_idle id_of_lent cs (lent_of h) (λ i. omega (arith, idle_and_lent_apart h sound i, copies_of-filter p id_of_idle i (idle_of h))))))
 
   -- connections and gone ones are those that were admitted

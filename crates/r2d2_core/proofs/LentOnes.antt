@@ -8,17 +8,18 @@ use Rattle.std.proofs.lemmas.Bool.{eqb-true}
 use Rattle.r2d2_core.specs.declared.run.Step.{Step}
 use Rattle.r2d2_core.specs.declared.machine.answers.Refusal.TheVariants as refusal
 use Rattle.r2d2_core.specs.Refusals.{refused_if}
-use Rattle.r2d2_core.specs.Ids.{found, without, copies_of}
+use Rattle.r2d2_core.specs.Ids.{latest, found, without, copies_of}
 use Rattle.r2d2_core.specs.Connections.{LentConnection, idle_connection, id_of_idle, id_of_lent, birth_in}
 use Rattle.r2d2_core.specs.Reply.{Reply}
 use Rattle.r2d2_core.specs.Picture.{IsSound}
 use Rattle.r2d2_core.specs.Table.{lent_refusal, lent_birth}
 use Rattle.r2d2_core.specs.History.{History, Then, moment_of}
-use Rattle.r2d2_core.specs.Deeds.{Deed, What, Admission, Taking_out, Keeping, Going, deed, deeds_of, deeds_in, latest, birth_of, admits, as_lent, idle_of, lent_of, connections_of, admitted_count, gone_count}
+use Rattle.r2d2_core.specs.Deeds.{Deed, What, Admission, Taking_out, Keeping, Going, deed, deeds_of, deeds_in, id_of_deed, birth_of, admits, as_lent, idle_of, lent_of, connections_of, admitted_count, gone_count}
 use Rattle.r2d2_core.specs.Pending.{numbered_of, on_order_of}
 use Rattle.r2d2_core.specs.Answers.{is_lent, picture_of}
 use Rattle.r2d2_core.proofs.Births.{shown_all}
-use Rattle.r2d2_core.proofs.Deeds.{is_other, one_other, idle_of-then, lent_of-then}
+use Rattle.r2d2_core.proofs.Deeds.{idle_of-then, lent_of-then}
+use Rattle.r2d2_core.proofs.Latest.{is_other, one_other}
 use Rattle.r2d2_core.proofs.Filters.{filter-absent, filter-once}
 use Rattle.r2d2_core.proofs.Ids.{copies_of-append3}
 
@@ -70,7 +71,7 @@ module _ {T : Type 0} where
   -- a lent one was born when its id was admitted
   births_of_lent : (h : History T) → AllByRecursion (λ c. c.birth ≡ birth_of h c.id) (lent_of h)
   unfolding lent_of
-  births_of_lent h = shown_all (λ c. c.birth ≡ birth_of h c.id) (λ d. as_lent (birth_of h d.id) d) (λ d. birth_shown (birth_of h) d.id d.at d.what) (latest (deeds_of h))
+  births_of_lent h = shown_all (λ c. c.birth ≡ birth_of h c.id) (λ d. as_lent (birth_of h d.id) d) (λ d. birth_shown (birth_of h) d.id d.at d.what) (latest id_of_deed (deeds_of h))
 
   pub lent_birth-is : (h : History T) (id : ℕ) → is_lent h id ≡ true → lent_birth id (picture_of h) ≡ birth_of h id
   unfolding picture_of
@@ -97,9 +98,9 @@ module _ {T : Type 0} where
   lent_of-back h s r id t w e none not_taken sound =
       let d : Deed T = deed id t w in
       lent_of-then h s r (d ∷ []) e (λ i other. none i)
-      ∙ (ap (λ o. filter (λ c. is_other (d ∷ []) c.id) (lent_of h) ++ cons_option o []) (not_taken (birth_of (Then h s r) id))
+      ∙ (ap (λ o. filter (λ c. is_other id_of_deed (d ∷ []) c.id) (lent_of h) ++ cons_option o []) (not_taken (birth_of (Then h s r) id))
       ∙ (append-nil _
-      ∙ (one_other d id_of_lent (lent_of h)
+      ∙ (one_other id_of_deed d id_of_lent (lent_of h)
       ∙ filter-once id_of_lent id (lent_of h) (once_lent h id sound))))
 
   -- what is idle stays where it is gone
@@ -109,7 +110,7 @@ module _ {T : Type 0} where
       let d : Deed T = deed id t Going in
       idle_of-then h s r (d ∷ []) e (λ i other. none i)
       ∙ (append-nil _
-      ∙ (one_other d id_of_idle (idle_of h)
+      ∙ (one_other id_of_deed d id_of_idle (idle_of h)
       ∙ filter-absent id_of_idle id (idle_of h) (lent_not_idle h id lent sound)))
 
   -- where it is kept, it is the last
@@ -118,7 +119,7 @@ module _ {T : Type 0} where
   idle_of-kept h s r id t value e none lent sound =
       let d : Deed T = deed id t (Keeping value) in
       idle_of-then h s r (d ∷ []) e (λ i other. none i)
-      ∙ (ap (λ l. l ++ idle_connection id (birth_of (Then h s r) id) t value ∷ []) (one_other d id_of_idle (idle_of h) ∙ filter-absent id_of_idle id (idle_of h) (lent_not_idle h id lent sound))
+      ∙ (ap (λ l. l ++ idle_connection id (birth_of (Then h s r) id) t value ∷ []) (one_other id_of_deed d id_of_idle (idle_of h) ∙ filter-absent id_of_idle id (idle_of h) (lent_not_idle h id lent sound))
       ∙ ap (λ b. idle_of h ++ idle_connection id (cond b (moment_of h s) (birth_of h id)) t value ∷ []) (none id))
 
   -- a lent one was admitted and is not gone

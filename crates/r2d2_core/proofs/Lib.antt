@@ -9,6 +9,7 @@ pub mod Accounted
 pub mod Steady
 pub mod Sounds
 pub mod Wholes
+pub mod Latest
 pub mod Deeds
 pub mod Births
 pub mod Orders
@@ -31,3 +32,11 @@ pub mod Runs
 pub mod Rows
 pub mod InOrder
 pub mod Choices
+pub mod RecordRows
+pub mod Replaying
+pub mod RecordedTakes
+pub mod RecordedReturns
+pub mod RecordedReaps
+pub mod Books
+pub mod Listing
+pub mod Reporting

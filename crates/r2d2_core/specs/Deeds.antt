@@ -1,8 +1,8 @@
 -- Which connections are idle and lent: each accepted step did something to ids, and the latest deed of an id says where its connection is.
 use Rattle.std.specs.Prelude.{ℕ, ◌+◌, ◌-◌, Bool, true, false, ◌==◌, if◌then◌else◌, List, [], ◌∷◌, ◌++◌, map, length, filter_map, Option, Some, None, option_map, Ok}
-use Rattle.std.specs.List.{list_any}
 use Rattle.r2d2_core.specs.declared.run.Step.{Step}
 use Rattle.r2d2_core.specs.declared.run.Step.TheVariants as step
+use Rattle.r2d2_core.specs.Ids.{latest}
 use Rattle.r2d2_core.specs.Connections.{IdleConnection, LentConnection, idle_connection, lent_connection}
 use Rattle.r2d2_core.specs.Reply.{Reply, Taken, Found, CameBack, Kept, Closed, Reaped, Left, CheckFailed}
 use Rattle.r2d2_core.specs.History.{History, Made, Then, moment_of}
@@ -22,6 +22,9 @@ pub record Deed (T : Type 0) : Type 0 where
 module _ {T : Type 0} where
   abbrev pub deed : ℕ → ℕ → What T → Deed T
   deed i at what = record { id = i; at = at; what = what }
+
+  abbrev pub id_of_deed : Deed T → ℕ
+  id_of_deed d = d.id
 
   -- DEEDS OF A STEP, by its answer
 
@@ -59,11 +62,6 @@ module _ {T : Type 0} where
   deeds_of (Made limits moment first) = []
   deeds_of (Then h s r) = deeds_of h ++ deeds_in (moment_of h s) s r
 
-  -- those that no later deed of their id follows
-  abbrev pub latest : List (Deed T) → List (Deed T)
-  latest [] = []
-  latest (d ∷ later) = if list_any (λ e. e.id == d.id) later then latest later else d ∷ latest later
-
   -- BIRTHS
 
   -- whether a step is the admission of an id
@@ -99,11 +97,11 @@ module _ {T : Type 0} where
 
   -- the connections whose latest deed is an admission or a kept return, in the order of those deeds
   unfoldable pub idle_of : History T → List (IdleConnection T)
-  idle_of h = filter_map (λ d. as_idle (birth_of h d.id) d) (latest (deeds_of h))
+  idle_of h = filter_map (λ d. as_idle (birth_of h d.id) d) (latest id_of_deed (deeds_of h))
 
   -- those whose latest deed is a take, in the order of those deeds
   unfoldable pub lent_of : History T → List LentConnection
-  lent_of h = filter_map (λ d. as_lent (birth_of h d.id) d) (latest (deeds_of h))
+  lent_of h = filter_map (λ d. as_lent (birth_of h d.id) d) (latest id_of_deed (deeds_of h))
 
   -- HOW MANY
 

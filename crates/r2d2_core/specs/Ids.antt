@@ -1,5 +1,6 @@
 -- Lists of things with ids.
 use Rattle.std.specs.Prelude.{◌≡◌, ◌≢◌, ◌<◌, ℕ, ◌+◌, ◌-◌, ◌==◌, if◌then◌else◌, List, [], ◌∷◌, length, take, slice_index_or, Option, Some, None}
+use Rattle.std.specs.List.{list_any}
 
 -- the last of a list
 abbrev pub last_of : {X : Type 0} → List X → Option X
@@ -20,6 +21,11 @@ found id_of i (x ∷ xs) = if id_of x == i then Some x else found id_of i xs
 abbrev pub without : {X : Type 0} → (X → ℕ) → ℕ → List X → List X
 without id_of i [] = []
 without id_of i (x ∷ xs) = if id_of x == i then xs else x ∷ without id_of i xs
+
+-- those that no later one of the same id follows
+abbrev pub latest : {X : Type 0} → (X → ℕ) → List X → List X
+latest id_of [] = []
+latest id_of (x ∷ later) = if list_any (λ y. id_of y == id_of x) later then latest id_of later else x ∷ latest id_of later
 
 -- a number is its own id
 abbrev pub same_id : ℕ → ℕ

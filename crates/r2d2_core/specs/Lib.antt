@@ -18,3 +18,9 @@ pub mod Pending
 pub mod Answers
 pub mod Follows
 pub mod Reuse
+pub mod Records
+pub mod Replay
+pub mod Recorded
+pub mod Log
+pub mod Book
+pub mod Reports

@@ -2,11 +2,13 @@
 //! It uses no thread, lock or atomic, and takes memory only where it is made.
 #![tactic(auto)]
 
+pub mod journal;
 pub mod machine;
 pub mod reuse;
 pub mod run;
 pub mod schedule;
 
+pub use journal::{Book, IdList, Record, RecordList, Report};
 pub use machine::{Core, Gone, Leftover, Refusal, Released, Returned, Take};
 pub use run::{Answer, Step};
 pub use schedule::{Job, Limits, Schedule};

@@ -129,6 +129,28 @@ impl<T, A: Allocator> Core<T, A> {
         self.openings.limits()
     }
 
+    /// The latest moment so far.
+    pub(crate) fn latest(&self) -> Duration
+        ensures value { as_nanos result ≡ self.now.latest }
+        ensures sound { IsSound self.now }
+    {
+        self.latest
+    }
+
+    /// The id of the idle connection at a place, from the oldest.
+    pub(crate) fn idle_id(&self, place: u32) -> Option<u64>
+        ensures { result ≡ option_map id_of_idle (slice_get self.now.idle place) }
+    {
+        self.idle.id_at(place)
+    }
+
+    /// The id of the lent connection at a place, from the one that was taken first.
+    pub(crate) fn lent_id(&self, place: u32) -> Option<u64>
+        ensures { result ≡ option_map id_of_lent (slice_get self.now.lent place) }
+    {
+        self.lent.id_at(place)
+    }
+
     // How many connections there are.
     fn count(&self) -> usize
         ensures value { result ≡ self.now.connections }
@@ -336,7 +358,7 @@ impl<T, A: Allocator> Core<T, A> {
 }
 
 // The later of two moments.
-fn later(a: Duration, b: Duration) -> Duration
+pub(crate) fn later(a: Duration, b: Duration) -> Duration
     ensures { as_nanos result ≡ max (as_nanos a) (as_nanos b) }
 {
     if a.as_nanos() < b.as_nanos() { b } else { a }

@@ -1,0 +1,305 @@
+// A book beside a core: the same answers, and records that replay.
+
+use crate::lines::tell;
+use crate::replays::replays;
+use crate::steps::{admit, begin, close, limits, ms, number, put_back, reap, sized, take, want};
+use linked_list_allocator::LocalHeap;
+use r2d2_core::{Answer, Book, Limits, Record, RecordList, Report, Step};
+use std::alloc::{AllocError, Allocator, Global};
+use std::test::Fail;
+use std::time::Duration;
+
+fn copied(alloc: Global, text: &Option<String>) -> Result<Option<String>, AllocError> {
+    match text {
+        Some(text) => Ok(Some(String::from_str(alloc, text)?)),
+        None => Ok(None),
+    }
+}
+
+// What a book answers to a step, which is not used up.
+fn answer_to(
+    alloc: Global,
+    book: &mut Book<u64>,
+    step: &Step<u64>,
+) -> Result<Answer<u64>, AllocError> {
+    Ok(match step {
+        Step::Take { now, or_order } => Answer::Take(book.take(*now, *or_order)),
+        Step::Begin { now } => Answer::Begin(book.begin(*now)),
+        Step::Number { tries } => Answer::Number(book.number(*tries)),
+        Step::Admit { now, id, value } => Answer::Admit(book.admit(*now, *id, *value)),
+        Step::Fail { now, tries, text } => {
+            Answer::Fail(book.fail(*now, *tries, copied(alloc, text)?))
+        }
+        Step::FailCheck { now, id, text } => {
+            Answer::FailCheck(book.fail_check(*now, *id, copied(alloc, text)?))
+        }
+        Step::PutBack {
+            now,
+            id,
+            value,
+            broken,
+        } => Answer::PutBack(book.put_back(*now, *id, *value, *broken)),
+        Step::Reap { now } => {
+            let mut released = Vec::with_capacity(alloc, book.limits().max_size() as usize)?;
+            let ordered = book.reap(*now, &mut released);
+            Answer::Reap { released, ordered }
+        }
+        Step::TakeError => Answer::TakeError(book.take_error()),
+        Step::Close => Answer::Close(book.close()),
+    })
+}
+
+// What a book answers to steps, one answer each.
+pub(crate) fn answers_of_a_book(
+    alloc: Global,
+    book: &mut Book<u64>,
+    steps: &[Step<u64>],
+) -> Result<Vec<Answer<u64>>, AllocError> {
+    let mut answers = Vec::new(alloc);
+    for step in steps {
+        let answer = answer_to(alloc, book, step)?;
+        answers.push(answer)?;
+    }
+    Ok(answers)
+}
+
+// A book with room for all records of a row.
+pub(crate) fn book_for(alloc: Global, limits: Limits) -> Result<Book<u64>, AllocError> {
+    Book::new(alloc, limits, Duration::ZERO, 256)
+}
+
+// How many are connected, idle and pending.
+pub(crate) fn push_state_of_a_book<A: Allocator>(
+    text: &mut String,
+    book: &Book<u64, A>,
+) -> Result<(), AllocError> {
+    let connections = book.connections();
+    let idle = book.idle();
+    let pending = book.pending();
+    write!(text, "state {connections} {idle} {pending}")
+}
+
+// Whether the report of a book has all records, and they come to what the report counts.
+pub(crate) fn report_replays(alloc: Global, book: &Book<u64>) -> Result<bool, AllocError> {
+    let report = book.report(alloc)?;
+    Ok(report.lost == 0 && replays(alloc, &report)?)
+}
+
+// THE ROWS
+
+// One connection comes in, is taken, and comes back.
+fn one_kept(alloc: Global, room: usize) -> Result<Report, Fail> {
+    let limits = sized(1).ok_or("limits")?;
+    let mut book = Book::new(alloc, limits, Duration::ZERO, room)?;
+    let steps = [
+        begin(0),
+        number(0),
+        admit(1, 0, 7),
+        take(2),
+        put_back(3, 0, 7),
+    ];
+    answers_of_a_book(alloc, &mut book, &steps)?;
+    Ok(book.report(alloc)?)
+}
+
+#[test]
+fn keeps_the_newest_records(rt: HostRuntime) -> Result<(), Fail> {
+    let all = [
+        Record::Admitted { at: ms(1), id: 0 },
+        Record::Taken {
+            at: ms(2),
+            id: 0,
+            ordered: 0,
+        },
+        Record::Kept { at: ms(3), id: 0 },
+    ];
+    for (room, lost) in [(4usize, 0u64), (3, 0), (2, 1), (1, 2), (0, 3)] {
+        let report = one_kept(rt.alloc(), room)?;
+        let first = all.len() - all.len().min(room);
+        assert_eq!(rt; report.records.as_slice(), &all[first..], "at {room}");
+        assert_eq!(rt; report.lost, lost, "at {room}");
+        assert_eq!(rt; report.idle.as_slice(), &[0u64][..], "at {room}");
+        assert!(rt; report.lent.as_slice().is_empty(), "at {room}");
+        assert_eq!(rt; (report.connections, report.pending), (1, 0), "at {room}");
+        assert!(rt; !report.closed, "at {room}");
+    }
+    Ok(())
+}
+
+// Two connections are closed by a reap, and then the book is, twice.
+#[test]
+fn reports_what_a_reap_and_a_close_did(rt: HostRuntime) -> Result<(), Fail> {
+    let alloc = rt.alloc();
+    let limits = limits(2, None, None, Some(1000), 30_000, 30_000).ok_or("limits")?;
+    let mut book = Book::new(alloc, limits, Duration::ZERO, 4)?;
+    let steps = [
+        begin(0),
+        begin(0),
+        number(0),
+        number(0),
+        admit(0, 0, 70),
+        admit(0, 1, 71),
+        reap(999),
+        reap(1000),
+        want(1001),
+    ];
+    answers_of_a_book(alloc, &mut book, &steps)?;
+    let all = [
+        Record::Admitted { at: ms(0), id: 0 },
+        Record::Admitted { at: ms(0), id: 1 },
+        Record::Reaped {
+            at: ms(1000),
+            ordered: 2,
+        },
+        Record::ClosedAll { at: ms(1001) },
+    ];
+    let open = book.report(alloc)?;
+    assert_eq!(rt; open.records.as_slice(), &all[..3]);
+    assert_eq!(rt;
+        (open.lost, open.connections, open.pending, open.closed),
+        (0, 0, 2, false)
+    );
+    assert!(rt; open.idle.as_slice().is_empty() && open.lent.as_slice().is_empty());
+    assert!(rt; replays(alloc, &open)?);
+    answers_of_a_book(alloc, &mut book, &[close(), close()])?;
+    let closed = book.report(alloc)?;
+    assert_eq!(rt; closed.records.as_slice(), &all[..]);
+    assert_eq!(rt;
+        (
+            closed.lost,
+            closed.connections,
+            closed.pending,
+            closed.closed
+        ),
+        (0, 0, 0, true)
+    );
+    assert!(rt; replays(alloc, &closed)?);
+    Ok(())
+}
+
+// A report with other counts than its records come to is found out.
+#[test]
+fn finds_a_report_that_does_not_replay(rt: HostRuntime) -> Result<(), Fail> {
+    let alloc = rt.alloc();
+    let mut report = one_kept(alloc, 3)?;
+    assert!(rt; replays(alloc, &report)?);
+    report.pending = 1;
+    assert!(rt; !replays(alloc, &report)?);
+    let short = one_kept(alloc, 2)?;
+    assert!(rt; !replays(alloc, &short)?);
+    let mut list = one_kept(alloc, 3)?.records.into_vec();
+    list.pop();
+    report.pending = 0;
+    report.records = RecordList::of(list);
+    assert!(rt; !replays(alloc, &report)?);
+    Ok(())
+}
+
+// MEMORY
+
+// Every kind of step but a reap that closes, and two that are refused.
+fn every_step<A: Allocator>(
+    alloc: Global,
+    text: &mut String,
+    book: &mut Book<u64, A>,
+    blammo: Option<String>,
+) -> Result<(), AllocError> {
+    for _ in 0..2 {
+        tell(text, 0, Answer::Begin(book.begin(ms(0))))?;
+    }
+    tell(text, 0, Answer::Number(book.number(0)))?;
+    tell(text, 0, Answer::Admit(book.admit(ms(1), 0, 70)))?;
+    tell(text, 0, Answer::Admit(book.admit(ms(1), 0, 70)))?;
+    tell(text, 0, Answer::Take(book.take(ms(2), true)))?;
+    tell(text, 0, Answer::Take(book.take(ms(2), true)))?;
+    tell(text, 0, Answer::PutBack(book.put_back(ms(3), 0, 70, false)))?;
+    tell(text, 0, Answer::Take(book.take(ms(4), false)))?;
+    tell(
+        text,
+        0,
+        Answer::FailCheck(book.fail_check(ms(5), 0, blammo)),
+    )?;
+    tell(text, 0, Answer::Fail(book.fail(ms(6), 0, None)))?;
+    tell(text, 0, Answer::Fail(book.fail(ms(6), 0, None)))?;
+    tell(text, 0, Answer::TakeError(book.take_error()))?;
+    let mut released = Vec::with_capacity(alloc, book.limits().max_size() as usize)?;
+    let ordered = book.reap(ms(7), &mut released);
+    tell(text, 0, Answer::Reap { released, ordered })?;
+    for _ in 0..2 {
+        for (id, value) in book.close() {
+            write!(text, "left {id} {value}; ")?;
+        }
+    }
+    push_state_of_a_book(text, book)
+}
+
+// What every step answers.
+fn every_answer<A: Allocator>(
+    alloc: Global,
+    book: &mut Book<u64, A>,
+) -> Result<String, AllocError> {
+    let mut text = String::new(alloc);
+    let blammo = String::from_str(alloc, "blammo")?;
+    every_step(alloc, &mut text, book, Some(blammo))?;
+    Ok(text)
+}
+
+// How many records there are, and whether they come to what the report counts.
+fn push_report<A: Allocator>(
+    alloc: Global,
+    text: &mut String,
+    book: &Book<u64, A>,
+) -> Result<(), AllocError> {
+    let report = book.report(alloc)?;
+    let records = report.records.as_slice().len();
+    let whole = replays(alloc, &report)?;
+    write!(text, "; {records} records, {whole}")
+}
+
+// The same on a heap that has no more room, where a report is refused and then, with memory, made.
+fn answers_on_a_full_heap(alloc: Global, limits: Limits) -> Result<String, AllocError> {
+    let heap = LocalHeap::new(alloc, 8192)?;
+    let mut book: Book<u64, &LocalHeap> = Book::new(&heap, limits, Duration::ZERO, 16)?;
+    let _rest: Vec<u8, &LocalHeap> = Vec::with_capacity(&heap, heap.free())?;
+    let mut text = every_answer(alloc, &mut book)?;
+    if book.report(&heap).is_ok() {
+        text.push_str("; there is room")?;
+    }
+    push_report(alloc, &mut text, &book)?;
+    Ok(text)
+}
+
+#[test]
+fn steps_of_a_book_take_no_memory(rt: HostRuntime) -> Result<(), Fail> {
+    let alloc = rt.alloc();
+    let limits = limits(2, None, None, Some(1000), 30_000, 30_000).ok_or("limits")?;
+    let mut book = Book::new(alloc, limits, Duration::ZERO, 16)?;
+    let wanted =
+        "open 0; open 0; numbered 0; admitted; refused NotNumbered; taken 0 70 ordered 0; empty ordered 0; kept; \
+        taken 0 70 ordered 0; gone 0 age 4 ordered 1; retry 406; refused NoOpening; error blammo; reaped ordered 0; \
+        state 0 0 0; 6 records, true";
+    let mut text = every_answer(alloc, &mut book)?;
+    push_report(alloc, &mut text, &book)?;
+    assert_eq!(rt; text.as_str(), wanted);
+    assert_eq!(rt; answers_on_a_full_heap(alloc, limits)?.as_str(), wanted);
+    Ok(())
+}
+
+#[test]
+fn a_huge_room_is_refused_at_the_making(rt: HostRuntime) -> Result<(), Fail> {
+    let alloc = rt.alloc();
+    let limits = sized(1).ok_or("limits")?;
+    for room in [usize::MAX, 1 << 60, 1 << 50] {
+        assert!(rt;
+            Book::<u64>::new(alloc, limits, Duration::ZERO, room).is_err(),
+            "at {room}"
+        );
+    }
+    let heap = LocalHeap::new(alloc, 8192)?;
+    assert!(rt; Book::<u64, &LocalHeap>::new(&heap, limits, Duration::ZERO, 1000).is_err());
+    assert_eq!(rt; heap.used(), 0);
+    assert!(rt;
+        Book::<u64, &LocalHeap>::with_first_id(&heap, limits, Duration::ZERO, 5, 0).is_ok()
+    );
+    Ok(())
+}

@@ -1,0 +1,25 @@
+-- How ids are listed, place by place.
+use Rattle.std.proofs.Common.{◌≡◌, ℕ, zero, suc, ◌+◌, ◌<◌, List, [], ◌∷◌, ◌++◌, map, length, take, Some, None, sym, ◌∙◌, ap, arith, add-one}
+use Rattle.std.specs.Prelude.{option_map, slice_get}
+use Rattle.std.proofs.lemmas.List.{take_all}
+
+module _ {X : Type 0} where
+  -- after so many places
+  pub record IsListed (f : X → ℕ) (xs : List X) (places : ℕ) (ids : List ℕ) : Type 0 where
+    pub is : ids ≡ map f (take places xs)
+
+  next : (f : X → ℕ) (xs : List X) (place id : ℕ) → option_map f (slice_get xs place) ≡ Some id → map f (take place xs) ++ id ∷ [] ≡ map f (take (suc place) xs)
+  next f [] place id e = absurd cc
+  next f (x ∷ xs) zero id e = cc
+  next f (x ∷ xs) (suc place) id e = ap (λ l. f x ∷ l) (next f xs place id e)
+
+  pub listed_more : (f : X → ℕ) (xs : List X) (place id : ℕ) (ids : List ℕ) → option_map f (slice_get xs place) ≡ Some id → IsListed f xs place ids → IsListed f xs (place + 1) (ids ++ id ∷ [])
+  listed_more f xs place id ids e h = record { is = ap (λ l. l ++ id ∷ []) h.is ∙ next f xs place id e ∙ ap (λ n. map f (take n xs)) (sym (add-one place)) }
+
+  pub there_is_one : (f : X → ℕ) (xs : List X) (place : ℕ) → place < length xs → option_map f (slice_get xs place) ≡ None → ⊥
+  there_is_one f [] place lt e = omega arith
+  there_is_one f (x ∷ xs) zero lt e = cc
+  there_is_one f (x ∷ xs) (suc place) lt e = there_is_one f xs place (omega arith) e
+
+  pub listed_all : (f : X → ℕ) (xs : List X) (places : ℕ) (ids : List ℕ) → places ≡ length xs → IsListed f xs places ids → ids ≡ map f xs
+  listed_all f xs places ids e h = h.is ∙ ap (map f) (take_all places xs (omega arith))

@@ -1,0 +1,31 @@
+use Rattle.std.proofs.Common.{◌∙◌, subst}
+use Rattle.r2d2_core.specs.Book.{Account, IsReplayed}
+use Rattle.r2d2_core.specs.Reports.{IsReportOf}
+use Rattle.r2d2_core.proofs.Reporting.{report_replays}
+use Rattle.r2d2_core.proofs.journal.Book.report.Goals as goal
+
+pub returns-clause-given : goal.returns-clause-given
+returns-clause-given g c =
+    subst (λ (a : Account _). IsReportOf a (record {
+      limits = c.limits.result;
+      records = c.of.result;
+      lost = c.lost.result;
+      idle = c.in_ok-idle.idle;
+      lent = c.in_ok-lent.lent;
+      connections = c.connections.result;
+      pending = c.pending.result;
+      closed = c.is_closed.result;
+    })) c.self.view_is
+    (record {
+      limits = c.limits.ensures.value;
+      records = c.of.ensures ∙ c.in_ok-records.ensures;
+      lost = c.lost.ensures;
+      idle = c.in_ok-idle.ensures;
+      lent = c.in_ok-lent.ensures;
+      connections = c.connections.ensures.value;
+      pending = c.pending.ensures.value;
+      closed = c.is_closed.ensures.value;
+    })
+
+pub returns-clause-replays : goal.returns-clause-replays
+returns-clause-replays g c = report_replays c.args.self.now _ (returns-clause-given g c) (subst IsReplayed c.self.view_is (λ lost. (c.self.invariant lost).told))

@@ -1,0 +1,31 @@
+-- What a record says, as a contract sees it: its moment in nanoseconds.
+use Rattle.std.specs.Prelude.{ℕ}
+use Rattle.std.specs.Duration.{as_nanos}
+use Rattle.r2d2_core.specs.declared.journal.record.Record.{Record}
+use Rattle.r2d2_core.specs.declared.journal.record.Record.TheVariants as record_
+
+-- a `Record`
+pub data Noted : Type 0 where
+  -- a connection was lent
+  Taken : (at id ordered : ℕ) → Noted
+  -- none was idle, and an opening was ordered
+  Ordered : (at ordered : ℕ) → Noted
+  -- a connection came in
+  Admitted : (at id : ℕ) → Noted
+  -- a lent one came back, and is idle
+  Kept : (at id : ℕ) → Noted
+  -- a lent one is gone
+  Closed : (at id ordered : ℕ) → Noted
+  -- the idle ones that were expired are gone
+  Reaped : (at ordered : ℕ) → Noted
+  -- the pool was closed, and all idle ones are gone
+  ClosedAll : (at : ℕ) → Noted
+
+abbrev pub seen_record : Record → Noted
+seen_record (record_.Taken at id ordered) = Taken (as_nanos at) id ordered
+seen_record (record_.Ordered at ordered) = Ordered (as_nanos at) ordered
+seen_record (record_.Admitted at id) = Admitted (as_nanos at) id
+seen_record (record_.Kept at id) = Kept (as_nanos at) id
+seen_record (record_.Closed at id ordered) = Closed (as_nanos at) id ordered
+seen_record (record_.Reaped at ordered) = Reaped (as_nanos at) ordered
+seen_record (record_.ClosedAll at) = ClosedAll (as_nanos at)

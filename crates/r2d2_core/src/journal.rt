@@ -1,0 +1,278 @@
+// A journal beside a machine: what each step did.
+ghost use Rattle.std.specs.Prelude.{◌≡◌, ◌≤◌, ℕ, [], max, map, length, option_map, string_bytes, vec_len, vec_capacity, IfOk};
+ghost use Rattle.std.specs.Duration.{as_nanos};
+
+use crate::machine::{Core, Gone, Leftover, Refusal, Released, Returned, Take, later};
+use crate::schedule::{Job, Limits};
+pub use record::Record;
+pub use report::{IdList, RecordList, Report};
+use ring::Ring;
+use std::alloc::{AllocError, Allocator, Global};
+use std::marker::Model;
+use std::time::Duration;
+
+pub mod record;
+pub mod report;
+pub(crate) mod ring;
+
+/// A core that notes what each step did, in a journal of bounded room.
+///
+/// Its steps and readings are those of a core. All memory, that of the journal too, is taken at the making: no step takes any.
+#[derive(Drop)]
+pub struct Book<T, A: Allocator = Global> {
+    machine: Core<T, A>,
+    ring: Ring<A>,
+}
+
+impl<T, A: Allocator> Model for Book<T, A> {
+    ghost use Rattle.r2d2_core.specs.Book.{Account, account, IsRecorded};
+
+    ghost Value = { Account T };
+
+    ghost view = { λ b. account b.machine b.ring };
+
+    ghost invariant = { λ b. IsRecorded (account b.machine b.ring) };
+}
+
+impl<T, A: Allocator> Book<T, A> {
+    ghost use Rattle.r2d2_core.specs.Limits.{settings_of};
+    ghost use Rattle.r2d2_core.specs.Picture.{IsSound};
+    ghost use Rattle.r2d2_core.specs.Table.{first_picture};
+    ghost use Rattle.r2d2_core.specs.Log.{log};
+    ghost use Rattle.r2d2_core.specs.Book.{account, IsReplayed};
+    ghost use Rattle.r2d2_core.specs.Reports.{IsReportOf, DoesReplay};
+
+    /// A book of a core whose ids are counted from 0, made at the moment `now`, that keeps the newest records, `room` of them at
+    /// most. The error comes only where its memory is refused.
+    pub fn new(
+        alloc: A,
+        limits: Limits,
+        now: Duration,
+        room: usize,
+    ) -> Result<Book<T, A>, AllocError>
+    where
+        T: Drop,
+        A: Copy,
+        ensures { IfOk result (λ book. book ≡ account (first_picture (settings_of limits) (as_nanos now) 0) (log [] room 0)) }
+    {
+        Book::with_first_id(alloc, limits, now, 0, room)
+    }
+
+    /// The same, with its ids counted from `first_id`.
+    pub fn with_first_id(
+        alloc: A,
+        limits: Limits,
+        now: Duration,
+        first_id: u64,
+        room: usize,
+    ) -> Result<Book<T, A>, AllocError>
+    where
+        T: Drop,
+        A: Copy,
+        ensures { IfOk result (λ book. book ≡ account (first_picture (settings_of limits) (as_nanos now) first_id) (log [] room 0)) }
+    {
+        let machine = Core::with_first_id(alloc, limits, now, first_id)?;
+        let ring = Ring::new(alloc, room)?;
+        Ok(Book { machine, ring })
+    }
+
+    /// How many connections there are, idle and lent.
+    pub fn connections(&self) -> u32
+        ensures value { result ≡ self.now.picture.connections }
+        ensures sound { IsSound self.now.picture }
+        ensures replayed { IsReplayed self.now }
+    {
+        self.machine.connections()
+    }
+
+    /// How many connections are idle.
+    pub fn idle(&self) -> u32
+        ensures value { result ≡ length self.now.picture.idle }
+        ensures sound { IsSound self.now.picture }
+        ensures replayed { IsReplayed self.now }
+    {
+        self.machine.idle()
+    }
+
+    /// How many openings are ordered and not admitted.
+    pub fn pending(&self) -> u32
+        ensures value { result ≡ self.now.picture.on_order.pending }
+        ensures sound { IsSound self.now.picture }
+        ensures replayed { IsReplayed self.now }
+    {
+        self.machine.pending()
+    }
+
+    pub fn is_closed(&self) -> bool
+        ensures value { result ≡ self.now.picture.on_order.closed }
+        ensures sound { IsSound self.now.picture }
+        ensures replayed { IsReplayed self.now }
+    {
+        self.machine.is_closed()
+    }
+
+    /// The limits that the book was made with.
+    pub fn limits(&self) -> Limits
+        ensures value { settings_of result ≡ self.now.picture.on_order.limits }
+        ensures sound { IsSound self.now.picture }
+        ensures replayed { IsReplayed self.now }
+    {
+        self.machine.limits()
+    }
+
+    /// What the book shows now, and its records. The error comes only where memory for the lists is refused; nothing changes.
+    pub fn report<B: Allocator>(&self, alloc: B) -> Result<Report<B>, AllocError>
+    where
+        B: Copy,
+        ensures given { IfOk result (λ report. IsReportOf self.now report) }
+        ensures replays { IfOk result (λ report. report.lost ≡ 0 → DoesReplay report) }
+    {
+        let records = self.ring.copied(alloc)?;
+        let idle = IdList::of_idle(alloc, &self.machine)?;
+        let lent = IdList::of_lent(alloc, &self.machine)?;
+        Ok(Report {
+            limits: self.machine.limits(),
+            records: RecordList::of(records),
+            lost: self.ring.lost(),
+            idle,
+            lent,
+            connections: self.machine.connections(),
+            pending: self.machine.pending(),
+            closed: self.machine.is_closed(),
+        })
+    }
+}
+
+impl<T, A: Allocator> Book<T, A> {
+    ghost use Rattle.r2d2_core.specs.Reply.{seen_take, seen_return, seen_gone, seen_released, map_ok};
+    ghost use Rattle.r2d2_core.specs.Tasks.{seen_job};
+    ghost use Rattle.r2d2_core.specs.Table.{take_answer, after_take, begin_answer, after_begin, number_answer, after_number, admit_answer, after_admit, fail_answer, after_fail, return_answer, after_return, check_answer, after_check, reap_closed, reap_orders, after_reap, after_take_error, close_answer, after_close};
+    ghost use Rattle.r2d2_core.specs.Recorded.{record_of_take, record_of_admission, record_of_return, record_of_check, record_of_reap, record_of_close};
+    ghost use Rattle.r2d2_core.specs.Log.{with_noted};
+
+    /// As `Core::take`. A take that found is noted, and one that ordered.
+    pub fn take(&mut self, now: Duration, or_order: bool) -> Take<T>
+        ensures answer { seen_take result ≡ take_answer or_order self.old.picture }
+        ensures after { self.new.picture ≡ after_take (as_nanos now) or_order self.old.picture }
+        ensures noted { self.new.log ≡ with_noted (record_of_take (max self.old.picture.latest (as_nanos now)) (seen_take result)) self.old.log }
+    {
+        let at = later(self.machine.latest(), now);
+        let taken = self.machine.take(now, or_order);
+        self.ring.note(Record::of_take(at, &taken));
+        taken
+    }
+
+    /// As `Core::begin`, which is never noted.
+    pub fn begin(&mut self, now: Duration) -> Job
+        ensures answer { seen_job result ≡ begin_answer (as_nanos now) self.old.picture }
+        ensures after { self.new.picture ≡ after_begin (as_nanos now) self.old.picture }
+        ensures noted { self.new.log ≡ self.old.log }
+    {
+        self.machine.begin(now)
+    }
+
+    /// As `Core::number`, which is never noted.
+    pub fn number(&mut self, tries: u32) -> Result<u64, Refusal>
+        ensures answer { result ≡ number_answer tries self.old.picture }
+        ensures after { self.new.picture ≡ after_number tries self.old.picture }
+        ensures noted { self.new.log ≡ self.old.log }
+    {
+        self.machine.number(tries)
+    }
+
+    /// As `Core::admit`. It is noted where it is accepted.
+    pub fn admit(&mut self, now: Duration, id: u64, value: T) -> Result<(), (Refusal, T)>
+        ensures answer { result ≡ admit_answer id value self.old.picture }
+        ensures after { self.new.picture ≡ after_admit (as_nanos now) id value self.old.picture }
+        ensures noted { self.new.log ≡ with_noted (record_of_admission (max self.old.picture.latest (as_nanos now)) id result) self.old.log }
+    {
+        let at = later(self.machine.latest(), now);
+        let answer = self.machine.admit(now, id, value);
+        self.ring.note(Record::of_admission(at, id, &answer));
+        answer
+    }
+
+    /// As `Core::fail`, which is never noted.
+    pub fn fail(
+        &mut self,
+        now: Duration,
+        tries: u32,
+        text: Option<String>,
+    ) -> Result<Duration, Refusal>
+        ensures answer { map_ok as_nanos result ≡ fail_answer (as_nanos now) tries self.old.picture }
+        ensures after { self.new.picture ≡ after_fail (as_nanos now) tries text self.old.picture }
+        ensures noted { self.new.log ≡ self.old.log }
+    {
+        self.machine.fail(now, tries, text)
+    }
+
+    /// As `Core::fail_check`. It is noted where it is accepted.
+    pub fn fail_check(
+        &mut self,
+        now: Duration,
+        id: u64,
+        text: Option<String>,
+    ) -> Result<Gone, Refusal>
+        ensures answer { map_ok seen_gone result ≡ check_answer (as_nanos now) id self.old.picture }
+        ensures after { self.new.picture ≡ after_check (as_nanos now) id text self.old.picture }
+        ensures noted { self.new.log ≡ with_noted (record_of_check (max self.old.picture.latest (as_nanos now)) id (map_ok seen_gone result)) self.old.log }
+    {
+        let at = later(self.machine.latest(), now);
+        let answer = self.machine.fail_check(now, id, text);
+        self.ring.note(Record::of_check(at, id, &answer));
+        answer
+    }
+
+    /// As `Core::put_back`. It is noted where it is accepted.
+    pub fn put_back(
+        &mut self,
+        now: Duration,
+        id: u64,
+        value: T,
+        broken: bool,
+    ) -> Result<Returned<T>, (Refusal, T)>
+        ensures answer { map_ok seen_return result ≡ return_answer (as_nanos now) id value broken self.old.picture }
+        ensures after { self.new.picture ≡ after_return (as_nanos now) id value broken self.old.picture }
+        ensures noted { self.new.log ≡ with_noted (record_of_return (max self.old.picture.latest (as_nanos now)) id (map_ok seen_return result)) self.old.log }
+    {
+        let at = later(self.machine.latest(), now);
+        let answer = self.machine.put_back(now, id, value, broken);
+        self.ring.note(Record::of_return(at, id, &answer));
+        answer
+    }
+
+    /// As `Core::reap`. It is noted where it closed or ordered.
+    pub fn reap(&mut self, now: Duration, out: &mut Vec<Released<T>>) -> u32
+        requires empty { vec_len out.old ≡ 0 }
+        requires room { self.old.picture.on_order.limits.max_size ≤ vec_capacity out.old }
+        ensures released { map seen_released out.new.items ≡ reap_closed (as_nanos now) self.old.picture }
+        ensures answer { result ≡ reap_orders (as_nanos now) self.old.picture }
+        ensures after { self.new.picture ≡ after_reap (as_nanos now) self.old.picture }
+        ensures noted { self.new.log ≡ with_noted (record_of_reap (max self.old.picture.latest (as_nanos now)) (length out.new.items) result) self.old.log }
+    {
+        let at = later(self.machine.latest(), now);
+        let ordered = self.machine.reap(now, out);
+        self.ring.note(Record::of_reap(at, out.len(), ordered));
+        ordered
+    }
+
+    /// As `Core::take_error`, which is never noted.
+    pub fn take_error(&mut self) -> Option<String>
+        ensures answer { option_map string_bytes result ≡ self.old.picture.last_error }
+        ensures after { self.new.picture ≡ after_take_error self.old.picture }
+        ensures noted { self.new.log ≡ self.old.log }
+    {
+        self.machine.take_error()
+    }
+
+    /// As `Core::close`. The first one is noted.
+    pub fn close(&mut self) -> Leftover<T, A>
+        ensures answer { result ≡ close_answer self.old.picture }
+        ensures after { self.new.picture ≡ after_close self.old.picture }
+        ensures noted { self.new.log ≡ with_noted (record_of_close self.old.picture.latest self.old.picture.on_order.closed) self.old.log }
+    {
+        let made = Record::of_close(self.machine.latest(), self.machine.is_closed());
+        self.ring.note(made);
+        self.machine.close()
+    }
+}

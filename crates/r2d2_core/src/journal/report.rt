@@ -1,0 +1,136 @@
+// What a book says of itself.
+ghost use Rattle.std.specs.Prelude.{◌≡◌, map, IfOk};
+ghost use Rattle.r2d2_core.specs.Connections.{id_of_idle, id_of_lent};
+ghost use Rattle.r2d2_core.specs.Records.{seen_record};
+
+use super::record::Record;
+use crate::machine::Core;
+use crate::schedule::Limits;
+use std::alloc::{AllocError, Allocator, Global};
+use std::marker::Model;
+
+/// What a book shows at one moment, and the newest records of what led to it.
+///
+/// Where `lost` is 0 these are all records since the making: they replay to the ids and counts that stand beside them.
+#[derive(Drop)]
+pub struct Report<A: Allocator = Global> {
+    pub limits: Limits,
+    /// The oldest first.
+    pub records: RecordList<A>,
+    /// How many records were dropped, since there was no room for them; it stops at `u64::MAX`.
+    pub lost: u64,
+    /// The ids of the idle connections, in the order in which they came to be idle.
+    pub idle: IdList<A>,
+    /// The ids of the lent connections, in the order of their takes.
+    pub lent: IdList<A>,
+    pub connections: u32,
+    pub pending: u32,
+    pub closed: bool,
+}
+
+/// The records of a report.
+#[derive(Drop)]
+pub struct RecordList<A: Allocator = Global> {
+    list: Vec<Record, A>,
+}
+
+impl<A: Allocator> Model for RecordList<A> {
+    ghost use Rattle.std.specs.Prelude.{List, map};
+    ghost use Rattle.r2d2_core.specs.Records.{Noted, seen_record};
+
+    ghost Value = { List Noted };
+
+    ghost view = { λ a. map seen_record a.list.items };
+}
+
+impl<A: Allocator> RecordList<A> {
+    /// The records of a list, which it keeps.
+    pub fn of(list: Vec<Record, A>) -> RecordList<A>
+        ensures { result ≡ map seen_record list.items }
+    {
+        RecordList { list }
+    }
+
+    pub fn as_slice(&self) -> &[Record]
+        ensures { map seen_record result.now ≡ self.now }
+    {
+        self.list.as_slice()
+    }
+
+    /// Gives the list back.
+    pub fn into_vec(self) -> Vec<Record, A>
+        ensures { map seen_record result.items ≡ self }
+    {
+        self.list
+    }
+}
+
+/// IdList of connections.
+#[derive(Drop)]
+pub struct IdList<A: Allocator = Global> {
+    list: Vec<u64, A>,
+}
+
+impl<A: Allocator> Model for IdList<A> {
+    ghost use Rattle.std.specs.Prelude.{List, ℕ};
+
+    ghost Value = { List ℕ };
+
+    ghost view = { λ a. a.list.items };
+}
+
+impl<A: Allocator> IdList<A> {
+    /// The ids of a list, which it keeps.
+    pub fn of(list: Vec<u64, A>) -> IdList<A>
+        ensures { result ≡ list.items }
+    {
+        IdList { list }
+    }
+
+    pub fn as_slice(&self) -> &[u64]
+        ensures { result.now ≡ self.now }
+    {
+        self.list.as_slice()
+    }
+
+    /// Gives the list back.
+    pub fn into_vec(self) -> Vec<u64, A>
+        ensures { result.items ≡ self }
+    {
+        self.list
+    }
+
+    /// The ids of the idle connections, the oldest first.
+    pub(crate) fn of_idle<T, B: Allocator>(
+        alloc: A,
+        machine: &Core<T, B>,
+    ) -> Result<IdList<A>, AllocError>
+        ensures { IfOk result (λ ids. ids ≡ map id_of_idle machine.now.idle) }
+    {
+        let count = machine.idle();
+        let mut list = Vec::with_capacity(alloc, count as usize)?;
+        for place in 0..count {
+            if let Some(id) = machine.idle_id(place) {
+                list.push_reserved(id);
+            }
+        }
+        Ok(IdList { list })
+    }
+
+    /// The ids of the lent connections, in the order of their takes.
+    pub(crate) fn of_lent<T, B: Allocator>(
+        alloc: A,
+        machine: &Core<T, B>,
+    ) -> Result<IdList<A>, AllocError>
+        ensures { IfOk result (λ ids. ids ≡ map id_of_lent machine.now.lent) }
+    {
+        let count = machine.connections() - machine.idle();
+        let mut list = Vec::with_capacity(alloc, count as usize)?;
+        for place in 0..count {
+            if let Some(id) = machine.lent_id(place) {
+                list.push_reserved(id);
+            }
+        }
+        Ok(IdList { list })
+    }
+}
