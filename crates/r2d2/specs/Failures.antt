@@ -1,0 +1,17 @@
+-- What the errors of a pool say.
+use Rattle.std.specs.Prelude.{ℕ, List, ◌++◌, Option, Some, None, codes, string_bytes}
+use Rattle.std.specs.declared.string.String.{String}
+use Rattle.r2d2.specs.declared.error.ErrorKind.{ErrorKind}
+use Rattle.r2d2.specs.declared.error.ErrorKind.TheVariants.{Timeout, Memory, Threads}
+use Rattle.r2d2.specs.declared.error.Error.{Error}
+
+-- the text of a failure: a timeout's has the latest error after it, where one is known
+abbrev pub text_of : {A : Type 0} → ErrorKind → Option (String A) → List ℕ
+text_of Timeout None = codes "timed out waiting for connection"
+text_of Timeout (Some message) = codes "timed out waiting for connection: " ++ string_bytes message
+text_of Memory _ = codes "out of memory"
+text_of Threads _ = codes "a worker could not be started"
+
+-- what an error displays
+abbrev pub error_text : Error → List ℕ
+error_text e = text_of e.kind e.message

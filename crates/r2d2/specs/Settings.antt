@@ -1,0 +1,47 @@
+-- The settings of a pool. Lengths of time are compared in nanoseconds.
+use Rattle.std.specs.Prelude.{◌≡◌, ℕ, ◌*◌, ◌<◌, true, Some, None, option_map}
+use Rattle.std.specs.Option.{ForSome}
+use Rattle.std.specs.Duration.{as_nanos}
+use Rattle.r2d2_core.specs.Limits.{Settings, settings}
+use Rattle.r2d2.specs.declared.config.Config.{Config}
+
+-- a number of seconds, in nanoseconds
+abbrev pub seconds : ℕ → ℕ
+seconds n = n * 1_000_000_000
+
+-- the settings that a builder begins with
+pub record AreDefaults {H V Z : Type 0} (config : Config H V Z) : Type 0 where
+  pub max_size : config.max_size ≡ 10
+  pub min_idle : config.min_idle ≡ None
+  pub thread_pool : config.thread_pool ≡ 3
+  pub test_on_check_out : config.test_on_check_out ≡ true
+  pub max_lifetime : option_map as_nanos config.max_lifetime ≡ Some (seconds 1800)
+  pub idle_timeout : option_map as_nanos config.idle_timeout ≡ Some (seconds 600)
+  pub connection_timeout : as_nanos config.connection_timeout ≡ seconds 30
+  pub journal_room : config.journal_room ≡ 0
+  pub reaper_rate : as_nanos config.reaper_rate ≡ seconds 30
+
+-- what a builder keeps: its sizes and lengths of time are positive
+pub record ArePositive {H V Z : Type 0} (config : Config H V Z) : Type 0 where
+  pub has_size : 0 < config.max_size
+  pub has_workers : 0 < config.thread_pool
+  pub lives : ForSome config.max_lifetime (λ d. 0 < as_nanos d)
+  pub idles : ForSome config.idle_timeout (λ d. 0 < as_nanos d)
+  pub waits : 0 < as_nanos config.connection_timeout
+  pub reaps : 0 < as_nanos config.reaper_rate
+
+-- the limits among the settings
+abbrev pub limits_in : {H V Z : Type 0} → Config H V Z → Settings
+limits_in config = settings config.max_size config.min_idle config.max_lifetime config.idle_timeout config.connection_timeout config.reaper_rate
+
+-- the same settings with another handler of errors
+abbrev pub with_error_handler : {G H V Z : Type 0} → G → Config H V Z → Config G V Z
+with_error_handler handler c = record { max_size = c.max_size; min_idle = c.min_idle; thread_pool = c.thread_pool; test_on_check_out = c.test_on_check_out; max_lifetime = c.max_lifetime; idle_timeout = c.idle_timeout; connection_timeout = c.connection_timeout; journal_room = c.journal_room; reaper_rate = c.reaper_rate; error_handler = handler; event_handler = c.event_handler; connection_customizer = c.connection_customizer }
+
+-- the same settings with another handler of events
+abbrev pub with_event_handler : {W H V Z : Type 0} → W → Config H V Z → Config H W Z
+with_event_handler handler c = record { max_size = c.max_size; min_idle = c.min_idle; thread_pool = c.thread_pool; test_on_check_out = c.test_on_check_out; max_lifetime = c.max_lifetime; idle_timeout = c.idle_timeout; connection_timeout = c.connection_timeout; journal_room = c.journal_room; reaper_rate = c.reaper_rate; error_handler = c.error_handler; event_handler = handler; connection_customizer = c.connection_customizer }
+
+-- the same settings with another customizer
+abbrev pub with_customizer : {Y H V Z : Type 0} → Y → Config H V Z → Config H V Y
+with_customizer customizer c = record { max_size = c.max_size; min_idle = c.min_idle; thread_pool = c.thread_pool; test_on_check_out = c.test_on_check_out; max_lifetime = c.max_lifetime; idle_timeout = c.idle_timeout; connection_timeout = c.connection_timeout; journal_room = c.journal_room; reaper_rate = c.reaper_rate; error_handler = c.error_handler; event_handler = c.event_handler; connection_customizer = customizer }

@@ -1,0 +1,392 @@
+// The settings of a pool.
+ghost use Rattle.std.specs.Prelude.{◌≡◌, ◌<◌, ◌≤◌, ◌↔◌, IsSome, IfSome};
+ghost use Rattle.std.specs.Option.{ForSome};
+ghost use Rattle.std.specs.Duration.{as_nanos};
+ghost use Rattle.r2d2_core.specs.Limits.{settings_of};
+
+use crate::event::{HandleEvent, NopEventHandler};
+use crate::{
+    CustomizeConnection, HandleError, ManageConnection, NopConnectionCustomizer, NopErrorHandler,
+};
+use r2d2_core::Limits;
+use std::fmt;
+use std::marker::{Model, PhantomData};
+use std::time::Duration;
+
+/// The settings that a pool keeps: what each means is said at the setting of `Builder` of the same name.
+#[derive(Drop)]
+pub struct Config<H, V, Z> {
+    /// How many connections there are at most.
+    pub max_size: u32,
+    /// How many connections the pool tries to keep idle; None for `max_size`.
+    pub min_idle: Option<u32>,
+    /// How many threads open connections and close expired ones.
+    pub thread_pool: usize,
+    /// Whether a connection is checked before it is lent.
+    pub test_on_check_out: bool,
+    /// The age at which a connection is closed, if any.
+    pub max_lifetime: Option<Duration>,
+    /// The idle time at which a connection is closed, if any.
+    pub idle_timeout: Option<Duration>,
+    /// How long a caller waits for a connection.
+    pub connection_timeout: Duration,
+    /// How many records of what happened the pool keeps.
+    pub journal_room: usize,
+    /// The time from one look for expired connections to the next.
+    pub reaper_rate: Duration,
+    /// What is told of errors.
+    pub error_handler: H,
+    /// What is told of events.
+    pub event_handler: V,
+    /// What changes connections as they come and go.
+    pub connection_customizer: Z,
+}
+
+impl<H, V, Z> Config<H, V, Z> {
+    ghost use Rattle.r2d2.specs.Settings.{with_error_handler, with_event_handler, with_customizer};
+
+    /// The same settings, and another handler of errors.
+    fn with_error_handler<G>(self, error_handler: G) -> Config<G, V, Z>
+    where
+        H: Drop,
+        ensures { result ≡ with_error_handler error_handler self }
+    {
+        let Config {
+            max_size,
+            min_idle,
+            thread_pool,
+            test_on_check_out,
+            max_lifetime,
+            idle_timeout,
+            connection_timeout,
+            journal_room,
+            reaper_rate,
+            error_handler: _,
+            event_handler,
+            connection_customizer,
+        } = self;
+        Config {
+            max_size,
+            min_idle,
+            thread_pool,
+            test_on_check_out,
+            max_lifetime,
+            idle_timeout,
+            connection_timeout,
+            journal_room,
+            reaper_rate,
+            error_handler,
+            event_handler,
+            connection_customizer,
+        }
+    }
+
+    /// The same settings, and another handler of events.
+    fn with_event_handler<W>(self, event_handler: W) -> Config<H, W, Z>
+    where
+        V: Drop,
+        ensures { result ≡ with_event_handler event_handler self }
+    {
+        let Config {
+            max_size,
+            min_idle,
+            thread_pool,
+            test_on_check_out,
+            max_lifetime,
+            idle_timeout,
+            connection_timeout,
+            journal_room,
+            reaper_rate,
+            error_handler,
+            event_handler: _,
+            connection_customizer,
+        } = self;
+        Config {
+            max_size,
+            min_idle,
+            thread_pool,
+            test_on_check_out,
+            max_lifetime,
+            idle_timeout,
+            connection_timeout,
+            journal_room,
+            reaper_rate,
+            error_handler,
+            event_handler,
+            connection_customizer,
+        }
+    }
+
+    /// The same settings, and another customizer.
+    fn with_customizer<Y>(self, connection_customizer: Y) -> Config<H, V, Y>
+    where
+        Z: Drop,
+        ensures { result ≡ with_customizer connection_customizer self }
+    {
+        let Config {
+            max_size,
+            min_idle,
+            thread_pool,
+            test_on_check_out,
+            max_lifetime,
+            idle_timeout,
+            connection_timeout,
+            journal_room,
+            reaper_rate,
+            error_handler,
+            event_handler,
+            connection_customizer: _,
+        } = self;
+        Config {
+            max_size,
+            min_idle,
+            thread_pool,
+            test_on_check_out,
+            max_lifetime,
+            idle_timeout,
+            connection_timeout,
+            journal_room,
+            reaper_rate,
+            error_handler,
+            event_handler,
+            connection_customizer,
+        }
+    }
+}
+
+impl<H: fmt::Debug, V: fmt::Debug, Z: fmt::Debug> fmt::Debug for Config<H, V, Z> {
+    fn fmt<W: fmt::Write>(&self, f: &mut fmt::Formatter<W>) -> fmt::Result {
+        f.debug_struct("Config")
+            .field("max_size", &self.max_size)
+            .field("min_idle", &self.min_idle)
+            .field("test_on_check_out", &self.test_on_check_out)
+            .field("max_lifetime", &self.max_lifetime)
+            .field("idle_timeout", &self.idle_timeout)
+            .field("connection_timeout", &self.connection_timeout)
+            .field("error_handler", &self.error_handler)
+            .field("event_handler", &self.event_handler)
+            .field("connection_customizer", &self.connection_customizer)
+            .finish()
+    }
+}
+
+/// Gathers the settings of a pool. `H` handles errors, `V` events, and `Z` changes connections as they come and go.
+#[derive(Drop)]
+pub struct Builder<M, H, V, Z> {
+    config: Config<H, V, Z>,
+    manager: PhantomData<M>,
+}
+
+// Contracts see a builder as its settings.
+impl<M, H, V, Z> Model for Builder<M, H, V, Z> {
+    ghost use Rattle.r2d2.specs.declared.config.Config.{Config};
+    ghost use Rattle.r2d2.specs.Settings.{ArePositive};
+
+    ghost Value = { Config H V Z };
+
+    ghost view = { λ b. b.config };
+
+    ghost invariant = { λ b. ArePositive b.config };
+}
+
+impl<M: ManageConnection> Builder<M, NopErrorHandler, NopEventHandler, NopConnectionCustomizer> {
+    ghost use Rattle.r2d2.specs.Settings.{AreDefaults};
+
+    /// A builder with the default of each setting, and with handlers and a customizer that do nothing.
+    pub fn new() -> Self
+        ensures { AreDefaults result }
+    {
+        Self::default()
+    }
+}
+
+impl<M: ManageConnection> Default
+    for Builder<M, NopErrorHandler, NopEventHandler, NopConnectionCustomizer> {
+    ghost use Rattle.r2d2.specs.Settings.{AreDefaults};
+
+    ghost is_default = { AreDefaults };
+
+    /// The same as `new`.
+    fn default() -> Self {
+        Builder {
+            config: Config {
+                max_size: 10,
+                min_idle: None,
+                thread_pool: 3,
+                test_on_check_out: true,
+                max_lifetime: Some(Duration::from_secs(1800)),
+                idle_timeout: Some(Duration::from_secs(600)),
+                connection_timeout: Duration::from_secs(30),
+                journal_room: 0,
+                reaper_rate: Duration::from_secs(30),
+                error_handler: NopErrorHandler,
+                event_handler: NopEventHandler,
+                connection_customizer: NopConnectionCustomizer,
+            },
+            manager: PhantomData,
+        }
+    }
+}
+
+impl<
+    M: ManageConnection,
+    H: HandleError<M::Error>,
+    V: HandleEvent + 'static,
+    Z: CustomizeConnection<M::Connection, M::Error>,
+> Builder<M, H, V, Z> {
+    ghost use Rattle.r2d2.specs.Settings.{limits_in, with_error_handler, with_event_handler, with_customizer};
+
+    /// How many connections there are at most, idle and lent ones together, with those that are being opened. The default is 10.
+    /// It has to be positive. A pool takes the memory for that many when it is built.
+    pub fn max_size(mut self, max_size: u32) -> Self
+        requires { 0 < max_size }
+        ensures { result ≡ record self { max_size = max_size } }
+    {
+        self.config.max_size = max_size;
+        self
+    }
+
+    /// How many connections the pool tries to keep idle, as far as `max_size` leaves room for them. The default is None, which
+    /// stands for `max_size`. When the pool is built it has to be at most `max_size`: `limits` tells.
+    pub fn min_idle(mut self, min_idle: Option<u32>) -> Self
+        ensures { result ≡ record self { min_idle = min_idle } }
+    {
+        self.config.min_idle = min_idle;
+        self
+    }
+
+    /// How many threads of the pool's own open connections and close expired ones. The default is 3. It has to be positive.
+    pub fn thread_pool(mut self, workers: usize) -> Self
+        requires { 0 < workers }
+        ensures { result ≡ record self { thread_pool = workers } }
+    {
+        self.config.thread_pool = workers;
+        self
+    }
+
+    /// Whether a connection is checked by `ManageConnection::is_valid` before it is lent. The default is true.
+    pub fn test_on_check_out(mut self, test_on_check_out: bool) -> Self
+        ensures { result ≡ record self { test_on_check_out = test_on_check_out } }
+    {
+        self.config.test_on_check_out = test_on_check_out;
+        self
+    }
+
+    /// The age at which a connection is closed: an idle one at the next look for expired ones, a lent one when it comes back. None
+    /// means never. The default is 30 minutes. It may not be a length of zero.
+    pub fn max_lifetime(mut self, max_lifetime: Option<Duration>) -> Self
+        requires { ForSome max_lifetime (λ d. 0 < as_nanos d) }
+        ensures { result ≡ record self { max_lifetime = max_lifetime } }
+    {
+        self.config.max_lifetime = max_lifetime;
+        self
+    }
+
+    /// How long a connection may be idle: the next look for expired ones closes it then. None means for ever. The default is
+    /// 10 minutes. It may not be a length of zero.
+    pub fn idle_timeout(mut self, idle_timeout: Option<Duration>) -> Self
+        requires { ForSome idle_timeout (λ d. 0 < as_nanos d) }
+        ensures { result ≡ record self { idle_timeout = idle_timeout } }
+    {
+        self.config.idle_timeout = idle_timeout;
+        self
+    }
+
+    /// How long a caller waits for a connection before it is answered a timeout. An opening that fails again and again is put off by
+    /// at most half of it. The default is 30 seconds. It has to be positive.
+    pub fn connection_timeout(mut self, connection_timeout: Duration) -> Self
+        requires { 0 < as_nanos connection_timeout }
+        ensures { result ≡ record self { connection_timeout = connection_timeout } }
+    {
+        self.config.connection_timeout = connection_timeout;
+        self
+    }
+
+    /// How many records of what happened the pool keeps, the latest ones. The default is 0: none.
+    pub fn journal_room(mut self, records: usize) -> Self
+        ensures { result ≡ record self { journal_room = records } }
+    {
+        self.config.journal_room = records;
+        self
+    }
+
+    /// The time from one look for expired connections to the next. The default is 30 seconds. It has to be positive. It is for tests.
+    pub(crate) fn reaper_rate(mut self, reaper_rate: Duration) -> Self
+        requires { 0 < as_nanos reaper_rate }
+        ensures { result ≡ record self { reaper_rate = reaper_rate } }
+    {
+        self.config.reaper_rate = reaper_rate;
+        self
+    }
+
+    /// What is told of each error of the manager and of the customizer. The default is `NopErrorHandler`; `LoggingErrorHandler`
+    /// writes to a log.
+    pub fn error_handler<G: HandleError<M::Error>>(self, handler: G) -> Builder<M, G, V, Z>
+        ensures { result ≡ with_error_handler handler self }
+    {
+        let Builder { config, manager } = self;
+        Builder {
+            config: config.with_error_handler(handler),
+            manager,
+        }
+    }
+
+    /// What is told of each event. The default is `NopEventHandler`.
+    pub fn event_handler<W: HandleEvent + 'static>(self, handler: W) -> Builder<M, H, W, Z>
+        ensures { result ≡ with_event_handler handler self }
+    {
+        let Builder { config, manager } = self;
+        Builder {
+            config: config.with_event_handler(handler),
+            manager,
+        }
+    }
+
+    /// What changes connections as they come and go. The default is `NopConnectionCustomizer`.
+    pub fn connection_customizer<Y: CustomizeConnection<M::Connection, M::Error>>(
+        self,
+        customizer: Y,
+    ) -> Builder<M, H, V, Y>
+        ensures { result ≡ with_customizer customizer self }
+    {
+        let Builder { config, manager } = self;
+        Builder {
+            config: config.with_customizer(customizer),
+            manager,
+        }
+    }
+
+    /// The limits that building would use; None exactly where `min_idle` is above `max_size`. It is the test to make before a pool is
+    /// built from settings that come from outside.
+    pub fn limits(&self) -> Option<Limits>
+        ensures legal { IsSome result ↔ ForSome self.now.min_idle (λ n. n ≤ self.now.max_size) }
+        ensures given { IfSome result (λ limits. settings_of limits ≡ limits_in self.now) }
+    {
+        let config = &self.config;
+        Limits::of(
+            config.max_size,
+            config.min_idle,
+            config.max_lifetime,
+            config.idle_timeout,
+            config.connection_timeout,
+            config.reaper_rate,
+        )
+    }
+}
+
+impl<M, H: fmt::Debug, V: fmt::Debug, Z: fmt::Debug> fmt::Debug for Builder<M, H, V, Z> {
+    fn fmt<W: fmt::Write>(&self, f: &mut fmt::Formatter<W>) -> fmt::Result {
+        let config = &self.config;
+        f.debug_struct("Builder")
+            .field("max_size", &config.max_size)
+            .field("min_idle", &config.min_idle)
+            .field("test_on_check_out", &config.test_on_check_out)
+            .field("max_lifetime", &config.max_lifetime)
+            .field("idle_timeout", &config.idle_timeout)
+            .field("connection_timeout", &config.connection_timeout)
+            .field("error_handler", &config.error_handler)
+            .field("event_handler", &config.event_handler)
+            .field("connection_customizer", &config.connection_customizer)
+            .finish()
+    }
+}

@@ -1,0 +1,128 @@
+//! What a pool tells of its connections.
+ghost use Rattle.std.specs.Prelude.{◌≡◌};
+
+use std::fmt;
+use std::time::Duration;
+
+/// Is told of each event, by the thread on which it happened, while no lock of the pool is held. Each default body does nothing.
+pub trait HandleEvent: fmt::Debug + Sync + Send + Drop {
+    /// A connection was opened and has its id.
+    fn handle_acquire(&self, _event: AcquireEvent) {}
+
+    /// A connection leaves the pool to be closed.
+    fn handle_release(&self, _event: ReleaseEvent) {}
+
+    /// A connection was lent.
+    fn handle_checkout(&self, _event: CheckoutEvent) {}
+
+    /// A caller waited in vain.
+    fn handle_timeout(&self, _event: TimeoutEvent) {}
+
+    /// A lent connection came back.
+    fn handle_checkin(&self, _event: CheckinEvent) {}
+}
+
+/// Ignores each event. A builder's event handler until another is set.
+#[derive(Clone, Copy, Debug)]
+pub struct NopEventHandler;
+
+impl HandleEvent for NopEventHandler {}
+
+/// A connection was opened and has its id.
+#[derive(Debug, Drop)]
+pub struct AcquireEvent {
+    pub(crate) id: u64,
+}
+
+impl AcquireEvent {
+    /// The connection's id, which no other connection of its pool has.
+    pub fn connection_id(&self) -> u64
+        ensures { result ≡ self.now.id }
+    {
+        self.id
+    }
+}
+
+/// A connection leaves the pool to be closed.
+#[derive(Debug, Drop)]
+pub struct ReleaseEvent {
+    pub(crate) id: u64,
+    pub(crate) age: Duration,
+}
+
+impl ReleaseEvent {
+    /// The connection's id.
+    pub fn connection_id(&self) -> u64
+        ensures { result ≡ self.now.id }
+    {
+        self.id
+    }
+
+    /// How long ago the connection joined the pool.
+    pub fn age(&self) -> Duration
+        ensures { result ≡ self.now.age }
+    {
+        self.age
+    }
+}
+
+/// A connection was lent.
+#[derive(Debug, Drop)]
+pub struct CheckoutEvent {
+    pub(crate) id: u64,
+    pub(crate) duration: Duration,
+}
+
+impl CheckoutEvent {
+    /// The connection's id.
+    pub fn connection_id(&self) -> u64
+        ensures { result ≡ self.now.id }
+    {
+        self.id
+    }
+
+    /// How long the caller waited for it.
+    pub fn duration(&self) -> Duration
+        ensures { result ≡ self.now.duration }
+    {
+        self.duration
+    }
+}
+
+/// A caller waited in vain.
+#[derive(Debug, Drop)]
+pub struct TimeoutEvent {
+    pub(crate) timeout: Duration,
+}
+
+impl TimeoutEvent {
+    /// How long the caller would wait.
+    pub fn timeout(&self) -> Duration
+        ensures { result ≡ self.now.timeout }
+    {
+        self.timeout
+    }
+}
+
+/// A lent connection came back.
+#[derive(Debug, Drop)]
+pub struct CheckinEvent {
+    pub(crate) id: u64,
+    pub(crate) duration: Duration,
+}
+
+impl CheckinEvent {
+    /// The connection's id.
+    pub fn connection_id(&self) -> u64
+        ensures { result ≡ self.now.id }
+    {
+        self.id
+    }
+
+    /// How long it was lent.
+    pub fn duration(&self) -> Duration
+        ensures { result ≡ self.now.duration }
+    {
+        self.duration
+    }
+}

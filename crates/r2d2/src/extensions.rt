@@ -1,0 +1,135 @@
+// What users keep beside a connection.
+ghost use Rattle.std.specs.Prelude.{◌≡◌, [], List, IfOk, IfErr, OnErr, OnOk, IfSome, IfNone, option_copied, position};
+ghost use Rattle.std.specs.List.{IsDistinct};
+ghost use Rattle.std.specs.Map.{lookup, remove_entry, set_value, keys_of};
+ghost use Rattle.r2d2.specs.Entries.{with_entry, ChangesKind, IsChangeable, IsPlaceOf};
+
+use std::alloc::Global;
+use std::marker::Model;
+use std::mem;
+
+/// A value that names the kind under which it is kept. Mostly it is an enum, with a case for each kind.
+pub trait Extension {
+    /// The kinds. There is at most one value for each.
+    type Kind: Eq + Send + Drop + 'static;
+
+    // The kind of a value, as contracts name it.
+    ghost kind_of: { Self → Self.Kind };
+
+    /// The kind of this value.
+    fn kind(&self) -> Self::Kind
+        ensures { result ≡ kind_of self.now };
+}
+
+/// Values that are kept beside a connection, as prepared statements: at most one of each kind. They stay with their connection until
+/// it is closed, and a new connection has none. A value stays under the kind that it named when it was put in.
+#[derive(Drop)]
+pub struct Extensions<X: Extension> {
+    entries: Vec<(X::Kind, X)>,
+}
+
+impl<X: Extension> Model for Extensions<X> {
+    ghost Value = { List (X.Kind × X) };
+
+    ghost view = { λ e. e.entries.items };
+
+    ghost invariant = { λ e. IsDistinct X.Kind.eq (keys_of e.entries.items) };
+}
+
+impl<X: Extension> Extensions<X> {
+    ghost use Rattle.std.specs.Borrow.{sem, LendsIf};
+    ghost use Rattle.std.specs.Option.{option_copied_mut};
+    ghost use Rattle.r2d2.specs.contracts.extensions.Extensions.{the_row};
+
+    /// No values. It takes no memory.
+    #[tactic(auto, using(crate::proofs::Places::distinct_empty))]
+    pub fn new(alloc: Global) -> Extensions<X>
+        ensures { result ≡ [] }
+    {
+        Extensions {
+            entries: Vec::new(alloc),
+        }
+    }
+
+    /// Puts the value under the kind that it names, and answers the value that was there. Where memory is refused nothing changes and
+    /// the value comes back; that can happen only under a kind that was not there.
+    #[tactic(auto, using(crate::proofs::Places::distinct_set, crate::proofs::Places::distinct_pushed))]
+    pub fn insert(&mut self, value: X) -> Result<Option<X>, X>
+        ensures replaced { IfOk result (λ replaced. replaced ≡ lookup (X.Kind.eq (X.kind_of value)) self.old) }
+        ensures entries { OnOk result (self.new ≡ with_entry (X.Kind.eq (X.kind_of value)) self.old (X.kind_of value) value) }
+        ensures map { OnOk result (ChangesKind X.Kind.eq (X.kind_of value) (Some value) self.old self.new) }
+        ensures refused { IfErr result (λ back. back ≡ value) }
+        ensures unchanged { OnErr result (self.new ≡ self.old) }
+        ensures only_new { OnErr result (lookup (X.Kind.eq (X.kind_of value)) self.old ≡ None) }
+    {
+        let kind = value.kind();
+        match place_of(&self.entries, &kind) {
+            Some(place) => Ok(Some(mem::replace(&mut self.entries[place].1, value))),
+            None => match self.entries.push((kind, value)) {
+                Ok(()) => Ok(None),
+                Err(refused) => {
+                    let (_, value) = refused.value;
+                    Err(value)
+                }
+            },
+        }
+    }
+
+    /// The value under the kind, if there is one.
+    pub fn get(&self, kind: &X::Kind) -> Option<&X>
+        ensures value { option_copied result ≡ lookup (X.Kind.eq kind.now) self.now }
+        ensures one_of_each { IsDistinct X.Kind.eq (keys_of self.now) }
+    {
+        let place = place_of(&self.entries, kind)?;
+        Some(&self.entries[place].1)
+    }
+
+    /// The value under the kind, to be changed. It stays under this kind, whatever is written.
+    #[tactic(auto, using(crate::proofs::Places::distinct_set))]
+    pub fn get_mut(&mut self, kind: &X::Kind) -> Option<&mut X>
+        ensures value { option_copied_mut result ≡ lookup (X.Kind.eq kind.now) self.old }
+        ensures map { IfSome result (λ _. IsChangeable X.Kind.eq kind.now self.old) }
+        ensures* writes_back { sem 𝓛 (LendsIf (the_row X.row X.Kind.row X.Extension X.Kind.PartialEq) X.row self.entry result (set_value (X.Kind.eq kind.now) self.old) self.old) }
+    {
+        let place = place_of(&self.entries, kind)?;
+        let entry = &mut self.entries[place];
+        Some(&mut entry.1)
+    }
+
+    /// Takes out the value under the kind, if there is one.
+    #[tactic(auto, using(crate::proofs::Places::distinct_removed, crate::proofs::Places::removed_none))]
+    pub fn remove(&mut self, kind: &X::Kind) -> Option<X>
+        ensures value { result ≡ lookup (X.Kind.eq kind.now) self.old }
+        ensures entries { self.new ≡ remove_entry (X.Kind.eq kind.now) self.old }
+        ensures map { ChangesKind X.Kind.eq kind.now None self.old self.new }
+    {
+        let place = place_of(&self.entries, kind)?;
+        let (_, value) = self.entries.remove(place);
+        Some(value)
+    }
+
+    /// Drops every value.
+    #[tactic(auto, using(crate::proofs::Places::distinct_empty))]
+    pub fn clear(&mut self)
+    where
+        X: Drop,
+        ensures { self.new ≡ [] }
+    {
+        self.entries.clear();
+    }
+}
+
+// The place of the entry of this kind.
+fn position_of<K: Eq, X>(entries: &[(K, X)], kind: &K) -> Option<usize>
+    ensures { result ≡ position (λ e. K.eq kind.now e.0) entries.now }
+{
+    entries.iter().position(|entry| *kind == entry.0)
+}
+
+// The same place, told in the words of maps.
+fn place_of<K: Eq, X>(entries: &[(K, X)], kind: &K) -> Option<usize>
+    ensures none { IfNone result (lookup (K.eq kind.now) entries.now ≡ None) }
+    ensures some { IfSome result (IsPlaceOf (K.eq kind.now) entries.now) }
+{
+    position_of(entries, kind)
+}
