@@ -5,8 +5,23 @@ ghost use Rattle.std.specs.Prelude.{◌≡◌};
 ghost use Rattle.r2d2_core.specs.Ids.{last_of};
 ghost use Rattle.calling.specs.Counted.{IsCounted, shown_found};
 
-use r2d2_core::{Core, Take};
+use r2d2_core::{Core, Job, Take};
 use std::time::Duration;
+
+/// Hands in a value for the opening that is due, if there is one; false where there is none, or where the core refuses it. What is lent
+/// stays lent.
+pub fn open<T: Drop>(core: &mut Core<T>, lent: &u32, now: Duration, value: T) -> bool
+    requires { IsCounted core.old lent.now }
+    ensures { IsCounted core.new lent.now }
+{
+    let Job::Open { tries } = core.begin(now) else {
+        return false;
+    };
+    match core.number(tries) {
+        Ok(id) => core.admit(now, id, value).is_ok(),
+        Err(_) => false,
+    }
+}
 
 /// Takes the newest idle connection, and counts it among the lent ones; None where none is idle.
 pub fn lend<T>(core: &mut Core<T>, lent: &mut u32, now: Duration) -> Option<(u64, T)>

@@ -1,4 +1,6 @@
 pub mod Entries
 pub mod Failures
 pub mod Settings
+pub mod Wakes
+pub mod Settling
 pub use Rattle.r2d2_core.specs.Limits

@@ -8,6 +8,7 @@ use log::{Log, error as log_error};
 use std::fmt;
 
 mod config;
+pub mod engine;
 mod error;
 pub mod event;
 mod extensions;

@@ -12,13 +12,13 @@ use std::test::Fail;
 use std::time::Duration;
 
 #[derive(Clone, Copy, Debug, PartialEq, Eq)]
-enum Kind {
+pub(crate) enum Kind {
     OfNumber,
     OfWord,
 }
 
 #[derive(Debug, PartialEq, Drop)]
-enum Value {
+pub(crate) enum Value {
     Number(u32),
     Word(char),
 }
@@ -38,7 +38,7 @@ impl Extension for Value {
 
 /// Opens numbers, and always can.
 #[derive(Drop)]
-struct Numbers;
+pub(crate) struct Numbers;
 
 impl ManageConnection for Numbers {
     type Connection = u32;

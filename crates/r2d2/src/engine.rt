@@ -1,0 +1,216 @@
+//! What the pool does to its book while it holds the lock: one function for each thing, which says whom to wake when the lock is
+//! free again. Only `open` needs no book, and no lock.
+ghost use Rattle.std.specs.Prelude.{◌≡◌, ◌≤◌, [], max, map, length, vec_len, vec_capacity};
+ghost use Rattle.std.specs.Duration.{as_nanos};
+ghost use Rattle.r2d2_core.specs.Reply.{seen_take, seen_return, seen_released, map_ok};
+ghost use Rattle.r2d2_core.specs.Table.{take_answer, after_take, return_answer, after_return, reap_closed, reap_orders, after_reap};
+ghost use Rattle.r2d2_core.specs.Recorded.{record_of_take, record_of_return, record_of_reap};
+ghost use Rattle.r2d2_core.specs.Log.{with_noted};
+ghost use Rattle.r2d2.specs.Wakes.{wakes_of_take, wakes_of_return, wakes_of_reap};
+ghost use Rattle.r2d2.specs.Settling.{seen_settled, settle_answer, after_settle, record_of_settle, wakes_of_settled};
+
+use crate::{CustomizeConnection, Extension, Extensions, ManageConnection};
+use r2d2_core::{Book, Gone, Refusal, Released, Returned, Take};
+use std::alloc::{Allocator, Global};
+use std::time::Duration;
+
+/// A connection with its extensions, as a pool's book keeps it. The extensions stay with the connection over its returns; at its
+/// admission there are none.
+#[derive(Drop)]
+pub struct Payload<C, X: Extension> {
+    pub connection: C,
+    pub extensions: Extensions<X>,
+}
+
+impl<C, X: Extension> Payload<C, X> {
+    /// A new connection, without extensions. It takes no memory.
+    pub fn new(alloc: Global, connection: C) -> Payload<C, X>
+        ensures connection { result.connection ≡ connection }
+        ensures extensions { result.extensions ≡ [] }
+    {
+        Payload {
+            connection,
+            extensions: Extensions::new(alloc),
+        }
+    }
+}
+
+/// Whom to wake after a step.
+#[derive(Clone, Copy, PartialEq, Eq, Debug)]
+pub struct Wakes {
+    /// One caller that waits for a connection.
+    pub caller: bool,
+    /// All workers that wait for something to do.
+    pub workers: bool,
+}
+
+impl Wakes {
+    ghost use Rattle.r2d2.specs.Wakes.{nobody, workers_for, caller_and_workers_for};
+
+    // After a refusal.
+    fn nobody() -> Wakes
+        ensures { result ≡ nobody }
+    {
+        Wakes {
+            caller: false,
+            workers: false,
+        }
+    }
+
+    // The workers where openings were ordered.
+    fn workers_for(ordered: u32) -> Wakes
+        ensures { result ≡ workers_for ordered }
+    {
+        Wakes {
+            caller: false,
+            workers: ordered > 0,
+        }
+    }
+
+    // A caller, and the workers where openings were ordered.
+    fn caller_and_workers_for(ordered: u32) -> Wakes
+        ensures { result ≡ caller_and_workers_for ordered }
+    {
+        Wakes {
+            caller: true,
+            workers: ordered > 0,
+        }
+    }
+}
+
+/// What became of an opening, or of a check.
+#[derive(Drop, Debug)]
+pub enum Outcome<T> {
+    /// A connection was opened, and has this id.
+    Opened { id: u64, value: T },
+    /// An opening failed, after `tries` failures before it. The text is the error's, where memory for it was there.
+    Failed { tries: u32, text: Option<String> },
+    /// The check of a lent connection failed.
+    Unsound { id: u64, text: Option<String> },
+}
+
+/// How an outcome was settled.
+#[derive(Drop, Debug)]
+pub enum Settled<T> {
+    /// The connection is idle.
+    Admitted,
+    /// The opening is tried again at this moment.
+    Retry(Duration),
+    /// The lent connection is no longer the pool's.
+    Gone(Gone),
+    /// Nothing changed. A connection that was to be admitted comes back.
+    Refused(Refusal, Option<T>),
+}
+
+/// Opens a connection, and shows it to the customizer.
+pub fn open<M: ManageConnection, Z: CustomizeConnection<M::Connection, M::Error>>(
+    manager: &M,
+    customizer: &Z,
+) -> Result<M::Connection, M::Error> {
+    let mut connection = manager.connect()?;
+    customizer.on_acquire(&mut connection)?;
+    Ok(connection)
+}
+
+/// Takes the newest idle connection, as `Book::take`.
+pub fn lend<T, A: Allocator>(
+    book: &mut Book<T, A>,
+    now: Duration,
+    or_order: bool,
+) -> (Take<T>, Wakes)
+    ensures answer { seen_take result.0 ≡ take_answer or_order book.old.picture }
+    ensures wakes { result.1 ≡ wakes_of_take (seen_take result.0) }
+    ensures after { book.new.picture ≡ after_take (as_nanos now) or_order book.old.picture }
+    ensures noted { book.new.log ≡ with_noted (record_of_take (max book.old.picture.latest (as_nanos now)) (seen_take result.0)) book.old.log }
+{
+    let taken = book.take(now, or_order);
+    let wakes = match &taken {
+        Take::Found { ordered, .. } | Take::Empty { ordered } => Wakes::workers_for(*ordered),
+    };
+    (taken, wakes)
+}
+
+/// Gives a lent connection back, as `Book::put_back`. One that is closed is handed over, and so is one that is refused.
+pub fn give_back<T, A: Allocator>(
+    book: &mut Book<T, A>,
+    now: Duration,
+    id: u64,
+    value: T,
+    broken: bool,
+) -> (Result<Returned<T>, (Refusal, T)>, Wakes)
+    ensures answer { map_ok seen_return result.0 ≡ return_answer (as_nanos now) id value broken book.old.picture }
+    ensures wakes { result.1 ≡ wakes_of_return (map_ok seen_return result.0) }
+    ensures after { book.new.picture ≡ after_return (as_nanos now) id value broken book.old.picture }
+    ensures noted { book.new.log ≡ with_noted (record_of_return (max book.old.picture.latest (as_nanos now)) id (map_ok seen_return result.0)) book.old.log }
+{
+    let returned = book.put_back(now, id, value, broken);
+    let wakes = match &returned {
+        Ok(Returned::Kept) => Wakes::caller_and_workers_for(0),
+        Ok(Returned::Closed { ordered, .. }) => Wakes::caller_and_workers_for(*ordered),
+        Err(_) => Wakes::nobody(),
+    };
+    (returned, wakes)
+}
+
+/// Tells the book what became of an opening or a check: `Opened` is admitted, `Failed` and `Unsound` are as `Book::fail` and
+/// `Book::fail_check`.
+pub fn settle<T, A: Allocator>(
+    book: &mut Book<T, A>,
+    now: Duration,
+    outcome: Outcome<T>,
+) -> (Settled<T>, Wakes)
+    ensures answer { seen_settled result.0 ≡ settle_answer (as_nanos now) outcome book.old.picture }
+    ensures wakes { result.1 ≡ wakes_of_settled (seen_settled result.0) }
+    ensures after { book.new.picture ≡ after_settle (as_nanos now) outcome book.old.picture }
+    ensures noted { book.new.log ≡ with_noted (record_of_settle (as_nanos now) outcome book.old.picture) book.old.log }
+{
+    match outcome {
+        Outcome::Opened { id, value } => match book.admit(now, id, value) {
+            Ok(()) => (Settled::Admitted, Wakes::caller_and_workers_for(0)),
+            Err((why, value)) => (Settled::Refused(why, Some(value)), Wakes::nobody()),
+        },
+        Outcome::Failed { tries, text } => match book.fail(now, tries, text) {
+            Ok(due) => (
+                Settled::Retry(due),
+                Wakes {
+                    caller: false,
+                    workers: true,
+                },
+            ),
+            Err(why) => (Settled::Refused(why, None), Wakes::nobody()),
+        },
+        Outcome::Unsound { id, text } => match book.fail_check(now, id, text) {
+            Ok(gone) => (
+                Settled::Gone(gone),
+                Wakes::caller_and_workers_for(gone.ordered),
+            ),
+            Err(why) => (Settled::Refused(why, None), Wakes::nobody()),
+        },
+    }
+}
+
+/// Closes the idle connections that are expired, as `Book::reap`: they are handed over in `out`. The number is that of the openings
+/// that were ordered.
+pub fn sweep<T, A: Allocator>(
+    book: &mut Book<T, A>,
+    now: Duration,
+    out: &mut Vec<Released<T>>,
+) -> (u32, Wakes)
+    requires empty { vec_len out.old ≡ 0 }
+    requires room { book.old.picture.on_order.limits.max_size ≤ vec_capacity out.old }
+    ensures released { map seen_released out.new.items ≡ reap_closed (as_nanos now) book.old.picture }
+    ensures answer { result.0 ≡ reap_orders (as_nanos now) book.old.picture }
+    ensures wakes { result.1 ≡ wakes_of_reap (length out.new.items) result.0 }
+    ensures after { book.new.picture ≡ after_reap (as_nanos now) book.old.picture }
+    ensures noted { book.new.log ≡ with_noted (record_of_reap (max book.old.picture.latest (as_nanos now)) (length out.new.items) result.0) book.old.log }
+{
+    let ordered = book.reap(now, out);
+    let wakes = Wakes {
+        caller: out.len() > 0,
+        workers: ordered > 0,
+    };
+    (ordered, wakes)
+}
+
+#[cfg(test)]
+mod tests;
