@@ -119,17 +119,17 @@ fn keeps_the_newest_records(rt: HostRuntime) -> Result<(), Fail> {
         assert_eq!(rt; report.records.as_slice(), &all[first..], "at {room}");
         assert_eq!(rt; report.lost, lost, "at {room}");
         assert_eq!(rt; report.idle.as_slice(), &[0u64][..], "at {room}");
-        assert!(rt; report.lent.as_slice().is_empty(), "at {room}");
-        assert_eq!(rt; (report.connections, report.pending), (1, 0), "at {room}");
-        assert!(rt; !report.closed, "at {room}");
     }
+    let report = one_kept(rt.alloc(), 3)?;
+    assert_eq!(rt;
+        counts(rt.alloc(), &report)?.as_str(),
+        "1 0 1 0 false, lost 0, true"
+    );
     Ok(())
 }
 
-// Two connections are closed by a reap, and then the book is, twice.
-#[test]
-fn reports_what_a_reap_and_a_close_did(rt: HostRuntime) -> Result<(), Fail> {
-    let alloc = rt.alloc();
+// Two connections come in and are closed by a reap; then there is one miss.
+fn two_reaped(alloc: Global) -> Result<Book<u64>, Fail> {
     let limits = limits(2, None, None, Some(1000), 30_000, 30_000).ok_or("limits")?;
     let mut book = Book::new(alloc, limits, Duration::ZERO, 4)?;
     let steps = [
@@ -144,6 +144,30 @@ fn reports_what_a_reap_and_a_close_did(rt: HostRuntime) -> Result<(), Fail> {
         want(1001),
     ];
     answers_of_a_book(alloc, &mut book, &steps)?;
+    Ok(book)
+}
+
+// What a report shows beside its records, and whether those come to it.
+fn counts(alloc: Global, report: &Report) -> Result<String, AllocError> {
+    let mut text = String::new(alloc);
+    let idle = report.idle.as_slice().len();
+    let lent = report.lent.as_slice().len();
+    let connections = report.connections;
+    let pending = report.pending;
+    let closed = report.closed;
+    let lost = report.lost;
+    let whole = replays(alloc, report)?;
+    write!(
+        text,
+        "{idle} {lent} {connections} {pending} {closed}, lost {lost}, {whole}"
+    )?;
+    Ok(text)
+}
+
+#[test]
+fn reports_what_a_reap_did(rt: HostRuntime) -> Result<(), Fail> {
+    let alloc = rt.alloc();
+    let report = two_reaped(alloc)?.report(alloc)?;
     let all = [
         Record::Admitted { at: ms(0), id: 0 },
         Record::Admitted { at: ms(0), id: 1 },
@@ -151,29 +175,28 @@ fn reports_what_a_reap_and_a_close_did(rt: HostRuntime) -> Result<(), Fail> {
             at: ms(1000),
             ordered: 2,
         },
-        Record::ClosedAll { at: ms(1001) },
     ];
-    let open = book.report(alloc)?;
-    assert_eq!(rt; open.records.as_slice(), &all[..3]);
+    assert_eq!(rt; report.records.as_slice(), &all[..]);
     assert_eq!(rt;
-        (open.lost, open.connections, open.pending, open.closed),
-        (0, 0, 2, false)
+        counts(alloc, &report)?.as_str(),
+        "0 0 0 2 false, lost 0, true"
     );
-    assert!(rt; open.idle.as_slice().is_empty() && open.lent.as_slice().is_empty());
-    assert!(rt; replays(alloc, &open)?);
+    Ok(())
+}
+
+#[test]
+fn reports_what_a_close_did(rt: HostRuntime) -> Result<(), Fail> {
+    let alloc = rt.alloc();
+    let mut book = two_reaped(alloc)?;
     answers_of_a_book(alloc, &mut book, &[close(), close()])?;
-    let closed = book.report(alloc)?;
-    assert_eq!(rt; closed.records.as_slice(), &all[..]);
+    let report = book.report(alloc)?;
+    let last = Record::ClosedAll { at: ms(1001) };
+    assert_eq!(rt; report.records.as_slice().len(), 4);
+    assert_eq!(rt; report.records.as_slice().last(), Some(&last));
     assert_eq!(rt;
-        (
-            closed.lost,
-            closed.connections,
-            closed.pending,
-            closed.closed
-        ),
-        (0, 0, 0, true)
+        counts(alloc, &report)?.as_str(),
+        "0 0 0 0 true, lost 0, true"
     );
-    assert!(rt; replays(alloc, &closed)?);
     Ok(())
 }
 
@@ -197,31 +220,46 @@ fn finds_a_report_that_does_not_replay(rt: HostRuntime) -> Result<(), Fail> {
 
 // MEMORY
 
-// Every kind of step but a reap that closes, and two that are refused.
-fn every_step<A: Allocator>(
-    alloc: Global,
+fn open_one<A: Allocator>(text: &mut String, book: &mut Book<u64, A>) -> Result<(), AllocError> {
+    for _ in 0..2 {
+        tell(text, 0, Answer::Begin(book.begin(ms(0))))?;
+    }
+    tell(text, 0, Answer::Number(book.number(0)))?;
+    for _ in 0..2 {
+        tell(text, 0, Answer::Admit(book.admit(ms(1), 0, 70)))?;
+    }
+    Ok(())
+}
+
+fn lend_one<A: Allocator>(
     text: &mut String,
     book: &mut Book<u64, A>,
     blammo: Option<String>,
 ) -> Result<(), AllocError> {
     for _ in 0..2 {
-        tell(text, 0, Answer::Begin(book.begin(ms(0))))?;
+        tell(text, 0, Answer::Take(book.take(ms(2), true)))?;
     }
-    tell(text, 0, Answer::Number(book.number(0)))?;
-    tell(text, 0, Answer::Admit(book.admit(ms(1), 0, 70)))?;
-    tell(text, 0, Answer::Admit(book.admit(ms(1), 0, 70)))?;
-    tell(text, 0, Answer::Take(book.take(ms(2), true)))?;
-    tell(text, 0, Answer::Take(book.take(ms(2), true)))?;
     tell(text, 0, Answer::PutBack(book.put_back(ms(3), 0, 70, false)))?;
     tell(text, 0, Answer::Take(book.take(ms(4), false)))?;
     tell(
         text,
         0,
         Answer::FailCheck(book.fail_check(ms(5), 0, blammo)),
-    )?;
-    tell(text, 0, Answer::Fail(book.fail(ms(6), 0, None)))?;
-    tell(text, 0, Answer::Fail(book.fail(ms(6), 0, None)))?;
-    tell(text, 0, Answer::TakeError(book.take_error()))?;
+    )
+}
+
+fn fail_one<A: Allocator>(text: &mut String, book: &mut Book<u64, A>) -> Result<(), AllocError> {
+    for _ in 0..2 {
+        tell(text, 0, Answer::Fail(book.fail(ms(6), 0, None)))?;
+    }
+    tell(text, 0, Answer::TakeError(book.take_error()))
+}
+
+fn reap_and_close<A: Allocator>(
+    alloc: Global,
+    text: &mut String,
+    book: &mut Book<u64, A>,
+) -> Result<(), AllocError> {
     let mut released = Vec::with_capacity(alloc, book.limits().max_size() as usize)?;
     let ordered = book.reap(ms(7), &mut released);
     tell(text, 0, Answer::Reap { released, ordered })?;
@@ -233,14 +271,17 @@ fn every_step<A: Allocator>(
     push_state_of_a_book(text, book)
 }
 
-// What every step answers.
+// What every kind of step answers, accepted or refused.
 fn every_answer<A: Allocator>(
     alloc: Global,
     book: &mut Book<u64, A>,
 ) -> Result<String, AllocError> {
     let mut text = String::new(alloc);
     let blammo = String::from_str(alloc, "blammo")?;
-    every_step(alloc, &mut text, book, Some(blammo))?;
+    open_one(&mut text, book)?;
+    lend_one(&mut text, book, Some(blammo))?;
+    fail_one(&mut text, book)?;
+    reap_and_close(alloc, &mut text, book)?;
     Ok(text)
 }
 

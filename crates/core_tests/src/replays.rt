@@ -63,8 +63,8 @@ impl Standing {
     // The lent one, which is lent no more.
     fn give_back(&mut self, id: u64) -> Option<Known> {
         match place_of(&self.lent, id) {
-            Some(place) => Some(self.lent.remove(place)),
-            None => {
+            Some(place) if place < self.lent.len() => Some(self.lent.remove(place)),
+            _ => {
                 self.is_strange = true;
                 None
             }
