@@ -81,7 +81,7 @@ pub(crate) fn push_state_of_a_book<A: Allocator>(
 
 // Whether the report of a book has all records, and they come to what the report counts.
 pub(crate) fn report_replays(alloc: Global, book: &Book<u64>) -> Result<bool, AllocError> {
-    let report = book.report(alloc)?;
+    let report = book.report()?;
     Ok(report.lost == 0 && replays(alloc, &report)?)
 }
 
@@ -99,7 +99,7 @@ fn one_kept(alloc: Global, room: usize) -> Result<Report, Fail> {
         put_back(3, 0, 7),
     ];
     answers_of_a_book(alloc, &mut book, &steps)?;
-    Ok(book.report(alloc)?)
+    Ok(book.report()?)
 }
 
 #[test]
@@ -167,7 +167,7 @@ fn counts(alloc: Global, report: &Report) -> Result<String, AllocError> {
 #[test]
 fn reports_what_a_reap_did(rt: HostRuntime) -> Result<(), Fail> {
     let alloc = rt.alloc();
-    let report = two_reaped(alloc)?.report(alloc)?;
+    let report = two_reaped(alloc)?.report()?;
     let all = [
         Record::Admitted { at: ms(0), id: 0 },
         Record::Admitted { at: ms(0), id: 1 },
@@ -189,7 +189,7 @@ fn reports_what_a_close_did(rt: HostRuntime) -> Result<(), Fail> {
     let alloc = rt.alloc();
     let mut book = two_reaped(alloc)?;
     answers_of_a_book(alloc, &mut book, &[close(), close()])?;
-    let report = book.report(alloc)?;
+    let report = book.report()?;
     let last = Record::ClosedAll { at: ms(1001) };
     assert_eq!(rt; report.records.as_slice().len(), 4);
     assert_eq!(rt; report.records.as_slice().last(), Some(&last));
@@ -291,7 +291,7 @@ fn push_report<A: Allocator>(
     text: &mut String,
     book: &Book<u64, A>,
 ) -> Result<(), AllocError> {
-    let report = book.report(alloc)?;
+    let report = book.report_in(alloc)?;
     let records = report.records.as_slice().len();
     let whole = replays(alloc, &report)?;
     write!(text, "; {records} records, {whole}")
@@ -303,7 +303,7 @@ fn answers_on_a_full_heap(alloc: Global, limits: Limits) -> Result<String, Alloc
     let mut book: Book<u64, &LocalHeap> = Book::new(&heap, limits, Duration::ZERO, 16)?;
     let _rest: Vec<u8, &LocalHeap> = Vec::with_capacity(&heap, heap.free())?;
     let mut text = every_answer(alloc, &mut book)?;
-    if book.report(&heap).is_ok() {
+    if book.report().is_ok() {
         text.push_str("; there is room")?;
     }
     push_report(alloc, &mut text, &book)?;

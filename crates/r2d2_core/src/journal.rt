@@ -20,6 +20,7 @@ pub(crate) mod ring;
 /// Its steps and readings are those of a core. All memory, that of the journal too, is taken at the making: no step takes any.
 #[derive(Drop)]
 pub struct Book<T, A: Allocator = Global> {
+    alloc: A,
     machine: Core<T, A>,
     ring: Ring<A>,
 }
@@ -73,7 +74,11 @@ impl<T, A: Allocator> Book<T, A> {
     {
         let machine = Core::with_first_id(alloc, limits, now, first_id)?;
         let ring = Ring::new(alloc, room)?;
-        Ok(Book { machine, ring })
+        Ok(Book {
+            alloc,
+            machine,
+            ring,
+        })
     }
 
     /// How many connections there are, idle and lent.
@@ -120,8 +125,19 @@ impl<T, A: Allocator> Book<T, A> {
         self.machine.limits()
     }
 
-    /// What the book shows now, and its records. The error comes only where memory for the lists is refused; nothing changes.
-    pub fn report<B: Allocator>(&self, alloc: B) -> Result<Report<B>, AllocError>
+    /// What the book shows now, and its records, in memory of the book's own allocator. The error comes only where that is refused; then
+    /// nothing changes, and the next report that finds memory answers the same.
+    pub fn report(&self) -> Result<Report<A>, AllocError>
+    where
+        A: Copy,
+        ensures given { IfOk result (λ report. IsReportOf self.now report) }
+        ensures replays { IfOk result (λ report. report.lost ≡ 0 → DoesReplay report) }
+    {
+        self.report_in(self.alloc)
+    }
+
+    /// The same, in memory of another allocator, as for a book on a full heap.
+    pub fn report_in<B: Allocator>(&self, alloc: B) -> Result<Report<B>, AllocError>
     where
         B: Copy,
         ensures given { IfOk result (λ report. IsReportOf self.now report) }
