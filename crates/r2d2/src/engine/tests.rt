@@ -40,14 +40,6 @@ fn book(alloc: Global) -> Result<Book<u32>, Fail> {
     Ok(book)
 }
 
-// The same, where the connection is idle.
-fn stocked(alloc: Global) -> Result<Book<u32>, Fail> {
-    let mut book = book(alloc)?;
-    let id = book.number(0).map_err(|_| "number")?;
-    book.admit(Duration::ZERO, id, 7).map_err(|_| "admit")?;
-    Ok(book)
-}
-
 // Both print the same.
 fn agree<X: fmt::Debug, Y: fmt::Debug>(alloc: Global, x: &X, y: &Y) -> Result<bool, AllocError> {
     let x = format!(in alloc; "{x:?}")?;
@@ -68,7 +60,7 @@ fn opens(rt: HostRuntime) -> Result<(), Fail> {
 }
 
 #[test]
-fn settles_as_the_book_does(rt: HostRuntime) -> Result<(), Fail> {
+fn as_the_book_does(rt: HostRuntime) -> Result<(), Fail> {
     let alloc = rt.alloc();
     let mut one = book(alloc)?;
     let mut other = book(alloc)?;
@@ -100,21 +92,12 @@ fn settles_as_the_book_does(rt: HostRuntime) -> Result<(), Fail> {
         )?
     );
     assert_eq!(rt; woken, wakes(false, false));
-    Ok(())
-}
 
-#[test]
-fn lends_as_the_book_does(rt: HostRuntime) -> Result<(), Fail> {
-    let alloc = rt.alloc();
-    let mut one = stocked(alloc)?;
-    let mut other = stocked(alloc)?;
-    let now = Duration::ZERO;
-
-    let (taken, woken) = lend(&mut one, now, true);
-    assert!(rt; agree(alloc, &taken, &other.take(now, true))?);
+    let (taken, woken) = lend(&mut one, due, true);
+    assert!(rt; agree(alloc, &taken, &other.take(due, true))?);
     assert_eq!(rt; woken, wakes(false, false));
-    let (returned, woken) = give_back(&mut one, now, 0, 7, false);
-    assert!(rt; agree(alloc, &returned, &other.put_back(now, 0, 7, false))?);
+    let (returned, woken) = give_back(&mut one, due, 0, 7, false);
+    assert!(rt; agree(alloc, &returned, &other.put_back(due, 0, 7, false))?);
     assert_eq!(rt; woken, wakes(true, false));
 
     let later = Duration::from_secs(2);
