@@ -2,7 +2,7 @@
 #![tactic(auto)]
 
 #[cfg(test)]
-mod calling;
+mod caller;
 #[cfg(test)]
 mod closing;
 #[cfg(test)]
