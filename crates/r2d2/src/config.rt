@@ -356,6 +356,14 @@ impl<
         }
     }
 
+    /// The settings alone.
+    pub(crate) fn into_config(self) -> Config<H, V, Z>
+        ensures { result ≡ self }
+    {
+        let Builder { config, .. } = self;
+        config
+    }
+
     /// The limits that building would use; None exactly where `min_idle` is above `max_size`. It is the test to make before a pool is
     /// built from settings that come from outside.
     pub fn limits(&self) -> Option<Limits>

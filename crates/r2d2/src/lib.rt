@@ -1,5 +1,5 @@
 //! A generic connection pool: what a user brings to it, its settings, its events and its errors, under r2d2's names.
-//! The threads that open connections, and the pool that lends them, are not here yet. What a pool decides is in `r2d2_core`.
+//! What a pool decides is in `r2d2_core`; here it is carried out, in threads.
 #![tactic(auto)]
 
 ghost use Rattle.std.specs.Prelude.{◌≡◌};
@@ -12,11 +12,13 @@ pub mod engine;
 mod error;
 pub mod event;
 mod extensions;
+mod pool;
 
 pub use config::{Builder, Config};
 pub use error::{Error, ErrorKind};
 pub use event::{HandleEvent, NopEventHandler};
 pub use extensions::{Extension, Extensions};
+pub use pool::{Pool, PoolRuntime, PooledConnection, State};
 pub use r2d2_core::{journal, machine, reuse, run, schedule};
 
 /// Opens connections and checks them. Nothing is asked of what it answers, nor of how long it takes: it is called while no lock

@@ -1,0 +1,144 @@
+// A connection that a pool lent.
+ghost use Rattle.std.specs.Prelude.{◌≡◌};
+
+use super::PoolRuntime;
+use super::shared::{Closer, Receives};
+use crate::engine::Payload;
+use crate::event::HandleEvent;
+use crate::{CustomizeConnection, Extensions, HandleError, ManageConnection};
+use std::fmt;
+use std::ops::{Deref, DerefMut};
+use std::sync::Arc;
+use std::time::Duration;
+
+/// A connection that a pool lent. It goes back to the pool when it is dropped, and keeps the pool's state alive until then.
+pub struct PooledConnection<
+    M: ManageConnection,
+    H: HandleError<M::Error>,
+    V: HandleEvent + 'static,
+    Z: CustomizeConnection<M::Connection, M::Error>,
+    R: PoolRuntime,
+> {
+    pub(super) closer: Arc<Closer<Payload<M::Connection, M::Extension>, M, H, V, Z, R>>,
+    pub(super) id: u64,
+    /// When it was lent.
+    pub(super) lent_at: Duration,
+    pub(super) connection: M::Connection,
+    pub(super) extensions: Extensions<M::Extension>,
+}
+
+impl<
+    M: ManageConnection,
+    H: HandleError<M::Error>,
+    V: HandleEvent + 'static,
+    Z: CustomizeConnection<M::Connection, M::Error>,
+    R: PoolRuntime,
+> PooledConnection<M, H, V, Z, R> {
+    ghost use Rattle.std.specs.Borrow.{sem, Lends};
+    ghost use Rattle.r2d2.specs.contracts.extensions.Extensions.{the_row as extensions_row};
+    ghost use Rattle.r2d2.specs.contracts.pool.lent.PooledConnection.{the_row};
+
+    /// What is kept beside the connection: it stays with it over its returns, until it is closed.
+    pub fn extensions(this: &Self) -> &Extensions<M::Extension>
+        ensures { result.now ≡ this.now.extensions }
+    {
+        &this.extensions
+    }
+
+    /// The same, to be changed.
+    pub fn extensions_mut(this: &mut Self) -> &mut Extensions<M::Extension>
+        ensures value { result.now ≡ this.old.extensions }
+        ensures* writes_back { sem 𝓛 (Lends (the_row M.row H.row V.row Z.row R.row M.Connection.row M.Error.row M.Extension.row M.Extension.Kind.row M.Extension.Extension M.Extension.Kind.PartialEq) (extensions_row M.Extension.row M.Extension.Kind.row M.Extension.Extension M.Extension.Kind.PartialEq) this.entry result (λ w. record this.old { extensions = w })) }
+    {
+        &mut this.extensions
+    }
+}
+
+impl<
+    M: ManageConnection,
+    H: HandleError<M::Error>,
+    V: HandleEvent + 'static,
+    Z: CustomizeConnection<M::Connection, M::Error>,
+    R: PoolRuntime,
+> Deref for PooledConnection<M, H, V, Z, R> {
+    type Target = M::Connection;
+
+    ghost deref_gives = { λ lent connection. connection ≡ lent.connection };
+
+    fn deref(&self) -> &M::Connection {
+        &self.connection
+    }
+}
+
+impl<
+    M: ManageConnection,
+    H: HandleError<M::Error>,
+    V: HandleEvent + 'static,
+    Z: CustomizeConnection<M::Connection, M::Error>,
+    R: PoolRuntime,
+> DerefMut for PooledConnection<M, H, V, Z, R> {
+    ghost use Rattle.std.specs.Borrow.{sem, Lends};
+    ghost use Rattle.r2d2.specs.contracts.pool.lent.PooledConnection.{the_row};
+
+    fn deref_mut(&mut self) -> &mut M::Connection
+        ensures* writes_back { sem 𝓛 (Lends (the_row M.row H.row V.row Z.row R.row M.Connection.row M.Error.row M.Extension.row M.Extension.Kind.row M.Extension.Extension M.Extension.Kind.PartialEq) M.Connection.row self.entry result (λ w. record self.old { connection = w })) }
+    {
+        &mut self.connection
+    }
+}
+
+impl<
+    M: ManageConnection,
+    H: HandleError<M::Error>,
+    V: HandleEvent + 'static,
+    Z: CustomizeConnection<M::Connection, M::Error>,
+    R: PoolRuntime,
+> fmt::Debug for PooledConnection<M, H, V, Z, R>
+where
+    M::Connection: fmt::Debug,
+{
+    fn fmt<W: fmt::Write>(&self, f: &mut fmt::Formatter<W>) -> fmt::Result {
+        fmt::Debug::fmt(&self.connection, f)
+    }
+}
+
+// What the drop calls.
+trait GoesBack {
+    // Gives the connection back, and only then lets the pool go.
+    fn go_back(self);
+}
+
+impl<
+    M: ManageConnection,
+    H: HandleError<M::Error>,
+    V: HandleEvent + 'static,
+    Z: CustomizeConnection<M::Connection, M::Error>,
+    R: PoolRuntime,
+> GoesBack for PooledConnection<M, H, V, Z, R> {
+    fn go_back(self) {
+        let PooledConnection {
+            closer,
+            id,
+            lent_at,
+            connection,
+            extensions,
+        } = self;
+        let payload = Payload {
+            connection,
+            extensions,
+        };
+        closer.shared.take_back(id, lent_at, payload);
+    }
+}
+
+impl<
+    M: ManageConnection,
+    H: HandleError<M::Error>,
+    V: HandleEvent + 'static,
+    Z: CustomizeConnection<M::Connection, M::Error>,
+    R: PoolRuntime,
+> Drop for PooledConnection<M, H, V, Z, R> {
+    fn drop(self) {
+        self.go_back();
+    }
+}
