@@ -1,5 +1,5 @@
 -- What the errors of a pool say.
-use Rattle.std.specs.Prelude.{ℕ, List, ◌++◌, Option, Some, None, codes, string_bytes}
+use Rattle.std.specs.Prelude.{◌≡◌, ◌⊎◌, ℕ, List, ◌++◌, Option, Some, None, codes, string_bytes}
 use Rattle.std.specs.declared.string.String.{String}
 use Rattle.r2d2.specs.declared.error.ErrorKind.{ErrorKind}
 use Rattle.r2d2.specs.declared.error.ErrorKind.TheVariants.{Timeout, Memory, Threads}
@@ -15,3 +15,15 @@ text_of Threads _ = codes "a worker could not be started"
 -- what an error displays
 abbrev pub error_text : Error → List ℕ
 error_text e = text_of e.kind e.message
+
+-- memory was refused
+abbrev pub IsOfMemory : Error → Type 0
+IsOfMemory e = e.kind ≡ Memory
+
+-- memory was refused, or no connection came in time
+abbrev pub IsOfMemoryOrTime : Error → Type 0
+IsOfMemoryOrTime e = (e.kind ≡ Memory) ⊎ (e.kind ≡ Timeout)
+
+-- memory was refused, or a thread
+abbrev pub IsOfMemoryOrThreads : Error → Type 0
+IsOfMemoryOrThreads e = (e.kind ≡ Memory) ⊎ (e.kind ≡ Threads)

@@ -1,5 +1,5 @@
 //! The pool: one lock round its book, workers that open connections, and what it lends.
-ghost use Rattle.std.specs.Prelude.{◌≡◌, ℕ, ◌≤◌, IfOk};
+ghost use Rattle.std.specs.Prelude.{◌≡◌, ℕ, ◌≤◌, IfOk, IfErr};
 ghost use Rattle.r2d2_core.specs.Reports.{DoesReplay};
 
 pub use self::lent::PooledConnection;
@@ -71,6 +71,7 @@ impl<
     Z: CustomizeConnection<M::Connection, M::Error>,
     R: PoolRuntime,
 > Pool<M, H, V, Z, R> {
+    ghost use Rattle.r2d2.specs.Failures.{IsOfMemory, IsOfMemoryOrTime};
     ghost use Rattle.r2d2.specs.Settings.{AreDefaults};
 
     /// A builder with the default of each setting: the same as `Builder::new`.
@@ -81,7 +82,9 @@ impl<
     }
 
     /// Lends a connection, and waits for one as long as the setting `connection_timeout` says: see `get_timeout`.
-    pub fn get(&self) -> Result<PooledConnection<M, H, V, Z, R>, Error> {
+    pub fn get(&self) -> Result<PooledConnection<M, H, V, Z, R>, Error>
+        ensures refused { IfErr result IsOfMemoryOrTime }
+    {
         self.get_timeout(self.connection_timeout())
     }
 
@@ -90,7 +93,9 @@ impl<
     /// Where the setting `test_on_check_out` is on, the connection is checked before; one that fails is closed, and another is looked for. The error
     /// is a timeout, with the latest error of an opening or a check, if there was one; or memory, where a shared pointer can't be cloned: then nothing
     /// has changed.
-    pub fn get_timeout(&self, timeout: Duration) -> Result<PooledConnection<M, H, V, Z, R>, Error> {
+    pub fn get_timeout(&self, timeout: Duration) -> Result<PooledConnection<M, H, V, Z, R>, Error>
+        ensures refused { IfErr result IsOfMemoryOrTime }
+    {
         let shared = &self.closer.shared;
         let start = shared.moment();
         let closer = Arc::try_clone(&self.closer).map_err(|_| Error::memory())?;
@@ -114,7 +119,9 @@ impl<
 
     /// Lends the newest idle connection; None where none is idle. It never waits for one, and orders none. Connections are checked and the error is memory as with
     /// `get_timeout`.
-    pub fn try_get(&self) -> Result<Option<PooledConnection<M, H, V, Z, R>>, Error> {
+    pub fn try_get(&self) -> Result<Option<PooledConnection<M, H, V, Z, R>>, Error>
+        ensures refused { IfErr result IsOfMemory }
+    {
         let shared = &self.closer.shared;
         let start = shared.moment();
         let closer = Arc::try_clone(&self.closer).map_err(|_| Error::memory())?;
@@ -138,7 +145,8 @@ impl<
 
     /// What happened last, as far as the setting `journal_room` reaches, and what there is now. The error is memory; nothing has changed then.
     pub fn journal(&self) -> Result<Report, Error>
-        ensures { IfOk result (λ report. report.lost ≡ 0 → DoesReplay report) }
+        ensures replays { IfOk result (λ report. report.lost ≡ 0 → DoesReplay report) }
+        ensures refused { IfErr result IsOfMemory }
     {
         let shared = &self.closer.shared;
         let book = shared.book.lock(&shared.rt);
@@ -189,7 +197,8 @@ impl<
 
     /// Another pool over the same state. The error is memory.
     pub fn try_clone(&self) -> Result<Pool<M, H, V, Z, R>, Error>
-        ensures { IfOk result (λ pool. pool ≡ self.now) }
+        ensures settings { IfOk result (λ pool. pool ≡ self.now) }
+        ensures refused { IfErr result IsOfMemory }
     {
         let closer = Arc::try_clone(&self.closer).map_err(|_| Error::memory())?;
         Ok(Pool { closer })

@@ -1,5 +1,5 @@
 // How a pool is made from its settings.
-ghost use Rattle.std.specs.Prelude.{◌≡◌, ◌≤◌, IfOk};
+ghost use Rattle.std.specs.Prelude.{◌≡◌, ◌≤◌, IfOk, IfErr};
 ghost use Rattle.std.specs.Option.{ForSome};
 ghost use Rattle.std.specs.Arc.{arc_value};
 
@@ -21,13 +21,15 @@ impl<
     V: HandleEvent + 'static,
     Z: CustomizeConnection<M::Connection, M::Error>,
 > Builder<M, H, V, Z> {
+    ghost use Rattle.r2d2.specs.Failures.{IsOfMemoryOrThreads};
+
     /// Makes a pool, and waits until as many connections as are wanted idle were opened.
     ///
     /// The settings have to be legal: `limits` tells. The error is a timeout where fewer were opened within `connection_timeout`, with
     /// the latest error of an opening, if there was one; and else that of `build_unchecked`. The pool is closed then.
     pub fn build<R: PoolRuntime>(self, rt: R, manager: M) -> Result<Pool<M, H, V, Z, R>, Error>
         requires { ForSome self.min_idle (λ n. n ≤ self.max_size) }
-        ensures { IfOk result (λ pool. pool ≡ self) }
+        ensures settings { IfOk result (λ pool. pool ≡ self) }
     {
         let pool = self.build_unchecked(rt, manager)?;
         pool.wait_for_connections()?;
@@ -45,7 +47,8 @@ impl<
         manager: M,
     ) -> Result<Pool<M, H, V, Z, R>, Error>
         requires { ForSome self.min_idle (λ n. n ≤ self.max_size) }
-        ensures { IfOk result (λ pool. pool ≡ self) }
+        ensures settings { IfOk result (λ pool. pool ≡ self) }
+        ensures refused { IfErr result IsOfMemoryOrThreads }
     {
         let Some(limits) = self.limits() else {
             unreachable!()
