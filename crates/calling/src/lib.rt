@@ -1,9 +1,13 @@
 //! A user's own code over the core: it keeps a count of the lent connections, and rests on the core's contracts.
 #![tactic(auto)]
 
-ghost use Rattle.std.specs.Prelude.{◌≡◌};
+ghost use Rattle.std.specs.Prelude.{◌≡◌, ◌+◌, if◌then◌else◌, true, is_some};
+ghost use Rattle.std.specs.Duration.{as_nanos};
 ghost use Rattle.r2d2_core.specs.Ids.{last_of};
+ghost use Rattle.r2d2_core.specs.Connections.{birth_in};
+ghost use Rattle.r2d2_core.specs.Table.{after_take};
 ghost use Rattle.calling.specs.Counted.{IsCounted, shown_found};
+ghost use Rattle.calling.specs.Calls.{after_open, after_discard};
 
 use r2d2_core::{Core, Job, Take};
 use std::time::Duration;
@@ -12,7 +16,9 @@ use std::time::Duration;
 /// stays lent.
 pub fn open<T: Drop>(core: &mut Core<T>, lent: &u32, now: Duration, value: T) -> bool
     requires { IsCounted core.old lent.now }
-    ensures { IsCounted core.new lent.now }
+    ensures counted { IsCounted core.new lent.now }
+    ensures after { core.new ≡ after_open (as_nanos now) value core.old }
+    ensures grown { core.new.connections ≡ core.old.connections + (if result then 1 else 0) }
 {
     let Job::Open { tries } = core.begin(now) else {
         return false;
@@ -28,6 +34,7 @@ pub fn lend<T>(core: &mut Core<T>, lent: &mut u32, now: Duration) -> Option<(u64
     requires { IsCounted core.old lent.old }
     ensures counted { IsCounted core.new lent.new }
     ensures newest { result ≡ shown_found (last_of core.old.idle) }
+    ensures after { core.new ≡ after_take (as_nanos now) true core.old }
 {
     // This reading tells that no more are lent than there may be, so the count can't overflow.
     let _connections = core.connections();
@@ -43,7 +50,9 @@ pub fn lend<T>(core: &mut Core<T>, lent: &mut u32, now: Duration) -> Option<(u64
 /// Closes a lent connection whose check failed, and counts it no more; false where the id is not lent.
 pub fn discard<T>(core: &mut Core<T>, lent: &mut u32, now: Duration, id: u64) -> bool
     requires { IsCounted core.old lent.old }
-    ensures { IsCounted core.new lent.new }
+    ensures counted { IsCounted core.new lent.new }
+    ensures was_lent { result ≡ is_some (birth_in id core.old.lent) }
+    ensures after { core.new ≡ after_discard (as_nanos now) id core.old }
 {
     // Connections are the idle ones and the lent ones, before and after: so one less is lent.
     let _before = core.connections();

@@ -1,7 +1,8 @@
 // What a close leaves.
 
 use crate::rows::row;
-use crate::steps::{admit, begin, close, fail, number, put_back, sized, take};
+use crate::steps::{admit, begin, close, fail, ms, number, put_back, sized, take};
+use r2d2_core::{Book, Core};
 use std::test::Fail;
 
 #[test]
@@ -40,5 +41,17 @@ fn hands_out_the_oldest_first(rt: HostRuntime) -> Result<(), Fail> {
         [take(1), put_back(2, 2, 72), close(), close()],
         "taken 2 72 ordered 0; kept; closed 0 1 2; closed; state 0 0 0",
     )?;
+    Ok(())
+}
+
+#[test]
+fn says_that_it_is_closed(rt: HostRuntime) -> Result<(), Fail> {
+    let limits = sized(1).ok_or("limits")?;
+    let mut core: Core<u64> = Core::new(rt.alloc(), limits, ms(0))?;
+    let mut book: Book<u64> = Book::new(rt.alloc(), limits, ms(0), 1)?;
+    assert!(rt; !core.is_closed() && !book.is_closed());
+    core.close();
+    book.close();
+    assert!(rt; core.is_closed() && book.is_closed());
     Ok(())
 }

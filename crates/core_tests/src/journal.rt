@@ -4,7 +4,7 @@ use crate::lines::tell;
 use crate::replays::replays;
 use crate::steps::{admit, begin, close, limits, ms, number, put_back, reap, sized, take, want};
 use linked_list_allocator::LocalHeap;
-use r2d2_core::{Answer, Book, Limits, Record, RecordList, Report, Step};
+use r2d2_core::{Answer, Book, IdList, Limits, Record, RecordList, Report, Step};
 use std::alloc::{AllocError, Allocator, Global};
 use std::test::Fail;
 use std::time::Duration;
@@ -197,6 +197,14 @@ fn reports_what_a_close_did(rt: HostRuntime) -> Result<(), Fail> {
         counts(alloc, &report)?.as_str(),
         "0 0 0 0 true, lost 0, true"
     );
+    Ok(())
+}
+
+#[test]
+fn a_list_of_ids_is_given_back(rt: HostRuntime) -> Result<(), Fail> {
+    let ids = IdList::of(Vec::from_array(rt.alloc(), [3u64, 5])?);
+    assert_eq!(rt; ids.as_slice(), &[3u64, 5][..]);
+    assert_eq!(rt; ids.into_vec().as_slice(), &[3u64, 5][..]);
     Ok(())
 }
 

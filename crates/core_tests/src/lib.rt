@@ -14,6 +14,8 @@ mod journal;
 #[cfg(test)]
 mod lending;
 #[cfg(test)]
+mod limits;
+#[cfg(test)]
 mod lines;
 #[cfg(test)]
 mod memory;
@@ -31,5 +33,7 @@ mod replays;
 mod reuse;
 #[cfg(test)]
 mod rows;
+#[cfg(test)]
+mod schedule;
 #[cfg(test)]
 mod steps;

@@ -31,7 +31,7 @@ pub struct Report<A: Allocator = Global> {
 /// The records of a report.
 #[derive(Drop)]
 pub struct RecordList<A: Allocator = Global> {
-    list: Vec<Record, A>,
+    records: Vec<Record, A>,
 }
 
 impl<A: Allocator> Model for RecordList<A> {
@@ -40,7 +40,7 @@ impl<A: Allocator> Model for RecordList<A> {
 
     ghost Value = { List Noted };
 
-    ghost view = { λ a. map seen_record a.list.items };
+    ghost view = { λ a. map seen_record a.records.items };
 }
 
 impl<A: Allocator> RecordList<A> {
@@ -48,27 +48,27 @@ impl<A: Allocator> RecordList<A> {
     pub fn of(list: Vec<Record, A>) -> RecordList<A>
         ensures { result ≡ map seen_record list.items }
     {
-        RecordList { list }
+        RecordList { records: list }
     }
 
     pub fn as_slice(&self) -> &[Record]
         ensures { map seen_record result.now ≡ self.now }
     {
-        self.list.as_slice()
+        self.records.as_slice()
     }
 
     /// Gives the list back.
     pub fn into_vec(self) -> Vec<Record, A>
         ensures { map seen_record result.items ≡ self }
     {
-        self.list
+        self.records
     }
 }
 
-/// IdList of connections.
+/// The ids of connections.
 #[derive(Drop)]
 pub struct IdList<A: Allocator = Global> {
-    list: Vec<u64, A>,
+    ids: Vec<u64, A>,
 }
 
 impl<A: Allocator> Model for IdList<A> {
@@ -76,7 +76,7 @@ impl<A: Allocator> Model for IdList<A> {
 
     ghost Value = { List ℕ };
 
-    ghost view = { λ a. a.list.items };
+    ghost view = { λ a. a.ids.items };
 }
 
 impl<A: Allocator> IdList<A> {
@@ -84,20 +84,20 @@ impl<A: Allocator> IdList<A> {
     pub fn of(list: Vec<u64, A>) -> IdList<A>
         ensures { result ≡ list.items }
     {
-        IdList { list }
+        IdList { ids: list }
     }
 
     pub fn as_slice(&self) -> &[u64]
         ensures { result.now ≡ self.now }
     {
-        self.list.as_slice()
+        self.ids.as_slice()
     }
 
     /// Gives the list back.
     pub fn into_vec(self) -> Vec<u64, A>
         ensures { result.items ≡ self }
     {
-        self.list
+        self.ids
     }
 
     /// The ids of the idle connections, the oldest first.
@@ -114,7 +114,7 @@ impl<A: Allocator> IdList<A> {
                 list.push_reserved(id);
             }
         }
-        Ok(IdList { list })
+        Ok(IdList { ids: list })
     }
 
     /// The ids of the lent connections, in the order of their takes.
@@ -131,6 +131,6 @@ impl<A: Allocator> IdList<A> {
                 list.push_reserved(id);
             }
         }
-        Ok(IdList { list })
+        Ok(IdList { ids: list })
     }
 }
