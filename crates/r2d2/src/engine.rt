@@ -102,6 +102,21 @@ pub enum Settled<T> {
     Refused(Refusal, Option<T>),
 }
 
+impl<T> Settled<T> {
+    // Whom to wake after it.
+    fn wakes(&self) -> Wakes
+        ensures { result ≡ wakes_of_settled (seen_settled self.now) }
+    {
+        match self {
+            Settled::Admitted => Wakes::caller_and_workers_for(0),
+            // The opening that failed is due again.
+            Settled::Retry(_) => Wakes::workers_for(1),
+            Settled::Gone(gone) => Wakes::caller_and_workers_for(gone.ordered),
+            Settled::Refused(..) => Wakes::nobody(),
+        }
+    }
+}
+
 /// Opens a connection, and shows it to the customizer.
 pub fn open<M: ManageConnection, Z: CustomizeConnection<M::Connection, M::Error>>(
     manager: &M,
@@ -164,29 +179,22 @@ pub fn settle<T, A: Allocator>(
     ensures after { book.new.picture ≡ after_settle (as_nanos now) outcome book.old.picture }
     ensures noted { book.new.log ≡ with_noted (record_of_settle (as_nanos now) outcome book.old.picture) book.old.log }
 {
-    match outcome {
+    let settled = match outcome {
         Outcome::Opened { id, value } => match book.admit(now, id, value) {
-            Ok(()) => (Settled::Admitted, Wakes::caller_and_workers_for(0)),
-            Err((why, value)) => (Settled::Refused(why, Some(value)), Wakes::nobody()),
+            Ok(()) => Settled::Admitted,
+            Err((why, value)) => Settled::Refused(why, Some(value)),
         },
         Outcome::Failed { tries, text } => match book.fail(now, tries, text) {
-            Ok(due) => (
-                Settled::Retry(due),
-                Wakes {
-                    caller: false,
-                    workers: true,
-                },
-            ),
-            Err(why) => (Settled::Refused(why, None), Wakes::nobody()),
+            Ok(due) => Settled::Retry(due),
+            Err(why) => Settled::Refused(why, None),
         },
         Outcome::Unsound { id, text } => match book.fail_check(now, id, text) {
-            Ok(gone) => (
-                Settled::Gone(gone),
-                Wakes::caller_and_workers_for(gone.ordered),
-            ),
-            Err(why) => (Settled::Refused(why, None), Wakes::nobody()),
+            Ok(gone) => Settled::Gone(gone),
+            Err(why) => Settled::Refused(why, None),
         },
-    }
+    };
+    let wakes = settled.wakes();
+    (settled, wakes)
 }
 
 /// Closes the idle connections that are expired, as `Book::reap`: they are handed over in `out`. The number is that of the openings

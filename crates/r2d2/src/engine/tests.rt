@@ -3,10 +3,10 @@
 use super::*;
 use crate::NopConnectionCustomizer;
 use crate::tests::Numbers;
-use r2d2_core::{Job, Limits};
-use std::alloc::AllocError;
-use std::fmt;
+use pairs::{Call, Stage, row};
 use std::test::Fail;
+
+mod pairs;
 
 /// Turns 7 into 9.
 #[derive(Debug, Drop)]
@@ -31,22 +31,6 @@ impl CustomizeConnection<u32, &'static str> for TurnsAway {
     }
 }
 
-// One connection, which is wanted, and expires when it is idle for a second.
-fn book(alloc: Global) -> Result<Book<u32>, Fail> {
-    let second = Duration::from_secs(1);
-    let limits = Limits::of(1, Some(1), None, Some(second), second, second).ok_or("limits")?;
-    let mut book = Book::new(alloc, limits, Duration::ZERO, 8)?;
-    let _ = book.begin(Duration::ZERO);
-    Ok(book)
-}
-
-// Both print the same.
-fn agree<X: fmt::Debug, Y: fmt::Debug>(alloc: Global, x: &X, y: &Y) -> Result<bool, AllocError> {
-    let x = format!(in alloc; "{x:?}")?;
-    let y = format!(in alloc; "{y:?}")?;
-    Ok(x == y)
-}
-
 fn wakes(caller: bool, workers: bool) -> Wakes {
     Wakes { caller, workers }
 }
@@ -60,61 +44,79 @@ fn opens(rt: HostRuntime) -> Result<(), Fail> {
 }
 
 #[test]
-fn as_the_book_does(rt: HostRuntime) -> Result<(), Fail> {
-    let alloc = rt.alloc();
-    let mut one = book(alloc)?;
-    let mut other = book(alloc)?;
+fn settles_an_opening(rt: HostRuntime) -> Result<(), Fail> {
+    row(
+        &rt,
+        Stage::Numbered,
+        [
+            (Call::Opened, wakes(true, false)),
+            (Call::Opened, wakes(false, false)),
+        ],
+    )
+}
 
-    let now = Duration::ZERO;
-    let failed = Outcome::Failed {
-        tries: 0,
-        text: None,
-    };
-    let (settled, woken) = settle(&mut one, now, failed);
-    let due = other.fail(now, 0, None).map_err(|_| "refused")?;
-    assert!(rt; agree(alloc, &settled, &Settled::<u32>::Retry(due))?);
-    assert_eq!(rt; woken, wakes(false, true));
+#[test]
+fn settles_a_failed_opening(rt: HostRuntime) -> Result<(), Fail> {
+    row(
+        &rt,
+        Stage::Opening,
+        [
+            (Call::Failed, wakes(false, true)),
+            (Call::Failed, wakes(false, false)),
+        ],
+    )
+}
 
-    assert_eq!(rt; one.begin(due), Job::Open { tries: 1 });
-    assert_eq!(rt; other.begin(due), Job::Open { tries: 1 });
-    assert_eq!(rt; one.number(1), Ok(0));
-    assert_eq!(rt; other.number(1), Ok(0));
-    let (settled, woken) = settle(&mut one, due, Outcome::Opened { id: 0, value: 7 });
-    assert!(rt; other.admit(due, 0, 7) == Ok(()));
-    assert!(rt; agree(alloc, &settled, &Settled::<u32>::Admitted)?);
-    assert_eq!(rt; woken, wakes(true, false));
-    let (settled, woken) = settle(&mut one, due, Outcome::Opened { id: 0, value: 8 });
-    assert!(rt;
-        agree(
-            alloc,
-            &settled,
-            &Settled::Refused(Refusal::NotNumbered, Some(8))
-        )?
-    );
-    assert_eq!(rt; woken, wakes(false, false));
+#[test]
+fn settles_a_failed_check(rt: HostRuntime) -> Result<(), Fail> {
+    row(
+        &rt,
+        Stage::Lent,
+        [
+            (Call::Unsound, wakes(true, true)),
+            (Call::Unsound, wakes(false, false)),
+        ],
+    )
+}
 
-    let (taken, woken) = lend(&mut one, due, true);
-    assert!(rt; agree(alloc, &taken, &other.take(due, true))?);
-    assert_eq!(rt; woken, wakes(false, false));
-    let (returned, woken) = give_back(&mut one, due, 0, 7, false);
-    assert!(rt; agree(alloc, &returned, &other.put_back(due, 0, 7, false))?);
-    assert_eq!(rt; woken, wakes(true, false));
+#[test]
+fn lends_and_misses(rt: HostRuntime) -> Result<(), Fail> {
+    row(
+        &rt,
+        Stage::Idle,
+        [
+            (Call::Lend { or_order: true }, wakes(false, true)),
+            (Call::Lend { or_order: false }, wakes(false, false)),
+            (Call::Lend { or_order: true }, wakes(false, true)),
+        ],
+    )
+}
 
-    let later = Duration::from_secs(2);
-    let mut released = Vec::with_capacity(alloc, one.limits().max_size() as usize)?;
-    let (ordered, woken) = sweep(&mut one, later, &mut released);
-    let mut reaped = Vec::with_capacity(alloc, other.limits().max_size() as usize)?;
-    assert_eq!(rt; ordered, other.reap(later, &mut reaped));
-    assert!(rt; agree(alloc, &released, &reaped)?);
-    assert_eq!(rt; released.len(), 1);
-    assert_eq!(rt; woken, wakes(true, true));
+#[test]
+fn gives_back_what_is_sound(rt: HostRuntime) -> Result<(), Fail> {
+    row(
+        &rt,
+        Stage::Lent,
+        [
+            (Call::GiveBack { broken: false }, wakes(true, false)),
+            (Call::GiveBack { broken: false }, wakes(false, false)),
+        ],
+    )
+}
 
-    assert!(rt;
-        agree(
-            alloc,
-            &one.report()?.records.as_slice(),
-            &other.report()?.records.as_slice()
-        )?
-    );
-    Ok(())
+#[test]
+fn gives_back_what_is_broken(rt: HostRuntime) -> Result<(), Fail> {
+    row(
+        &rt,
+        Stage::Lent,
+        [
+            (Call::GiveBack { broken: true }, wakes(true, true)),
+            (Call::GiveBack { broken: true }, wakes(false, false)),
+        ],
+    )
+}
+
+#[test]
+fn sweeps_what_is_expired(rt: HostRuntime) -> Result<(), Fail> {
+    row(&rt, Stage::Idle, [(Call::Sweep, wakes(true, true))])
 }

@@ -26,7 +26,7 @@ pub(super) struct Shared<P, M, H, V, Z, R> {
     pub(super) rt: R,
 }
 
-impl<P, M, H, V, Z, R> Shared<P, M, H, V, Z, R> {
+impl<P: Drop, M, H, V, Z, R> Shared<P, M, H, V, Z, R> {
     /// The time since the pool was made; zero where the clock can't be read.
     pub(super) fn moment(&self) -> Duration
     where
