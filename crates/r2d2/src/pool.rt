@@ -255,3 +255,6 @@ impl<
             .finish()
     }
 }
+
+#[cfg(test)]
+mod tests;

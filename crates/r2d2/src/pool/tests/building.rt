@@ -1,0 +1,109 @@
+// What comes of building, and what a built pool says of itself.
+
+use super::*;
+
+fn is_send_sync<T: Send + Sync>(_value: &T) {}
+
+#[test]
+fn test_max_size_ok(rt: HostRuntime) -> Result<(), Fail> {
+    let counts = Counts::new(rt.alloc())?;
+    let manager = Manager::new(&counts, 5, Breaks::Never)?;
+    let pool = Builder::new().max_size(5).build(rt, manager)?;
+    let mut kept = Vec::new(rt.alloc());
+    for _ in 0..5 {
+        kept.push(pool.get()?)?;
+    }
+    assert_eq!(rt; pool.state().connections, 5);
+    Ok(())
+}
+
+#[test]
+fn test_is_send_sync(rt: HostRuntime) -> Result<(), Fail> {
+    is_send_sync(&Pool::new(rt, Sevens)?);
+    Ok(())
+}
+
+#[test]
+fn test_initialization_failure(rt: HostRuntime) -> Result<(), Fail> {
+    let counts = Counts::new(rt.alloc())?;
+    let manager = Manager::new(&counts, 0, Breaks::Never)?;
+    let builder = Builder::new().connection_timeout(Duration::from_secs(1));
+    let error = builder.build(rt, manager).err().ok_or("a pool")?;
+    assert_eq!(rt;
+        error.to_string(rt.alloc())?.as_str(),
+        "timed out waiting for connection: blammo"
+    );
+    Ok(())
+}
+
+#[test]
+fn test_lazy_initialization_failure(rt: HostRuntime) -> Result<(), Fail> {
+    let counts = Counts::new(rt.alloc())?;
+    let manager = Manager::new(&counts, 0, Breaks::Never)?;
+    let builder = Builder::new().connection_timeout(Duration::from_secs(1));
+    let pool = builder.build_unchecked(rt, manager)?;
+    let error = pool.get().err().ok_or("a connection")?;
+    assert_eq!(rt;
+        error.to_string(rt.alloc())?.as_str(),
+        "timed out waiting for connection: blammo"
+    );
+    Ok(())
+}
+
+#[test]
+fn a_build_short_of_connections_leaves_nothing(rt: HostRuntime) -> Result<(), Fail> {
+    let counts = Counts::new(rt.alloc())?;
+    let manager = Manager::new(&counts, 2, Breaks::Never)?;
+    let builder = Builder::new()
+        .max_size(5)
+        .min_idle(Some(3))
+        .connection_timeout(Duration::from_millis(500));
+    let error = builder.build(rt, manager).err().ok_or("a pool")?;
+    assert_eq!(rt; error.kind(), crate::ErrorKind::Timeout);
+    assert_eq!(rt; error.message(), Some("blammo"));
+    assert_eq!(rt; watched(&rt, &counts.managers_dropped, 1, 1000), 1);
+    assert_eq!(rt; counts.dropped(), 2);
+    Ok(())
+}
+
+#[test]
+fn getters(rt: HostRuntime) -> Result<(), Fail> {
+    let pool = Builder::new()
+        .max_size(4)
+        .min_idle(Some(1))
+        .test_on_check_out(false)
+        .max_lifetime(Some(Duration::from_secs(5)))
+        .idle_timeout(Some(Duration::from_secs(6)))
+        .connection_timeout(Duration::from_secs(7))
+        .build(rt, Sevens)?;
+    let clone = pool.try_clone()?;
+    drop(pool);
+    assert_eq!(rt; clone.max_size(), 4);
+    assert_eq!(rt; clone.min_idle(), Some(1));
+    assert_eq!(rt; clone.test_on_check_out(), false);
+    assert_eq!(rt; clone.max_lifetime(), Some(Duration::from_secs(5)));
+    assert_eq!(rt; clone.idle_timeout(), Some(Duration::from_secs(6)));
+    assert_eq!(rt; clone.connection_timeout(), Duration::from_secs(7));
+    Ok(())
+}
+
+#[test]
+fn debug_texts(rt: HostRuntime) -> Result<(), Fail> {
+    let alloc = rt.alloc();
+    let pool = Plain::<Sevens, HostRuntime>::builder()
+        .max_size(1)
+        .build(rt, Sevens)?;
+    assert_eq!(rt;
+        format!(in alloc; "{pool:?}")?.as_str(),
+        "Pool { state: State { connections: 1, idle_connections: 1 }, config: Config { max_size: 1, min_idle: None, test_on_check_out: true, max_lifetime: Some(1800s), idle_timeout: Some(600s), connection_timeout: 30s, error_handler: NopErrorHandler, event_handler: NopEventHandler, connection_customizer: NopConnectionCustomizer }, manager: Sevens }"
+    );
+    let mut lent = pool.get()?;
+    assert_eq!(rt; format!(in alloc; "{lent:?}")?.as_str(), "7");
+    *lent = 8;
+    assert_eq!(rt; format!(in alloc; "{lent:?}")?.as_str(), "8");
+    assert_eq!(rt;
+        format!(in alloc; "{:?}", pool.state())?.as_str(),
+        "State { connections: 1, idle_connections: 0 }"
+    );
+    Ok(())
+}

@@ -1,0 +1,142 @@
+// How callers come to connections, wait for them, and what stays with a connection.
+
+use super::*;
+
+// Keeps a connection for so long, and then gives it back.
+fn keep<C: Drop, R: Clock + Drop>(rt: R, length: Duration, lent: C) {
+    thread::sleep(&rt, length);
+    drop(lent);
+}
+
+#[test]
+fn test_acquire_release(rt: HostRuntime) -> Result<(), Fail> {
+    let pool = Builder::new().max_size(2).build(rt, Sevens)?;
+    let first = pool.get()?;
+    let second = pool.get()?;
+    drop(first);
+    let third = pool.get()?;
+    drop(second);
+    drop(third);
+    assert_eq!(rt; pool.state().idle_connections, 2);
+    Ok(())
+}
+
+#[test]
+fn try_get(rt: HostRuntime) -> Result<(), Fail> {
+    let pool = Builder::new().max_size(2).build(rt, Sevens)?;
+    let first = pool.try_get()?;
+    let second = pool.try_get()?;
+    let third = pool.try_get()?;
+    assert!(rt; first.is_some());
+    assert!(rt; second.is_some());
+    assert!(rt; third.is_none());
+    drop(first);
+    assert!(rt; pool.try_get()?.is_some());
+    Ok(())
+}
+
+#[test]
+fn get_timeout(rt: HostRuntime) -> Result<(), Fail> {
+    let pool = Builder::new()
+        .max_size(1)
+        .connection_timeout(Duration::from_millis(500))
+        .build(rt, Sevens)?;
+    let wait = Duration::from_millis(100);
+
+    let lent = pool.get_timeout(wait)?;
+    let short = thread::spawn(&rt, move || keep(rt, Duration::from_millis(50), lent))?;
+    let lent = pool.get_timeout(wait)?;
+    let long = thread::spawn(&rt, move || keep(rt, Duration::from_millis(150), lent))?;
+    let error = pool.get_timeout(wait).err().ok_or("a connection")?;
+    assert_eq!(rt; error.kind(), crate::ErrorKind::Timeout);
+    short.join(&rt);
+    long.join(&rt);
+    Ok(())
+}
+
+#[test]
+fn test_get_global_timeout(rt: HostRuntime) -> Result<(), Fail> {
+    let pool = Builder::new()
+        .max_size(1)
+        .connection_timeout(Duration::from_secs(1))
+        .build(rt, Sevens)?;
+    let _lent = pool.get()?;
+    let start = Instant::now(&rt)?;
+    let error = pool.get().err().ok_or("a connection")?;
+    let waited = start.elapsed(&rt)?.as_millis();
+    assert_eq!(rt; error.kind(), crate::ErrorKind::Timeout);
+    assert_eq!(rt; error.message(), None);
+    assert!(rt; waited >= 1000 && waited < 2000, "{waited} ms");
+    Ok(())
+}
+
+#[test]
+fn longest_timeout(rt: HostRuntime) -> Result<(), Fail> {
+    let pool = Builder::new().max_size(1).build(rt, Sevens)?;
+    assert!(rt; pool.get_timeout(Duration::MAX).is_ok());
+    Ok(())
+}
+
+#[test]
+fn waits_for_the_longest_timeout(rt: HostRuntime) -> Result<(), Fail> {
+    let pool = Builder::new().max_size(1).build(rt, Sevens)?;
+    let lent = pool.get()?;
+    let other = thread::spawn(&rt, move || keep(rt, Duration::from_millis(300), lent))?;
+    assert!(rt; pool.try_get()?.is_none());
+    assert!(rt; pool.get_timeout(Duration::MAX).is_ok());
+    other.join(&rt);
+    Ok(())
+}
+
+#[test]
+fn clones_are_over_one_state(rt: HostRuntime) -> Result<(), Fail> {
+    let pool = Builder::new().max_size(1).build(rt, Sevens)?;
+    let clone = pool.try_clone()?;
+    let lent = pool.try_get()?;
+    assert!(rt; lent.is_some());
+    assert_eq!(rt; clone.state().idle_connections, 0);
+    assert!(rt; clone.try_get()?.is_none());
+    drop(pool);
+    drop(lent);
+    assert_eq!(rt; clone.state().idle_connections, 1);
+    assert!(rt; clone.try_get()?.is_some());
+    Ok(())
+}
+
+#[test]
+fn extensions(rt: HostRuntime) -> Result<(), Fail> {
+    let pool = Builder::new().max_size(2).build(rt, Sevens)?;
+    let mut first = pool.get()?;
+    let mut second = pool.get()?;
+    let added = PooledConnection::extensions_mut(&mut first).insert(Value::Number(1));
+    assert!(rt; added == Ok(None));
+    let added = PooledConnection::extensions_mut(&mut second).insert(Value::Number(2));
+    assert!(rt; added == Ok(None));
+    drop(first);
+    let again = pool.get()?;
+    let kept = PooledConnection::extensions(&again).get(&Kind::OfNumber);
+    assert!(rt; kept == Some(&Value::Number(1)));
+    Ok(())
+}
+
+#[test]
+fn extensions_go_with_their_connection(rt: HostRuntime) -> Result<(), Fail> {
+    let counts = Counts::new(rt.alloc())?;
+    let manager = Manager::new(&counts, 2, Breaks::AtTheSecondReturn)?;
+    let pool = Builder::new().max_size(1).build(rt, manager)?;
+    let mut lent = pool.get()?;
+    let added = PooledConnection::extensions_mut(&mut lent).insert(Value::Word('w'));
+    assert!(rt; added == Ok(None));
+    drop(lent);
+    let lent = pool.get()?;
+    let kept = PooledConnection::extensions(&lent).get(&Kind::OfWord);
+    assert!(rt; kept == Some(&Value::Word('w')));
+    drop(lent);
+    let lent = pool.get()?;
+    assert!(rt;
+        PooledConnection::extensions(&lent)
+            .get(&Kind::OfWord)
+            .is_none()
+    );
+    Ok(())
+}

@@ -1,0 +1,110 @@
+// How connections are opened.
+
+use super::*;
+use std::sync::atomic::AtomicBool;
+
+/// Who began an opening, and whether the first one saw the second.
+#[derive(Drop)]
+struct Openings {
+    begun: AtomicU64,
+    saw_both: AtomicBool,
+}
+
+/// Its first opening waits until a second one has begun, for at most five seconds.
+#[derive(Drop)]
+struct Pair<R> {
+    openings: Arc<Openings>,
+    rt: R,
+}
+
+impl<R: PoolRuntime> ManageConnection for Pair<R> {
+    type Connection = u32;
+
+    type Error = Blammo;
+
+    type Extension = Value;
+
+    fn connect(&self) -> Result<u32, Blammo> {
+        let begun = &self.openings.begun;
+        if begun.fetch_add(1, Ordering::SeqCst) == 0 {
+            let saw_both = watched(&self.rt, begun, 2, 500) >= 2;
+            self.openings.saw_both.store(saw_both, Ordering::SeqCst);
+        }
+        Ok(7)
+    }
+
+    fn is_valid(&self, _connection: &mut u32) -> Result<(), Blammo> {
+        Ok(())
+    }
+
+    fn has_broken(&self, _connection: &mut u32) -> bool {
+        false
+    }
+}
+
+/// Turns connections away until one was dropped, and then marks each.
+#[derive(Drop)]
+struct Marks {
+    counts: Arc<Counts>,
+    released: Arc<AtomicU64>,
+}
+
+impl fmt::Debug for Marks {
+    fn fmt<W: fmt::Write>(&self, f: &mut fmt::Formatter<W>) -> fmt::Result {
+        f.write_str("Marks")
+    }
+}
+
+impl CustomizeConnection<Line, Blammo> for Marks {
+    fn on_acquire(&self, line: &mut Line) -> Result<(), Blammo> {
+        if self.counts.dropped() == 0 {
+            return Err(Blammo);
+        }
+        line.field = 1;
+        Ok(())
+    }
+
+    fn on_release(&self, _line: Line) {
+        self.released.fetch_add(1, Ordering::SeqCst);
+    }
+}
+
+#[test]
+fn two_openings_at_once(rt: HostRuntime) -> Result<(), Fail> {
+    let openings = Openings {
+        begun: AtomicU64::new(0),
+        saw_both: AtomicBool::new(false),
+    };
+    let openings = Arc::new(rt.alloc(), openings)?;
+    let manager = Pair {
+        openings: Arc::try_clone(&openings)?,
+        rt,
+    };
+    let pool = Builder::new()
+        .max_size(2)
+        .thread_pool(3)
+        .build(rt, manager)?;
+    assert!(rt; openings.saw_both.load(Ordering::SeqCst));
+    assert_eq!(rt; pool.state().connections, 2);
+    Ok(())
+}
+
+#[test]
+fn test_connection_customizer(rt: HostRuntime) -> Result<(), Fail> {
+    let counts = Counts::new(rt.alloc())?;
+    let released = Arc::new(rt.alloc(), AtomicU64::new(0))?;
+    let customizer = Marks {
+        counts: Arc::try_clone(&counts)?,
+        released: Arc::try_clone(&released)?,
+    };
+    let pool = Builder::new()
+        .connection_customizer(customizer)
+        .build(rt, Manager::new(&counts, 1000, Breaks::Always)?)?;
+    let lent = pool.get()?;
+    assert_eq!(rt; lent.field, 1);
+    assert_eq!(rt; released.load(Ordering::SeqCst), 0);
+    assert!(rt; counts.dropped() >= 1);
+    drop(lent);
+    assert_eq!(rt; released.load(Ordering::SeqCst), 1);
+    Ok(())
+}
