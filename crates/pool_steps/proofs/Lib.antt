@@ -1,1 +1,4 @@
-mod Faults
+pub mod Fields
+pub mod Writing
+pub mod Playing
+pub mod Texts

@@ -3,11 +3,16 @@
 
 mod program;
 
-use std::io;
+use program::Fault;
+use std::io::{self, BufWriter};
 use std::process::ExitCode;
 
 fn main(rt: HostRuntime) -> ExitCode {
-    match program::serve(rt.alloc(), rt.reader(), io::writer(&rt)) {
+    let outcome = match BufWriter::new(rt.alloc(), io::writer(&rt)) {
+        Ok(mut output) => program::serve(rt.alloc(), rt.reader(), &mut output),
+        Err(_) => Err(Fault::Memory),
+    };
+    match outcome {
         Ok(()) => ExitCode::SUCCESS,
         Err(fault) => {
             // Standard error may be closed; the status still tells.

@@ -1,5 +1,8 @@
 // The text of the program: lines in, answers out.
-ghost use Rattle.std.specs.Prelude.{◌≡◌, ◌⊎◌, Some, IfErr};
+ghost use Rattle.std.specs.Prelude.{◌≡◌, ◌≢◌, ◌⊎◌, [], Some, IfSome, OnOk, IfOk, IfErr, Contains};
+ghost use Rattle.std.specs.Io.Buffered.{reader_buffer, reader_remaining, writer_buffer, writer_contents};
+ghost use Rattle.std.specs.Io.KnownBytes.{Keeps};
+ghost use Rattle.pool_steps.specs.Script.{TakesLine, Goes, Serves};
 ghost use Rattle.pool_steps.specs.Faults.{status_of, text_of, IsCountedFromOne};
 ghost use Rattle.pool_steps.specs.declared.program.Fault.TheVariants.{Memory, Read, Write};
 
@@ -7,9 +10,9 @@ use line::{Line, limits};
 use r2d2_core::Core;
 use std::alloc::{AllocError, Global};
 use std::error::Error;
+use std::fmt;
 use std::io::{BufRead, BufReader, BufWriter, ErrorKind, Read, Write};
 use std::time::Duration;
-use std::{fmt, str};
 
 mod answer;
 mod line;
@@ -69,57 +72,88 @@ impl From<AllocError> for Fault {
 }
 
 /// Answers each line of the input on the output, up to the first fault. The answers of all lines before it were written
-/// by then: where that failed, the fault is the failed write.
+/// by then: where that failed, the fault is the failed write. What stands written after a fault of memory, of a read or of a write is
+/// left open.
 pub fn serve<R: Read + Drop, W: Write + Drop>(
     alloc: Global,
     input: R,
-    output: W,
+    output: &mut BufWriter<W>,
 ) -> Result<(), Fault>
-    ensures { IfErr result IsCountedFromOne }
+    ensures counted { IfErr result IsCountedFromOne }
+    ensures answers { IfSome (R.remaining input) (λ bytes. Serves bytes result
+        (writer_contents W.contents output.old) (writer_contents W.contents output.new)) }
+    ensures sent { writer_buffer output.old ≡ [] → result ≢ Err Write → writer_buffer output.new ≡ [] }
 {
     let mut input = BufReader::new(alloc, input).map_err(|_| Fault::Memory)?;
-    let mut output = BufWriter::new(alloc, output).map_err(|_| Fault::Memory)?;
-    let outcome = run(alloc, &mut input, &mut output);
-    flush(&mut output)?;
+    let outcome = run(alloc, &mut input, output);
+    flush(output)?;
     outcome
 }
 
 // Answers the lines up to the first fault; the last answers may still lie in the output's buffer.
-#[tactic(auto, using(crate::proofs::Faults::step_counts))]
-fn run<R: Read + Drop, W: Write>(
+fn run<R: Read + Drop, W: Write + Drop>(
     alloc: Global,
     input: &mut BufReader<R>,
-    output: &mut W,
+    output: &mut BufWriter<W>,
 ) -> Result<(), Fault>
-    ensures { IfErr result IsCountedFromOne }
+    ensures counted { IfErr result IsCountedFromOne }
+    ensures answers { IfSome (reader_remaining R.remaining input.old) (λ bytes. Serves bytes result
+        (writer_contents W.contents output.old) (writer_contents W.contents output.new)) }
 {
     let mut line = Vec::new(alloc);
-    let mut number = 1u64;
     // Where there is no first line, it is an empty one, which is not of its form either.
     next_line(input, &mut line)?;
-    let first = str::from_utf8(&line).map_err(|_| Fault::NotAStep(number))?;
-    let mut core = Core::new(alloc, limits(first)?, Duration::ZERO)?;
-    for _ in 0..u64::MAX {
-        // With no whole line at hand the next read may wait, so the answers so far go out before it.
-        if !input.buffer().contains(&b'\n') {
-            flush(output)?;
-        }
+    let mut core = Core::new(alloc, limits(&line)?, Duration::ZERO)?;
+    take_steps(alloc, &mut core, input, output)
+}
+
+// Answers the lines after the first.
+fn take_steps<R: Read + Drop, W: Write + Drop>(
+    alloc: Global,
+    core: &mut Core<u64>,
+    input: &mut BufReader<R>,
+    output: &mut BufWriter<W>,
+) -> Result<(), Fault>
+    ensures counted { IfErr result IsCountedFromOne }
+    ensures answers { IfSome (reader_remaining R.remaining input.old) (λ bytes. Goes 2 core.old bytes result
+        (writer_contents W.contents output.old) (writer_contents W.contents output.new)) }
+{
+    // A loop has a bound. No input has so many lines; std's readers give up so too.
+    let too_many_lines = Fault::Read;
+    let mut line = Vec::new(alloc);
+    for number in 2..u64::MAX {
+        send_before_waiting(input, output)?;
         if !next_line(input, &mut line)? {
-            break;
+            return Ok(());
         }
-        number = number.saturating_add(1);
-        let step = str::from_utf8(&line)
-            .ok()
-            .and_then(|text| Line::parse(text))
-            .ok_or(Fault::NotAStep(number))?;
-        answer::answer(alloc, &mut core, step, output)?;
+        let Some(step) = Line::read(&line) else {
+            return Err(Fault::NotAStep(number));
+        };
+        answer::answer(alloc, core, step, output)?;
     }
-    Ok(())
+    Err(too_many_lines)
+}
+
+// With no whole line at hand the next read may wait, so the answers so far go out before it.
+fn send_before_waiting<R: Read + Drop, W: Write + Drop>(
+    input: &BufReader<R>,
+    output: &mut BufWriter<W>,
+) -> Result<(), Fault>
+    ensures fault { IfErr result (λ fault. fault ≡ Write) }
+    ensures sent { OnOk result (Contains (reader_buffer input.now) 10 ⊎ (writer_buffer output.new ≡ [])) }
+    ensures kept { Keeps (writer_contents W.contents output.old) (writer_contents W.contents output.new) }
+{
+    if input.buffer().contains(&b'\n') {
+        return Ok(());
+    }
+    flush(output)
 }
 
 // Reads the next line, without its line feed, in place of the last one. Says whether there was one.
 fn next_line<R: BufRead>(input: &mut R, line: &mut Vec<u8>) -> Result<bool, Fault>
-    ensures { IfErr result (λ fault. (fault ≡ Memory) ⊎ (fault ≡ Read)) }
+    ensures fault { IfErr result (λ fault. (fault ≡ Memory) ⊎ (fault ≡ Read)) }
+    ensures line { IfOk result (λ there. IfSome (R.remaining input.old) (λ bytes.
+        TakesLine bytes there line.new.items (R.remaining input.new))) }
 {
     line.clear();
     let count = input
@@ -134,8 +168,10 @@ fn next_line<R: BufRead>(input: &mut R, line: &mut Vec<u8>) -> Result<bool, Faul
     Ok(count != 0)
 }
 
-fn flush<W: Write>(output: &mut W) -> Result<(), Fault>
-    ensures { IfErr result (λ fault. fault ≡ Write) }
+fn flush<W: Write + Drop>(output: &mut BufWriter<W>) -> Result<(), Fault>
+    ensures fault { IfErr result (λ fault. fault ≡ Write) }
+    ensures sent { OnOk result (writer_buffer output.new ≡ []) }
+    ensures kept { Keeps (writer_contents W.contents output.old) (writer_contents W.contents output.new) }
 {
     output.flush().map_err(|_| Fault::Write)
 }

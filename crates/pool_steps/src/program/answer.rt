@@ -1,5 +1,14 @@
 // The answers to the lines.
-ghost use Rattle.std.specs.Prelude.{◌≡◌, ◌⊎◌, IfOk, IfErr, option_map, option_copied, string_bytes};
+ghost use Rattle.std.specs.Prelude.{◌≡◌, ◌⊎◌, Some, IfOk, IfErr, OnOk, map, length, option_map, option_copied, string_bytes};
+ghost use Rattle.std.specs.Duration.{as_nanos};
+ghost use Rattle.std.specs.Io.KnownBytes.{Appends};
+ghost use Rattle.r2d2_core.specs.Reply.{seen_take, seen_return, seen_gone, seen_released, map_ok};
+ghost use Rattle.r2d2_core.specs.Tasks.{seen_job};
+ghost use Rattle.pool_steps.specs.Lines.{seen_line};
+ghost use Rattle.pool_steps.specs.Steps.{answer_text, after_said};
+ghost use Rattle.pool_steps.specs.Texts.{milliseconds, word_of, refusal_text, take_text, task_text, number_text, admission_text};
+ghost use Rattle.pool_steps.specs.Texts.{failure_text, gone_text, check_text, return_text, reap_text, released_text};
+ghost use Rattle.pool_steps.specs.Texts.{error_text, close_text, left_text, state_text};
 ghost use Rattle.pool_steps.specs.declared.program.Fault.TheVariants.{Memory, Write};
 
 use super::Fault;
@@ -11,15 +20,19 @@ use std::time::Duration;
 use std::{fmt, io};
 
 /// Does what a line says, and writes the answer.
+#[tactic(auto, using(crate::proofs::Texts::failed_with, crate::proofs::Texts::check_failed_with))]
 pub(crate) fn answer<W: Write>(
     alloc: Global,
     core: &mut Core<u64>,
     line: Line<'_>,
     output: &mut W,
 ) -> Result<(), Fault>
-    ensures { IfErr result (λ fault. (fault ≡ Memory) ⊎ (fault ≡ Write)) }
+    ensures fault { IfErr result (λ fault. (fault ≡ Memory) ⊎ (fault ≡ Write)) }
+    ensures written { OnOk result (Appends (W.contents output.old) (W.contents output.new)
+        (answer_text (seen_line line.entry) core.old)) }
+    ensures after { OnOk result (core.new ≡ after_said (seen_line line.entry) core.old) }
 {
-    let written = match line {
+    match line {
         Line::Take { now, or_order } => write_take(output, core.take(now, or_order)),
         Line::Begin { now } => write_job(output, core.begin(now)),
         Line::Number { tries } => write_number(output, core.number(tries)),
@@ -46,8 +59,13 @@ pub(crate) fn answer<W: Write>(
         Line::TakeError => write_error(output, core.take_error()),
         Line::Close => write_close(output, core.close()),
         Line::State => write_state(output, core),
-    };
-    written.map_err(|_| Fault::Write)
+    }
+}
+
+fn unwritten(_: io::Error) -> Fault
+    ensures { result ≡ Write }
+{
+    Fault::Write
 }
 
 // A copy of the text of a line, for the core to keep.
@@ -60,45 +78,63 @@ fn kept(alloc: Global, text: Option<&str>) -> Result<Option<String>, AllocError>
     }
 }
 
-fn write_take<W: Write>(output: &mut W, answer: Take<u64>) -> io::Result<()> {
+fn write_take<W: Write>(output: &mut W, answer: Take<u64>) -> Result<(), Fault>
+    ensures fault { IfErr result (λ fault. fault ≡ Write) }
+    ensures written { OnOk result (Appends (W.contents output.old) (W.contents output.new) (take_text (seen_take answer))) }
+{
     match answer {
         Take::Found {
             id,
             value,
             ordered,
             ..
-        } => writeln!(output, "taken {id} {value} ordered {ordered}"),
-        Take::Empty { ordered } => writeln!(output, "empty ordered {ordered}"),
+        } => writeln!(output, "taken {id} {value} ordered {ordered}").map_err(unwritten),
+        Take::Empty { ordered } => writeln!(output, "empty ordered {ordered}").map_err(unwritten),
     }
 }
 
-fn write_job<W: Write>(output: &mut W, job: Job) -> io::Result<()> {
+fn write_job<W: Write>(output: &mut W, job: Job) -> Result<(), Fault>
+    ensures fault { IfErr result (λ fault. fault ≡ Write) }
+    ensures written { OnOk result (Appends (W.contents output.old) (W.contents output.new) (task_text (seen_job job))) }
+{
     match job {
-        Job::Open { tries } => writeln!(output, "open {tries}"),
-        Job::Reap => writeln!(output, "reap"),
-        Job::Wait(due) => writeln!(output, "wait {}", Milliseconds(due)),
-        Job::Nothing => writeln!(output, "nothing"),
-        Job::Closed => writeln!(output, "closed"),
+        Job::Open { tries } => writeln!(output, "open {tries}").map_err(unwritten),
+        Job::Reap => writeln!(output, "reap").map_err(unwritten),
+        Job::Wait(due) => writeln!(output, "wait {}", Milliseconds(due)).map_err(unwritten),
+        Job::Nothing => writeln!(output, "nothing").map_err(unwritten),
+        Job::Closed => writeln!(output, "closed").map_err(unwritten),
     }
 }
 
-fn write_number<W: Write>(output: &mut W, answer: Result<u64, Refusal>) -> io::Result<()> {
+fn write_number<W: Write>(output: &mut W, answer: Result<u64, Refusal>) -> Result<(), Fault>
+    ensures fault { IfErr result (λ fault. fault ≡ Write) }
+    ensures written { OnOk result (Appends (W.contents output.old) (W.contents output.new) (number_text answer)) }
+{
     match answer {
-        Ok(id) => writeln!(output, "numbered {id}"),
+        Ok(id) => writeln!(output, "numbered {id}").map_err(unwritten),
         Err(refusal) => write_refusal(output, refusal),
     }
 }
 
-fn write_admission<W: Write>(output: &mut W, answer: Result<(), (Refusal, u64)>) -> io::Result<()> {
+fn write_admission<W: Write>(
+    output: &mut W,
+    answer: Result<(), (Refusal, u64)>,
+) -> Result<(), Fault>
+    ensures fault { IfErr result (λ fault. fault ≡ Write) }
+    ensures written { OnOk result (Appends (W.contents output.old) (W.contents output.new) (admission_text answer)) }
+{
     match answer {
-        Ok(()) => writeln!(output, "admitted"),
+        Ok(()) => writeln!(output, "admitted").map_err(unwritten),
         Err((refusal, _)) => write_refusal(output, refusal),
     }
 }
 
-fn write_failure<W: Write>(output: &mut W, answer: Result<Duration, Refusal>) -> io::Result<()> {
+fn write_failure<W: Write>(output: &mut W, answer: Result<Duration, Refusal>) -> Result<(), Fault>
+    ensures fault { IfErr result (λ fault. fault ≡ Write) }
+    ensures written { OnOk result (Appends (W.contents output.old) (W.contents output.new) (failure_text (map_ok as_nanos answer))) }
+{
     match answer {
-        Ok(due) => writeln!(output, "retry {}", Milliseconds(due)),
+        Ok(due) => writeln!(output, "retry {}", Milliseconds(due)).map_err(unwritten),
         Err(refusal) => write_refusal(output, refusal),
     }
 }
@@ -107,7 +143,10 @@ fn write_failed_check<W: Write>(
     output: &mut W,
     id: u64,
     answer: Result<Gone, Refusal>,
-) -> io::Result<()> {
+) -> Result<(), Fault>
+    ensures fault { IfErr result (λ fault. fault ≡ Write) }
+    ensures written { OnOk result (Appends (W.contents output.old) (W.contents output.new) (check_text id (map_ok seen_gone answer))) }
+{
     match answer {
         Ok(Gone { age, ordered }) => write_gone(output, id, age, ordered),
         Err(refusal) => write_refusal(output, refusal),
@@ -118,56 +157,109 @@ fn write_return<W: Write>(
     output: &mut W,
     id: u64,
     answer: Result<Returned<u64>, (Refusal, u64)>,
-) -> io::Result<()> {
+) -> Result<(), Fault>
+    ensures fault { IfErr result (λ fault. fault ≡ Write) }
+    ensures written { OnOk result (Appends (W.contents output.old) (W.contents output.new) (return_text id (map_ok seen_return answer))) }
+{
     match answer {
-        Ok(Returned::Kept) => writeln!(output, "kept"),
+        Ok(Returned::Kept) => writeln!(output, "kept").map_err(unwritten),
         Ok(Returned::Closed { age, ordered, .. }) => write_gone(output, id, age, ordered),
         Err((refusal, _)) => write_refusal(output, refusal),
     }
 }
 
 // A connection that was lent is gone.
-fn write_gone<W: Write>(output: &mut W, id: u64, age: Duration, ordered: u32) -> io::Result<()> {
+fn write_gone<W: Write>(output: &mut W, id: u64, age: Duration, ordered: u32) -> Result<(), Fault>
+    ensures fault { IfErr result (λ fault. fault ≡ Write) }
+    ensures written { OnOk result (Appends (W.contents output.old) (W.contents output.new) (gone_text id (as_nanos age) ordered)) }
+{
     let age = Milliseconds(age);
-    writeln!(output, "gone {id} age {age} ordered {ordered}")
+    writeln!(output, "gone {id} age {age} ordered {ordered}").map_err(unwritten)
 }
 
-fn write_refusal<W: Write>(output: &mut W, refusal: Refusal) -> io::Result<()> {
-    writeln!(output, "refused {refusal:?}")
+fn write_refusal<W: Write>(output: &mut W, refusal: Refusal) -> Result<(), Fault>
+    ensures fault { IfErr result (λ fault. fault ≡ Write) }
+    ensures written { OnOk result (Appends (W.contents output.old) (W.contents output.new) (refusal_text refusal)) }
+{
+    let word = word(refusal);
+    writeln!(output, "refused {word}").map_err(unwritten)
+}
+
+fn word(refusal: Refusal) -> &'static str
+    ensures { result.now ≡ word_of refusal }
+{
+    match refusal {
+        Refusal::Closed => "Closed",
+        Refusal::NotLent => "NotLent",
+        Refusal::NoOpening => "NoOpening",
+        Refusal::IdsUsedUp => "IdsUsedUp",
+        Refusal::NotNumbered => "NotNumbered",
+    }
 }
 
 fn write_reap<W: Write>(
     output: &mut W,
     released: &[Released<u64>],
     ordered: u32,
-) -> io::Result<()> {
-    write!(output, "reaped")?;
+) -> Result<(), Fault>
+    ensures fault { IfErr result (λ fault. fault ≡ Write) }
+    ensures written { OnOk result (Appends (W.contents output.old) (W.contents output.new)
+        (reap_text (map seen_released released.now) ordered)) }
+{
+    write!(output, "reaped").map_err(unwritten)?;
+    write_released(output, released)?;
+    writeln!(output, " ordered {ordered}").map_err(unwritten)
+}
+
+fn write_released<W: Write>(output: &mut W, released: &[Released<u64>]) -> Result<(), Fault>
+    ensures fault { IfErr result (λ fault. fault ≡ Write) }
+    ensures written { OnOk result (Appends (W.contents output.old) (W.contents output.new)
+        (released_text (map seen_released released.now))) }
+{
     for connection in released {
-        write!(output, " {}", connection.id)?;
+        write!(output, " {}", connection.id).map_err(unwritten)?;
     }
-    writeln!(output, " ordered {ordered}")
+    Ok(())
 }
 
-fn write_error<W: Write>(output: &mut W, text: Option<String>) -> io::Result<()> {
+fn write_error<W: Write>(output: &mut W, text: Option<String>) -> Result<(), Fault>
+    ensures fault { IfErr result (λ fault. fault ≡ Write) }
+    ensures written { OnOk result (Appends (W.contents output.old) (W.contents output.new) (error_text (option_map string_bytes text))) }
+{
     match text {
-        Some(text) => writeln!(output, "error {text}"),
-        None => writeln!(output, "error none"),
+        Some(text) => writeln!(output, "error {text}").map_err(unwritten),
+        None => writeln!(output, "error none").map_err(unwritten),
     }
 }
 
-fn write_close<W: Write>(output: &mut W, leftover: Leftover<u64>) -> io::Result<()> {
-    write!(output, "closed")?;
+fn write_close<W: Write>(output: &mut W, leftover: Leftover<u64>) -> Result<(), Fault>
+    ensures fault { IfErr result (λ fault. fault ≡ Write) }
+    ensures written { OnOk result (Appends (W.contents output.old) (W.contents output.new) (close_text leftover)) }
+{
+    write!(output, "closed").map_err(unwritten)?;
+    write_left(output, leftover)?;
+    writeln!(output).map_err(unwritten)
+}
+
+fn write_left<W: Write>(output: &mut W, leftover: Leftover<u64>) -> Result<(), Fault>
+    ensures fault { IfErr result (λ fault. fault ≡ Write) }
+    ensures written { OnOk result (Appends (W.contents output.old) (W.contents output.new) (left_text leftover)) }
+{
     for (id, _) in leftover {
-        write!(output, " {id}")?;
+        write!(output, " {id}").map_err(unwritten)?;
     }
-    writeln!(output)
+    Ok(())
 }
 
-fn write_state<W: Write>(output: &mut W, core: &Core<u64>) -> io::Result<()> {
+fn write_state<W: Write>(output: &mut W, core: &Core<u64>) -> Result<(), Fault>
+    ensures fault { IfErr result (λ fault. fault ≡ Write) }
+    ensures written { OnOk result (Appends (W.contents output.old) (W.contents output.new)
+        (state_text core.now.connections (length core.now.idle) core.now.on_order.pending)) }
+{
     let connections = core.connections();
     let idle = core.idle();
     let pending = core.pending();
-    writeln!(output, "state {connections} {idle} {pending}")
+    writeln!(output, "state {connections} {idle} {pending}").map_err(unwritten)
 }
 
 // A time in whole milliseconds, with the nanoseconds that remain in six digits, where there are any.
@@ -175,6 +267,8 @@ fn write_state<W: Write>(output: &mut W, core: &Core<u64>) -> io::Result<()> {
 struct Milliseconds(Duration);
 
 impl fmt::Display for Milliseconds {
+    ghost output = { λ time. Some (milliseconds (as_nanos time.0)) };
+
     fn fmt<W: fmt::Write>(&self, f: &mut fmt::Formatter<W>) -> fmt::Result {
         let whole = self.0.as_millis();
         let rest = self.0.subsec_nanos() % 1_000_000;

@@ -1,18 +1,29 @@
 // The lines of the input.
-ghost use Rattle.std.specs.Prelude.{◌≡◌, ◌*◌, ◌↔◌, ◌⊎◌, IsSome, IfSome, IfErr};
+ghost use Rattle.std.specs.Prelude.{◌≡◌, ◌*◌, ◌↔◌, ◌⊎◌, None, Some, IsSome, IfSome, IfOk, IfErr, option_map, option_copied};
 ghost use Rattle.std.specs.Duration.{as_nanos};
+ghost use Rattle.r2d2_core.specs.Limits.{Settings as Bounds, settings_of, AreLegal};
 ghost use Rattle.pool_steps.specs.declared.program.Fault.TheVariants.{NotAStep, LimitsRefused};
 ghost use Rattle.pool_steps.specs.Number.{IsNumber, number_of};
+ghost use Rattle.pool_steps.specs.Lines.{number_in, time_in, optional_in, text_in, connection_in, failure_in};
+ghost use Rattle.pool_steps.specs.Lines.{lengths_in, fields_in, sizes_in, sizes_of, limits_in};
+ghost use Rattle.pool_steps.specs.Lines.{seen_line, said_alone, said_with, said_of_connection, said_of_failure, said_in, step_in, Take, PutBack};
+ghost use Rattle.pool_steps.specs.Lines as spec;
 
 use super::Fault;
 use r2d2_core::Limits;
+use std::str;
 use std::time::Duration;
 
 /// The limits that the first line says. A line of another form is not a step.
-pub(crate) fn limits(line: &str) -> Result<Limits, Fault>
-    ensures { IfErr result (λ fault. (fault ≡ NotAStep 1) ⊎ (fault ≡ LimitsRefused)) }
+pub(crate) fn limits(line: &[u8]) -> Result<Limits, Fault>
+    ensures fault { IfErr result (λ fault. (fault ≡ NotAStep 1) ⊎ (fault ≡ LimitsRefused)) }
+    ensures given { IfOk result (λ limits. limits_in line.now ≡ Some (sizes_of (settings_of limits))) }
+    ensures legal { IfOk result (λ limits. AreLegal (settings_of limits)) }
+    ensures no_limits { IfErr result (λ fault. fault ≡ NotAStep 1 → limits_in line.now ≡ None) }
+    ensures refused { IfErr result (λ fault. fault ≡ LimitsRefused
+        → (s : Bounds) × (limits_in line.now ≡ Some (sizes_of s)) × ¬ (AreLegal s)) }
 {
-    let settings = Settings::parse(line).ok_or(Fault::NotAStep(1))?;
+    let settings = Settings::read(line).ok_or(Fault::NotAStep(1))?;
     settings.limits().ok_or(Fault::LimitsRefused)
 }
 
@@ -28,24 +39,49 @@ struct Settings {
 }
 
 impl Settings {
-    fn parse(line: &str) -> Option<Settings> {
-        let fields = line.strip_prefix("limits ")?;
-        let (max_size, fields) = fields.split_once(' ')?;
-        let (min_idle, fields) = fields.split_once(' ')?;
-        let (max_lifetime, fields) = fields.split_once(' ')?;
-        let (idle_timeout, fields) = fields.split_once(' ')?;
-        let (connection_timeout, reap_every) = fields.split_once(' ')?;
+    ghost use Rattle.pool_steps.specs.Settings.{seen_settings, bounds_of};
+
+    #[tactic(auto, unfolding(crate::specs::Lines::limits_in))]
+    fn read(line: &[u8]) -> Option<Settings>
+        ensures { option_map seen_settings result ≡ limits_in line.now }
+    {
+        Settings::parse(text(line)?)
+    }
+
+    #[tactic(auto, unfolding(crate::specs::Lines::sizes_in))]
+    fn parse(line: &str) -> Option<Settings>
+        ensures { option_map seen_settings result ≡ sizes_in line.now }
+    {
+        let (word, fields) = cut(line)?;
+        if word != "limits" {
+            return None;
+        }
+        Settings::of_fields(fields)
+    }
+
+    #[tactic(auto, unfolding(crate::specs::Lines::fields_in))]
+    fn of_fields(fields: &str) -> Option<Settings>
+        ensures { option_map seen_settings result ≡ fields_in fields.now }
+    {
+        let (max_size, fields) = cut(fields)?;
+        let (min_idle, fields) = cut(fields)?;
+        let max_size = small_number(max_size)?;
+        let min_idle = optional_number(min_idle)?;
+        let (max_lifetime, idle_timeout, connection_timeout, reap_every) = lengths(fields)?;
         Some(Settings {
-            max_size: small_number(max_size)?,
-            min_idle: optional(min_idle, small_number)?,
-            max_lifetime: optional(max_lifetime, time)?,
-            idle_timeout: optional(idle_timeout, time)?,
-            connection_timeout: time(connection_timeout)?,
-            reap_every: time(reap_every)?,
+            max_size,
+            min_idle,
+            max_lifetime,
+            idle_timeout,
+            connection_timeout,
+            reap_every,
         })
     }
 
-    fn limits(&self) -> Option<Limits> {
+    fn limits(&self) -> Option<Limits>
+        ensures legal { IsSome result ↔ AreLegal (bounds_of self.now) }
+        ensures given { IfSome result (λ limits. settings_of limits ≡ bounds_of self.now) }
+    {
         Limits::of(
             self.max_size,
             self.min_idle,
@@ -100,14 +136,26 @@ pub(crate) enum Line<'a> {
 
 impl<'a> Line<'a> {
     /// What the line says; none where it is not a step.
-    pub(crate) fn parse(line: &'a str) -> Option<Line<'a>> {
-        match line.split_once(' ') {
+    #[tactic(auto, unfolding(crate::specs::Lines::step_in))]
+    pub(crate) fn read(line: &'a [u8]) -> Option<Line<'a>>
+        ensures { option_map seen_line result ≡ step_in line.now }
+    {
+        Line::parse(text(line)?)
+    }
+
+    #[tactic(auto, unfolding(crate::specs::Lines::said_in))]
+    fn parse(line: &'a str) -> Option<Line<'a>>
+        ensures { option_map seen_line result ≡ said_in line.now }
+    {
+        match cut(line) {
             Some((word, fields)) => Line::with_fields(word, fields),
             None => Line::of_word(line),
         }
     }
 
-    fn of_word(word: &str) -> Option<Line<'a>> {
+    fn of_word(word: &str) -> Option<Line<'a>>
+        ensures { option_map seen_line result ≡ said_alone word.now }
+    {
         match word {
             "error" => Some(Line::TakeError),
             "close" => Some(Line::Close),
@@ -116,17 +164,42 @@ impl<'a> Line<'a> {
         }
     }
 
-    fn with_fields(word: &str, fields: &'a str) -> Option<Line<'a>> {
+    #[tactic(auto, unfolding(crate::specs::Lines::said_with))]
+    fn with_fields(word: &str, fields: &'a str) -> Option<Line<'a>>
+        ensures { option_map seen_line result ≡ said_with word.now fields.now }
+    {
         match word {
             "take" => Line::take(fields, false),
             "want" => Line::take(fields, true),
             "begin" => Some(Line::Begin { now: time(fields)? }),
-            "number" => Some(Line::Number {
-                tries: small_number(fields)?,
-            }),
+            "reap" => Some(Line::Reap { now: time(fields)? }),
+            _ => Line::of_connection(word, fields),
+        }
+    }
+
+    #[tactic(auto, unfolding(crate::specs::Lines::said_of_connection))]
+    fn of_connection(word: &str, fields: &'a str) -> Option<Line<'a>>
+        ensures { option_map seen_line result ≡ said_of_connection word.now fields.now }
+    {
+        match word {
             "admit" => {
                 let (now, id, value) = connection(fields)?;
                 Some(Line::Admit { now, id, value })
+            }
+            "return" => Line::put_back(fields, false),
+            "broken" => Line::put_back(fields, true),
+            _ => Line::of_failure(word, fields),
+        }
+    }
+
+    #[tactic(auto, unfolding(crate::specs::Lines::said_of_failure))]
+    fn of_failure(word: &str, fields: &'a str) -> Option<Line<'a>>
+        ensures { option_map seen_line result ≡ said_of_failure word.now fields.now }
+    {
+        match word {
+            "number" => {
+                let tries = small_number(fields)?;
+                Some(Line::Number { tries })
             }
             "fail" => {
                 let (now, tries, text) = failure(fields)?;
@@ -138,19 +211,20 @@ impl<'a> Line<'a> {
                 let id = number(id)?;
                 Some(Line::FailCheck { now, id, text })
             }
-            "return" => Line::put_back(fields, false),
-            "broken" => Line::put_back(fields, true),
-            "reap" => Some(Line::Reap { now: time(fields)? }),
             _ => None,
         }
     }
 
-    fn take(fields: &str, or_order: bool) -> Option<Line<'a>> {
+    fn take(fields: &str, or_order: bool) -> Option<Line<'a>>
+        ensures { option_map seen_line result ≡ option_map (λ now. Take now or_order) (time_in fields.now) }
+    {
         let now = time(fields)?;
         Some(Line::Take { now, or_order })
     }
 
-    fn put_back(fields: &str, broken: bool) -> Option<Line<'a>> {
+    fn put_back(fields: &str, broken: bool) -> Option<Line<'a>>
+        ensures { option_map seen_line result ≡ option_map (λ c. PutBack c.0 c.1 c.2 broken) (connection_in fields.now) }
+    {
         let (now, id, value) = connection(fields)?;
         Some(Line::PutBack {
             now,
@@ -161,37 +235,88 @@ impl<'a> Line<'a> {
     }
 }
 
+// A line is a text.
+#[tactic(auto, using(crate::proofs::Fields::is_text, crate::proofs::Fields::is_no_text))]
+fn text(line: &[u8]) -> Option<&str>
+    ensures { option_copied result ≡ text_in line.now }
+{
+    str::from_utf8(line).ok()
+}
+
+// What stands before the first space, and what stands after it.
+#[tactic(auto, unfolding(crate::specs::Lines::cut))]
+fn cut(text: &str) -> Option<(&str, &str)>
+    ensures { option_map (λ parts. (parts.0.now, parts.1.now)) result ≡ spec.cut text.now }
+{
+    text.split_once(' ')
+}
+
 // A moment, an id and what the id is to hold.
-fn connection(fields: &str) -> Option<(Duration, u64, u64)> {
-    let (now, fields) = fields.split_once(' ')?;
-    let (id, value) = fields.split_once(' ')?;
+#[tactic(auto, unfolding(crate::specs::Lines::connection_in))]
+fn connection(fields: &str) -> Option<(Duration, u64, u64)>
+    ensures { option_map (λ c. (as_nanos c.0, c.1, c.2)) result ≡ connection_in fields.now }
+{
+    let (now, fields) = cut(fields)?;
+    let (id, value) = cut(fields)?;
     Some((time(now)?, number(id)?, number(value)?))
 }
 
 // A moment, what failed then, and the text that follows, if there is one.
-fn failure(fields: &str) -> Option<(Duration, &str, Option<&str>)> {
-    let (now, fields) = fields.split_once(' ')?;
+#[tactic(auto, unfolding(crate::specs::Lines::failure_in, crate::specs::Lines::cut), using(crate::proofs::Fields::before_none))]
+fn failure(fields: &str) -> Option<(Duration, &str, Option<&str>)>
+    ensures { option_map (λ f. (as_nanos f.0, f.1.now, option_copied f.2)) result ≡ failure_in fields.now }
+{
+    let (now, fields) = cut(fields)?;
     let now = time(now)?;
-    match fields.split_once(' ') {
+    match cut(fields) {
         Some((what, text)) => Some((now, what, Some(text))),
         None => Some((now, fields, None)),
     }
 }
 
+// Four lengths of time, of which the first two may be left out.
+#[tactic(auto, unfolding(crate::specs::Lines::lengths_in))]
+fn lengths(fields: &str) -> Option<(Option<Duration>, Option<Duration>, Duration, Duration)>
+    ensures { option_map (λ l. (option_map as_nanos l.0, option_map as_nanos l.1, as_nanos l.2, as_nanos l.3)) result
+        ≡ lengths_in fields.now }
+{
+    let (max_lifetime, fields) = cut(fields)?;
+    let (idle_timeout, fields) = cut(fields)?;
+    let (connection_timeout, reap_every) = cut(fields)?;
+    let max_lifetime = optional_time(max_lifetime)?;
+    let idle_timeout = optional_time(idle_timeout)?;
+    let connection_timeout = time(connection_timeout)?;
+    let reap_every = time(reap_every)?;
+    Some((max_lifetime, idle_timeout, connection_timeout, reap_every))
+}
+
 // A field that may be left out by `-`.
-fn optional<T, F: FnOnce(&str) -> Option<T>>(field: &str, parse: F) -> Option<Option<T>>
-    requires { F.IsAlwaysCallable parse }
+#[tactic(auto, unfolding(crate::specs::Lines::optional_in))]
+fn optional_number(field: &str) -> Option<Option<u32>>
+    ensures { result ≡ optional_in (number_in 32) field.now }
 {
     if field == "-" {
         return Some(None);
     }
-    Some(Some(parse(field)?))
+    Some(Some(small_number(field)?))
+}
+
+#[tactic(auto, unfolding(crate::specs::Lines::optional_in))]
+fn optional_time(field: &str) -> Option<Option<Duration>>
+    ensures { option_map (option_map as_nanos) result ≡ optional_in time_in field.now }
+{
+    if field == "-" {
+        return Some(None);
+    }
+    Some(Some(time(field)?))
 }
 
 // A time in whole milliseconds.
+#[tactic(auto, unfolding(crate::specs::Lines::time_in))]
 fn time(field: &str) -> Option<Duration>
     ensures some { IsSome result ↔ IsNumber 64 field.now }
     ensures value { IfSome result (λ t. as_nanos t ≡ 1_000_000 * number_of field.now) }
+    ensures exact { option_map as_nanos result ≡ time_in field.now }
 {
     Some(Duration::from_millis(number(field)?))
 }
@@ -199,6 +324,7 @@ fn time(field: &str) -> Option<Duration>
 fn small_number(field: &str) -> Option<u32>
     ensures some { IsSome result ↔ IsNumber 32 field.now }
     ensures value { IfSome result (λ n. n ≡ number_of field.now) }
+    ensures exact { result ≡ number_in 32 field.now }
 {
     u32::try_from(number(field)?).ok()
 }
@@ -207,6 +333,7 @@ fn small_number(field: &str) -> Option<u32>
 fn number(field: &str) -> Option<u64>
     ensures some { IsSome result ↔ IsNumber 64 field.now }
     ensures value { IfSome result (λ n. n ≡ number_of field.now) }
+    ensures exact { result ≡ number_in 64 field.now }
 {
     match field.as_bytes() {
         // std takes a sign too.

@@ -1,6 +1,8 @@
 // Tests of the text: stories of a pool, lines of another form, reads and writes that fail.
 
-use super::{Fault, serve};
+use super::Fault;
+use std::alloc::Global;
+use std::io::{BufWriter, Read, Write};
 use std::process::Abort;
 use std::str;
 use std::test::Fail;
@@ -8,6 +10,12 @@ use std::test::Fail;
 mod lines;
 mod stories;
 mod streams;
+
+// Serves an input to a writer, through a buffer as the program does.
+fn serve<R: Read + Drop, W: Write + Drop>(alloc: Global, input: R, output: W) -> Result<(), Fault> {
+    let mut output = BufWriter::new(alloc, output).map_err(|_| Fault::Memory)?;
+    super::serve(alloc, input, &mut output)
+}
 
 // Serves an input, and compares the output and the outcome.
 fn serves<R: AllocGlobal + Abort>(

@@ -1,0 +1,42 @@
+-- What the core does at a line, and what the program writes then, in the core's own words.
+use Rattle.std.specs.Prelude.{ℕ, List, length, Option, Some, None}
+use Rattle.r2d2_core.specs.OnOrder.{fail_refusal}
+use Rattle.r2d2_core.specs.Refusals.{unless_refused}
+use Rattle.r2d2_core.specs.Picture.{Picture}
+use Rattle.r2d2_core.specs.Table.{take_answer, begin_answer, number_answer, admit_answer, fail_answer, return_answer, check_answer, reap_closed, reap_orders, close_answer}
+use Rattle.r2d2_core.specs.Table.{after_take, after_begin, after_number, after_admit, after_fail, after_return, lent_refusal, after_check, after_reap, after_take_error, after_close}
+use Rattle.pool_steps.specs.Lines.{Said, Take, Begin, Number, Admit, Fail, FailCheck, PutBack, Reap, TakeError, Close, State}
+use Rattle.pool_steps.specs.Texts.{take_text, task_text, number_text, admission_text, failure_text, check_text, return_text, reap_text, error_text, close_text, state_text}
+
+-- what is written for a step
+abbrev pub answer_text : Said → Picture ℕ → List ℕ
+answer_text (Take now or_order) p = take_text (take_answer or_order p)
+answer_text (Begin now) p = task_text (begin_answer now p)
+answer_text (Number tries) p = number_text (number_answer tries p)
+answer_text (Admit now id value) p = admission_text (admit_answer id value p)
+answer_text (Fail now tries text) p = failure_text (fail_answer now tries p)
+answer_text (FailCheck now id text) p = check_text id (check_answer now id p)
+answer_text (PutBack now id value broken) p = return_text id (return_answer now id value broken p)
+answer_text (Reap now) p = reap_text (reap_closed now p) (reap_orders now p)
+answer_text TakeError p = error_text p.last_error
+answer_text Close p = close_text (close_answer p)
+answer_text State p = state_text p.connections (length p.idle) p.on_order.pending
+
+-- a text of a failure is the last error
+abbrev pub with_error : Option (List ℕ) → Picture ℕ → Picture ℕ
+with_error None p = p
+with_error (Some text) p = record p { last_error = Some text }
+
+-- what the core shows after it; a refused step records no text
+abbrev pub after_said : Said → Picture ℕ → Picture ℕ
+after_said (Take now or_order) p = after_take now or_order p
+after_said (Begin now) p = after_begin now p
+after_said (Number tries) p = after_number tries p
+after_said (Admit now id value) p = after_admit now id value p
+after_said (Fail now tries text) p = unless_refused (fail_refusal tries p.on_order) (with_error text (after_fail {A = ℕ} now tries None p)) p
+after_said (FailCheck now id text) p = unless_refused (lent_refusal id p) (with_error text (after_check {A = ℕ} now id None p)) p
+after_said (PutBack now id value broken) p = after_return now id value broken p
+after_said (Reap now) p = after_reap now p
+after_said TakeError p = after_take_error p
+after_said Close p = after_close p
+after_said State p = p
