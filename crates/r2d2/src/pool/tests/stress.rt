@@ -12,6 +12,16 @@ struct Fit {
     most: AtomicU64,
 }
 
+impl Fit {
+    fn new(alloc: Global) -> Result<Arc<Fit>, AllocError> {
+        let fit = Fit {
+            now: AtomicU64::new(0),
+            most: AtomicU64::new(0),
+        };
+        Ok(Arc::new(alloc, fit)?)
+    }
+}
+
 /// Fails at random, the same in each run, but for the order in which threads come.
 #[derive(Drop)]
 struct Fickle {
@@ -21,6 +31,14 @@ struct Fickle {
 }
 
 impl Fickle {
+    fn new(counts: &Arc<Counts>, fit: &Arc<Fit>) -> Result<Fickle, AllocError> {
+        Ok(Fickle {
+            lines: Manager::new(counts, u64::MAX, Breaks::Never)?,
+            fit: Arc::try_clone(fit)?,
+            rolls: AtomicU64::new(1),
+        })
+    }
+
     // The next number of a fixed row that looks random.
     fn roll(&self) -> u64 {
         let roll = self
@@ -143,22 +161,13 @@ fn replays(alloc: Global, report: &Report) -> Result<bool, AllocError> {
 #[test]
 fn stress(rt: HostRuntime) -> Result<(), Fail> {
     let counts = Counts::new(rt.alloc())?;
-    let fit = Fit {
-        now: AtomicU64::new(0),
-        most: AtomicU64::new(0),
-    };
-    let fit = Arc::new(rt.alloc(), fit)?;
-    let manager = Fickle {
-        lines: Manager::new(&counts, u64::MAX, Breaks::Never)?,
-        fit: Arc::try_clone(&fit)?,
-        rolls: AtomicU64::new(1),
-    };
+    let fit = Fit::new(rt.alloc())?;
     let pool = Builder::new()
         .max_size(MAX_SIZE)
         .max_lifetime(None)
         .idle_timeout(None)
         .journal_room(500_000)
-        .build(rt, manager)?;
+        .build(rt, Fickle::new(&counts, &fit)?)?;
     let mut threads = Vec::new(rt.alloc());
     for _ in 0..16 {
         let theirs = pool.try_clone()?;
