@@ -1,5 +1,5 @@
 // The counts of a pool.
-ghost use Rattle.std.specs.Prelude.{◌≡◌, ◌≤◌};
+ghost use Rattle.std.specs.Prelude.{◌≡◌, ◌≤◌, length};
 
 use r2d2_core::Book;
 use std::fmt;
@@ -18,6 +18,7 @@ impl State {
     // What the book shows.
     pub(super) fn of<P>(book: &Book<P>) -> State
         ensures connections { result.connections ≡ book.now.picture.connections }
+        ensures idle { result.idle_connections ≡ length book.now.picture.idle }
         ensures within { result.idle_connections ≤ result.connections }
     {
         State {

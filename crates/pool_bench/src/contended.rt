@@ -1,0 +1,67 @@
+// Several threads at one pool.
+use crate::pools::{PlainPool, open_pool};
+use crate::scenario::{Case, RUNS};
+use anyhow::ensure;
+use r2d2::PoolRuntime;
+use std::thread::JoinHandle;
+use std::time::{Duration, Instant};
+
+/// Calls of all threads together, in one run.
+const CALLS: u32 = 8_000;
+
+/// Times each number of threads at each size of pool. `start` starts a thread that makes so many calls.
+pub fn measure<R, S>(rt: R, start: S) -> Result<(), anyhow::Error>
+where
+    R: PoolRuntime + Print,
+    S: Fn(PlainPool<R>, u32) -> Result<JoinHandle<bool>, anyhow::Error> + Drop,
+    requires { S.IsAlwaysCallable start }
+{
+    for threads in [1, 2, 4, 8] {
+        for max_size in [1, 4, 10, 100] {
+            let case = Case {
+                threads,
+                max_size,
+                operations: CALLS,
+            };
+            let mut fastest = Duration::MAX;
+            for _ in 0..RUNS {
+                fastest = fastest.min(get_drop(rt, case, &start)?);
+            }
+            case.print(rt, "mt", fastest)?;
+        }
+    }
+    Ok(())
+}
+
+// `get`, and the connection's return, in threads that share the calls.
+fn get_drop<R, S>(rt: R, case: Case, start: &S) -> Result<Duration, anyhow::Error>
+where
+    R: PoolRuntime,
+    S: Fn(PlainPool<R>, u32) -> Result<JoinHandle<bool>, anyhow::Error>,
+    requires { S.IsAlwaysCallable start.now }
+{
+    let pool = open_pool(rt, case.max_size, false)?;
+    let calls = case.operations / case.threads;
+    let begun = Instant::now(&rt)?;
+    let mut callers = Vec::new(rt.alloc());
+    for _ in 0..case.threads {
+        let theirs = pool.try_clone()?;
+        callers.push(start(theirs, calls)?)?;
+    }
+    let mut served = true;
+    for caller in callers {
+        served &= caller.join(&rt);
+    }
+    ensure!(served, "a call was not served");
+    Ok(begun.elapsed(&rt)?)
+}
+
+/// Whether each of so many calls got a connection.
+pub fn is_served<R: PoolRuntime>(pool: PlainPool<R>, calls: u32) -> bool {
+    for _ in 0..calls {
+        if pool.get().is_err() {
+            return false;
+        }
+    }
+    true
+}

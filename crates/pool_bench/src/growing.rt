@@ -1,0 +1,79 @@
+// What grows with the size of a pool, or with the number of lent connections.
+ghost use Rattle.std.specs.Prelude.{◌<◌};
+
+use crate::pools::{Nothings, PlainPool, open_pool};
+use crate::scenario::Case;
+use r2d2::{
+    NopConnectionCustomizer, NopErrorHandler, NopEventHandler, PoolRuntime, PooledConnection,
+};
+use std::time::{Duration, Instant};
+
+/// How many connections are taken and given back, beside those that stay lent.
+pub const BATCH: u32 = 10;
+
+/// Batches of one run.
+pub const BATCHES: u32 = 50;
+
+type Lent<R> = Vec<
+    PooledConnection<Nothings, NopErrorHandler, NopEventHandler, NopConnectionCustomizer, R>,
+>;
+
+/// A pool is built, and all its connections opened.
+pub fn build<R: PoolRuntime>(rt: R, case: Case) -> Result<Duration, anyhow::Error> {
+    let start = Instant::now(&rt)?;
+    let pool = open_pool(rt, case.max_size, false)?;
+    let time = start.elapsed(&rt)?;
+    drop(pool);
+    Ok(time)
+}
+
+/// `get`, while all but a batch of the connections are lent.
+pub fn lent_get<R: PoolRuntime>(rt: R, case: Case) -> Result<Duration, anyhow::Error> {
+    let (gets, _) = batches(rt, case.max_size)?;
+    Ok(gets)
+}
+
+/// The return of the connection that was lent last, while all but a batch are lent.
+pub fn lent_drop<R: PoolRuntime>(rt: R, case: Case) -> Result<Duration, anyhow::Error> {
+    let (_, drops) = batches(rt, case.max_size)?;
+    Ok(drops)
+}
+
+// The times of all takings and of all returns.
+fn batches<R: PoolRuntime>(rt: R, max_size: u32) -> Result<(Duration, Duration), anyhow::Error>
+    requires { 0 < max_size }
+{
+    let pool = open_pool(rt, max_size, false)?;
+    let mut lent = Vec::with_capacity(rt.alloc(), max_size as usize)?;
+    take(&pool, &mut lent, max_size.saturating_sub(BATCH))?;
+    let mut gets = Duration::ZERO;
+    let mut drops = Duration::ZERO;
+    for _ in 0..BATCHES {
+        let start = Instant::now(&rt)?;
+        take(&pool, &mut lent, BATCH)?;
+        gets = gets.saturating_add(start.elapsed(&rt)?);
+        let start = Instant::now(&rt)?;
+        give_back(&mut lent, BATCH);
+        drops = drops.saturating_add(start.elapsed(&rt)?);
+    }
+    Ok((gets, drops))
+}
+
+// Takes so many connections.
+fn take<R: PoolRuntime>(
+    pool: &PlainPool<R>,
+    lent: &mut Lent<R>,
+    count: u32,
+) -> Result<(), anyhow::Error> {
+    for _ in 0..count {
+        lent.push(pool.get()?)?;
+    }
+    Ok(())
+}
+
+// Gives so many back, the last one first.
+fn give_back<R: PoolRuntime>(lent: &mut Lent<R>, count: u32) {
+    for _ in 0..count {
+        drop(lent.pop());
+    }
+}

@@ -1,0 +1,106 @@
+//! A user's own code over a pool: it rests on the contracts of the pool's calls.
+#![tactic(auto)]
+
+ghost use Rattle.std.specs.Prelude.{◌≡◌, ◌≤◌, ◌↔◌, IsTrue, IsSome, IfOk, IfSome};
+ghost use Rattle.std.specs.Option.{ForSome};
+ghost use Rattle.r2d2_core.specs.Reports.{DoesReplay};
+
+use r2d2::event::HandleEvent;
+use r2d2::journal::Report;
+use r2d2::{
+    Builder, CustomizeConnection, Error, HandleError, ManageConnection, Pool, PoolRuntime,
+    PooledConnection,
+};
+
+/// How busy a pool is at one moment.
+#[derive(Clone, Copy, PartialEq, Eq, Debug)]
+pub struct Load {
+    /// How many connections there are.
+    pub connections: u32,
+    /// How many of them are lent.
+    pub lent: u32,
+}
+
+/// How busy the pool is now. It may wait for the pool's lock.
+pub fn load_of<
+    M: ManageConnection,
+    H: HandleError<M::Error>,
+    V: HandleEvent + 'static,
+    Z: CustomizeConnection<M::Connection, M::Error>,
+    R: PoolRuntime,
+>(pool: &Pool<M, H, V, Z, R>) -> Load
+    ensures { result.lent ≤ result.connections }
+{
+    let state = pool.state();
+    Load {
+        connections: state.connections,
+        // No more are idle than there are.
+        lent: state.connections - state.idle_connections,
+    }
+}
+
+/// Whether so many callers can hold a connection at once.
+pub fn can_serve<
+    M: ManageConnection,
+    H: HandleError<M::Error>,
+    V: HandleEvent + 'static,
+    Z: CustomizeConnection<M::Connection, M::Error>,
+    R: PoolRuntime,
+>(pool: &Pool<M, H, V, Z, R>, callers: u32) -> bool
+    ensures { IsTrue result ↔ (callers ≤ pool.now.max_size) }
+{
+    callers <= pool.max_size()
+}
+
+/// A pool from settings that come from outside; None where they are none that a pool can have.
+pub fn build_checked<
+    M: ManageConnection,
+    H: HandleError<M::Error>,
+    V: HandleEvent + 'static,
+    Z: CustomizeConnection<M::Connection, M::Error>,
+    R: PoolRuntime,
+>(builder: Builder<M, H, V, Z>, rt: R, manager: M) -> Result<Option<Pool<M, H, V, Z, R>>, Error>
+    ensures legal { IfOk result (λ built. IsSome built ↔ ForSome builder.min_idle (λ n. n ≤ builder.max_size)) }
+    ensures kept { IfOk result (λ built. IfSome built (λ pool. pool ≡ builder)) }
+{
+    if builder.limits().is_none() {
+        return Ok(None);
+    }
+    let pool = builder.build(rt, manager)?;
+    Ok(Some(pool))
+}
+
+/// All that happened since the pool was made, which replays to what there is; None where records were dropped.
+pub fn audit<
+    M: ManageConnection,
+    H: HandleError<M::Error>,
+    V: HandleEvent + 'static,
+    Z: CustomizeConnection<M::Connection, M::Error>,
+    R: PoolRuntime,
+>(pool: &Pool<M, H, V, Z, R>) -> Result<Option<Report>, Error>
+    ensures whole { IfOk result (λ found. IfSome found (λ report. report.lost ≡ 0)) }
+    ensures replays { IfOk result (λ found. IfSome found DoesReplay) }
+{
+    let report = pool.journal()?;
+    if report.lost > 0 {
+        return Ok(None);
+    }
+    Ok(Some(report))
+}
+
+/// Puts another connection in the place of the lent one. What is kept beside it stays.
+pub fn replace<
+    M: ManageConnection,
+    H: HandleError<M::Error>,
+    V: HandleEvent + 'static,
+    Z: CustomizeConnection<M::Connection, M::Error>,
+    R: PoolRuntime,
+>(lent: &mut PooledConnection<M, H, V, Z, R>, connection: M::Connection)
+    ensures connection { lent.new.connection ≡ connection }
+    ensures extensions { lent.new.extensions ≡ lent.old.extensions }
+{
+    **lent = connection;
+}
+
+#[cfg(test)]
+mod surface;

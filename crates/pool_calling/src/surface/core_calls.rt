@@ -1,0 +1,201 @@
+// The core, under the pool's own name.
+use r2d2::journal::{Book, IdList, Record, RecordList, Report};
+use r2d2::machine::{Core, Gone, Leftover, Limits, Refusal, Released, Returned, Take};
+use r2d2::reuse::{Comparison, Move, compare, is_in_order};
+use r2d2::run::{Answer, Step, run};
+use r2d2::schedule::{Job, Schedule, delay};
+use std::alloc::Global;
+use std::test::Fail;
+use std::time::Duration;
+
+fn seconds(count: u64) -> Duration {
+    Duration::from_secs(count)
+}
+
+fn limits() -> Option<Limits> {
+    Limits::of(
+        2,
+        Some(1),
+        Some(seconds(9)),
+        Some(seconds(3)),
+        seconds(1),
+        seconds(2),
+    )
+}
+
+#[test]
+fn schedules(rt: HostRuntime) -> Result<(), Fail> {
+    let limits = limits().ok_or("limits")?;
+    assert_eq!(rt;
+        (limits.max_size(), limits.min_idle(), limits.wanted()),
+        (2, Some(1), 1)
+    );
+    assert_eq!(rt; limits.max_lifetime(), Some(seconds(9)));
+    assert_eq!(rt; limits.idle_timeout(), Some(seconds(3)));
+    assert_eq!(rt; limits.connection_timeout(), seconds(1));
+    assert_eq!(rt; limits.reap_every(), seconds(2));
+    let mut schedule = Schedule::new(rt.alloc(), limits, Duration::ZERO)?;
+    if schedule.len() < limits.max_size() {
+        schedule.order(seconds(1), 3);
+    }
+    assert_eq!(rt; schedule.next(Duration::ZERO), Job::Wait(seconds(1)));
+    assert_eq!(rt; schedule.next(seconds(1)), Job::Open { tries: 3 });
+    assert_eq!(rt; schedule.next(seconds(2)), Job::Reap);
+    schedule.clear();
+    assert_eq!(rt; schedule.next(seconds(9)), Job::Nothing);
+    assert_eq!(rt; delay(seconds(1), 1), Duration::from_millis(400));
+    Ok(())
+}
+
+// One connection is opened, lent and given back; another opening fails.
+fn opens_and_lends(core: &mut Core<u32>) -> bool {
+    let Job::Open { tries } = core.begin(Duration::ZERO) else {
+        return false;
+    };
+    let Ok(id) = core.number(tries) else {
+        return false;
+    };
+    let is_admitted = core.admit(Duration::ZERO, id, 7).is_ok();
+    let Take::Found { id, value, .. } = core.take(seconds(1), true) else {
+        return false;
+    };
+    let is_ordered = matches!(core.begin(seconds(1)), Job::Open { tries: 0 });
+    let is_put_off = core.fail(seconds(1), 0, None).is_ok();
+    let is_kept = matches!(
+        core.put_back(seconds(1), id, value, false),
+        Ok(Returned::Kept)
+    );
+    is_admitted && is_ordered && is_put_off && is_kept && core.take_error().is_none()
+}
+
+// A connection whose check failed is gone.
+fn discards(core: &mut Core<u32>) -> bool {
+    let Take::Found { id, .. } = core.take(seconds(1), false) else {
+        return false;
+    };
+    let Ok(Gone { .. }) = core.fail_check(seconds(1), id, None) else {
+        return false;
+    };
+    matches!(core.fail_check(seconds(1), id, None), Err(Refusal::NotLent))
+}
+
+#[test]
+fn steps(rt: HostRuntime) -> Result<(), Fail> {
+    let limits = limits().ok_or("limits")?;
+    let mut core: Core<u32> = Core::new(rt.alloc(), limits, Duration::ZERO)?;
+    assert!(rt; opens_and_lends(&mut core));
+    assert_eq!(rt;
+        (core.connections(), core.idle(), core.pending()),
+        (1, 1, 1)
+    );
+    assert!(rt; discards(&mut core));
+    assert!(rt; !core.is_closed());
+
+    let mut core: Core<u32> = Core::with_first_id(rt.alloc(), limits, Duration::ZERO, 5)?;
+    assert!(rt; opens_and_lends(&mut core));
+    let mut released: Vec<Released<u32>> = Vec::with_capacity(
+        rt.alloc(),
+        core.limits().max_size() as usize,
+    )?;
+    assert_eq!(rt; core.reap(seconds(8), &mut released), 1);
+    assert_eq!(rt; released.len(), 1);
+    let left: Leftover<u32> = core.close();
+    assert_eq!(rt; left.count(), 0);
+    Ok(())
+}
+
+#[test]
+fn lists_of_steps(rt: HostRuntime) -> Result<(), Fail> {
+    let limits = limits().ok_or("limits")?;
+    let now = Duration::ZERO;
+    let steps: Vec<Step<u32>> = vec![in rt.alloc(); Step::Begin { now }, Step::Close]?;
+    let (core, answers) = run(rt.alloc(), limits, now, steps)?;
+    assert!(rt; matches!(answers.first(), Some(Answer::Begin(Job::Open { tries: 0 }))));
+    assert!(rt; core.is_closed());
+    Ok(())
+}
+
+#[test]
+fn journals(rt: HostRuntime) -> Result<(), Fail> {
+    let limits = limits().ok_or("limits")?;
+    let mut book: Book<u32> = Book::new(rt.alloc(), limits, Duration::ZERO, 1)?;
+    let _ = book.take(seconds(1), true);
+    let report: Report = book.report()?;
+    let only = Record::Ordered {
+        at: seconds(1),
+        ordered: 1,
+    };
+    assert!(rt; report.records.as_slice() == [only].as_slice());
+    assert_eq!(rt;
+        (report.connections, report.pending, report.lost),
+        (0, 2, 0)
+    );
+
+    let book: Book<u32> = Book::with_first_id(rt.alloc(), limits, Duration::ZERO, 1, 5)?;
+    let report = book.report_in(rt.alloc())?;
+    let records: RecordList = RecordList::of(report.records.into_vec());
+    let idle: IdList = IdList::of(report.idle.into_vec());
+    assert!(rt; records.as_slice().is_empty() && idle.as_slice().is_empty());
+    Ok(())
+}
+
+// The same round as that of the core, in a book.
+fn opens_and_lends_in(book: &mut Book<u32>) -> bool {
+    let Job::Open { tries } = book.begin(Duration::ZERO) else {
+        return false;
+    };
+    let Ok(id) = book.number(tries) else {
+        return false;
+    };
+    let is_admitted = book.admit(Duration::ZERO, id, 7).is_ok();
+    let Take::Found { id, value, .. } = book.take(seconds(1), true) else {
+        return false;
+    };
+    let is_ordered = matches!(book.begin(seconds(1)), Job::Open { tries: 0 });
+    let is_put_off = book.fail(seconds(1), 0, None).is_ok();
+    let is_kept = matches!(
+        book.put_back(seconds(1), id, value, false),
+        Ok(Returned::Kept)
+    );
+    is_admitted && is_ordered && is_put_off && is_kept && book.take_error().is_none()
+}
+
+// A connection whose check failed is gone from the book.
+fn discards_from(book: &mut Book<u32>) -> bool {
+    let Take::Found { id, .. } = book.take(seconds(1), false) else {
+        return false;
+    };
+    book.fail_check(seconds(1), id, None).is_ok()
+}
+
+#[test]
+fn books(rt: HostRuntime) -> Result<(), Fail> {
+    let limits = limits().ok_or("limits")?;
+    let mut book: Book<u32> = Book::new(rt.alloc(), limits, Duration::ZERO, 8)?;
+    assert!(rt; opens_and_lends_in(&mut book));
+    assert_eq!(rt;
+        (book.connections(), book.idle(), book.pending()),
+        (1, 1, 1)
+    );
+    assert!(rt; discards_from(&mut book));
+    let mut released = Vec::with_capacity(rt.alloc(), book.limits().max_size() as usize)?;
+    assert_eq!(rt; book.reap(seconds(9), &mut released), 0);
+    assert_eq!(rt; book.close().count(), 0);
+    assert!(rt; book.is_closed());
+    Ok(())
+}
+
+#[test]
+fn comparisons(rt: HostRuntime) -> Result<(), Fail> {
+    let idle = [Duration::ZERO, seconds(1)];
+    let moves = [Move::Take(seconds(1)), Move::Add(seconds(2))];
+    if is_in_order(&idle) {
+        let found = compare(rt.alloc(), &idle, &moves, &[0], seconds(3), seconds(3))?;
+        let expected = Comparison {
+            newest_first: 1,
+            other: 0,
+        };
+        assert_eq!(rt; found, Some(expected));
+    }
+    Ok(())
+}
