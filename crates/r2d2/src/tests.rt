@@ -37,7 +37,7 @@ impl Extension for Value {
 }
 
 /// Opens numbers, and always can.
-#[derive(Debug, Drop)]
+#[derive(Drop)]
 pub(crate) struct Numbers;
 
 impl ManageConnection for Numbers {

@@ -2,7 +2,7 @@
 
 use super::*;
 use crate::event::{AcquireEvent, CheckinEvent, CheckoutEvent, ReleaseEvent};
-use crate::tests::{Kind, Numbers, Value};
+use crate::tests::{Kind, Value};
 use r2d2_core::Record;
 use std::alloc::{AllocError, Global};
 use std::sync::Mutex;
@@ -32,6 +32,30 @@ struct Blammo;
 impl fmt::Display for Blammo {
     fn fmt<W: fmt::Write>(&self, f: &mut fmt::Formatter<W>) -> fmt::Result {
         f.write_str("blammo")
+    }
+}
+
+/// Opens sevens, and always can.
+#[derive(Debug, Drop)]
+struct Sevens;
+
+impl ManageConnection for Sevens {
+    type Connection = u32;
+
+    type Error = Blammo;
+
+    type Extension = Value;
+
+    fn connect(&self) -> Result<u32, Blammo> {
+        Ok(7)
+    }
+
+    fn is_valid(&self, _connection: &mut u32) -> Result<(), Blammo> {
+        Ok(())
+    }
+
+    fn has_broken(&self, _connection: &mut u32) -> bool {
+        false
     }
 }
 

@@ -19,7 +19,7 @@ fn test_max_size_ok(rt: HostRuntime) -> Result<(), Fail> {
 
 #[test]
 fn test_is_send_sync(rt: HostRuntime) -> Result<(), Fail> {
-    is_send_sync(&Pool::new(rt, Numbers)?);
+    is_send_sync(&Pool::new(rt, Sevens)?);
     Ok(())
 }
 
@@ -75,7 +75,7 @@ fn getters(rt: HostRuntime) -> Result<(), Fail> {
         .max_lifetime(Some(Duration::from_secs(5)))
         .idle_timeout(Some(Duration::from_secs(6)))
         .connection_timeout(Duration::from_secs(7))
-        .build(rt, Numbers)?;
+        .build(rt, Sevens)?;
     let clone = pool.try_clone()?;
     drop(pool);
     assert_eq!(rt; clone.max_size(), 4);
@@ -90,12 +90,12 @@ fn getters(rt: HostRuntime) -> Result<(), Fail> {
 #[test]
 fn debug_texts(rt: HostRuntime) -> Result<(), Fail> {
     let alloc = rt.alloc();
-    let pool = Plain::<Numbers, HostRuntime>::builder()
+    let pool = Plain::<Sevens, HostRuntime>::builder()
         .max_size(1)
-        .build(rt, Numbers)?;
+        .build(rt, Sevens)?;
     assert_eq!(rt;
         format!(in alloc; "{pool:?}")?.as_str(),
-        "Pool { state: State { connections: 1, idle_connections: 1 }, config: Config { max_size: 1, min_idle: None, test_on_check_out: true, max_lifetime: Some(1800s), idle_timeout: Some(600s), connection_timeout: 30s, error_handler: NopErrorHandler, event_handler: NopEventHandler, connection_customizer: NopConnectionCustomizer }, manager: Numbers }"
+        "Pool { state: State { connections: 1, idle_connections: 1 }, config: Config { max_size: 1, min_idle: None, test_on_check_out: true, max_lifetime: Some(1800s), idle_timeout: Some(600s), connection_timeout: 30s, error_handler: NopErrorHandler, event_handler: NopEventHandler, connection_customizer: NopConnectionCustomizer }, manager: Sevens }"
     );
     let mut lent = pool.get()?;
     assert_eq!(rt; format!(in alloc; "{lent:?}")?.as_str(), "7");

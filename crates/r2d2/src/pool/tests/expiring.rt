@@ -63,7 +63,7 @@ fn min_idle(rt: HostRuntime) -> Result<(), Fail> {
     let pool = Builder::new()
         .max_size(5)
         .min_idle(Some(2))
-        .build(rt, Numbers)?;
+        .build(rt, Sevens)?;
     thread::sleep(&rt, Duration::from_secs(1));
     let state = pool.state();
     assert_eq!(rt; (state.idle_connections, state.connections), (2, 2));

@@ -10,7 +10,7 @@ fn keep<C: Drop, R: Clock + Drop>(rt: R, length: Duration, lent: C) {
 
 #[test]
 fn test_acquire_release(rt: HostRuntime) -> Result<(), Fail> {
-    let pool = Builder::new().max_size(2).build(rt, Numbers)?;
+    let pool = Builder::new().max_size(2).build(rt, Sevens)?;
     let first = pool.get()?;
     let second = pool.get()?;
     drop(first);
@@ -23,7 +23,7 @@ fn test_acquire_release(rt: HostRuntime) -> Result<(), Fail> {
 
 #[test]
 fn try_get(rt: HostRuntime) -> Result<(), Fail> {
-    let pool = Builder::new().max_size(2).build(rt, Numbers)?;
+    let pool = Builder::new().max_size(2).build(rt, Sevens)?;
     let first = pool.try_get()?;
     let second = pool.try_get()?;
     let third = pool.try_get()?;
@@ -40,7 +40,7 @@ fn get_timeout(rt: HostRuntime) -> Result<(), Fail> {
     let pool = Builder::new()
         .max_size(1)
         .connection_timeout(Duration::from_millis(500))
-        .build(rt, Numbers)?;
+        .build(rt, Sevens)?;
     let wait = Duration::from_millis(100);
 
     let lent = pool.get_timeout(wait)?;
@@ -59,7 +59,7 @@ fn test_get_global_timeout(rt: HostRuntime) -> Result<(), Fail> {
     let pool = Builder::new()
         .max_size(1)
         .connection_timeout(Duration::from_secs(1))
-        .build(rt, Numbers)?;
+        .build(rt, Sevens)?;
     let _lent = pool.get()?;
     let start = Instant::now(&rt)?;
     let error = pool.get().err().ok_or("a connection")?;
@@ -72,14 +72,14 @@ fn test_get_global_timeout(rt: HostRuntime) -> Result<(), Fail> {
 
 #[test]
 fn longest_timeout(rt: HostRuntime) -> Result<(), Fail> {
-    let pool = Builder::new().max_size(1).build(rt, Numbers)?;
+    let pool = Builder::new().max_size(1).build(rt, Sevens)?;
     assert!(rt; pool.get_timeout(Duration::MAX).is_ok());
     Ok(())
 }
 
 #[test]
 fn waits_for_the_longest_timeout(rt: HostRuntime) -> Result<(), Fail> {
-    let pool = Builder::new().max_size(1).build(rt, Numbers)?;
+    let pool = Builder::new().max_size(1).build(rt, Sevens)?;
     let lent = pool.get()?;
     let other = thread::spawn(&rt, move || keep(rt, Duration::from_millis(300), lent))?;
     assert!(rt; pool.try_get()?.is_none());
@@ -90,7 +90,7 @@ fn waits_for_the_longest_timeout(rt: HostRuntime) -> Result<(), Fail> {
 
 #[test]
 fn clones_are_over_one_state(rt: HostRuntime) -> Result<(), Fail> {
-    let pool = Builder::new().max_size(1).build(rt, Numbers)?;
+    let pool = Builder::new().max_size(1).build(rt, Sevens)?;
     let clone = pool.try_clone()?;
     let lent = pool.try_get()?;
     assert!(rt; lent.is_some());
@@ -105,7 +105,7 @@ fn clones_are_over_one_state(rt: HostRuntime) -> Result<(), Fail> {
 
 #[test]
 fn extensions(rt: HostRuntime) -> Result<(), Fail> {
-    let pool = Builder::new().max_size(2).build(rt, Numbers)?;
+    let pool = Builder::new().max_size(2).build(rt, Sevens)?;
     let mut first = pool.get()?;
     let mut second = pool.get()?;
     let added = PooledConnection::extensions_mut(&mut first).insert(Value::Number(1));

@@ -39,7 +39,7 @@ fn event_on_try_get(rt: HostRuntime) -> Result<(), Fail> {
     let pool = Builder::new()
         .max_size(1)
         .event_handler(Listener::new(rt, &told)?)
-        .build(rt, Numbers)?;
+        .build(rt, Sevens)?;
     let lent = pool.try_get()?;
     assert!(rt; lent.is_some());
     let events = [Told::Acquire(0), Told::Checkout(0)];

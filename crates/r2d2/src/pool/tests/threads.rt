@@ -87,7 +87,7 @@ fn waiter_after_broken_return(rt: HostRuntime) -> Result<(), Fail> {
 
 #[test]
 fn readme_example(rt: HostRuntime) -> Result<(), Fail> {
-    let pool = Builder::new().max_size(15).build(rt, Numbers)?;
+    let pool = Builder::new().max_size(15).build(rt, Sevens)?;
     let mut threads = Vec::new(rt.alloc());
     for _ in 0..20 {
         let theirs = pool.try_clone()?;
