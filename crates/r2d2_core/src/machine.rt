@@ -357,9 +357,10 @@ impl<T, A: Allocator> Core<T, A> {
     }
 }
 
-// The later of two moments.
+// The later of two moments; the first one, where they are the same.
 pub(crate) fn later(a: Duration, b: Duration) -> Duration
-    ensures { as_nanos result ≡ max (as_nanos a) (as_nanos b) }
+    ensures later { as_nanos result ≡ max (as_nanos a) (as_nanos b) }
+    ensures first { as_nanos b ≤ as_nanos a → result ≡ a }
 {
     if a.as_nanos() < b.as_nanos() { b } else { a }
 }

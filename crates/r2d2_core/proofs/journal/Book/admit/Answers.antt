@@ -13,6 +13,6 @@ invariant_of-self g c =
     (c.note.ensures
     ∙ ap (λ made. with_noted made c.self.inside.ring)
     (c.of_admission.ensures
-    ∙ (ap (λ at. record_of_admission at c.args.id c.admit-answer.result) (c.later-at.ensures ∙ ap (λ n. max n (as_nanos c.args.now)) c.latest.ensures.value)
+    ∙ (ap (λ at. record_of_admission at c.args.id c.admit-answer.result) (c.later-at.ensures.later ∙ ap (λ n. max n (as_nanos c.args.now)) c.latest.ensures.value)
     ∙ ap (record_of_admission (max old.latest (as_nanos c.args.now)) c.args.id) c.admit-answer.ensures.answer)))
     c.self.invariant

@@ -14,6 +14,6 @@ invariant_of-self g c =
     (c.note.ensures
     ∙ ap (λ made. with_noted made c.self.inside.ring)
     (c.of_check.ensures
-    ∙ (ap (λ at. record_of_check at c.args.id (map_ok seen_gone c.fail_check-answer.result)) (c.later-at.ensures ∙ ap (λ n. max n (as_nanos c.args.now)) c.latest.ensures.value)
+    ∙ (ap (λ at. record_of_check at c.args.id (map_ok seen_gone c.fail_check-answer.result)) (c.later-at.ensures.later ∙ ap (λ n. max n (as_nanos c.args.now)) c.latest.ensures.value)
     ∙ ap (record_of_check (max old.latest (as_nanos c.args.now)) c.args.id) c.fail_check-answer.ensures.answer)))
     c.self.invariant

@@ -14,6 +14,6 @@ invariant_of-self g c =
     (c.note.ensures
     ∙ ap (λ made. with_noted made c.self.inside.ring)
     (c.of_return.ensures
-    ∙ (ap (λ at. record_of_return at c.args.id (map_ok seen_return c.put_back-answer.result)) (c.later-at.ensures ∙ ap (λ n. max n (as_nanos c.args.now)) c.latest.ensures.value)
+    ∙ (ap (λ at. record_of_return at c.args.id (map_ok seen_return c.put_back-answer.result)) (c.later-at.ensures.later ∙ ap (λ n. max n (as_nanos c.args.now)) c.latest.ensures.value)
     ∙ ap (record_of_return (max old.latest (as_nanos c.args.now)) c.args.id) c.put_back-answer.ensures.answer)))
     c.self.invariant

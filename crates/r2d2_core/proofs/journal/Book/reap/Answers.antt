@@ -17,6 +17,6 @@ invariant_of-self g c =
     (c.note.ensures
     ∙ ap (λ made. with_noted made c.self.inside.ring)
     (c.of_reap.ensures
-    ∙ (ap (λ at. record_of_reap at c.len.result c.reap-ordered.result) (c.later-at.ensures ∙ ap (λ n. max n (as_nanos c.args.now)) c.latest.ensures.value)
+    ∙ (ap (λ at. record_of_reap at c.len.result c.reap-ordered.result) (c.later-at.ensures.later ∙ ap (λ n. max n (as_nanos c.args.now)) c.latest.ensures.value)
     ∙ ap (record_of_reap (max old.latest (as_nanos c.args.now)) c.len.result) c.reap-ordered.ensures.answer)))
     c.self.invariant

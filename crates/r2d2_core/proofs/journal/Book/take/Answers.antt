@@ -14,6 +14,6 @@ invariant_of-self g c =
     (c.note.ensures
     ∙ ap (λ made. with_noted made c.self.inside.ring)
     (c.of_take.ensures
-    ∙ (ap (λ at. record_of_take at (seen_take c.take-taken.result)) (c.later-at.ensures ∙ ap (λ n. max n (as_nanos c.args.now)) c.latest.ensures.value)
+    ∙ (ap (λ at. record_of_take at (seen_take c.take-taken.result)) (c.later-at.ensures.later ∙ ap (λ n. max n (as_nanos c.args.now)) c.latest.ensures.value)
     ∙ ap (record_of_take (max old.latest (as_nanos c.args.now))) c.take-taken.ensures.answer)))
     c.self.invariant
