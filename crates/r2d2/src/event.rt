@@ -1,5 +1,6 @@
 //! What a pool tells of its connections.
-ghost use Rattle.std.specs.Prelude.{◌≡◌};
+ghost use Rattle.std.specs.Prelude.{◌≡◌, ◌-◌};
+ghost use Rattle.std.specs.Duration.{as_nanos};
 
 use std::fmt;
 use std::time::Duration;
@@ -46,11 +47,19 @@ impl AcquireEvent {
 /// A connection leaves the pool to be closed.
 #[derive(Debug, Drop)]
 pub struct ReleaseEvent {
-    pub(crate) id: u64,
-    pub(crate) age: Duration,
+    id: u64,
+    age: Duration,
 }
 
 impl ReleaseEvent {
+    // Of the connection that is as old as this.
+    pub(crate) fn of(id: u64, age: Duration) -> ReleaseEvent
+        ensures id { result.id ≡ id }
+        ensures age { result.age ≡ age }
+    {
+        ReleaseEvent { id, age }
+    }
+
     /// The connection's id.
     pub fn connection_id(&self) -> u64
         ensures { result ≡ self.now.id }
@@ -69,11 +78,22 @@ impl ReleaseEvent {
 /// A connection was lent.
 #[derive(Debug, Drop)]
 pub struct CheckoutEvent {
-    pub(crate) id: u64,
-    pub(crate) duration: Duration,
+    id: u64,
+    duration: Duration,
 }
 
 impl CheckoutEvent {
+    // Of the connection that was lent at `lent_at` to a call that began at `start`.
+    pub(crate) fn of(id: u64, start: Duration, lent_at: Duration) -> CheckoutEvent
+        ensures id { result.id ≡ id }
+        ensures duration { as_nanos result.duration ≡ as_nanos lent_at - as_nanos start }
+    {
+        CheckoutEvent {
+            id,
+            duration: lent_at.saturating_sub(start),
+        }
+    }
+
     /// The connection's id.
     pub fn connection_id(&self) -> u64
         ensures { result ≡ self.now.id }
@@ -107,11 +127,22 @@ impl TimeoutEvent {
 /// A lent connection came back.
 #[derive(Debug, Drop)]
 pub struct CheckinEvent {
-    pub(crate) id: u64,
-    pub(crate) duration: Duration,
+    id: u64,
+    duration: Duration,
 }
 
 impl CheckinEvent {
+    // Of the connection that was lent at `lent_at` and came back at `now`.
+    pub(crate) fn of(id: u64, lent_at: Duration, now: Duration) -> CheckinEvent
+        ensures id { result.id ≡ id }
+        ensures duration { as_nanos result.duration ≡ as_nanos now - as_nanos lent_at }
+    {
+        CheckinEvent {
+            id,
+            duration: now.saturating_sub(lent_at),
+        }
+    }
+
     /// The connection's id.
     pub fn connection_id(&self) -> u64
         ensures { result ≡ self.now.id }

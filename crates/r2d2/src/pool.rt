@@ -1,6 +1,6 @@
 //! The pool: one lock round its book, workers that open connections, and what it lends.
 ghost use Rattle.std.specs.Prelude.{◌≡◌, ℕ, ◌≤◌, IfOk, IfErr};
-ghost use Rattle.r2d2_core.specs.Reports.{DoesReplay};
+ghost use Rattle.r2d2_core.specs.Reports.{DoesReplay, HasSoundCounts};
 
 pub use self::lent::PooledConnection;
 use self::shared::Closer;
@@ -146,6 +146,7 @@ impl<
     /// What happened last, as far as the setting `journal_room` reaches, and what there is now. The error is memory; nothing has changed then.
     pub fn journal(&self) -> Result<Report, Error>
         ensures replays { IfOk result (λ report. report.lost ≡ 0 → DoesReplay report) }
+        ensures sound { IfOk result HasSoundCounts }
         ensures refused { IfErr result IsOfMemory }
     {
         let shared = &self.closer.shared;

@@ -9,9 +9,9 @@ use Rattle.r2d2_core.specs.Ids.{last_of, copies_of}
 use Rattle.r2d2_core.specs.Connections.{IdleConnection, closing, is_expired, birth_in}
 use Rattle.r2d2_core.specs.Tasks.{Task, Open, Reap, Wait, Nothing, Ended}
 use Rattle.r2d2_core.specs.Refusals.{ok_unless, ok_or_back, unless_refused}
-use Rattle.r2d2_core.specs.OnOrder.{OnOrder, task_at, begun_by, number_refusal, numbered_one, admit_refusal}
+use Rattle.r2d2_core.specs.OnOrder.{OnOrder, task_at, begun_by, number_refusal, numbered_one, fail_refusal, admit_refusal}
 use Rattle.r2d2_core.specs.Picture.{Picture, IsSound}
-use Rattle.r2d2_core.specs.Table.{at, with_on_order, first_picture, take_orders, taken, take_answer, after_take, after_begin, after_number, admitted_at, admit_answer, after_admit, with_text, lost, topped_up, lent_refusal, lent_birth, is_closing, returned_by, returned, returning, return_answer, after_return, loss, check_answer, after_check, reap_closed, reap_orders, after_reap, after_close}
+use Rattle.r2d2_core.specs.Table.{at, with_on_order, first_picture, take_orders, taken, take_answer, after_take, after_begin, after_number, failed, after_fail, admitted_at, admit_answer, after_admit, with_text, lost, topped_up, lent_refusal, lent_birth, is_closing, returned_by, returned, returning, return_answer, after_return, loss, check_answer, after_check, reap_closed, reap_orders, after_reap, after_close}
 use Rattle.r2d2_core.specs.Reply.{taking}
 use Rattle.r2d2_core.specs.Reply.{or_text}
 use Rattle.r2d2_core.specs.Records.{Noted}
@@ -135,6 +135,13 @@ module _ {T : Type 0} where
 
   pub recorded_number : (tries : ℕ) (a a' : Account T) → a'.picture ≡ after_number tries a.picture → a'.log ≡ a.log → IsRecorded a → IsRecorded a'
   recorded_number tries a a' went noted old = number_by tries a a' (number_refusal tries a.picture.on_order) went noted old
+
+  fail_by : {A : Type 0} (t tries : ℕ) (text : Option (String A)) (a a' : Account T) (why : Option Refusal) → a'.picture ≡ unless_refused why (failed t tries text a.picture) a.picture → a'.log ≡ a.log → IsRecorded a → IsRecorded a'
+  fail_by t tries text a a' None went noted old = recorded_none a a' _ went refl noted refl refl refl refl refl (omega arith) (λ i k. k) old
+  fail_by t tries text a a' (Some why) went noted old = recorded_none a a' _ went refl noted refl refl refl refl refl (omega arith) (λ i k. k) old
+
+  pub recorded_fail : {A : Type 0} (t tries : ℕ) (text : Option (String A)) (a a' : Account T) → a'.picture ≡ after_fail t tries text a.picture → a'.log ≡ a.log → IsRecorded a → IsRecorded a'
+  recorded_fail t tries text a a' went noted old = fail_by t tries text a a' (fail_refusal tries a.picture.on_order) went noted old
 
   -- ADMIT
 

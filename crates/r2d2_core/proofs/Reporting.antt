@@ -1,11 +1,14 @@
 -- What a report of a book tells.
-use Rattle.std.proofs.Common.{◌≡◌, map, reverse, sym, ◌∙◌, ap}
+use Rattle.std.proofs.Common.{◌≡◌, ◌⊎◌, ◌+◌, ◌≤◌, length, map, reverse, sym, ◌∙◌, ap, arith, inl, inr}
+use Rattle.std.proofs.lemmas.List.{length-map}
+use Rattle.r2d2_core.specs.Limits.{wanted_of, settings_of}
+use Rattle.r2d2_core.specs.Picture.{IsSound}
 use Rattle.r2d2_core.specs.declared.journal.report.Report.{Report}
 use Rattle.r2d2_core.specs.Limits.{Settings}
 use Rattle.r2d2_core.specs.Connections.{id_of_idle, id_of_lent}
 use Rattle.r2d2_core.specs.Replay.{Standing, first_standing, moment_by, replay_of, is_legal}
 use Rattle.r2d2_core.specs.Book.{Account, standing_in, limits_in, IsReplayed}
-use Rattle.r2d2_core.specs.Reports.{replay_in, DoesReplay, IsReportOf}
+use Rattle.r2d2_core.specs.Reports.{replay_in, DoesReplay, IsReportOf, HasSoundCounts}
 use Rattle.r2d2_core.proofs.RecordedTakes.{ids_bare}
 
 -- where the records of a book replay, those of its report do
@@ -22,4 +25,19 @@ report_replays a r is replayed lost =
       connections = ap (λ (s : Standing). s.connections) whole ∙ sym is.connections;
       pending = ap (λ (s : Standing). s.pending) whole ∙ sym is.pending;
       closed = ap (λ (s : Standing). s.closed) whole ∙ sym is.closed;
+    }
+
+-- the counts of a report of a sound book are sound
+pub report_sound : {T B : Type 0} (a : Account T) (r : Report B) → IsReportOf a r → IsSound a.picture → HasSoundCounts r
+report_sound a r is s =
+    let idle : length r.idle ≡ length a.picture.idle = ap length is.idle ∙ length-map a.picture.idle id_of_idle in
+    let lent : length r.lent ≡ length a.picture.lent = ap length is.lent ∙ length-map a.picture.lent id_of_lent in
+    let size : r.limits.max_size ≡ a.picture.on_order.limits.max_size = ap (λ (ls : Settings). ls.max_size) is.limits in
+    let wanted : wanted_of (settings_of r.limits) ≡ wanted_of a.picture.on_order.limits = ap wanted_of is.limits in
+    record {
+      counted = omega (arith, is.connections, s.counted, idle, lent);
+      fits = omega (arith, is.connections, is.pending, s.fits, size);
+      replenished = λ still. elim (s.replenished (sym is.closed ∙ still)) [
+        inl h ↦ inl (omega (arith, h, wanted, idle, is.pending))
+        | inr h ↦ inr (omega (arith, h, is.connections, is.pending, size)) ];
     }

@@ -12,3 +12,7 @@ whole {c = c} p is s room = record { sound = subst IsSound (sym is) s; room = ro
 
 pub keeping : {A : Type 0} {c : OpeningsInside A} (o : OnOrder) → on_order_in c ≡ o → IsAccounted o → HasParts c → IsKeeping c
 keeping {c = c} o is a parts = record { accounted = subst IsAccounted (sym is) a; parts = parts }
+
+-- a picture is sound where it is a sound one
+pub sound_as : {T : Type 0} {q : Picture T} (p : Picture T) → q ≡ p → IsSound p → IsSound q
+sound_as p is s = subst IsSound (sym is) s

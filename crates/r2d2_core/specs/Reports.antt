@@ -1,7 +1,7 @@
 -- What a report says. It has the oldest record first.
-use Rattle.std.specs.Prelude.{◌≡◌, true, map, reverse}
+use Rattle.std.specs.Prelude.{◌≡◌, ◌⊎◌, ◌+◌, ◌≤◌, true, false, length, map, reverse}
 use Rattle.r2d2_core.specs.declared.journal.report.Report.{Report}
-use Rattle.r2d2_core.specs.Limits.{settings_of}
+use Rattle.r2d2_core.specs.Limits.{settings_of, wanted_of}
 use Rattle.r2d2_core.specs.Connections.{id_of_idle, id_of_lent}
 use Rattle.r2d2_core.specs.Replay.{Standing, first_standing, replay_of, is_legal}
 use Rattle.r2d2_core.specs.Book.{Account, limits_in}
@@ -19,6 +19,12 @@ module _ {B : Type 0} where
     pub connections : (let s = replay_in r in s.connections) ≡ r.connections
     pub pending : (let s = replay_in r in s.pending) ≡ r.pending
     pub closed : (let s = replay_in r in s.closed) ≡ r.closed
+
+  -- what keeps of each report of a book, whatever was lost
+  pub record HasSoundCounts (r : Report B) : Type 0 where
+    pub counted : r.connections ≡ length r.idle + length r.lent
+    pub fits : r.connections + r.pending ≤ r.limits.max_size
+    pub replenished : r.closed ≡ false → (wanted_of (settings_of r.limits) ≤ length r.idle + r.pending) ⊎ (r.connections + r.pending ≡ r.limits.max_size)
 
 module _ {T B : Type 0} where
   -- it says what the book shows

@@ -41,7 +41,7 @@ impl<T, A: Allocator> Book<T, A> {
     ghost use Rattle.r2d2_core.specs.Table.{first_picture};
     ghost use Rattle.r2d2_core.specs.Log.{log};
     ghost use Rattle.r2d2_core.specs.Book.{account, IsReplayed};
-    ghost use Rattle.r2d2_core.specs.Reports.{IsReportOf, DoesReplay};
+    ghost use Rattle.r2d2_core.specs.Reports.{IsReportOf, DoesReplay, HasSoundCounts};
 
     /// A book of a core whose ids are counted from 0, made at the moment `now`, that keeps the newest records, `room` of them at
     /// most. The error comes only where its memory is refused.
@@ -132,6 +132,7 @@ impl<T, A: Allocator> Book<T, A> {
         A: Copy,
         ensures given { IfOk result (λ report. IsReportOf self.now report) }
         ensures replays { IfOk result (λ report. report.lost ≡ 0 → DoesReplay report) }
+        ensures sound { IfOk result HasSoundCounts }
     {
         self.report_in(self.alloc)
     }
@@ -142,6 +143,7 @@ impl<T, A: Allocator> Book<T, A> {
         B: Copy,
         ensures given { IfOk result (λ report. IsReportOf self.now report) }
         ensures replays { IfOk result (λ report. report.lost ≡ 0 → DoesReplay report) }
+        ensures sound { IfOk result HasSoundCounts }
     {
         let records = self.ring.copied(alloc)?;
         let idle = IdList::of_idle(alloc, &self.machine)?;
@@ -162,6 +164,7 @@ impl<T, A: Allocator> Book<T, A> {
 impl<T, A: Allocator> Book<T, A> {
     ghost use Rattle.r2d2_core.specs.Reply.{seen_take, seen_return, seen_gone, seen_released, map_ok};
     ghost use Rattle.r2d2_core.specs.Tasks.{seen_job};
+    ghost use Rattle.r2d2_core.specs.Picture.{IsSound};
     ghost use Rattle.r2d2_core.specs.Table.{take_answer, after_take, begin_answer, after_begin, number_answer, after_number, admit_answer, after_admit, fail_answer, after_fail, return_answer, after_return, check_answer, after_check, reap_closed, reap_orders, after_reap, after_take_error, close_answer, after_close};
     ghost use Rattle.r2d2_core.specs.Recorded.{record_of_take, record_of_admission, record_of_return, record_of_check, record_of_reap, record_of_close};
     ghost use Rattle.r2d2_core.specs.Log.{with_noted};
@@ -170,6 +173,7 @@ impl<T, A: Allocator> Book<T, A> {
     pub fn take(&mut self, now: Duration, or_order: bool) -> Take<T>
         ensures answer { seen_take result ≡ take_answer or_order self.old.picture }
         ensures after { self.new.picture ≡ after_take (as_nanos now) or_order self.old.picture }
+        ensures sound { IsSound self.new.picture }
         ensures noted { self.new.log ≡ with_noted (record_of_take (max self.old.picture.latest (as_nanos now)) (seen_take result)) self.old.log }
     {
         let at = later(self.machine.latest(), now);
@@ -182,6 +186,7 @@ impl<T, A: Allocator> Book<T, A> {
     pub fn begin(&mut self, now: Duration) -> Job
         ensures answer { seen_job result ≡ begin_answer (as_nanos now) self.old.picture }
         ensures after { self.new.picture ≡ after_begin (as_nanos now) self.old.picture }
+        ensures sound { IsSound self.new.picture }
         ensures noted { self.new.log ≡ self.old.log }
     {
         self.machine.begin(now)
@@ -191,6 +196,7 @@ impl<T, A: Allocator> Book<T, A> {
     pub fn number(&mut self, tries: u32) -> Result<u64, Refusal>
         ensures answer { result ≡ number_answer tries self.old.picture }
         ensures after { self.new.picture ≡ after_number tries self.old.picture }
+        ensures sound { IsSound self.new.picture }
         ensures noted { self.new.log ≡ self.old.log }
     {
         self.machine.number(tries)
@@ -200,6 +206,7 @@ impl<T, A: Allocator> Book<T, A> {
     pub fn admit(&mut self, now: Duration, id: u64, value: T) -> Result<(), (Refusal, T)>
         ensures answer { result ≡ admit_answer id value self.old.picture }
         ensures after { self.new.picture ≡ after_admit (as_nanos now) id value self.old.picture }
+        ensures sound { IsSound self.new.picture }
         ensures noted { self.new.log ≡ with_noted (record_of_admission (max self.old.picture.latest (as_nanos now)) id result) self.old.log }
     {
         let at = later(self.machine.latest(), now);
@@ -217,6 +224,7 @@ impl<T, A: Allocator> Book<T, A> {
     ) -> Result<Duration, Refusal>
         ensures answer { map_ok as_nanos result ≡ fail_answer (as_nanos now) tries self.old.picture }
         ensures after { self.new.picture ≡ after_fail (as_nanos now) tries text self.old.picture }
+        ensures sound { IsSound self.new.picture }
         ensures noted { self.new.log ≡ self.old.log }
     {
         self.machine.fail(now, tries, text)
@@ -231,6 +239,7 @@ impl<T, A: Allocator> Book<T, A> {
     ) -> Result<Gone, Refusal>
         ensures answer { map_ok seen_gone result ≡ check_answer (as_nanos now) id self.old.picture }
         ensures after { self.new.picture ≡ after_check (as_nanos now) id text self.old.picture }
+        ensures sound { IsSound self.new.picture }
         ensures noted { self.new.log ≡ with_noted (record_of_check (max self.old.picture.latest (as_nanos now)) id (map_ok seen_gone result)) self.old.log }
     {
         let at = later(self.machine.latest(), now);
@@ -249,6 +258,7 @@ impl<T, A: Allocator> Book<T, A> {
     ) -> Result<Returned<T>, (Refusal, T)>
         ensures answer { map_ok seen_return result ≡ return_answer (as_nanos now) id value broken self.old.picture }
         ensures after { self.new.picture ≡ after_return (as_nanos now) id value broken self.old.picture }
+        ensures sound { IsSound self.new.picture }
         ensures noted { self.new.log ≡ with_noted (record_of_return (max self.old.picture.latest (as_nanos now)) id (map_ok seen_return result)) self.old.log }
     {
         let at = later(self.machine.latest(), now);
@@ -264,6 +274,7 @@ impl<T, A: Allocator> Book<T, A> {
         ensures released { map seen_released out.new.items ≡ reap_closed (as_nanos now) self.old.picture }
         ensures answer { result ≡ reap_orders (as_nanos now) self.old.picture }
         ensures after { self.new.picture ≡ after_reap (as_nanos now) self.old.picture }
+        ensures sound { IsSound self.new.picture }
         ensures noted { self.new.log ≡ with_noted (record_of_reap (max self.old.picture.latest (as_nanos now)) (length out.new.items) result) self.old.log }
     {
         let at = later(self.machine.latest(), now);
@@ -276,6 +287,7 @@ impl<T, A: Allocator> Book<T, A> {
     pub fn take_error(&mut self) -> Option<String>
         ensures answer { option_map string_bytes result ≡ self.old.picture.last_error }
         ensures after { self.new.picture ≡ after_take_error self.old.picture }
+        ensures sound { IsSound self.new.picture }
         ensures noted { self.new.log ≡ self.old.log }
     {
         self.machine.take_error()
@@ -285,6 +297,7 @@ impl<T, A: Allocator> Book<T, A> {
     pub fn close(&mut self) -> Leftover<T, A>
         ensures answer { result ≡ close_answer self.old.picture }
         ensures after { self.new.picture ≡ after_close self.old.picture }
+        ensures sound { IsSound self.new.picture }
         ensures noted { self.new.log ≡ with_noted (record_of_close self.old.picture.latest self.old.picture.on_order.closed) self.old.log }
     {
         let made = Record::of_close(self.machine.latest(), self.machine.is_closed());

@@ -164,12 +164,14 @@ impl<T, A: Allocator> Core<T, A> {
 impl<T, A: Allocator> Core<T, A> {
     ghost use Rattle.r2d2_core.specs.Reply.{seen_take, seen_return, seen_gone, seen_released, map_ok};
     ghost use Rattle.r2d2_core.specs.Tasks.{seen_job};
+    ghost use Rattle.r2d2_core.specs.Picture.{IsSound};
     ghost use Rattle.r2d2_core.specs.Table.{take_answer, after_take, begin_answer, after_begin, number_answer, after_number, admit_answer, after_admit, fail_answer, after_fail, return_answer, after_return, check_answer, after_check, reap_closed, reap_orders, after_reap, after_take_error, close_answer, after_close};
 
     /// Lends the newest idle connection and tops up; where none is idle, orders one if `or_order` says so and there is room.
     pub fn take(&mut self, now: Duration, or_order: bool) -> Take<T>
         ensures answer { seen_take result ≡ take_answer or_order self.old }
         ensures after { self.new ≡ after_take (as_nanos now) or_order self.old }
+        ensures sound { IsSound self.new }
     {
         self.latest = later(self.latest, now);
         match self.idle.take() {
@@ -199,6 +201,7 @@ impl<T, A: Allocator> Core<T, A> {
     pub fn begin(&mut self, now: Duration) -> Job
         ensures answer { seen_job result ≡ begin_answer (as_nanos now) self.old }
         ensures after { self.new ≡ after_begin (as_nanos now) self.old }
+        ensures sound { IsSound self.new }
     {
         self.latest = later(self.latest, now);
         self.openings.begin(self.latest)
@@ -209,6 +212,7 @@ impl<T, A: Allocator> Core<T, A> {
     pub fn number(&mut self, tries: u32) -> Result<u64, Refusal>
         ensures answer { result ≡ number_answer tries self.old }
         ensures after { self.new ≡ after_number tries self.old }
+        ensures sound { IsSound self.new }
     {
         self.openings.number(tries)
     }
@@ -218,6 +222,7 @@ impl<T, A: Allocator> Core<T, A> {
     pub fn admit(&mut self, now: Duration, id: u64, value: T) -> Result<(), (Refusal, T)>
         ensures answer { result ≡ admit_answer id value self.old }
         ensures after { self.new ≡ after_admit (as_nanos now) id value self.old }
+        ensures sound { IsSound self.new }
     {
         match self.openings.admit(id) {
             Ok(()) => {
@@ -245,6 +250,7 @@ impl<T, A: Allocator> Core<T, A> {
     ) -> Result<Duration, Refusal>
         ensures answer { map_ok as_nanos result ≡ fail_answer (as_nanos now) tries self.old }
         ensures after { self.new ≡ after_fail (as_nanos now) tries text self.old }
+        ensures sound { IsSound self.new }
     {
         let latest = later(self.latest, now);
         match self.openings.fail(latest, tries) {
@@ -266,6 +272,7 @@ impl<T, A: Allocator> Core<T, A> {
     ) -> Result<Gone, Refusal>
         ensures answer { map_ok seen_gone result ≡ check_answer (as_nanos now) id self.old }
         ensures after { self.new ≡ after_check (as_nanos now) id text self.old }
+        ensures sound { IsSound self.new }
     {
         match self.lent.remove(id) {
             Some(loan) => {
@@ -293,6 +300,7 @@ impl<T, A: Allocator> Core<T, A> {
     ) -> Result<Returned<T>, (Refusal, T)>
         ensures answer { map_ok seen_return result ≡ return_answer (as_nanos now) id value broken self.old }
         ensures after { self.new ≡ after_return (as_nanos now) id value broken self.old }
+        ensures sound { IsSound self.new }
     {
         match self.lent.remove(id) {
             Some(loan) => {
@@ -331,6 +339,7 @@ impl<T, A: Allocator> Core<T, A> {
         ensures released { map seen_released out.new.items ≡ reap_closed (as_nanos now) self.old }
         ensures answer { result ≡ reap_orders (as_nanos now) self.old }
         ensures after { self.new ≡ after_reap (as_nanos now) self.old }
+        ensures sound { IsSound self.new }
     {
         self.latest = later(self.latest, now);
         self.idle.reap(&self.openings.limits(), self.latest, out);
@@ -342,6 +351,7 @@ impl<T, A: Allocator> Core<T, A> {
     pub fn take_error(&mut self) -> Option<String>
         ensures answer { option_map string_bytes result ≡ self.old.last_error }
         ensures after { self.new ≡ after_take_error self.old }
+        ensures sound { IsSound self.new }
     {
         self.last_error.take()
     }
@@ -350,6 +360,7 @@ impl<T, A: Allocator> Core<T, A> {
     pub fn close(&mut self) -> Leftover<T, A>
         ensures answer { result ≡ close_answer self.old }
         ensures after { self.new ≡ after_close self.old }
+        ensures sound { IsSound self.new }
     {
         let left = self.idle.close();
         self.openings.close();

@@ -109,8 +109,7 @@ impl<
             extensions,
         } = payload;
         let lent_at = self.moment();
-        let duration = lent_at.saturating_sub(start);
-        let event = CheckoutEvent { id, duration };
+        let event = CheckoutEvent::of(id, start, lent_at);
         self.config.event_handler.handle_checkout(event);
         PooledConnection {
             closer,

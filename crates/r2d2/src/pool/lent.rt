@@ -80,7 +80,10 @@ impl<
     ghost use Rattle.std.specs.Borrow.{sem, Lends};
     ghost use Rattle.r2d2.specs.contracts.pool.lent.PooledConnection.{the_row};
 
+    ghost deref_mut_gives = { λ lent connection. connection ≡ lent.connection };
+
     fn deref_mut(&mut self) -> &mut M::Connection
+        ensures value { result.now ≡ self.old.connection }
         ensures* writes_back { sem 𝓛 (Lends (the_row M.row H.row V.row Z.row R.row M.Connection.row M.Error.row M.Extension.row M.Extension.Kind.row M.Extension.Extension M.Extension.Kind.PartialEq) M.Connection.row self.entry result (λ w. record self.old { connection = w })) }
     {
         &mut self.connection

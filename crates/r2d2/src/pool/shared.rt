@@ -94,8 +94,7 @@ impl<
         lent_at: Duration,
         mut payload: Payload<M::Connection, M::Extension>,
     ) {
-        let duration = self.moment().saturating_sub(lent_at);
-        let event = CheckinEvent { id, duration };
+        let event = CheckinEvent::of(id, lent_at, self.moment());
         self.config.event_handler.handle_checkin(event);
         let broken = self.manager.has_broken(&mut payload.connection);
 
@@ -109,7 +108,7 @@ impl<
     }
 
     fn release(&self, id: u64, age: Duration, payload: Payload<M::Connection, M::Extension>) {
-        let event = ReleaseEvent { id, age };
+        let event = ReleaseEvent::of(id, age);
         self.config.event_handler.handle_release(event);
         let Payload { connection, .. } = payload;
         self.config.connection_customizer.on_release(connection);

@@ -1,7 +1,8 @@
 use Rattle.std.proofs.Common.{◌∙◌, subst}
 use Rattle.r2d2_core.specs.Book.{Account, IsReplayed}
 use Rattle.r2d2_core.specs.Reports.{IsReportOf}
-use Rattle.r2d2_core.proofs.Reporting.{report_replays}
+use Rattle.r2d2_core.specs.Picture.{IsSound}
+use Rattle.r2d2_core.proofs.Reporting.{report_replays, report_sound}
 use Rattle.r2d2_core.proofs.journal.Book.report_in.Goals as goal
 
 pub returns-clause-given : goal.returns-clause-given
@@ -29,3 +30,6 @@ returns-clause-given g c =
 
 pub returns-clause-replays : goal.returns-clause-replays
 returns-clause-replays g c = report_replays c.args.self.now _ (returns-clause-given g c) (subst IsReplayed c.self.view_is (λ lost. (c.self.invariant lost).told))
+
+pub returns-clause-sound : goal.returns-clause-sound
+returns-clause-sound g c = report_sound c.args.self.now _ (returns-clause-given g c) (subst (λ (a : Account _). IsSound a.picture) c.self.view_is c.connections.ensures.sound)

@@ -4,7 +4,7 @@ use Rattle.std.specs.Duration.{as_nanos}
 use Rattle.r2d2_core.specs.Picture.{IsSound}
 use Rattle.r2d2_core.specs.Table.{after_admit}
 use Rattle.r2d2_core.proofs.Sounds.{sound_admit}
-use Rattle.r2d2_core.proofs.Wholes.{whole}
+use Rattle.r2d2_core.proofs.Wholes.{whole, sound_as}
 use Rattle.r2d2_core.proofs.machine.Core.admit.Goals as goal
 
 pub invariant_of-self : goal.invariant_of-self
@@ -16,3 +16,13 @@ pub invariant_of-self-in-Err : goal.invariant_of-self-in-Err
 invariant_of-self-in-Err g c =
     let s : IsSound c.args.self.now = subst IsSound c.self.view_is c.self.invariant.sound in
     whole (after_admit (as_nanos c.args.now) c.args.id c.args.value c.args.self.now) (grind (arith, common_steps)) (sound_admit (as_nanos c.args.now) c.args.id c.args.value s) (search rules)
+
+pub returns-in-Ok-clause-sound : goal.returns-in-Ok-clause-sound
+returns-in-Ok-clause-sound g c =
+    let s : IsSound c.args.self.now = subst IsSound c.self.view_is c.self.invariant.sound in
+    sound_as (after_admit (as_nanos c.args.now) c.args.id c.args.value c.args.self.now) (grind (arith, common_steps)) (sound_admit (as_nanos c.args.now) c.args.id c.args.value s)
+
+pub returns-in-Err-clause-sound : goal.returns-in-Err-clause-sound
+returns-in-Err-clause-sound g c =
+    let s : IsSound c.args.self.now = subst IsSound c.self.view_is c.self.invariant.sound in
+    sound_as (after_admit (as_nanos c.args.now) c.args.id c.args.value c.args.self.now) (grind (arith, common_steps)) (sound_admit (as_nanos c.args.now) c.args.id c.args.value s)

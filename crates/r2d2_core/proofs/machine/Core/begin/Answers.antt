@@ -4,10 +4,15 @@ use Rattle.std.specs.Duration.{as_nanos}
 use Rattle.r2d2_core.specs.Picture.{IsSound}
 use Rattle.r2d2_core.specs.Table.{after_begin}
 use Rattle.r2d2_core.proofs.Sounds.{sound_begin}
-use Rattle.r2d2_core.proofs.Wholes.{whole}
+use Rattle.r2d2_core.proofs.Wholes.{whole, sound_as}
 use Rattle.r2d2_core.proofs.machine.Core.begin.Goals as goal
 
 pub invariant_of-self : goal.invariant_of-self
 invariant_of-self g c =
     let s : IsSound c.args.self.now = subst IsSound c.self.view_is c.self.invariant.sound in
     whole (after_begin (as_nanos c.args.now) c.args.self.now) (grind (arith, common_steps)) (sound_begin (as_nanos c.args.now) s) (search rules)
+
+pub returns-clause-sound : goal.returns-clause-sound
+returns-clause-sound g c =
+    let s : IsSound c.args.self.now = subst IsSound c.self.view_is c.self.invariant.sound in
+    sound_as (after_begin (as_nanos c.args.now) c.args.self.now) (grind (arith, common_steps)) (sound_begin (as_nanos c.args.now) s)

@@ -3,10 +3,15 @@ use Rattle.std.proofs.lemmas.Grind.{common_steps}
 use Rattle.r2d2_core.specs.Picture.{IsSound}
 use Rattle.r2d2_core.specs.Table.{after_close}
 use Rattle.r2d2_core.proofs.Sounds.{sound_close}
-use Rattle.r2d2_core.proofs.Wholes.{whole}
+use Rattle.r2d2_core.proofs.Wholes.{whole, sound_as}
 use Rattle.r2d2_core.proofs.machine.Core.close.Goals as goal
 
 pub invariant_of-self : goal.invariant_of-self
 invariant_of-self g c =
     let s : IsSound c.args.self.now = subst IsSound c.self.view_is c.self.invariant.sound in
     whole (after_close c.args.self.now) (grind (arith, common_steps)) (sound_close s) (search rules)
+
+pub returns-clause-sound : goal.returns-clause-sound
+returns-clause-sound g c =
+    let s : IsSound c.args.self.now = subst IsSound c.self.view_is c.self.invariant.sound in
+    sound_as (after_close c.args.self.now) (grind (arith, common_steps)) (sound_close s)

@@ -4,7 +4,7 @@ use Rattle.std.specs.Duration.{as_nanos}
 use Rattle.r2d2_core.specs.Picture.{IsSound}
 use Rattle.r2d2_core.specs.Table.{after_fail}
 use Rattle.r2d2_core.proofs.Sounds.{sound_fail}
-use Rattle.r2d2_core.proofs.Wholes.{whole}
+use Rattle.r2d2_core.proofs.Wholes.{whole, sound_as}
 use Rattle.r2d2_core.proofs.machine.Core.fail.Goals as goal
 
 pub invariant_of-self : goal.invariant_of-self
@@ -21,3 +21,13 @@ pub invariant_of-self-in-Err-2 : goal.invariant_of-self-in-Err-2
 invariant_of-self-in-Err-2 g c =
     let s : IsSound c.args.self.now = subst IsSound c.self.view_is c.self.invariant.sound in
     whole (after_fail (as_nanos c.args.now) c.args.tries c.args.text c.args.self.now) (grind (arith, common_steps)) (sound_fail (as_nanos c.args.now) c.args.tries c.args.text s) (search rules)
+
+pub returns-in-Ok-clause-sound : goal.returns-in-Ok-clause-sound
+returns-in-Ok-clause-sound g c =
+    let s : IsSound c.args.self.now = subst IsSound c.self.view_is c.self.invariant.sound in
+    sound_as (after_fail (as_nanos c.args.now) c.args.tries c.args.text c.args.self.now) (grind (arith, common_steps)) (sound_fail (as_nanos c.args.now) c.args.tries c.args.text s)
+
+pub returns-in-Err-clause-sound : goal.returns-in-Err-clause-sound
+returns-in-Err-clause-sound g c =
+    let s : IsSound c.args.self.now = subst IsSound c.self.view_is c.self.invariant.sound in
+    sound_as (after_fail (as_nanos c.args.now) c.args.tries c.args.text c.args.self.now) (grind (arith, common_steps)) (sound_fail (as_nanos c.args.now) c.args.tries c.args.text s)

@@ -4,10 +4,15 @@ use Rattle.std.specs.Duration.{as_nanos}
 use Rattle.r2d2_core.specs.Picture.{IsSound}
 use Rattle.r2d2_core.specs.Table.{after_check}
 use Rattle.r2d2_core.proofs.Sounds.{sound_check}
-use Rattle.r2d2_core.proofs.Wholes.{whole}
+use Rattle.r2d2_core.proofs.Wholes.{whole, sound_as}
 use Rattle.r2d2_core.proofs.machine.Core.fail_check.Goals as goal
 
 pub invariant_of-self : goal.invariant_of-self
 invariant_of-self g c =
     let s : IsSound c.args.self.now = subst IsSound c.self.view_is c.self.invariant.sound in
     whole (after_check (as_nanos c.args.now) c.args.id c.args.text c.args.self.now) (grind (arith, common_steps)) (sound_check (as_nanos c.args.now) c.args.id c.args.text s) (search rules)
+
+pub returns-in-Some-clause-sound : goal.returns-in-Some-clause-sound
+returns-in-Some-clause-sound g c =
+    let s : IsSound c.args.self.now = subst IsSound c.self.view_is c.self.invariant.sound in
+    sound_as (after_check (as_nanos c.args.now) c.args.id c.args.text c.args.self.now) (grind (arith, common_steps)) (sound_check (as_nanos c.args.now) c.args.id c.args.text s)

@@ -4,7 +4,7 @@ use Rattle.std.specs.Duration.{as_nanos}
 use Rattle.r2d2_core.specs.Picture.{IsSound}
 use Rattle.r2d2_core.specs.Table.{after_return}
 use Rattle.r2d2_core.proofs.Sounds.{sound_return}
-use Rattle.r2d2_core.proofs.Wholes.{whole}
+use Rattle.r2d2_core.proofs.Wholes.{whole, sound_as}
 use Rattle.r2d2_core.proofs.machine.Core.put_back.Goals as goal
 
 pub invariant_of-self : goal.invariant_of-self
@@ -16,3 +16,13 @@ pub invariant_of-self-else-is_closed : goal.invariant_of-self-else-is_closed
 invariant_of-self-else-is_closed g c =
     let s : IsSound c.args.self.now = subst IsSound c.self.view_is c.self.invariant.sound in
     whole (after_return (as_nanos c.args.now) c.args.id c.args.value c.args.broken c.args.self.now) (grind (arith, common_steps)) (sound_return (as_nanos c.args.now) c.args.id c.args.value c.args.broken s) (search rules)
+
+pub returns-then-is_closed-clause-sound : goal.returns-then-is_closed-clause-sound
+returns-then-is_closed-clause-sound g c =
+    let s : IsSound c.args.self.now = subst IsSound c.self.view_is c.self.invariant.sound in
+    sound_as (after_return (as_nanos c.args.now) c.args.id c.args.value c.args.broken c.args.self.now) (grind (arith, common_steps)) (sound_return (as_nanos c.args.now) c.args.id c.args.value c.args.broken s)
+
+pub returns-else-is_closed-clause-sound : goal.returns-else-is_closed-clause-sound
+returns-else-is_closed-clause-sound g c =
+    let s : IsSound c.args.self.now = subst IsSound c.self.view_is c.self.invariant.sound in
+    sound_as (after_return (as_nanos c.args.now) c.args.id c.args.value c.args.broken c.args.self.now) (grind (arith, common_steps)) (sound_return (as_nanos c.args.now) c.args.id c.args.value c.args.broken s)

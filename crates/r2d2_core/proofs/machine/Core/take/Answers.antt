@@ -4,7 +4,7 @@ use Rattle.std.specs.Duration.{as_nanos}
 use Rattle.r2d2_core.specs.Picture.{IsSound}
 use Rattle.r2d2_core.specs.Table.{after_take}
 use Rattle.r2d2_core.proofs.Sounds.{sound_take}
-use Rattle.r2d2_core.proofs.Wholes.{whole}
+use Rattle.r2d2_core.proofs.Wholes.{whole, sound_as}
 use Rattle.r2d2_core.proofs.machine.Core.take.Goals as goal
 
 pub invariant_of-self : goal.invariant_of-self
@@ -16,3 +16,13 @@ pub invariant_of-self-in-None : goal.invariant_of-self-in-None
 invariant_of-self-in-None g c =
     let s : IsSound c.args.self.now = subst IsSound c.self.view_is c.self.invariant.sound in
     whole (after_take (as_nanos c.args.now) c.args.or_order c.args.self.now) (grind (arith, common_steps)) (sound_take (as_nanos c.args.now) c.args.or_order s) (search rules)
+
+pub returns-in-Some-clause-sound : goal.returns-in-Some-clause-sound
+returns-in-Some-clause-sound g c =
+    let s : IsSound c.args.self.now = subst IsSound c.self.view_is c.self.invariant.sound in
+    sound_as (after_take (as_nanos c.args.now) c.args.or_order c.args.self.now) (grind (arith, common_steps)) (sound_take (as_nanos c.args.now) c.args.or_order s)
+
+pub returns-in-None-clause-sound : goal.returns-in-None-clause-sound
+returns-in-None-clause-sound g c =
+    let s : IsSound c.args.self.now = subst IsSound c.self.view_is c.self.invariant.sound in
+    sound_as (after_take (as_nanos c.args.now) c.args.or_order c.args.self.now) (grind (arith, common_steps)) (sound_take (as_nanos c.args.now) c.args.or_order s)
