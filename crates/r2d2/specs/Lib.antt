@@ -4,3 +4,4 @@ pub mod Settings
 pub mod Wakes
 pub mod Settling
 pub use Rattle.r2d2_core.specs.Limits
+pub mod Lending

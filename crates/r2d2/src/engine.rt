@@ -4,6 +4,7 @@ ghost use Rattle.std.specs.Prelude.{◌≡◌, ◌≤◌, [], max, map, length, 
 ghost use Rattle.std.specs.Duration.{as_nanos};
 ghost use Rattle.r2d2_core.specs.Reply.{seen_take, seen_return, seen_released, map_ok};
 ghost use Rattle.r2d2_core.specs.Table.{take_answer, after_take, return_answer, after_return, reap_closed, reap_orders, after_reap};
+ghost use Rattle.r2d2_core.specs.Picture.{IsSound};
 ghost use Rattle.r2d2_core.specs.Recorded.{record_of_take, record_of_return, record_of_reap};
 ghost use Rattle.r2d2_core.specs.Log.{with_noted};
 ghost use Rattle.r2d2.specs.Wakes.{wakes_of_take, wakes_of_return, wakes_of_reap};
@@ -136,6 +137,7 @@ pub fn lend<T, A: Allocator>(
     ensures answer { seen_take result.0 ≡ take_answer or_order book.old.picture }
     ensures wakes { result.1 ≡ wakes_of_take (seen_take result.0) }
     ensures after { book.new.picture ≡ after_take (as_nanos now) or_order book.old.picture }
+    ensures sound { IsSound book.new.picture }
     ensures noted { book.new.log ≡ with_noted (record_of_take (max book.old.picture.latest (as_nanos now)) (seen_take result.0)) book.old.log }
 {
     let taken = book.take(now, or_order);
@@ -156,6 +158,7 @@ pub fn give_back<T, A: Allocator>(
     ensures answer { map_ok seen_return result.0 ≡ return_answer (as_nanos now) id value broken book.old.picture }
     ensures wakes { result.1 ≡ wakes_of_return (map_ok seen_return result.0) }
     ensures after { book.new.picture ≡ after_return (as_nanos now) id value broken book.old.picture }
+    ensures sound { IsSound book.new.picture }
     ensures noted { book.new.log ≡ with_noted (record_of_return (max book.old.picture.latest (as_nanos now)) id (map_ok seen_return result.0)) book.old.log }
 {
     let returned = book.put_back(now, id, value, broken);
@@ -177,6 +180,7 @@ pub fn settle<T, A: Allocator>(
     ensures answer { seen_settled result.0 ≡ settle_answer (as_nanos now) outcome book.old.picture }
     ensures wakes { result.1 ≡ wakes_of_settled (seen_settled result.0) }
     ensures after { book.new.picture ≡ after_settle (as_nanos now) outcome book.old.picture }
+    ensures sound { IsSound book.new.picture }
     ensures noted { book.new.log ≡ with_noted (record_of_settle (as_nanos now) outcome book.old.picture) book.old.log }
 {
     let settled = match outcome {
@@ -210,6 +214,7 @@ pub fn sweep<T, A: Allocator>(
     ensures answer { result.0 ≡ reap_orders (as_nanos now) book.old.picture }
     ensures wakes { result.1 ≡ wakes_of_reap (length out.new.items) result.0 }
     ensures after { book.new.picture ≡ after_reap (as_nanos now) book.old.picture }
+    ensures sound { IsSound book.new.picture }
     ensures noted { book.new.log ≡ with_noted (record_of_reap (max book.old.picture.latest (as_nanos now)) (length out.new.items) result.0) book.old.log }
 {
     let ordered = book.reap(now, out);

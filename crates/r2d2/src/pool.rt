@@ -1,5 +1,5 @@
 //! The pool: one lock round its book, workers that open connections, and what it lends.
-ghost use Rattle.std.specs.Prelude.{◌≡◌, ℕ, ◌≤◌, IfOk, IfErr};
+ghost use Rattle.std.specs.Prelude.{◌≡◌, ℕ, ◌≤◌, IfOk, IfErr, IfSome};
 ghost use Rattle.r2d2_core.specs.Reports.{DoesReplay, HasSoundCounts};
 
 pub use self::lent::PooledConnection;
@@ -83,6 +83,7 @@ impl<
 
     /// Lends a connection, and waits for one as long as the setting `connection_timeout` says: see `get_timeout`.
     pub fn get(&self) -> Result<PooledConnection<M, H, V, Z, R>, Error>
+        ensures settings { IfOk result (λ lent. lent.settings ≡ self.now) }
         ensures refused { IfErr result IsOfMemoryOrTime }
     {
         self.get_timeout(self.connection_timeout())
@@ -94,6 +95,7 @@ impl<
     /// is a timeout, with the latest error of an opening or a check, if there was one; or memory, where a shared pointer can't be cloned: then nothing
     /// has changed.
     pub fn get_timeout(&self, timeout: Duration) -> Result<PooledConnection<M, H, V, Z, R>, Error>
+        ensures settings { IfOk result (λ lent. lent.settings ≡ self.now) }
         ensures refused { IfErr result IsOfMemoryOrTime }
     {
         let shared = &self.closer.shared;
@@ -120,6 +122,7 @@ impl<
     /// Lends the newest idle connection; None where none is idle. It never waits for one, and orders none. Connections are checked and the error is memory as with
     /// `get_timeout`.
     pub fn try_get(&self) -> Result<Option<PooledConnection<M, H, V, Z, R>>, Error>
+        ensures settings { IfOk result (λ found. IfSome found (λ lent. lent.settings ≡ self.now)) }
         ensures refused { IfErr result IsOfMemory }
     {
         let shared = &self.closer.shared;

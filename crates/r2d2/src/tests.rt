@@ -162,21 +162,12 @@ fn settings(rt: HostRuntime) -> Result<(), Fail> {
 #[test]
 fn events_and_what_does_nothing(rt: HostRuntime) -> Result<(), Fail> {
     let acquire = AcquireEvent { id: 1 };
-    let release = ReleaseEvent {
-        id: 2,
-        age: Duration::from_millis(1500),
-    };
-    let checkout = CheckoutEvent {
-        id: 3,
-        duration: Duration::from_millis(5),
-    };
+    let release = ReleaseEvent::of(2, Duration::from_millis(1500));
+    let checkout = CheckoutEvent::of(3, Duration::from_millis(7), Duration::from_millis(12));
     let timeout = TimeoutEvent {
         timeout: Duration::from_millis(123),
     };
-    let checkin = CheckinEvent {
-        id: 4,
-        duration: Duration::from_secs(2),
-    };
+    let checkin = CheckinEvent::of(4, Duration::from_secs(3), Duration::from_secs(5));
     let shown = format!(in rt.alloc();
         "{acquire:?} {release:?} {checkout:?} {timeout:?} {checkin:?}"
     )?;

@@ -38,6 +38,7 @@ report_sound a r is s =
       counted = omega (arith, is.connections, s.counted, idle, lent);
       fits = omega (arith, is.connections, is.pending, s.fits, size);
       replenished = λ still. elim (s.replenished (sym is.closed ∙ still)) [
-        inl h ↦ inl (omega (arith, h, wanted, idle, is.pending))
-        | inr h ↦ inr (omega (arith, h, is.connections, is.pending, size)) ];
+        | inl h ↦ inl (omega (arith, h, wanted, idle, is.pending))
+        | inr h ↦ inr (omega (arith, h, is.connections, is.pending, size))
+      ];
     }

@@ -1,5 +1,6 @@
 // How a caller comes to a connection.
 ghost use Rattle.std.specs.Prelude.{◌≡◌};
+ghost use Rattle.std.specs.Arc.{arc_value};
 
 use super::shared::{Closer, Receives, Shared};
 use super::{PoolRuntime, PooledConnection};
@@ -102,7 +103,9 @@ impl<
         closer: Arc<Closer<Payload<M::Connection, M::Extension>, M, H, V, Z, R>>,
         start: Duration,
         lent: Lent<Payload<M::Connection, M::Extension>>,
-    ) -> PooledConnection<M, H, V, Z, R> {
+    ) -> PooledConnection<M, H, V, Z, R>
+        ensures { result.settings ≡ (arc_value (arc_value closer).shared).config }
+    {
         let Lent { id, payload } = lent;
         let Payload {
             connection,

@@ -6,7 +6,9 @@ use super::shared::{Closer, Receives};
 use crate::engine::Payload;
 use crate::event::HandleEvent;
 use crate::{CustomizeConnection, Extensions, HandleError, ManageConnection};
+use std::alloc::{Allocator, Global};
 use std::fmt;
+use std::marker::Model;
 use std::ops::{Deref, DerefMut};
 use std::sync::Arc;
 use std::time::Duration;
@@ -25,6 +27,23 @@ pub struct PooledConnection<
     pub(super) lent_at: Duration,
     pub(super) connection: M::Connection,
     pub(super) extensions: Extensions<M::Extension>,
+}
+
+// Contracts see a lent connection as what can be reached through it, and the settings of its pool.
+impl<
+    M: ManageConnection,
+    H: HandleError<M::Error>,
+    V: HandleEvent + 'static,
+    Z: CustomizeConnection<M::Connection, M::Error>,
+    R: PoolRuntime,
+> Model for PooledConnection<M, H, V, Z, R> {
+    ghost use Rattle.std.specs.Arc.{arc_value};
+    ghost use Rattle.r2d2.specs.declared.config.Config.{Config};
+    ghost use Rattle.r2d2.specs.Lending.{Lending};
+
+    ghost Value = { Lending M.Connection M.Extension.Kind M.Extension (Config H V Z) };
+
+    ghost view = { λ l. record { connection = l.connection; extensions = l.extensions; settings = (arc_value (arc_value l.closer).shared).config } };
 }
 
 impl<
@@ -48,7 +67,7 @@ impl<
     /// The same, to be changed.
     pub fn extensions_mut(this: &mut Self) -> &mut Extensions<M::Extension>
         ensures value { result.now ≡ this.old.extensions }
-        ensures* writes_back { sem 𝓛 (Lends (the_row M.row H.row V.row Z.row R.row M.Connection.row M.Error.row M.Extension.row M.Extension.Kind.row M.Extension.Extension M.Extension.Kind.PartialEq) (extensions_row M.Extension.row M.Extension.Kind.row M.Extension.Extension M.Extension.Kind.PartialEq) this.entry result (λ w. record this.old { extensions = w })) }
+        ensures* writes_back { sem 𝓛 (Lends (the_row M.row H.row V.row Z.row R.row M.Connection.row M.Error.row M.Extension.row M.Extension.Kind.row M.Error.Display M.Extension.Extension M.Extension.Kind.PartialEq H.Debug V.Debug Z.Debug ⟦<Global as Allocator>⟧ ⟦<Global as Clone>⟧) (extensions_row M.Extension.row M.Extension.Kind.row M.Extension.Extension M.Extension.Kind.PartialEq) this.entry result (λ w. record this.old { extensions = w })) }
     {
         &mut this.extensions
     }
@@ -84,7 +103,7 @@ impl<
 
     fn deref_mut(&mut self) -> &mut M::Connection
         ensures value { result.now ≡ self.old.connection }
-        ensures* writes_back { sem 𝓛 (Lends (the_row M.row H.row V.row Z.row R.row M.Connection.row M.Error.row M.Extension.row M.Extension.Kind.row M.Extension.Extension M.Extension.Kind.PartialEq) M.Connection.row self.entry result (λ w. record self.old { connection = w })) }
+        ensures* writes_back { sem 𝓛 (Lends (the_row M.row H.row V.row Z.row R.row M.Connection.row M.Error.row M.Extension.row M.Extension.Kind.row M.Error.Display M.Extension.Extension M.Extension.Kind.PartialEq H.Debug V.Debug Z.Debug ⟦<Global as Allocator>⟧ ⟦<Global as Clone>⟧) M.Connection.row self.entry result (λ w. record self.old { connection = w })) }
     {
         &mut self.connection
     }
