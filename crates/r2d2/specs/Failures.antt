@@ -1,29 +1,32 @@
 -- What the errors of a pool say.
-use Rattle.std.specs.Prelude.{◌≡◌, ◌⊎◌, ℕ, List, ◌++◌, Option, Some, None, codes, string_bytes}
-use Rattle.std.specs.declared.string.String.{String}
+use Rattle.std.specs.Prelude.{◌≡◌, ◌⊎◌, ℕ, List, ◌++◌, Option, Some, None, codes}
 use Rattle.r2d2.specs.declared.error.ErrorKind.{ErrorKind}
 use Rattle.r2d2.specs.declared.error.ErrorKind.TheVariants.{Timeout, Memory, Threads}
-use Rattle.r2d2.specs.declared.error.Error.{Error}
+
+-- what a contract sees of an error: why the call failed, and the bytes of the latest error of an opening or a check, where one is known
+pub record Failure : Type 0 where
+  pub kind : ErrorKind
+  pub message : Option (List ℕ)
 
 -- the text of a failure: a timeout's has the latest error after it, where one is known
-abbrev pub text_of : {A : Type 0} → ErrorKind → Option (String A) → List ℕ
+abbrev pub text_of : ErrorKind → Option (List ℕ) → List ℕ
 text_of Timeout None = codes "timed out waiting for connection"
-text_of Timeout (Some message) = codes "timed out waiting for connection: " ++ string_bytes message
+text_of Timeout (Some message) = codes "timed out waiting for connection: " ++ message
 text_of Memory _ = codes "out of memory"
 text_of Threads _ = codes "a worker could not be started"
 
 -- what an error displays
-abbrev pub error_text : Error → List ℕ
+abbrev pub error_text : Failure → List ℕ
 error_text e = text_of e.kind e.message
 
 -- memory was refused
-abbrev pub IsOfMemory : Error → Type 0
+abbrev pub IsOfMemory : Failure → Type 0
 IsOfMemory e = e.kind ≡ Memory
 
 -- memory was refused, or no connection came in time
-abbrev pub IsOfMemoryOrTime : Error → Type 0
+abbrev pub IsOfMemoryOrTime : Failure → Type 0
 IsOfMemoryOrTime e = (e.kind ≡ Memory) ⊎ (e.kind ≡ Timeout)
 
 -- memory was refused, or a thread
-abbrev pub IsOfMemoryOrThreads : Error → Type 0
+abbrev pub IsOfMemoryOrThreads : Failure → Type 0
 IsOfMemoryOrThreads e = (e.kind ≡ Memory) ⊎ (e.kind ≡ Threads)

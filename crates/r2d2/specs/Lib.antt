@@ -1,4 +1,5 @@
 pub mod Entries
+pub mod Events
 pub mod Failures
 pub mod Settings
 pub mod Wakes

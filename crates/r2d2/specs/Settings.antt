@@ -34,14 +34,16 @@ pub record ArePositive {H V Z : Type 0} (config : Config H V Z) : Type 0 where
 abbrev pub limits_in : {H V Z : Type 0} → Config H V Z → Settings
 limits_in config = settings config.max_size config.min_idle config.max_lifetime config.idle_timeout config.connection_timeout config.reaper_rate
 
--- the same settings with another handler of errors
+-- the same settings with other handlers
+abbrev pub with_handlers : {G W Y H V Z : Type 0} → G → W → Y → Config H V Z → Config G W Y
+with_handlers error_handler event_handler customizer c = record { max_size = c.max_size; min_idle = c.min_idle; thread_pool = c.thread_pool; test_on_check_out = c.test_on_check_out; max_lifetime = c.max_lifetime; idle_timeout = c.idle_timeout; connection_timeout = c.connection_timeout; journal_room = c.journal_room; reaper_rate = c.reaper_rate; error_handler = error_handler; event_handler = event_handler; connection_customizer = customizer }
+
+-- with another handler of errors, of events, with another customizer alone
 abbrev pub with_error_handler : {G H V Z : Type 0} → G → Config H V Z → Config G V Z
-with_error_handler handler c = record { max_size = c.max_size; min_idle = c.min_idle; thread_pool = c.thread_pool; test_on_check_out = c.test_on_check_out; max_lifetime = c.max_lifetime; idle_timeout = c.idle_timeout; connection_timeout = c.connection_timeout; journal_room = c.journal_room; reaper_rate = c.reaper_rate; error_handler = handler; event_handler = c.event_handler; connection_customizer = c.connection_customizer }
+with_error_handler handler c = with_handlers handler c.event_handler c.connection_customizer c
 
--- the same settings with another handler of events
 abbrev pub with_event_handler : {W H V Z : Type 0} → W → Config H V Z → Config H W Z
-with_event_handler handler c = record { max_size = c.max_size; min_idle = c.min_idle; thread_pool = c.thread_pool; test_on_check_out = c.test_on_check_out; max_lifetime = c.max_lifetime; idle_timeout = c.idle_timeout; connection_timeout = c.connection_timeout; journal_room = c.journal_room; reaper_rate = c.reaper_rate; error_handler = c.error_handler; event_handler = handler; connection_customizer = c.connection_customizer }
+with_event_handler handler c = with_handlers c.error_handler handler c.connection_customizer c
 
--- the same settings with another customizer
 abbrev pub with_customizer : {Y H V Z : Type 0} → Y → Config H V Z → Config H V Y
-with_customizer customizer c = record { max_size = c.max_size; min_idle = c.min_idle; thread_pool = c.thread_pool; test_on_check_out = c.test_on_check_out; max_lifetime = c.max_lifetime; idle_timeout = c.idle_timeout; connection_timeout = c.connection_timeout; journal_room = c.journal_room; reaper_rate = c.reaper_rate; error_handler = c.error_handler; event_handler = c.event_handler; connection_customizer = customizer }
+with_customizer customizer c = with_handlers c.error_handler c.event_handler customizer c

@@ -43,7 +43,35 @@ pub struct Config<H, V, Z> {
 }
 
 impl<H, V, Z> Config<H, V, Z> {
-    ghost use Rattle.r2d2.specs.Settings.{with_error_handler, with_event_handler, with_customizer};
+    ghost use Rattle.r2d2.specs.Settings.{with_handlers, with_error_handler, with_event_handler, with_customizer};
+
+    // The same settings with other handlers, and those that they had.
+    fn with_handlers<G, W, Y>(
+        self,
+        error_handler: G,
+        event_handler: W,
+        connection_customizer: Y,
+    ) -> (Config<G, W, Y>, (H, V, Z))
+        ensures settings { result.0 ≡ with_handlers error_handler event_handler connection_customizer self }
+        ensures handlers { result.1 ≡ (self.error_handler, self.event_handler, self.connection_customizer) }
+    {
+        let handlers = (self.error_handler, self.event_handler, self.connection_customizer);
+        let config = Config {
+            max_size: self.max_size,
+            min_idle: self.min_idle,
+            thread_pool: self.thread_pool,
+            test_on_check_out: self.test_on_check_out,
+            max_lifetime: self.max_lifetime,
+            idle_timeout: self.idle_timeout,
+            connection_timeout: self.connection_timeout,
+            journal_room: self.journal_room,
+            reaper_rate: self.reaper_rate,
+            error_handler,
+            event_handler,
+            connection_customizer,
+        };
+        (config, handlers)
+    }
 
     /// The same settings, and another handler of errors.
     fn with_error_handler<G>(self, error_handler: G) -> Config<G, V, Z>
@@ -51,34 +79,8 @@ impl<H, V, Z> Config<H, V, Z> {
         H: Drop,
         ensures { result ≡ with_error_handler error_handler self }
     {
-        let Config {
-            max_size,
-            min_idle,
-            thread_pool,
-            test_on_check_out,
-            max_lifetime,
-            idle_timeout,
-            connection_timeout,
-            journal_room,
-            reaper_rate,
-            error_handler: _,
-            event_handler,
-            connection_customizer,
-        } = self;
-        Config {
-            max_size,
-            min_idle,
-            thread_pool,
-            test_on_check_out,
-            max_lifetime,
-            idle_timeout,
-            connection_timeout,
-            journal_room,
-            reaper_rate,
-            error_handler,
-            event_handler,
-            connection_customizer,
-        }
+        let (bare, (_, event_handler, customizer)) = self.with_handlers((), (), ());
+        bare.with_handlers(error_handler, event_handler, customizer).0
     }
 
     /// The same settings, and another handler of events.
@@ -87,70 +89,18 @@ impl<H, V, Z> Config<H, V, Z> {
         V: Drop,
         ensures { result ≡ with_event_handler event_handler self }
     {
-        let Config {
-            max_size,
-            min_idle,
-            thread_pool,
-            test_on_check_out,
-            max_lifetime,
-            idle_timeout,
-            connection_timeout,
-            journal_room,
-            reaper_rate,
-            error_handler,
-            event_handler: _,
-            connection_customizer,
-        } = self;
-        Config {
-            max_size,
-            min_idle,
-            thread_pool,
-            test_on_check_out,
-            max_lifetime,
-            idle_timeout,
-            connection_timeout,
-            journal_room,
-            reaper_rate,
-            error_handler,
-            event_handler,
-            connection_customizer,
-        }
+        let (bare, (error_handler, _, customizer)) = self.with_handlers((), (), ());
+        bare.with_handlers(error_handler, event_handler, customizer).0
     }
 
     /// The same settings, and another customizer.
-    fn with_customizer<Y>(self, connection_customizer: Y) -> Config<H, V, Y>
+    fn with_customizer<Y>(self, customizer: Y) -> Config<H, V, Y>
     where
         Z: Drop,
-        ensures { result ≡ with_customizer connection_customizer self }
+        ensures { result ≡ with_customizer customizer self }
     {
-        let Config {
-            max_size,
-            min_idle,
-            thread_pool,
-            test_on_check_out,
-            max_lifetime,
-            idle_timeout,
-            connection_timeout,
-            journal_room,
-            reaper_rate,
-            error_handler,
-            event_handler,
-            connection_customizer: _,
-        } = self;
-        Config {
-            max_size,
-            min_idle,
-            thread_pool,
-            test_on_check_out,
-            max_lifetime,
-            idle_timeout,
-            connection_timeout,
-            journal_room,
-            reaper_rate,
-            error_handler,
-            event_handler,
-            connection_customizer,
-        }
+        let (bare, (error_handler, event_handler, _)) = self.with_handlers((), (), ());
+        bare.with_handlers(error_handler, event_handler, customizer).0
     }
 }
 
@@ -172,7 +122,7 @@ impl<H: fmt::Debug, V: fmt::Debug, Z: fmt::Debug> fmt::Debug for Config<H, V, Z>
 
 /// Gathers the settings of a pool. `H` handles errors, `V` events, and `Z` changes connections as they come and go.
 #[derive(Drop)]
-pub struct Builder<M, H, V, Z> {
+pub struct Builder<M, H = NopErrorHandler, V = NopEventHandler, Z = NopConnectionCustomizer> {
     config: Config<H, V, Z>,
     manager: PhantomData<M>,
 }
@@ -189,7 +139,7 @@ impl<M, H, V, Z> Model for Builder<M, H, V, Z> {
     ghost invariant = { λ b. ArePositive b.config };
 }
 
-impl<M: ManageConnection> Builder<M, NopErrorHandler, NopEventHandler, NopConnectionCustomizer> {
+impl<M: ManageConnection> Builder<M> {
     ghost use Rattle.r2d2.specs.Settings.{AreDefaults};
 
     /// A builder with the default of each setting, and with handlers and a customizer that do nothing.
@@ -200,8 +150,7 @@ impl<M: ManageConnection> Builder<M, NopErrorHandler, NopEventHandler, NopConnec
     }
 }
 
-impl<M: ManageConnection> Default
-    for Builder<M, NopErrorHandler, NopEventHandler, NopConnectionCustomizer> {
+impl<M: ManageConnection> Default for Builder<M> {
     ghost use Rattle.r2d2.specs.Settings.{AreDefaults};
 
     ghost is_default = { AreDefaults };

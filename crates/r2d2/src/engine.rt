@@ -1,6 +1,6 @@
 //! What the pool does to its book while it holds the lock: one function for each thing, which says whom to wake when the lock is
-//! free again. Only `open` needs no book, and no lock.
-ghost use Rattle.std.specs.Prelude.{◌≡◌, ◌≤◌, [], max, map, length, vec_len, vec_capacity};
+//! free again. Beside it `Payload`, which a pool's book keeps, and `open`, which needs no book and no lock.
+ghost use Rattle.std.specs.Prelude.{◌≡◌, ◌≤◌, max, map, length, vec_len, vec_capacity};
 ghost use Rattle.std.specs.Duration.{as_nanos};
 ghost use Rattle.r2d2_core.specs.Reply.{seen_take, seen_return, seen_released, map_ok};
 ghost use Rattle.r2d2_core.specs.Table.{take_answer, after_take, return_answer, after_return, reap_closed, reap_orders, after_reap};
@@ -10,31 +10,10 @@ ghost use Rattle.r2d2_core.specs.Log.{with_noted};
 ghost use Rattle.r2d2.specs.Wakes.{wakes_of_take, wakes_of_return, wakes_of_reap};
 ghost use Rattle.r2d2.specs.Settling.{seen_settled, settle_answer, after_settle, record_of_settle, wakes_of_settled};
 
-use crate::{CustomizeConnection, Extension, Extensions, ManageConnection};
+pub use crate::payload::{Payload, open};
 use r2d2_core::{Book, Gone, Refusal, Released, Returned, Take};
-use std::alloc::{Allocator, Global};
+use std::alloc::Allocator;
 use std::time::Duration;
-
-/// A connection with its extensions, as a pool's book keeps it. The extensions stay with the connection over its returns; at its
-/// admission there are none.
-#[derive(Drop)]
-pub struct Payload<C, X: Extension> {
-    pub connection: C,
-    pub extensions: Extensions<X>,
-}
-
-impl<C, X: Extension> Payload<C, X> {
-    /// A new connection, without extensions. It takes no memory.
-    pub fn new(alloc: Global, connection: C) -> Payload<C, X>
-        ensures connection { result.connection ≡ connection }
-        ensures extensions { result.extensions ≡ [] }
-    {
-        Payload {
-            connection,
-            extensions: Extensions::new(alloc),
-        }
-    }
-}
 
 /// Whom to wake after a step.
 #[derive(Clone, Copy, PartialEq, Eq, Debug)]
@@ -48,8 +27,8 @@ pub struct Wakes {
 impl Wakes {
     ghost use Rattle.r2d2.specs.Wakes.{nobody, workers_for, caller_and_workers_for};
 
-    // After a refusal.
-    fn nobody() -> Wakes
+    // After a refusal, or a reading.
+    pub(crate) fn nobody() -> Wakes
         ensures { result ≡ nobody }
     {
         Wakes {
@@ -116,16 +95,6 @@ impl<T> Settled<T> {
             Settled::Refused(..) => Wakes::nobody(),
         }
     }
-}
-
-/// Opens a connection, and shows it to the customizer.
-pub fn open<M: ManageConnection, Z: CustomizeConnection<M::Connection, M::Error>>(
-    manager: &M,
-    customizer: &Z,
-) -> Result<M::Connection, M::Error> {
-    let mut connection = manager.connect()?;
-    customizer.on_acquire(&mut connection)?;
-    Ok(connection)
 }
 
 /// Takes the newest idle connection, as `Book::take`.

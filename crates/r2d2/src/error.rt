@@ -1,9 +1,10 @@
 // Why a call of the pool failed.
 ghost use Rattle.std.specs.Prelude.{◌≡◌, IsSome, option_map, string_bytes};
-ghost use Rattle.std.proofs.Props.{props};
 ghost use Rattle.r2d2.specs.declared.error.ErrorKind.TheVariants.{Timeout};
+ghost use Rattle.r2d2.specs.Failures.{Failure};
 
 use std::fmt;
+use std::marker::Model;
 
 /// Why a call failed.
 #[derive(Clone, Copy, Debug, PartialEq, Eq)]
@@ -22,14 +23,22 @@ pub enum ErrorKind {
 pub struct Error {
     kind: ErrorKind,
     message: Option<String>,
-    pub ghost only_timeouts: { IsSome message → kind ≡ Timeout } by { Prim.hlevel props },
+}
+
+// Contracts see an error as why the call failed, and the bytes of the text.
+impl Model for Error {
+    ghost Value = { Failure };
+
+    ghost view = { λ e. record { kind = e.kind; message = option_map string_bytes e.message } };
+
+    ghost invariant = { λ e. IsSome e.message → e.kind ≡ Timeout };
 }
 
 impl Error {
     /// No connection came in time; the text is the latest error's, if one is known.
     pub(crate) fn timeout(message: Option<String>) -> Error
         ensures kind { result.kind ≡ ErrorKind.Timeout }
-        ensures message { result.message ≡ message }
+        ensures message { result.message ≡ option_map string_bytes message }
     {
         Error {
             kind: ErrorKind::Timeout,
@@ -66,7 +75,7 @@ impl Error {
 
     /// The text of the latest error of an opening or a check, where one is known. Only a timeout has one.
     pub fn message(&self) -> Option<&str>
-        ensures text { option_map (λ text. text.now) result ≡ option_map string_bytes self.now.message }
+        ensures text { option_map (λ text. text.now) result ≡ self.now.message }
         ensures only_timeouts { IsSome result → self.now.kind ≡ ErrorKind.Timeout }
     {
         match &self.message {

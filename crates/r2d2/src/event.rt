@@ -3,6 +3,7 @@ ghost use Rattle.std.specs.Prelude.{◌≡◌, ◌-◌};
 ghost use Rattle.std.specs.Duration.{as_nanos};
 
 use std::fmt;
+use std::marker::Model;
 use std::time::Duration;
 
 /// Is told of each event, by the thread on which it happened, while no lock of the pool is held. Each default body does nothing.
@@ -35,6 +36,14 @@ pub struct AcquireEvent {
     pub(crate) id: u64,
 }
 
+impl Model for AcquireEvent {
+    ghost use Rattle.r2d2.specs.Events.{Acquired};
+
+    ghost Value = { Acquired };
+
+    ghost view = { λ e. record { id = e.id } };
+}
+
 impl AcquireEvent {
     /// The connection's id, which no other connection of its pool has.
     pub fn connection_id(&self) -> u64
@@ -49,6 +58,14 @@ impl AcquireEvent {
 pub struct ReleaseEvent {
     id: u64,
     age: Duration,
+}
+
+impl Model for ReleaseEvent {
+    ghost use Rattle.r2d2.specs.Events.{Released};
+
+    ghost Value = { Released };
+
+    ghost view = { λ e. record { id = e.id; age = e.age } };
 }
 
 impl ReleaseEvent {
@@ -80,6 +97,14 @@ impl ReleaseEvent {
 pub struct CheckoutEvent {
     id: u64,
     duration: Duration,
+}
+
+impl Model for CheckoutEvent {
+    ghost use Rattle.r2d2.specs.Events.{Timed};
+
+    ghost Value = { Timed };
+
+    ghost view = { λ e. record { id = e.id; duration = e.duration } };
 }
 
 impl CheckoutEvent {
@@ -115,6 +140,14 @@ pub struct TimeoutEvent {
     pub(crate) timeout: Duration,
 }
 
+impl Model for TimeoutEvent {
+    ghost use Rattle.r2d2.specs.Events.{InVain};
+
+    ghost Value = { InVain };
+
+    ghost view = { λ e. record { timeout = e.timeout } };
+}
+
 impl TimeoutEvent {
     /// How long the caller would wait.
     pub fn timeout(&self) -> Duration
@@ -129,6 +162,14 @@ impl TimeoutEvent {
 pub struct CheckinEvent {
     id: u64,
     duration: Duration,
+}
+
+impl Model for CheckinEvent {
+    ghost use Rattle.r2d2.specs.Events.{Timed};
+
+    ghost Value = { Timed };
+
+    ghost view = { λ e. record { id = e.id; duration = e.duration } };
 }
 
 impl CheckinEvent {

@@ -12,13 +12,15 @@ pub mod engine;
 mod error;
 pub mod event;
 mod extensions;
+mod hooks;
+mod payload;
 mod pool;
 
 pub use config::{Builder, Config};
 pub use error::{Error, ErrorKind};
 pub use event::{HandleEvent, NopEventHandler};
 pub use extensions::{Extension, Extensions};
-pub use pool::{Pool, PoolRuntime, PooledConnection, State};
+pub use pool::{PlainPool, Pool, PoolRuntime, PooledConnection, State};
 pub use r2d2_core::{journal, machine, reuse, run, schedule};
 
 /// Opens connections and checks them. Nothing is asked of what it answers, nor of how long it takes: it is called while no lock

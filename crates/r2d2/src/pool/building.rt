@@ -2,17 +2,21 @@
 ghost use Rattle.std.specs.Prelude.{◌≡◌, ◌≤◌, IfOk, IfErr};
 ghost use Rattle.std.specs.Option.{ForSome};
 ghost use Rattle.std.specs.Arc.{arc_value};
+ghost use Rattle.r2d2.specs.Failures.{IsOfMemoryOrThreads};
 
-use super::shared::{Closer, Shared};
-use super::worker::{Worker, start};
-use super::{Pool, PoolRuntime};
-use crate::config::{Builder, Config};
-use crate::engine::Payload;
+use super::closing::Closer;
+use super::guarded::Guarded;
+use super::locking::Shared;
+use super::{AnyPool, Pool, PoolRuntime};
+use crate::config::Builder;
 use crate::event::HandleEvent;
+use crate::hooks::Hooks;
+use crate::payload::PayloadOf;
 use crate::{CustomizeConnection, Error, HandleError, ManageConnection};
-use r2d2_core::{Book, Limits, Released};
+use r2d2_core::{Book, Released};
 use std::alloc::{AllocError, Global};
 use std::sync::{Arc, Condvar, Mutex};
+use std::thread;
 use std::time::{Duration, Instant};
 
 impl<
@@ -21,8 +25,6 @@ impl<
     V: HandleEvent + 'static,
     Z: CustomizeConnection<M::Connection, M::Error>,
 > Builder<M, H, V, Z> {
-    ghost use Rattle.r2d2.specs.Failures.{IsOfMemoryOrThreads};
-
     /// Makes a pool, and waits until as many connections as are wanted idle were opened.
     ///
     /// The settings have to be legal: `limits` tells. The error is a timeout where fewer were opened within `connection_timeout`, with
@@ -32,7 +34,7 @@ impl<
         ensures settings { IfOk result (λ pool. pool ≡ self) }
     {
         let pool = self.build_unchecked(rt, manager)?;
-        pool.wait_for_connections()?;
+        wait_for_connections(&pool)?;
         Ok(pool)
     }
 
@@ -57,15 +59,29 @@ impl<
         let lists = reap_lists(rt.alloc(), config.thread_pool, limits.max_size()).map_err(
             |_| Error::memory(),
         )?;
-        let closer = share(rt, limits, config, manager).map_err(|_| Error::memory())?;
-        for expired in lists {
-            let shared = Arc::try_clone(&closer.shared).map_err(|_| Error::memory())?;
-            if !start(Worker { shared, expired }) {
-                return Err(Error::threads());
-            }
-        }
-        Ok(Pool { closer })
+        let book = Book::new(rt.alloc(), limits, Duration::ZERO, config.journal_room).map_err(
+            |_| Error::memory(),
+        )?;
+        let closer = share(rt, book, config, manager).map_err(|_| Error::memory())?;
+        start_workers(&closer, lists)?;
+        Ok(AnyPool { closer })
     }
+}
+
+// Waits until as many connections as are wanted were opened, or as long as a caller would wait.
+fn wait_for_connections<
+    M: ManageConnection,
+    H: HandleError<M::Error>,
+    V: HandleEvent + 'static,
+    Z: CustomizeConnection<M::Connection, M::Error>,
+    R: PoolRuntime,
+>(pool: &Pool<M, H, V, Z, R>) -> Result<(), Error> {
+    let shared = pool.shared();
+    let config = &shared.hooks;
+    let wanted = config.min_idle.unwrap_or(config.max_size);
+    shared
+        .wait_for(wanted, config.connection_timeout)
+        .map_err(Error::timeout)
 }
 
 // A list for each worker, with room for all connections that a reap may close.
@@ -81,26 +97,65 @@ fn reap_lists<P: Drop>(
     Ok(lists)
 }
 
-// The state that workers and lent connections share.
-fn share<P: Drop, M: Drop, H: Drop, V: Drop, Z: Drop, R: PoolRuntime>(
+// The state that workers, pools and lent connections share.
+fn share<B: Guarded, M: Drop, K: Drop, R: PoolRuntime>(
     rt: R,
-    limits: Limits,
-    config: Config<H, V, Z>,
+    guarded: B,
+    hooks: K,
     manager: M,
-) -> Result<Arc<Closer<P, M, H, V, Z, R>>, AllocError>
-    ensures { IfOk result (λ closer. (arc_value (arc_value closer).shared).config ≡ config) }
+) -> Result<Arc<Closer<B, M, K, R>>, AllocError>
+    ensures { IfOk result (λ closer. (arc_value (arc_value closer).shared).hooks ≡ hooks) }
 {
     let made = Instant::now(&rt).ok();
-    let book = Book::new(rt.alloc(), limits, Duration::ZERO, config.journal_room)?;
     let shared = Shared {
-        book: Mutex::new(book),
+        guarded: Mutex::new(guarded),
         callers: Condvar::new(),
         workers: Condvar::new(),
         manager,
-        config,
+        hooks,
         made,
         rt,
     };
     let shared = Arc::new(rt.alloc(), shared)?;
     Ok(Arc::new(rt.alloc(), Closer { shared })?)
+}
+
+// Starts a worker for each list, in a thread of its own.
+fn start_workers<
+    B: Guarded<Payload = PayloadOf<M>> + Send + 'static,
+    M: ManageConnection,
+    K: Hooks<M>,
+    R: PoolRuntime,
+>(
+    closer: &Arc<Closer<B, M, K, R>>,
+    lists: Vec<Vec<Released<PayloadOf<M>>>>,
+) -> Result<(), Error>
+    ensures refused { IfErr result IsOfMemoryOrThreads }
+{
+    for expired in lists {
+        let shared = Arc::try_clone(&closer.shared).map_err(|_| Error::memory())?;
+        if !start(shared, expired) {
+            return Err(Error::threads());
+        }
+    }
+    Ok(())
+}
+
+// Starts a worker; false where its thread can't be started.
+fn start<
+    B: Guarded<Payload = PayloadOf<M>> + Send + 'static,
+    M: ManageConnection,
+    K: Hooks<M>,
+    R: PoolRuntime,
+>(shared: Arc<Shared<B, M, K, R>>, expired: Vec<Released<PayloadOf<M>>>) -> bool {
+    let rt = shared.rt;
+    thread::spawn(&rt, move || work(shared, expired)).is_ok()
+}
+
+// The whole life of a worker.
+fn work<B: Guarded<Payload = PayloadOf<M>>, M: ManageConnection, K: Hooks<M>, R: PoolRuntime>(
+    shared: Arc<Shared<B, M, K, R>>,
+    expired: Vec<Released<PayloadOf<M>>>,
+) {
+    shared.work(expired);
 }

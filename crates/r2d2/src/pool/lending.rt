@@ -1,125 +1,132 @@
 // How a caller comes to a connection.
-ghost use Rattle.std.specs.Prelude.{◌≡◌};
+ghost use Rattle.std.specs.Prelude.{◌≡◌, ◌≤◌, ◌<◌, ◌+◌, IfOk, IfErr, IfSome};
 ghost use Rattle.std.specs.Arc.{arc_value};
 
-use super::shared::{Closer, Receives, Shared};
-use super::{PoolRuntime, PooledConnection};
-use crate::engine::{Outcome, Payload, Settled, lend};
-use crate::event::{CheckoutEvent, HandleEvent};
-use crate::{CustomizeConnection, HandleError, ManageConnection};
-use r2d2_core::Take;
+use super::closing::Closer;
+use super::guarded::Guarded;
+use super::lent::{AnyConnection, Lent};
+use super::locking::Shared;
+use super::returning::Receives;
+use super::{AnyPool, PoolRuntime};
+use crate::engine::{Outcome, Settled};
+use crate::hooks::Hooks;
+use crate::payload::PayloadOf;
+use crate::{Error, ManageConnection};
+use r2d2_core::Released;
 use std::sync::Arc;
 use std::time::Duration;
 
-/// What the book lent.
-#[derive(Drop)]
-pub(super) struct Lent<P> {
-    id: u64,
-    payload: P,
-}
+impl<B: Guarded<Payload = PayloadOf<M>>, M: ManageConnection, K: Hooks<M>, R: PoolRuntime> AnyPool<
+    B,
+    M,
+    K,
+    R,
+> {
+    ghost use Rattle.r2d2.specs.Failures.{IsOfMemory, IsOfMemoryOrTime};
 
-impl<
-    M: ManageConnection,
-    H: HandleError<M::Error>,
-    V: HandleEvent + 'static,
-    Z: CustomizeConnection<M::Connection, M::Error>,
-    R: PoolRuntime,
-> Shared<Payload<M::Connection, M::Extension>, M, H, V, Z, R> {
-    /// Takes the newest idle connection, if there is one, and orders none.
-    pub(super) fn lend_now(&self) -> Option<Lent<Payload<M::Connection, M::Extension>>> {
-        let mut book = self.book.lock(&self.rt);
-        let (taken, wakes) = lend(&mut book, self.moment(), false);
-        drop(book);
-        self.wake(wakes);
-        match taken {
-            Take::Found { id, value, .. } => Some(Lent { id, payload: value }),
-            Take::Empty { .. } => None,
-        }
-    }
-
-    /// Takes the newest idle connection; where there is none it orders one and waits, until the moment `end`. Past that it answers the latest
-    /// error of an opening or a check.
-    pub(super) fn lend_until(
+    /// Lends a connection that passed its check, and waits for one at most so long.
+    pub(super) fn lend_within(
         &self,
-        end: Duration,
-    ) -> Result<Lent<Payload<M::Connection, M::Extension>>, Option<String>> {
-        let mut book = self.book.lock(&self.rt);
-        for _ in self.rt.forever() {
-            let now = self.moment();
-            let (taken, wakes) = lend(&mut book, now, true);
-            match taken {
-                Take::Found { id, value, .. } => {
-                    drop(book);
-                    self.wake(wakes);
-                    return Ok(Lent { id, payload: value });
-                }
-                Take::Empty { .. } => {
-                    // Before the wait, which lets the lock go.
-                    self.wake(wakes);
-                    let left = end.saturating_sub(now);
-                    let (again, outcome) = self.callers.wait_timeout(&self.rt, book, left);
-                    book = again;
-                    if outcome.timed_out() {
-                        return Err(book.take_error());
+        timeout: Duration,
+        tally: &mut B::Tally,
+    ) -> Result<AnyConnection<B, M, K, R>, Error>
+        requires { 0 < B.parts tally.old }
+        ensures settings { IfOk result (λ lent. lent.settings ≡ self.now) }
+        ensures refused { IfErr result IsOfMemoryOrTime }
+        ensures parts { B.parts tally.new ≡ B.parts tally.old }
+        ensures amount { B.amount tally.old ≤ B.amount tally.new }
+        ensures lent { IfOk result (λ _. B.amount tally.old + B.per_take ≤ B.amount tally.new) }
+    {
+        let shared = self.shared();
+        let start = shared.moment();
+        let closer = Arc::try_clone(&self.closer).map_err(|_| Error::memory())?;
+        let end = start.saturating_add(timeout);
+        for _ in shared.rt.forever() {
+            match shared.lend_until(end, tally) {
+                Ok(lent) => {
+                    if let Some(lent) = shared.checked(lent) {
+                        return Ok(shared.check_out(closer, start, lent));
                     }
+                }
+                Err(message) => {
+                    shared.hooks.timeout(timeout);
+                    return Err(Error::timeout(message));
                 }
             }
         }
         unreachable!()
     }
 
-    /// The connection, where it need not be checked, or its check finds it sound. Else it is closed.
-    pub(super) fn checked(
+    /// Lends a connection that is idle and passed its check; None where none is idle.
+    pub(super) fn lend_idle(
         &self,
-        lent: Lent<Payload<M::Connection, M::Extension>>,
-    ) -> Option<Lent<Payload<M::Connection, M::Extension>>> {
-        let Lent { id, mut payload } = lent;
-        if self.config.test_on_check_out {
-            if let Err(error) = self.manager.is_valid(&mut payload.connection) {
-                self.close_unsound(id, payload, error);
+        tally: &mut B::Tally,
+    ) -> Result<Option<AnyConnection<B, M, K, R>>, Error>
+        requires { 0 < B.parts tally.old }
+        ensures settings { IfOk result (λ found. IfSome found (λ lent. lent.settings ≡ self.now)) }
+        ensures refused { IfErr result IsOfMemory }
+        ensures parts { B.parts tally.new ≡ B.parts tally.old }
+        ensures amount { B.amount tally.old ≤ B.amount tally.new }
+        ensures lent { IfOk result (λ found. IfSome found (λ _. B.amount tally.old + B.per_take ≤ B.amount tally.new)) }
+    {
+        let shared = self.shared();
+        let start = shared.moment();
+        let closer = Arc::try_clone(&self.closer).map_err(|_| Error::memory())?;
+        for _ in shared.rt.forever() {
+            let Some(lent) = shared.lend_now(tally) else {
+                return Ok(None);
+            };
+            if let Some(lent) = shared.checked(lent) {
+                return Ok(Some(shared.check_out(closer, start, lent)));
+            }
+        }
+        unreachable!()
+    }
+}
+
+impl<B: Guarded<Payload = PayloadOf<M>>, M: ManageConnection, K: Hooks<M>, R: PoolRuntime> Shared<
+    B,
+    M,
+    K,
+    R,
+> {
+    /// The connection, where it need not be checked, or its check finds it sound. Else it is closed.
+    fn checked(&self, mut lent: Lent<PayloadOf<M>>) -> Option<Lent<PayloadOf<M>>> {
+        if self.hooks.test_on_check_out() {
+            if let Err(error) = self.manager.is_valid(&mut lent.payload.connection) {
+                self.close_unsound(lent, error);
                 return None;
             }
         }
-        Some(Lent { id, payload })
+        Some(lent)
     }
 
     // Closes a connection whose check failed.
-    fn close_unsound(
-        &self,
-        id: u64,
-        payload: Payload<M::Connection, M::Extension>,
-        error: M::Error,
-    ) {
+    fn close_unsound(&self, lent: Lent<PayloadOf<M>>, error: M::Error) {
         let text = error.to_string(self.rt.alloc()).ok();
-        self.config.error_handler.handle_error(error);
+        self.hooks.error(error);
+        let Lent { id, payload: value } = lent;
         if let Settled::Gone(gone) = self.settle(Outcome::Unsound { id, text }) {
-            self.release(id, gone.age, payload);
+            let age = gone.age;
+            self.release(Released { id, age, value });
         }
     }
 
     /// Hands a connection to its caller, whose call began at `start`, and tells of it.
-    pub(super) fn check_out(
+    fn check_out(
         &self,
-        closer: Arc<Closer<Payload<M::Connection, M::Extension>, M, H, V, Z, R>>,
+        closer: Arc<Closer<B, M, K, R>>,
         start: Duration,
-        lent: Lent<Payload<M::Connection, M::Extension>>,
-    ) -> PooledConnection<M, H, V, Z, R>
-        ensures { result.settings ≡ (arc_value (arc_value closer).shared).config }
+        lent: Lent<PayloadOf<M>>,
+    ) -> AnyConnection<B, M, K, R>
+        ensures { result.settings ≡ (arc_value (arc_value closer).shared).hooks }
     {
-        let Lent { id, payload } = lent;
-        let Payload {
-            connection,
-            extensions,
-        } = payload;
         let lent_at = self.moment();
-        let event = CheckoutEvent::of(id, start, lent_at);
-        self.config.event_handler.handle_checkout(event);
-        PooledConnection {
+        self.hooks.check_out(lent.id, start, lent_at);
+        AnyConnection {
             closer,
-            id,
             lent_at,
-            connection,
-            extensions,
+            lent,
         }
     }
 }

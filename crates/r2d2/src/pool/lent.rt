@@ -1,11 +1,14 @@
-// A connection that a pool lent.
+// What a pool lent, from the book to the caller's drop.
 ghost use Rattle.std.specs.Prelude.{◌≡◌};
 
 use super::PoolRuntime;
-use super::shared::{Closer, Receives};
-use crate::engine::Payload;
-use crate::event::HandleEvent;
-use crate::{CustomizeConnection, Extensions, HandleError, ManageConnection};
+use super::closing::Closer;
+use super::guarded::Guarded;
+use super::returning::Receives;
+use crate::hooks::Hooks;
+use crate::payload::PayloadOf;
+use crate::{Extensions, ManageConnection};
+use r2d2_core::Take;
 use std::alloc::{Allocator, Global};
 use std::fmt;
 use std::marker::Model;
@@ -13,154 +16,122 @@ use std::ops::{Deref, DerefMut};
 use std::sync::Arc;
 use std::time::Duration;
 
-/// A connection that a pool lent. It goes back to the pool when it is dropped, and keeps the pool's state alive until then.
-pub struct PooledConnection<
+/// What the book lent.
+#[derive(Drop)]
+pub struct Lent<P> {
+    pub(super) id: u64,
+    pub(super) payload: P,
+}
+
+impl<P> Lent<P> {
+    /// What a take found.
+    pub(super) fn of(taken: Take<P>) -> Option<Lent<P>> {
+        match taken {
+            Take::Found { id, value, .. } => Some(Lent { id, payload: value }),
+            Take::Empty { .. } => None,
+        }
+    }
+}
+
+/// A connection that a pool lent, whatever its lock guards.
+pub struct AnyConnection<
+    B: Guarded<Payload = PayloadOf<M>>,
     M: ManageConnection,
-    H: HandleError<M::Error>,
-    V: HandleEvent + 'static,
-    Z: CustomizeConnection<M::Connection, M::Error>,
+    K: Hooks<M>,
     R: PoolRuntime,
 > {
-    pub(super) closer: Arc<Closer<Payload<M::Connection, M::Extension>, M, H, V, Z, R>>,
-    pub(super) id: u64,
+    pub(super) closer: Arc<Closer<B, M, K, R>>,
     /// When it was lent.
     pub(super) lent_at: Duration,
-    pub(super) connection: M::Connection,
-    pub(super) extensions: Extensions<M::Extension>,
+    pub(super) lent: Lent<PayloadOf<M>>,
 }
 
 // Contracts see a lent connection as what can be reached through it, and the settings of its pool.
-impl<
-    M: ManageConnection,
-    H: HandleError<M::Error>,
-    V: HandleEvent + 'static,
-    Z: CustomizeConnection<M::Connection, M::Error>,
-    R: PoolRuntime,
-> Model for PooledConnection<M, H, V, Z, R> {
+impl<B: Guarded<Payload = PayloadOf<M>>, M: ManageConnection, K: Hooks<M>, R: PoolRuntime> Model
+    for AnyConnection<B, M, K, R> {
     ghost use Rattle.std.specs.Arc.{arc_value};
-    ghost use Rattle.r2d2.specs.declared.config.Config.{Config};
     ghost use Rattle.r2d2.specs.Lending.{Lending};
 
-    ghost Value = { Lending M.Connection M.Extension.Kind M.Extension (Config H V Z) };
+    ghost Value = { Lending M.Connection M.Extension.Kind M.Extension K };
 
-    ghost view = { λ l. record { connection = l.connection; extensions = l.extensions; settings = (arc_value (arc_value l.closer).shared).config } };
+    ghost view = { λ l. record { connection = l.lent.payload.connection; extensions = l.lent.payload.extensions; settings = (arc_value (arc_value l.closer).shared).hooks } };
 }
 
-impl<
-    M: ManageConnection,
-    H: HandleError<M::Error>,
-    V: HandleEvent + 'static,
-    Z: CustomizeConnection<M::Connection, M::Error>,
-    R: PoolRuntime,
-> PooledConnection<M, H, V, Z, R> {
+impl<B: Guarded<Payload = PayloadOf<M>>, M: ManageConnection, K: Hooks<M>, R: PoolRuntime> AnyConnection<
+    B,
+    M,
+    K,
+    R,
+> {
     ghost use Rattle.std.specs.Borrow.{sem, Lends};
     ghost use Rattle.r2d2.specs.contracts.extensions.Extensions.{the_row as extensions_row};
-    ghost use Rattle.r2d2.specs.contracts.pool.lent.PooledConnection.{the_row};
+    ghost use Rattle.r2d2.specs.contracts.pool.lent.AnyConnection.{the_row};
 
     /// What is kept beside the connection: it stays with it over its returns, until it is closed.
     pub fn extensions(this: &Self) -> &Extensions<M::Extension>
         ensures { result.now ≡ this.now.extensions }
     {
-        &this.extensions
+        &this.lent.payload.extensions
     }
 
     /// The same, to be changed.
     pub fn extensions_mut(this: &mut Self) -> &mut Extensions<M::Extension>
         ensures value { result.now ≡ this.old.extensions }
-        ensures* writes_back { sem 𝓛 (Lends (the_row M.row H.row V.row Z.row R.row M.Connection.row M.Error.row M.Extension.row M.Extension.Kind.row M.Error.Display M.Extension.Extension M.Extension.Kind.PartialEq H.Debug V.Debug Z.Debug ⟦<Global as Allocator>⟧ ⟦<Global as Clone>⟧) (extensions_row M.Extension.row M.Extension.Kind.row M.Extension.Extension M.Extension.Kind.PartialEq) this.entry result (λ w. record this.old { extensions = w })) }
+        ensures* writes_back { sem 𝓛 (Lends (the_row B.row M.row K.row R.row B.Tally.row M.Connection.row M.Error.row M.Extension.row M.Extension.Kind.row K.Customizer.row B.Guarded M.Error.Display M.Extension.Extension M.Extension.Kind.PartialEq K.Customizer.Debug ⟦<Global as Allocator>⟧ ⟦<Global as Clone>⟧) (extensions_row M.Extension.row M.Extension.Kind.row M.Extension.Extension M.Extension.Kind.PartialEq) this.entry result (λ w. record this.old { extensions = w })) }
     {
-        &mut this.extensions
+        &mut this.lent.payload.extensions
     }
 }
 
-impl<
-    M: ManageConnection,
-    H: HandleError<M::Error>,
-    V: HandleEvent + 'static,
-    Z: CustomizeConnection<M::Connection, M::Error>,
-    R: PoolRuntime,
-> Deref for PooledConnection<M, H, V, Z, R> {
+impl<B: Guarded<Payload = PayloadOf<M>>, M: ManageConnection, K: Hooks<M>, R: PoolRuntime> Deref
+    for AnyConnection<B, M, K, R> {
     type Target = M::Connection;
 
     ghost deref_gives = { λ lent connection. connection ≡ lent.connection };
 
     fn deref(&self) -> &M::Connection {
-        &self.connection
+        &self.lent.payload.connection
     }
 }
 
-impl<
-    M: ManageConnection,
-    H: HandleError<M::Error>,
-    V: HandleEvent + 'static,
-    Z: CustomizeConnection<M::Connection, M::Error>,
-    R: PoolRuntime,
-> DerefMut for PooledConnection<M, H, V, Z, R> {
+impl<B: Guarded<Payload = PayloadOf<M>>, M: ManageConnection, K: Hooks<M>, R: PoolRuntime> DerefMut
+    for AnyConnection<B, M, K, R> {
     ghost use Rattle.std.specs.Borrow.{sem, Lends};
-    ghost use Rattle.r2d2.specs.contracts.pool.lent.PooledConnection.{the_row};
+    ghost use Rattle.r2d2.specs.contracts.pool.lent.AnyConnection.{the_row};
 
     ghost deref_mut_gives = { λ lent connection. connection ≡ lent.connection };
 
     fn deref_mut(&mut self) -> &mut M::Connection
         ensures value { result.now ≡ self.old.connection }
-        ensures* writes_back { sem 𝓛 (Lends (the_row M.row H.row V.row Z.row R.row M.Connection.row M.Error.row M.Extension.row M.Extension.Kind.row M.Error.Display M.Extension.Extension M.Extension.Kind.PartialEq H.Debug V.Debug Z.Debug ⟦<Global as Allocator>⟧ ⟦<Global as Clone>⟧) M.Connection.row self.entry result (λ w. record self.old { connection = w })) }
+        ensures* writes_back { sem 𝓛 (Lends (the_row B.row M.row K.row R.row B.Tally.row M.Connection.row M.Error.row M.Extension.row M.Extension.Kind.row K.Customizer.row B.Guarded M.Error.Display M.Extension.Extension M.Extension.Kind.PartialEq K.Customizer.Debug ⟦<Global as Allocator>⟧ ⟦<Global as Clone>⟧) M.Connection.row self.entry result (λ w. record self.old { connection = w })) }
     {
-        &mut self.connection
+        &mut self.lent.payload.connection
     }
 }
 
 impl<
+    B: Guarded<Payload = PayloadOf<M>>,
     M: ManageConnection,
-    H: HandleError<M::Error>,
-    V: HandleEvent + 'static,
-    Z: CustomizeConnection<M::Connection, M::Error>,
+    K: Hooks<M>,
     R: PoolRuntime,
-> fmt::Debug for PooledConnection<M, H, V, Z, R>
+> fmt::Debug for AnyConnection<B, M, K, R>
 where
     M::Connection: fmt::Debug,
 {
     fn fmt<W: fmt::Write>(&self, f: &mut fmt::Formatter<W>) -> fmt::Result {
-        fmt::Debug::fmt(&self.connection, f)
+        fmt::Debug::fmt(&self.lent.payload.connection, f)
     }
 }
 
-// What the drop calls.
-trait GoesBack {
-    // Gives the connection back, and only then lets the pool go.
-    fn go_back(self);
-}
-
-impl<
-    M: ManageConnection,
-    H: HandleError<M::Error>,
-    V: HandleEvent + 'static,
-    Z: CustomizeConnection<M::Connection, M::Error>,
-    R: PoolRuntime,
-> GoesBack for PooledConnection<M, H, V, Z, R> {
-    fn go_back(self) {
-        let PooledConnection {
-            closer,
-            id,
-            lent_at,
-            connection,
-            extensions,
-        } = self;
-        let payload = Payload {
-            connection,
-            extensions,
-        };
-        closer.shared.take_back(id, lent_at, payload);
-    }
-}
-
-impl<
-    M: ManageConnection,
-    H: HandleError<M::Error>,
-    V: HandleEvent + 'static,
-    Z: CustomizeConnection<M::Connection, M::Error>,
-    R: PoolRuntime,
-> Drop for PooledConnection<M, H, V, Z, R> {
+impl<B: Guarded<Payload = PayloadOf<M>>, M: ManageConnection, K: Hooks<M>, R: PoolRuntime> Drop
+    for AnyConnection<B, M, K, R> {
+    // Puts the connection back, and only then lets the pool go.
     fn drop(self) {
-        self.go_back();
+        let AnyConnection {
+            closer,
+            lent_at,
+            lent,
+        } = self;
+        closer.shared.take_back(lent_at, lent);
     }
 }
