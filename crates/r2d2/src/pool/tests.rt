@@ -1,7 +1,7 @@
 // The pool in real threads and in real time: what no clause says of it.
 
 use super::*;
-use crate::event::{AcquireEvent, CheckinEvent, CheckoutEvent, ReleaseEvent};
+use crate::event::{AcquireEvent, CheckinEvent, CheckoutEvent, ReleaseEvent, TimeoutEvent};
 use crate::tests::{Kind, Value};
 use r2d2_core::Record;
 use std::alloc::{AllocError, Global};
