@@ -55,7 +55,11 @@ impl<H, V, Z> Config<H, V, Z> {
         ensures settings { result.0 ≡ with_handlers error_handler event_handler connection_customizer self }
         ensures handlers { result.1 ≡ (self.error_handler, self.event_handler, self.connection_customizer) }
     {
-        let handlers = (self.error_handler, self.event_handler, self.connection_customizer);
+        let handlers = (
+            self.error_handler,
+            self.event_handler,
+            self.connection_customizer,
+        );
         let config = Config {
             max_size: self.max_size,
             min_idle: self.min_idle,
@@ -80,7 +84,8 @@ impl<H, V, Z> Config<H, V, Z> {
         ensures { result ≡ with_error_handler error_handler self }
     {
         let (bare, (_, event_handler, customizer)) = self.with_handlers((), (), ());
-        bare.with_handlers(error_handler, event_handler, customizer).0
+        bare.with_handlers(error_handler, event_handler, customizer)
+            .0
     }
 
     /// The same settings, and another handler of events.
@@ -90,7 +95,8 @@ impl<H, V, Z> Config<H, V, Z> {
         ensures { result ≡ with_event_handler event_handler self }
     {
         let (bare, (error_handler, _, customizer)) = self.with_handlers((), (), ());
-        bare.with_handlers(error_handler, event_handler, customizer).0
+        bare.with_handlers(error_handler, event_handler, customizer)
+            .0
     }
 
     /// The same settings, and another customizer.
@@ -100,7 +106,8 @@ impl<H, V, Z> Config<H, V, Z> {
         ensures { result ≡ with_customizer customizer self }
     {
         let (bare, (error_handler, event_handler, _)) = self.with_handlers((), (), ());
-        bare.with_handlers(error_handler, event_handler, customizer).0
+        bare.with_handlers(error_handler, event_handler, customizer)
+            .0
     }
 }
 

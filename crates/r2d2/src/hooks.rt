@@ -76,8 +76,7 @@ impl<
     }
 
     fn release(&self, id: u64, age: Duration, connection: M::Connection) {
-        self.event_handler
-            .handle_release(ReleaseEvent::of(id, age));
+        self.event_handler.handle_release(ReleaseEvent::of(id, age));
         self.connection_customizer.on_release(connection);
     }
 }

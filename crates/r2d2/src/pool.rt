@@ -4,7 +4,7 @@ ghost use Rattle.std.specs.Arc.{arc_value};
 ghost use Rattle.r2d2_core.specs.Reports.{DoesReplay, HasSoundCounts};
 
 use self::closing::Closer;
-use self::guarded::Guarded;
+use self::guarded::Keeps;
 use self::lent::AnyConnection;
 use self::locking::Shared;
 pub use self::state::State;
@@ -32,7 +32,6 @@ mod lending;
 mod lent;
 mod locking;
 mod opening;
-mod reaping;
 mod returning;
 mod state;
 mod waiting;
@@ -49,41 +48,25 @@ impl<R: Clock + Threads + Wait + AllocGlobal + Copy + Send + Sync + 'static> Poo
 pub type Pool<M, H, V, Z, R> = AnyPool<Book<PayloadOf<M>>, M, Config<H, V, Z>, R>;
 
 /// A connection that a pool lent. It goes back to the pool when it is dropped, and keeps the pool's state alive until then.
-pub type PooledConnection<M, H, V, Z, R> = AnyConnection<
-    Book<PayloadOf<M>>,
-    M,
-    Config<H, V, Z>,
-    R,
->;
+pub type PooledConnection<M, H, V, Z, R> = AnyConnection<Book<PayloadOf<M>>, M, Config<H, V, Z>, R>;
 
 /// A pool whose handlers and customizer do nothing.
 pub type PlainPool<M, R> = Pool<M, NopErrorHandler, NopEventHandler, NopConnectionCustomizer, R>;
 
 /// A pool of connections, whatever its lock guards.
 #[derive(Drop)]
-pub struct AnyPool<
-    B: Guarded<Payload = PayloadOf<M>>,
-    M: ManageConnection,
-    K: Hooks<M>,
-    R: PoolRuntime,
-> {
+pub struct AnyPool<B: Keeps<M>, M: ManageConnection, K: Hooks<M>, R: PoolRuntime> {
     closer: Arc<Closer<B, M, K, R>>,
 }
 
 // Contracts see a pool as its settings: what its lock holds, other threads change.
-impl<B: Guarded<Payload = PayloadOf<M>>, M: ManageConnection, K: Hooks<M>, R: PoolRuntime> Model
-    for AnyPool<B, M, K, R> {
+impl<B: Keeps<M>, M: ManageConnection, K: Hooks<M>, R: PoolRuntime> Model for AnyPool<B, M, K, R> {
     ghost Value = { K };
 
     ghost view = { λ p. (arc_value (arc_value p.closer).shared).hooks };
 }
 
-impl<B: Guarded<Payload = PayloadOf<M>>, M: ManageConnection, K: Hooks<M>, R: PoolRuntime> AnyPool<
-    B,
-    M,
-    K,
-    R,
-> {
+impl<B: Keeps<M>, M: ManageConnection, K: Hooks<M>, R: PoolRuntime> AnyPool<B, M, K, R> {
     ghost use Rattle.r2d2.specs.Failures.{IsOfMemory};
 
     // What it shares with its workers and with what it lends.
@@ -121,7 +104,7 @@ impl<B: Guarded<Payload = PayloadOf<M>>, M: ManageConnection, K: Hooks<M>, R: Po
 
 // What the settings say.
 impl<
-    B: Guarded<Payload = PayloadOf<M>>,
+    B: Keeps<M>,
     M: ManageConnection,
     H: HandleError<M::Error>,
     V: HandleEvent + 'static,
@@ -230,7 +213,7 @@ impl<M: ManageConnection, R: PoolRuntime> PlainPool<M, R> {
 }
 
 impl<
-    B: Guarded<Payload = PayloadOf<M>>,
+    B: Keeps<M>,
     M: ManageConnection + fmt::Debug,
     K: Hooks<M> + fmt::Debug,
     R: PoolRuntime,

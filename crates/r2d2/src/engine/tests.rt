@@ -1,8 +1,8 @@
 // Each call beside the book's own step on a second book, and what opening calls, of which no clause can speak.
 
 use super::*;
-use crate::{CustomizeConnection, NopConnectionCustomizer};
 use crate::tests::Numbers;
+use crate::{CustomizeConnection, NopConnectionCustomizer};
 use pairs::{Call, Stage, row};
 use std::test::Fail;
 

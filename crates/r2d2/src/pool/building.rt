@@ -5,7 +5,7 @@ ghost use Rattle.std.specs.Arc.{arc_value};
 ghost use Rattle.r2d2.specs.Failures.{IsOfMemoryOrThreads};
 
 use super::closing::Closer;
-use super::guarded::Guarded;
+use super::guarded::{Guarded, Keeps};
 use super::locking::Shared;
 use super::{AnyPool, Pool, PoolRuntime};
 use crate::config::Builder;
@@ -121,12 +121,7 @@ fn share<B: Guarded, M: Drop, K: Drop, R: PoolRuntime>(
 }
 
 // Starts a worker for each list, in a thread of its own.
-fn start_workers<
-    B: Guarded<Payload = PayloadOf<M>> + Send + 'static,
-    M: ManageConnection,
-    K: Hooks<M>,
-    R: PoolRuntime,
->(
+fn start_workers<B: Keeps<M> + Send + 'static, M: ManageConnection, K: Hooks<M>, R: PoolRuntime>(
     closer: &Arc<Closer<B, M, K, R>>,
     lists: Vec<Vec<Released<PayloadOf<M>>>>,
 ) -> Result<(), Error>
@@ -142,18 +137,16 @@ fn start_workers<
 }
 
 // Starts a worker; false where its thread can't be started.
-fn start<
-    B: Guarded<Payload = PayloadOf<M>> + Send + 'static,
-    M: ManageConnection,
-    K: Hooks<M>,
-    R: PoolRuntime,
->(shared: Arc<Shared<B, M, K, R>>, expired: Vec<Released<PayloadOf<M>>>) -> bool {
+fn start<B: Keeps<M> + Send + 'static, M: ManageConnection, K: Hooks<M>, R: PoolRuntime>(
+    shared: Arc<Shared<B, M, K, R>>,
+    expired: Vec<Released<PayloadOf<M>>>,
+) -> bool {
     let rt = shared.rt;
     thread::spawn(&rt, move || work(shared, expired)).is_ok()
 }
 
 // The whole life of a worker.
-fn work<B: Guarded<Payload = PayloadOf<M>>, M: ManageConnection, K: Hooks<M>, R: PoolRuntime>(
+fn work<B: Keeps<M>, M: ManageConnection, K: Hooks<M>, R: PoolRuntime>(
     shared: Arc<Shared<B, M, K, R>>,
     expired: Vec<Released<PayloadOf<M>>>,
 ) {

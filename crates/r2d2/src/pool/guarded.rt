@@ -2,7 +2,9 @@
 ghost use Rattle.std.specs.Prelude.{◌≡◌, ℕ, ◌+◌, ◌<◌, MatchOption};
 
 use super::lent::Lent;
+use crate::ManageConnection;
 use crate::engine::{Outcome, Settled, Wakes, give_back, lend, settle, sweep};
+use crate::payload::PayloadOf;
 use r2d2_core::machine::Leftover;
 use r2d2_core::{Book, Job, Refusal, Released, Returned};
 use std::time::Duration;
@@ -39,7 +41,10 @@ pub trait Guarded: Drop {
         now: Duration,
         lent: Lent<Self::Payload>,
         broken: bool,
-    ) -> (Result<Returned<Self::Payload>, (Refusal, Self::Payload)>, Wakes);
+    ) -> (
+        Result<Returned<Self::Payload>, (Refusal, Self::Payload)>,
+        Wakes,
+    );
 
     /// Settles what became of an opening or a check.
     fn settle(
@@ -66,6 +71,11 @@ pub trait Guarded: Drop {
     /// The book, to be read.
     fn book(&self) -> &Book<Self::Payload>;
 }
+
+/// A guarded book of what a pool over this manager lends.
+pub trait Keeps<M: ManageConnection>: Guarded<Payload = PayloadOf<M>> {}
+
+impl<M: ManageConnection, B: Guarded<Payload = PayloadOf<M>>> Keeps<M> for B {}
 
 impl<P: Drop> Guarded for Book<P> {
     type Payload = P;

@@ -3,7 +3,7 @@ ghost use Rattle.std.specs.Prelude.{◌≡◌, ◌≤◌, ◌<◌, ◌+◌, IfOk
 ghost use Rattle.std.specs.Arc.{arc_value};
 
 use super::closing::Closer;
-use super::guarded::Guarded;
+use super::guarded::Keeps;
 use super::lent::{AnyConnection, Lent};
 use super::locking::Shared;
 use super::returning::Receives;
@@ -16,12 +16,7 @@ use r2d2_core::Released;
 use std::sync::Arc;
 use std::time::Duration;
 
-impl<B: Guarded<Payload = PayloadOf<M>>, M: ManageConnection, K: Hooks<M>, R: PoolRuntime> AnyPool<
-    B,
-    M,
-    K,
-    R,
-> {
+impl<B: Keeps<M>, M: ManageConnection, K: Hooks<M>, R: PoolRuntime> AnyPool<B, M, K, R> {
     ghost use Rattle.r2d2.specs.Failures.{IsOfMemory, IsOfMemoryOrTime};
 
     /// Lends a connection that passed its check, and waits for one at most so long.
@@ -84,12 +79,7 @@ impl<B: Guarded<Payload = PayloadOf<M>>, M: ManageConnection, K: Hooks<M>, R: Po
     }
 }
 
-impl<B: Guarded<Payload = PayloadOf<M>>, M: ManageConnection, K: Hooks<M>, R: PoolRuntime> Shared<
-    B,
-    M,
-    K,
-    R,
-> {
+impl<B: Keeps<M>, M: ManageConnection, K: Hooks<M>, R: PoolRuntime> Shared<B, M, K, R> {
     /// The connection, where it need not be checked, or its check finds it sound. Else it is closed.
     fn checked(&self, mut lent: Lent<PayloadOf<M>>) -> Option<Lent<PayloadOf<M>>> {
         if self.hooks.test_on_check_out() {

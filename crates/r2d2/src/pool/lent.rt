@@ -3,7 +3,7 @@ ghost use Rattle.std.specs.Prelude.{◌≡◌};
 
 use super::PoolRuntime;
 use super::closing::Closer;
-use super::guarded::Guarded;
+use super::guarded::{Guarded, Keeps};
 use super::returning::Receives;
 use crate::hooks::Hooks;
 use crate::payload::PayloadOf;
@@ -34,12 +34,7 @@ impl<P> Lent<P> {
 }
 
 /// A connection that a pool lent, whatever its lock guards.
-pub struct AnyConnection<
-    B: Guarded<Payload = PayloadOf<M>>,
-    M: ManageConnection,
-    K: Hooks<M>,
-    R: PoolRuntime,
-> {
+pub struct AnyConnection<B: Keeps<M>, M: ManageConnection, K: Hooks<M>, R: PoolRuntime> {
     pub(super) closer: Arc<Closer<B, M, K, R>>,
     /// When it was lent.
     pub(super) lent_at: Duration,
@@ -47,7 +42,7 @@ pub struct AnyConnection<
 }
 
 // Contracts see a lent connection as what can be reached through it, and the settings of its pool.
-impl<B: Guarded<Payload = PayloadOf<M>>, M: ManageConnection, K: Hooks<M>, R: PoolRuntime> Model
+impl<B: Keeps<M>, M: ManageConnection, K: Hooks<M>, R: PoolRuntime> Model
     for AnyConnection<B, M, K, R> {
     ghost use Rattle.std.specs.Arc.{arc_value};
     ghost use Rattle.r2d2.specs.Lending.{Lending};
@@ -57,12 +52,7 @@ impl<B: Guarded<Payload = PayloadOf<M>>, M: ManageConnection, K: Hooks<M>, R: Po
     ghost view = { λ l. record { connection = l.lent.payload.connection; extensions = l.lent.payload.extensions; settings = (arc_value (arc_value l.closer).shared).hooks } };
 }
 
-impl<B: Guarded<Payload = PayloadOf<M>>, M: ManageConnection, K: Hooks<M>, R: PoolRuntime> AnyConnection<
-    B,
-    M,
-    K,
-    R,
-> {
+impl<B: Keeps<M>, M: ManageConnection, K: Hooks<M>, R: PoolRuntime> AnyConnection<B, M, K, R> {
     ghost use Rattle.std.specs.Borrow.{sem, Lends};
     ghost use Rattle.r2d2.specs.contracts.extensions.Extensions.{the_row as extensions_row};
     ghost use Rattle.r2d2.specs.contracts.pool.lent.AnyConnection.{the_row};
@@ -83,7 +73,7 @@ impl<B: Guarded<Payload = PayloadOf<M>>, M: ManageConnection, K: Hooks<M>, R: Po
     }
 }
 
-impl<B: Guarded<Payload = PayloadOf<M>>, M: ManageConnection, K: Hooks<M>, R: PoolRuntime> Deref
+impl<B: Keeps<M>, M: ManageConnection, K: Hooks<M>, R: PoolRuntime> Deref
     for AnyConnection<B, M, K, R> {
     type Target = M::Connection;
 
@@ -94,7 +84,7 @@ impl<B: Guarded<Payload = PayloadOf<M>>, M: ManageConnection, K: Hooks<M>, R: Po
     }
 }
 
-impl<B: Guarded<Payload = PayloadOf<M>>, M: ManageConnection, K: Hooks<M>, R: PoolRuntime> DerefMut
+impl<B: Keeps<M>, M: ManageConnection, K: Hooks<M>, R: PoolRuntime> DerefMut
     for AnyConnection<B, M, K, R> {
     ghost use Rattle.std.specs.Borrow.{sem, Lends};
     ghost use Rattle.r2d2.specs.contracts.pool.lent.AnyConnection.{the_row};
@@ -109,12 +99,8 @@ impl<B: Guarded<Payload = PayloadOf<M>>, M: ManageConnection, K: Hooks<M>, R: Po
     }
 }
 
-impl<
-    B: Guarded<Payload = PayloadOf<M>>,
-    M: ManageConnection,
-    K: Hooks<M>,
-    R: PoolRuntime,
-> fmt::Debug for AnyConnection<B, M, K, R>
+impl<B: Keeps<M>, M: ManageConnection, K: Hooks<M>, R: PoolRuntime> fmt::Debug
+    for AnyConnection<B, M, K, R>
 where
     M::Connection: fmt::Debug,
 {
@@ -123,7 +109,7 @@ where
     }
 }
 
-impl<B: Guarded<Payload = PayloadOf<M>>, M: ManageConnection, K: Hooks<M>, R: PoolRuntime> Drop
+impl<B: Keeps<M>, M: ManageConnection, K: Hooks<M>, R: PoolRuntime> Drop
     for AnyConnection<B, M, K, R> {
     // Puts the connection back, and only then lets the pool go.
     fn drop(self) {

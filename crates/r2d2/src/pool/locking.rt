@@ -98,10 +98,7 @@ impl<B: Guarded, M, K, R: Clock + Wait> Shared<B, M, K, R> {
         ensures parts { B.parts tally.new ≡ B.parts tally.old }
         ensures amount { MatchOption result (B.amount tally.new ≡ B.amount tally.old) (λ _. B.amount tally.new ≡ B.amount tally.old + B.per_take) }
     {
-        self.step(
-            tally,
-            |guarded, now, tally| guarded.lend(now, false, tally),
-        )
+        self.step(tally, |guarded, now, tally| guarded.lend(now, false, tally))
     }
 
     /// Puts a lent connection back. One that is closed, or refused, comes back.
@@ -126,10 +123,7 @@ impl<B: Guarded, M, K, R: Clock + Wait> Shared<B, M, K, R> {
 
     /// Tells the book of an outcome.
     pub(super) fn settle(&self, outcome: Outcome<B::Payload>) -> Settled<B::Payload> {
-        self.step(
-            &mut (),
-            |guarded, now, _| guarded.settle(now, outcome),
-        )
+        self.step(&mut (), |guarded, now, _| guarded.settle(now, outcome))
     }
 
     /// Closes the book, and hands over what was idle.

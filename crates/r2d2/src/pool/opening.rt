@@ -1,7 +1,7 @@
 // How workers open connections.
 
 use super::PoolRuntime;
-use super::guarded::Guarded;
+use super::guarded::Keeps;
 use super::locking::Shared;
 use crate::ManageConnection;
 use crate::engine::Outcome;
@@ -9,12 +9,7 @@ use crate::hooks::Hooks;
 use crate::payload::{Payload, PayloadOf, open};
 use r2d2_core::Refusal;
 
-impl<B: Guarded<Payload = PayloadOf<M>>, M: ManageConnection, K: Hooks<M>, R: PoolRuntime> Shared<
-    B,
-    M,
-    K,
-    R,
-> {
+impl<B: Keeps<M>, M: ManageConnection, K: Hooks<M>, R: PoolRuntime> Shared<B, M, K, R> {
     /// One opening, after so many failures. The lock is not held while the manager and the customizer are called.
     pub(super) fn open(&self, tries: u32) {
         match open(&self.manager, self.hooks.customizer()) {

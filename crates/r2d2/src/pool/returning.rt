@@ -1,7 +1,7 @@
-// How a lent connection comes back, and how one is released that the pool closed.
+// How a lent connection comes back, and how those are released that the pool closed.
 
 use super::PoolRuntime;
-use super::guarded::Guarded;
+use super::guarded::Keeps;
 use super::lent::Lent;
 use super::locking::Shared;
 use crate::ManageConnection;
@@ -19,9 +19,8 @@ pub(super) trait Receives<P> {
     fn release(&self, released: Released<P>);
 }
 
-impl<B: Guarded<Payload = PayloadOf<M>>, M: ManageConnection, K: Hooks<M>, R: PoolRuntime> Receives<
-    PayloadOf<M>,
-> for Shared<B, M, K, R> {
+impl<B: Keeps<M>, M: ManageConnection, K: Hooks<M>, R: PoolRuntime> Receives<PayloadOf<M>>
+    for Shared<B, M, K, R> {
     fn take_back(&self, lent_at: Duration, mut lent: Lent<PayloadOf<M>>) {
         let id = lent.id;
         self.hooks.check_in(id, lent_at, self.moment());
@@ -36,5 +35,14 @@ impl<B: Guarded<Payload = PayloadOf<M>>, M: ManageConnection, K: Hooks<M>, R: Po
         let Released { id, age, value } = released;
         let Payload { connection, .. } = value;
         self.hooks.release(id, age, connection);
+    }
+}
+
+impl<B: Keeps<M>, M: ManageConnection, K: Hooks<M>, R: PoolRuntime> Shared<B, M, K, R> {
+    /// Releases what a reap closed, and empties the list.
+    pub(super) fn release_all(&self, expired: &mut Vec<Released<PayloadOf<M>>>) {
+        for released in expired.drain(..) {
+            self.release(released);
+        }
     }
 }

@@ -2,7 +2,7 @@
 ghost use Rattle.std.specs.Prelude.{◌≡◌, ◌<◌, ◌+◌, OnOk, OnErr};
 
 use super::PoolRuntime;
-use super::guarded::Guarded;
+use super::guarded::{Guarded, Keeps};
 use super::lent::Lent;
 use super::locking::Shared;
 use crate::ManageConnection;
@@ -62,12 +62,7 @@ impl<B: Guarded, M, K, R: Clock + Wait> Shared<B, M, K, R> {
     }
 }
 
-impl<B: Guarded<Payload = PayloadOf<M>>, M: ManageConnection, K: Hooks<M>, R: PoolRuntime> Shared<
-    B,
-    M,
-    K,
-    R,
-> {
+impl<B: Keeps<M>, M: ManageConnection, K: Hooks<M>, R: PoolRuntime> Shared<B, M, K, R> {
     /// Does what is due, and waits where nothing is, until the pool is closed. The list is for the connections that a reap closes.
     pub(super) fn work(&self, mut expired: Vec<Released<PayloadOf<M>>>) {
         for _ in self.rt.forever() {
