@@ -29,7 +29,7 @@ pub struct PooledConnection<
     pub(super) extensions: Extensions<M::Extension>,
 }
 
-// Contracts see a lent connection as what can be reached through it, and the settings of its pool.
+// Contracts see a lent connection as what can be reached through it, the settings of its pool, and how it was lent.
 impl<
     M: ManageConnection,
     H: HandleError<M::Error>,
@@ -43,7 +43,7 @@ impl<
 
     ghost Value = { Lending M.Connection M.Extension.Kind M.Extension (Config H V Z) };
 
-    ghost view = { λ l. record { connection = l.connection; extensions = l.extensions; settings = (arc_value (arc_value l.closer).shared).config } };
+    ghost view = { λ l. record { connection = l.connection; extensions = l.extensions; settings = (arc_value (arc_value l.closer).shared).config; id = l.id; lent_at = l.lent_at } };
 }
 
 impl<
