@@ -1,7 +1,7 @@
 //! A user's own code over a pool: it rests on the contracts of the pool's calls.
 #![tactic(auto)]
 
-ghost use Rattle.std.specs.Prelude.{◌≡◌, ◌≤◌, ◌↔◌, IsTrue, IsSome, IfOk, IfSome};
+ghost use Rattle.std.specs.Prelude.{◌≡◌, ◌+◌, ◌^◌, ◌<◌, ◌≤◌, ◌↔◌, IsTrue, IsSome, IfOk, IfSome};
 ghost use Rattle.std.specs.Option.{ForSome};
 ghost use Rattle.r2d2_core.specs.Reports.{DoesReplay};
 
@@ -11,6 +11,7 @@ use r2d2::{
     Builder, CustomizeConnection, Error, HandleError, ManageConnection, Pool, PoolRuntime,
     PooledConnection,
 };
+use std::time::Duration;
 
 /// How busy a pool is at one moment.
 #[derive(Clone, Copy, PartialEq, Eq, Debug)]
@@ -86,6 +87,51 @@ pub fn audit<
         return Ok(None);
     }
     Ok(Some(report))
+}
+
+/// How many more openings the pool's limit leaves room for now, whatever its journal has lost.
+pub fn room_left<
+    M: ManageConnection,
+    H: HandleError<M::Error>,
+    V: HandleEvent + 'static,
+    Z: CustomizeConnection<M::Connection, M::Error>,
+    R: PoolRuntime,
+>(pool: &Pool<M, H, V, Z, R>) -> Result<u32, Error> {
+    let report = pool.journal()?;
+    // Connections and pending openings are at most the report's own limit, so neither difference is below zero.
+    Ok(report.limits.max_size() - report.connections - report.pending)
+}
+
+/// Lends a connection, and says how long the pool that lent it lets callers wait.
+pub fn lend_with_timeout<
+    M: ManageConnection,
+    H: HandleError<M::Error>,
+    V: HandleEvent + 'static,
+    Z: CustomizeConnection<M::Connection, M::Error>,
+    R: PoolRuntime,
+>(
+    pool: &Pool<M, H, V, Z, R>,
+) -> Result<(PooledConnection<M, H, V, Z, R>, Duration), Error>
+    ensures { IfOk result (λ lent. lent.1 ≡ lent.0.settings.connection_timeout) }
+{
+    let lent = pool.get()?;
+    Ok((lent, pool.connection_timeout()))
+}
+
+/// Counts two uses in a pool whose connections are counters: the second one finds what the first one left.
+pub fn count_two_uses<
+    M: ManageConnection<Connection = u64>,
+    H: HandleError<M::Error>,
+    V: HandleEvent + 'static,
+    Z: CustomizeConnection<M::Connection, M::Error>,
+    R: PoolRuntime,
+>(lent: &mut PooledConnection<M, H, V, Z, R>)
+    requires { lent.old.connection + 2 < 2 ^ 64 }
+    ensures counted { lent.new.connection ≡ lent.old.connection + 2 }
+    ensures extensions { lent.new.extensions ≡ lent.old.extensions }
+{
+    **lent += 1;
+    **lent += 1;
 }
 
 /// Puts another connection in the place of the lent one. What is kept beside it stays.

@@ -11,7 +11,7 @@ use std::mem;
 /// A value that names the kind under which it is kept. Mostly it is an enum, with a case for each kind.
 pub trait Extension {
     /// The kinds. There is at most one value for each.
-    type Kind: Eq + Send + Drop + 'static;
+    type Kind: Eq + Drop + 'static;
 
     // The kind of a value, as contracts name it.
     ghost kind_of: { Self → Self.Kind };

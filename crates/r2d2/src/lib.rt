@@ -32,8 +32,8 @@ pub trait ManageConnection: Send + Sync + Drop + 'static {
     /// Why opening or checking failed. A pool shows its text to a caller who waited in vain.
     type Error: fmt::Display + Send + Drop + 'static;
 
-    /// What a connection's `Extensions` hold.
-    type Extension: Extension + Send + Drop + 'static;
+    /// What a connection's `Extensions` hold. They travel with it from thread to thread.
+    type Extension: Extension<Kind: Send> + Send + Drop + 'static;
 
     /// Opens a connection.
     fn connect(&self) -> Result<Self::Connection, Self::Error>;

@@ -41,7 +41,7 @@ pub struct AnyConnection<B: Keeps<M>, M: ManageConnection, K: Hooks<M>, R: PoolR
     pub(super) lent: Lent<PayloadOf<M>>,
 }
 
-// Contracts see a lent connection as what can be reached through it, and the settings of its pool.
+// Contracts see a lent connection as what can be reached through it, the settings of its pool, and how it was lent.
 impl<B: Keeps<M>, M: ManageConnection, K: Hooks<M>, R: PoolRuntime> Model
     for AnyConnection<B, M, K, R> {
     ghost use Rattle.std.specs.Arc.{arc_value};
@@ -49,7 +49,7 @@ impl<B: Keeps<M>, M: ManageConnection, K: Hooks<M>, R: PoolRuntime> Model
 
     ghost Value = { Lending M.Connection M.Extension.Kind M.Extension K };
 
-    ghost view = { λ l. record { connection = l.lent.payload.connection; extensions = l.lent.payload.extensions; settings = (arc_value (arc_value l.closer).shared).hooks } };
+    ghost view = { λ l. record { connection = l.lent.payload.connection; extensions = l.lent.payload.extensions; settings = (arc_value (arc_value l.closer).shared).hooks; id = l.lent.id; lent_at = l.lent_at } };
 }
 
 impl<B: Keeps<M>, M: ManageConnection, K: Hooks<M>, R: PoolRuntime> AnyConnection<B, M, K, R> {

@@ -242,6 +242,12 @@ fn watched<R: Clock>(rt: &R, count: &AtomicU64, awaited: u64, looks: u32) -> u64
     count.load(Ordering::SeqCst)
 }
 
+/// Keeps a connection for so long, and then gives it back.
+fn keep<C: Drop, R: Clock + Drop>(rt: R, length: Duration, lent: C) {
+    thread::sleep(&rt, length);
+    drop(lent);
+}
+
 /// Lends a connection so many times; it answers how often one was found.
 fn checkouts<M: ManageConnection, R: PoolRuntime>(pool: Plain<M, R>, times: u32) -> u32 {
     let mut found = 0u32;

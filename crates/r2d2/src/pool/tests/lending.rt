@@ -2,12 +2,6 @@
 
 use super::*;
 
-// Keeps a connection for so long, and then gives it back.
-fn keep<C: Drop, R: Clock + Drop>(rt: R, length: Duration, lent: C) {
-    thread::sleep(&rt, length);
-    drop(lent);
-}
-
 #[test]
 fn test_acquire_release(rt: HostRuntime) -> Result<(), Fail> {
     let pool = Builder::new().max_size(2).build(rt, Sevens)?;
@@ -32,6 +26,18 @@ fn try_get(rt: HostRuntime) -> Result<(), Fail> {
     assert!(rt; third.is_none());
     drop(first);
     assert!(rt; pool.try_get()?.is_some());
+    Ok(())
+}
+
+#[test]
+fn try_get_orders_none(rt: HostRuntime) -> Result<(), Fail> {
+    let pool = Builder::new()
+        .max_size(1)
+        .min_idle(Some(0))
+        .build(rt, Sevens)?;
+    assert!(rt; pool.try_get()?.is_none());
+    let report = pool.journal()?;
+    assert_eq!(rt; (report.connections, report.pending), (0, 0));
     Ok(())
 }
 

@@ -12,7 +12,7 @@ invariant_of-self-lent g c =
 
 pub returns : goal.returns
 returns g c =
-    let kinds = g.met.X.Kind.Eq g.world.𝓛 g.world.𝓜 g.world.𝓡 ((λ s x. x), (λ x. x), (λ x. x), λ x. x) in
+    let kinds = g.met.X.Kind.Eq in
     let test = g.X.Kind.PartialEq.eq c.args.kind.now in
     let at = subst (λ es. IsPlaceOf test es c.in_ok-place.place) c.deref.ensures.value c.in_ok-place.ensures.some in (
       same_end _ _ _ (λ w. set_through _ _ _ _ c.index_mut-entry.ensures.value at w ∙ ap (λ es. set_value test es w) c.self.view_is),
