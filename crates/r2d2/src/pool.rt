@@ -4,19 +4,18 @@ ghost use Rattle.std.specs.Arc.{arc_value};
 ghost use Rattle.r2d2_core.specs.Reports.{DoesReplay, HasSoundCounts};
 
 use self::closing::Closer;
-use self::guarded::Keeps;
+use self::guarded::{Keeps, Plain};
 use self::lent::AnyConnection;
 use self::locking::Shared;
 pub use self::state::State;
 use crate::config::{Builder, Config};
 use crate::event::{HandleEvent, NopEventHandler};
 use crate::hooks::Hooks;
-use crate::payload::PayloadOf;
 use crate::{
     CustomizeConnection, Error, HandleError, ManageConnection, NopConnectionCustomizer,
     NopErrorHandler,
 };
-use r2d2_core::{Book, Report};
+use r2d2_core::Report;
 use std::alloc::AllocGlobal;
 use std::fmt;
 use std::marker::Model;
@@ -45,10 +44,10 @@ impl<R: Clock + Threads + Wait + AllocGlobal + Copy + Send + Sync + 'static> Poo
 ///
 /// `M` opens connections, `H` handles errors, `V` events, `Z` changes connections as they come and go, and `R` is the runtime. The pool closes
 /// when the last value over its state, a `Pool` or a lent connection, is dropped.
-pub type Pool<M, H, V, Z, R> = AnyPool<Book<PayloadOf<M>>, M, Config<H, V, Z>, R>;
+pub type Pool<M, H, V, Z, R> = AnyPool<Plain<M>, M, Config<H, V, Z>, R>;
 
 /// A connection that a pool lent. It goes back to the pool when it is dropped, and keeps the pool's state alive until then.
-pub type PooledConnection<M, H, V, Z, R> = AnyConnection<Book<PayloadOf<M>>, M, Config<H, V, Z>, R>;
+pub type PooledConnection<M, H, V, Z, R> = AnyConnection<Plain<M>, M, Config<H, V, Z>, R>;
 
 /// A pool whose handlers and customizer do nothing.
 pub type PlainPool<M, R> = Pool<M, NopErrorHandler, NopEventHandler, NopConnectionCustomizer, R>;

@@ -5,7 +5,7 @@ ghost use Rattle.std.specs.Arc.{arc_value};
 ghost use Rattle.r2d2.specs.Failures.{IsOfMemoryOrThreads};
 
 use super::closing::Closer;
-use super::guarded::{Guarded, Keeps};
+use super::guarded::{Guarded, Keeps, Plain};
 use super::locking::Shared;
 use super::{AnyPool, Pool, PoolRuntime};
 use crate::config::Builder;
@@ -62,7 +62,7 @@ impl<
         let book = Book::new(rt.alloc(), limits, Duration::ZERO, config.journal_room).map_err(
             |_| Error::memory(),
         )?;
-        let closer = share(rt, book, config, manager).map_err(|_| Error::memory())?;
+        let closer = share(rt, Plain { book }, config, manager).map_err(|_| Error::memory())?;
         start_workers(&closer, lists)?;
         Ok(AnyPool { closer })
     }

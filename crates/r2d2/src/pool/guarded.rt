@@ -77,8 +77,15 @@ pub trait Keeps<M: ManageConnection>: Guarded<Payload = PayloadOf<M>> {}
 
 impl<M: ManageConnection, B: Guarded<Payload = PayloadOf<M>>> Keeps<M> for B {}
 
-impl<P: Drop> Guarded for Book<P> {
-    type Payload = P;
+/// A book of what a pool over this manager lends, and nothing that counts its takes. It is a type of its own, so that the type of a pool names no
+/// associated type: the toolchain does not find a closure's words in a clause where a bound names one.
+#[derive(Drop)]
+pub struct Plain<M: ManageConnection> {
+    pub(super) book: Book<PayloadOf<M>>,
+}
+
+impl<M: ManageConnection> Guarded for Plain<M> {
+    type Payload = PayloadOf<M>;
 
     type Tally = ();
 
@@ -88,52 +95,64 @@ impl<P: Drop> Guarded for Book<P> {
 
     ghost per_take = { 0 };
 
-    fn lend(&mut self, now: Duration, or_order: bool, _tally: &mut ()) -> (Option<Lent<P>>, Wakes) {
-        let (taken, wakes) = lend(self, now, or_order);
+    fn lend(
+        &mut self,
+        now: Duration,
+        or_order: bool,
+        _tally: &mut (),
+    ) -> (Option<Lent<PayloadOf<M>>>, Wakes) {
+        let (taken, wakes) = lend(&mut self.book, now, or_order);
         (Lent::of(taken), wakes)
     }
 
     fn put_back(
         &mut self,
         now: Duration,
-        lent: Lent<P>,
+        lent: Lent<PayloadOf<M>>,
         broken: bool,
-    ) -> (Result<Returned<P>, (Refusal, P)>, Wakes) {
+    ) -> (
+        Result<Returned<PayloadOf<M>>, (Refusal, PayloadOf<M>)>,
+        Wakes,
+    ) {
         let Lent { id, payload } = lent;
-        give_back(self, now, id, payload, broken)
+        give_back(&mut self.book, now, id, payload, broken)
     }
 
-    fn settle(&mut self, now: Duration, outcome: Outcome<P>) -> (Settled<P>, Wakes) {
-        settle(self, now, outcome)
+    fn settle(
+        &mut self,
+        now: Duration,
+        outcome: Outcome<PayloadOf<M>>,
+    ) -> (Settled<PayloadOf<M>>, Wakes) {
+        settle(&mut self.book, now, outcome)
     }
 
     // The list has room from the making on; but of a locked book its type alone is known, so this asks.
-    fn reap(&mut self, now: Duration, expired: &mut Vec<Released<P>>) -> Wakes {
-        let room = self.limits().max_size() as usize;
+    fn reap(&mut self, now: Duration, expired: &mut Vec<Released<PayloadOf<M>>>) -> Wakes {
+        let room = self.book.limits().max_size() as usize;
         if !expired.is_empty() || expired.capacity() < room {
             return Wakes::nobody();
         }
-        let (_ordered, wakes) = sweep(self, now, expired);
+        let (_ordered, wakes) = sweep(&mut self.book, now, expired);
         wakes
     }
 
     fn begin(&mut self, now: Duration) -> Job {
-        Book::begin(self, now)
+        self.book.begin(now)
     }
 
     fn number(&mut self, tries: u32) -> Result<u64, Refusal> {
-        Book::number(self, tries)
+        self.book.number(tries)
     }
 
     fn take_error(&mut self) -> Option<String> {
-        Book::take_error(self)
+        self.book.take_error()
     }
 
-    fn close(&mut self) -> Leftover<P> {
-        Book::close(self)
+    fn close(&mut self) -> Leftover<PayloadOf<M>> {
+        self.book.close()
     }
 
-    fn book(&self) -> &Book<P> {
-        self
+    fn book(&self) -> &Book<PayloadOf<M>> {
+        &self.book
     }
 }
