@@ -2,9 +2,9 @@
 
 use crate::lines::{push_state, tell};
 use crate::rows::row;
-use crate::steps::{begin, limits, ms, sized};
+use crate::steps::{begin, fail, limits, ms, number, sized};
 use r2d2_core::schedule::delay;
-use r2d2_core::{Answer, Core, Job, Limits, Step};
+use r2d2_core::{Core, Job, Limits, Step};
 use std::test::Fail;
 use std::time::Duration;
 
@@ -14,14 +14,18 @@ fn uses_ids_up(rt: HostRuntime) -> Result<(), Fail> {
     let limits = sized(2).ok_or("limits")?;
     let mut core: Core<u64> = Core::with_first_id(rt.alloc(), limits, now, u64::MAX - 1)?;
     let mut text = String::new(rt.alloc());
-    for _ in 0..2 {
-        tell(&mut text, 0, Answer::Begin(core.begin(now)))?;
+    let steps = [
+        begin(0),
+        begin(0),
+        number(0),
+        number(0),
+        fail(0, 0),
+        begin(0),
+    ];
+    for step in Vec::from_array(rt.alloc(), steps)? {
+        let answer = core.answer(rt.alloc(), step)?;
+        tell(&mut text, 0, answer)?;
     }
-    for _ in 0..2 {
-        tell(&mut text, 0, Answer::Number(core.number(0)))?;
-    }
-    tell(&mut text, 0, Answer::Fail(core.fail(now, 0, None)))?;
-    tell(&mut text, 0, Answer::Begin(core.begin(now)))?;
     push_state(&mut text, &core)?;
     assert_eq!(rt;
         text.as_str(),

@@ -2,62 +2,25 @@
 
 use crate::lines::tell;
 use crate::replays::replays;
-use crate::steps::{admit, begin, close, limits, ms, number, put_back, reap, sized, take, want};
+use crate::steps::{
+    admit, bad_by, begin, close, error, fail, id_of, limits, ms, number, put_back, reap, sized,
+    take, want,
+};
 use linked_list_allocator::LocalHeap;
 use r2d2_core::{Answer, Book, IdList, Limits, Record, RecordList, Report, Step};
 use std::alloc::{AllocError, Allocator, Global};
 use std::test::Fail;
 use std::time::Duration;
 
-fn copied(alloc: Global, text: &Option<String>) -> Result<Option<String>, AllocError> {
-    match text {
-        Some(text) => Ok(Some(String::from_str(alloc, text)?)),
-        None => Ok(None),
-    }
-}
-
-// What a book answers to a step, which is not used up.
-fn answer_to(
-    alloc: Global,
-    book: &mut Book<u64>,
-    step: &Step<u64>,
-) -> Result<Answer<u64>, AllocError> {
-    Ok(match step {
-        Step::Take { now, or_order } => Answer::Take(book.take(*now, *or_order)),
-        Step::Begin { now } => Answer::Begin(book.begin(*now)),
-        Step::Number { tries } => Answer::Number(book.number(*tries)),
-        Step::Admit { now, id, value } => Answer::Admit(book.admit(*now, *id, *value)),
-        Step::Fail { now, tries, text } => {
-            Answer::Fail(book.fail(*now, *tries, copied(alloc, text)?))
-        }
-        Step::FailCheck { now, id, text } => {
-            Answer::FailCheck(book.fail_check(*now, *id, copied(alloc, text)?))
-        }
-        Step::PutBack {
-            now,
-            id,
-            value,
-            broken,
-        } => Answer::PutBack(book.put_back(*now, *id, *value, *broken)),
-        Step::Reap { now } => {
-            let mut released = Vec::with_capacity(alloc, book.limits().max_size() as usize)?;
-            let ordered = book.reap(*now, &mut released);
-            Answer::Reap { released, ordered }
-        }
-        Step::TakeError => Answer::TakeError(book.take_error()),
-        Step::Close => Answer::Close(book.close()),
-    })
-}
-
 // What a book answers to steps, one answer each.
 pub(crate) fn answers_of_a_book(
     alloc: Global,
     book: &mut Book<u64>,
-    steps: &[Step<u64>],
+    steps: Vec<Step<u64>>,
 ) -> Result<Vec<Answer<u64>>, AllocError> {
     let mut answers = Vec::new(alloc);
     for step in steps {
-        let answer = answer_to(alloc, book, step)?;
+        let answer = book.answer(alloc, step)?;
         answers.push(answer)?;
     }
     Ok(answers)
@@ -98,7 +61,7 @@ fn one_kept(alloc: Global, room: usize) -> Result<Report, Fail> {
         take(2),
         put_back(3, 0, 7),
     ];
-    answers_of_a_book(alloc, &mut book, &steps)?;
+    answers_of_a_book(alloc, &mut book, Vec::from_array(alloc, steps)?)?;
     Ok(book.report()?)
 }
 
@@ -132,18 +95,12 @@ fn keeps_the_newest_records(rt: HostRuntime) -> Result<(), Fail> {
 fn two_reaped(alloc: Global) -> Result<Book<u64>, Fail> {
     let limits = limits(2, None, None, Some(1000), 30_000, 30_000).ok_or("limits")?;
     let mut book = Book::new(alloc, limits, Duration::ZERO, 4)?;
-    let steps = [
-        begin(0),
-        begin(0),
-        number(0),
-        number(0),
-        admit(0, 0, 70),
-        admit(0, 1, 71),
-        reap(999),
-        reap(1000),
-        want(1001),
-    ];
-    answers_of_a_book(alloc, &mut book, &steps)?;
+    let opening = [begin(0), begin(0), number(0), number(0)];
+    let admitting = [admit(0, 0, 70), admit(0, 1, 71)];
+    let reaping = [reap(999), reap(1000), want(1001)];
+    answers_of_a_book(alloc, &mut book, Vec::from_array(alloc, opening)?)?;
+    answers_of_a_book(alloc, &mut book, Vec::from_array(alloc, admitting)?)?;
+    answers_of_a_book(alloc, &mut book, Vec::from_array(alloc, reaping)?)?;
     Ok(book)
 }
 
@@ -188,7 +145,11 @@ fn reports_what_a_reap_did(rt: HostRuntime) -> Result<(), Fail> {
 fn reports_what_a_close_did(rt: HostRuntime) -> Result<(), Fail> {
     let alloc = rt.alloc();
     let mut book = two_reaped(alloc)?;
-    answers_of_a_book(alloc, &mut book, &[close(), close()])?;
+    answers_of_a_book(
+        alloc,
+        &mut book,
+        Vec::from_array(alloc, [close(), close()])?,
+    )?;
     let report = book.report()?;
     let last = Record::ClosedAll { at: ms(1001) };
     assert_eq!(rt; report.records.as_slice().len(), 4);
@@ -228,68 +189,42 @@ fn finds_a_report_that_does_not_replay(rt: HostRuntime) -> Result<(), Fail> {
 
 // MEMORY
 
-fn open_one<A: Allocator>(text: &mut String, book: &mut Book<u64, A>) -> Result<(), AllocError> {
-    for _ in 0..2 {
-        tell(text, 0, Answer::Begin(book.begin(ms(0))))?;
+// Every kind of step but a close, accepted and refused.
+fn steps(alloc: Global) -> Result<Vec<Step<u64>>, AllocError> {
+    let blammo = bad_by(alloc, 5, 0, "blammo")?;
+    let opening = vec![in alloc;
+        begin(0),
+        begin(0),
+        number(0),
+        admit(1, 0, 70),
+        admit(1, 0, 70),
+    ]?;
+    let lending = vec![in alloc; want(2), want(2), put_back(3, 0, 70), take(4), blammo]?;
+    let failing = vec![in alloc; fail(6, 0), fail(6, 0), error(), reap(7)]?;
+    let mut all = opening;
+    for more in [lending, failing] {
+        all.extend(more)?;
     }
-    tell(text, 0, Answer::Number(book.number(0)))?;
-    for _ in 0..2 {
-        tell(text, 0, Answer::Admit(book.admit(ms(1), 0, 70)))?;
-    }
-    Ok(())
+    Ok(all)
 }
 
-fn lend_one<A: Allocator>(
-    text: &mut String,
-    book: &mut Book<u64, A>,
-    blammo: Option<String>,
-) -> Result<(), AllocError> {
-    for _ in 0..2 {
-        tell(text, 0, Answer::Take(book.take(ms(2), true)))?;
-    }
-    tell(text, 0, Answer::PutBack(book.put_back(ms(3), 0, 70, false)))?;
-    tell(text, 0, Answer::Take(book.take(ms(4), false)))?;
-    tell(
-        text,
-        0,
-        Answer::FailCheck(book.fail_check(ms(5), 0, blammo)),
-    )
-}
-
-fn fail_one<A: Allocator>(text: &mut String, book: &mut Book<u64, A>) -> Result<(), AllocError> {
-    for _ in 0..2 {
-        tell(text, 0, Answer::Fail(book.fail(ms(6), 0, None)))?;
-    }
-    tell(text, 0, Answer::TakeError(book.take_error()))
-}
-
-fn reap_and_close<A: Allocator>(
-    alloc: Global,
-    text: &mut String,
-    book: &mut Book<u64, A>,
-) -> Result<(), AllocError> {
-    let mut released = Vec::with_capacity(alloc, book.limits().max_size() as usize)?;
-    let ordered = book.reap(ms(7), &mut released);
-    tell(text, 0, Answer::Reap { released, ordered })?;
-    for _ in 0..2 {
-        for (id, value) in book.close() {
-            write!(text, "left {id} {value}; ")?;
-        }
-    }
-    push_state_of_a_book(text, book)
-}
-
-// What every kind of step answers, accepted or refused.
+// What the steps answer, and two closes after them, whose values are told too.
 fn every_answer<A: Allocator>(
     alloc: Global,
     book: &mut Book<u64, A>,
 ) -> Result<String, AllocError> {
     let mut text = String::new(alloc);
-    let blammo = String::from_str(alloc, "blammo")?;
-    open_one(&mut text, book)?;
-    lend_one(&mut text, book, Some(blammo))?;
-    fail_one(&mut text, book)?;
-    reap_and_close(alloc, &mut text, book)?;
+    for step in steps(alloc)? {
+        let id = id_of(&step);
+        let answer = book.answer(alloc, step)?;
+        tell(&mut text, id, answer)?;
+    }
+    for _ in 0..2 {
+        for (id, value) in book.close() {
+            write!(text, "left {id} {value}; ")?;
+        }
+    }
+    push_state_of_a_book(&mut text, book)?;
     Ok(text)
 }
 

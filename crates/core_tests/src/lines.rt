@@ -5,12 +5,20 @@ use std::alloc::{AllocError, Allocator};
 use std::time::Duration;
 
 // An answer and a semicolon. The id is that of the step, where it names one.
-pub(crate) fn tell(text: &mut String, id: u64, answer: Answer<u64>) -> Result<(), AllocError> {
+pub(crate) fn tell<A: Allocator>(
+    text: &mut String,
+    id: u64,
+    answer: Answer<u64, A>,
+) -> Result<(), AllocError> {
     push_answer(text, id, answer)?;
     text.push_str("; ")
 }
 
-fn push_answer(text: &mut String, id: u64, answer: Answer<u64>) -> Result<(), AllocError> {
+fn push_answer<A: Allocator>(
+    text: &mut String,
+    id: u64,
+    answer: Answer<u64, A>,
+) -> Result<(), AllocError> {
     match answer {
         Answer::Take(take) => push_take(text, take),
         Answer::Begin(job) => push_job(text, job),

@@ -1,9 +1,12 @@
 // Memory is taken at the making alone.
 
 use crate::lines::{push_state, tell};
-use crate::steps::{limits, ms};
+use crate::steps::{
+    admit, bad, bad_by, begin, broken, error, fail_by, id_of, limits, number, put_back, reap, take,
+    want,
+};
 use linked_list_allocator::LocalHeap;
-use r2d2_core::{Answer, Core, Limits};
+use r2d2_core::{Core, Limits, Step};
 use std::alloc::{AllocError, Allocator, Global};
 use std::test::Fail;
 use std::time::Duration;
@@ -12,81 +15,63 @@ fn small() -> Option<Limits> {
     limits(2, None, None, Some(1000), 30_000, 30_000)
 }
 
-fn open_both<A: Allocator>(text: &mut String, core: &mut Core<u64, A>) -> Result<(), AllocError> {
-    for _ in 0..3 {
-        tell(text, 0, Answer::Begin(core.begin(ms(0))))?;
+// Every kind of step but a close, accepted and refused.
+fn steps(alloc: Global) -> Result<Vec<Step<u64>>, AllocError> {
+    let sick = bad_by(alloc, 5, 1, "sick")?;
+    let blammo = fail_by(alloc, 6, 0, "blammo")?;
+    let opening = vec![in alloc;
+        begin(0),
+        begin(0),
+        begin(0),
+        number(0),
+        number(0),
+        number(0),
+    ]?;
+    let admitting = vec![in alloc; admit(0, 0, 70), admit(0, 1, 71), admit(0, 2, 72)]?;
+    let lending = vec![in alloc;
+        take(1),
+        take(1),
+        want(1),
+        put_back(4, 0, 70),
+        sick,
+        bad(5, 1),
+    ]?;
+    let failing = vec![in alloc;
+        error(),
+        begin(5),
+        blammo,
+        reap(1004),
+        begin(1004),
+        number(1),
+    ]?;
+    let breaking = vec![in alloc; admit(1005, 2, 72), take(1006), broken(1008, 2, 72)]?;
+    let refused = vec![in alloc;
+        broken(1008, 2, 72),
+        begin(1008),
+        number(0),
+        admit(1009, 3, 73),
+    ]?;
+    let mut all = opening;
+    for more in [admitting, lending, failing, breaking, refused] {
+        all.extend(more)?;
     }
-    for _ in 0..3 {
-        tell(text, 0, Answer::Number(core.number(0)))?;
-    }
-    for id in 0..3 {
-        tell(text, 0, Answer::Admit(core.admit(ms(0), id, id + 70)))?;
-    }
-    Ok(())
+    Ok(all)
 }
 
-fn lend_both<A: Allocator>(
-    text: &mut String,
-    core: &mut Core<u64, A>,
-    sick: Option<String>,
-) -> Result<(), AllocError> {
-    for or_order in [false, false, true] {
-        tell(text, 0, Answer::Take(core.take(ms(1), or_order)))?;
+// What the steps answer, and two closes after them, whose values are told too.
+fn every_step<A: Allocator>(alloc: Global, core: &mut Core<u64, A>) -> Result<String, AllocError> {
+    let mut text = String::new(alloc);
+    for step in steps(alloc)? {
+        let id = id_of(&step);
+        let answer = core.answer(alloc, step)?;
+        tell(&mut text, id, answer)?;
     }
-    tell(text, 0, Answer::PutBack(core.put_back(ms(4), 0, 70, false)))?;
-    tell(text, 1, Answer::FailCheck(core.fail_check(ms(5), 1, sick)))?;
-    tell(text, 1, Answer::FailCheck(core.fail_check(ms(5), 1, None)))?;
-    tell(text, 0, Answer::TakeError(core.take_error()))
-}
-
-fn fail_and_reap<A: Allocator>(
-    alloc: Global,
-    text: &mut String,
-    core: &mut Core<u64, A>,
-    blammo: Option<String>,
-) -> Result<(), AllocError> {
-    tell(text, 0, Answer::Begin(core.begin(ms(5))))?;
-    tell(text, 0, Answer::Fail(core.fail(ms(6), 0, blammo)))?;
-    let mut released = Vec::with_capacity(alloc, core.limits().max_size() as usize)?;
-    let ordered = core.reap(ms(1004), &mut released);
-    tell(text, 0, Answer::Reap { released, ordered })?;
-    tell(text, 0, Answer::Begin(core.begin(ms(1004))))?;
-    tell(text, 0, Answer::Number(core.number(1)))?;
-    tell(text, 0, Answer::Admit(core.admit(ms(1005), 2, 72)))?;
-    tell(text, 0, Answer::Take(core.take(ms(1006), false)))?;
-    tell(
-        text,
-        2,
-        Answer::PutBack(core.put_back(ms(1008), 2, 72, true)),
-    )?;
-    tell(
-        text,
-        2,
-        Answer::PutBack(core.put_back(ms(1008), 2, 72, true)),
-    )
-}
-
-fn close_amid<A: Allocator>(text: &mut String, core: &mut Core<u64, A>) -> Result<(), AllocError> {
-    tell(text, 0, Answer::Begin(core.begin(ms(1008))))?;
-    tell(text, 0, Answer::Number(core.number(0)))?;
-    tell(text, 0, Answer::Admit(core.admit(ms(1009), 3, 73)))?;
     for _ in 0..2 {
         for (id, value) in core.close() {
             write!(text, "left {id} {value}; ")?;
         }
     }
-    push_state(text, core)
-}
-
-// Every kind of step, accepted and refused.
-fn every_step<A: Allocator>(alloc: Global, core: &mut Core<u64, A>) -> Result<String, AllocError> {
-    let mut text = String::new(alloc);
-    let sick = String::from_str(alloc, "sick")?;
-    let blammo = String::from_str(alloc, "blammo")?;
-    open_both(&mut text, core)?;
-    lend_both(&mut text, core, Some(sick))?;
-    fail_and_reap(alloc, &mut text, core, Some(blammo))?;
-    close_amid(&mut text, core)?;
+    push_state(&mut text, core)?;
     Ok(text)
 }
 

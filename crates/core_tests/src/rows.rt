@@ -2,7 +2,7 @@
 
 use crate::journal::{answers_of_a_book, book_for, push_state_of_a_book, report_replays};
 use crate::lines::{push_state, tell};
-use crate::steps::{admit, begin, number};
+use crate::steps::{admit, begin, id_of, number};
 use r2d2_core::run::run;
 use r2d2_core::{Answer, Limits, Step};
 use std::alloc::{AllocError, AllocGlobal, Global};
@@ -22,15 +22,6 @@ fn openings(alloc: Global, count: u32) -> Result<Vec<Step<u64>>, AllocError> {
         steps.push(admit(0, id, id + 70))?;
     }
     Ok(steps)
-}
-
-// The id that a step of a lent connection names.
-fn id_of(step: &Step<u64>) -> u64 {
-    match step {
-        Step::FailCheck { id, .. } => *id,
-        Step::PutBack { id, .. } => *id,
-        _ => 0,
-    }
 }
 
 // The answers from the first one on, each beside the id of its step.
@@ -69,7 +60,7 @@ fn answers_to(
     let ids: Vec<u64> = all.iter().map(|step| id_of(step)).collect(alloc)?;
     let same_ids: Vec<u64> = all.iter().map(|step| id_of(step)).collect(alloc)?;
     let mut book = book_for(alloc, limits)?;
-    let answers = answers_of_a_book(alloc, &mut book, &all)?;
+    let answers = answers_of_a_book(alloc, &mut book, all.clone()?)?;
     let mut by_a_book = lines(alloc, same_ids, answers, first)?;
     push_state_of_a_book(&mut by_a_book, &book)?;
     let (core, answers) = run(alloc, limits, Duration::ZERO, all)?;

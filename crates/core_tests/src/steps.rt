@@ -138,3 +138,12 @@ pub(crate) fn error() -> Step<u64> {
 pub(crate) fn close() -> Step<u64> {
     Step::Close
 }
+
+// The id that a step of a lent connection names.
+pub(crate) fn id_of(step: &Step<u64>) -> u64 {
+    match step {
+        Step::FailCheck { id, .. } => *id,
+        Step::PutBack { id, .. } => *id,
+        _ => 0,
+    }
+}

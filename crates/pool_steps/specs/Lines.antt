@@ -1,9 +1,11 @@
 -- What a line says. A line is bytes without its line feed; moments and lengths of time are in nanoseconds.
-use Rattle.std.specs.Prelude.{ℕ, ◌*◌, ◌^◌, Bool, true, false, nat_lt, ◌==◌, ◌&&◌, if◌then◌else◌, List, length, codes, bytes_eq, Option, Some, None, option_map, option_copied}
+use Rattle.std.specs.Prelude.{ℕ, ◌*◌, ◌^◌, Bool, true, false, nat_lt, ◌==◌, ◌&&◌, if◌then◌else◌, List, length, codes, bytes_eq, Option, Some, None, option_map, string_bytes}
 use Rattle.std.specs.List.{position_or_len, before_first, after_first}
 use Rattle.std.specs.Str.{is_utf8, all_ascii_digits}
 use Rattle.std.specs.Str.Parse.{digits_value}
 use Rattle.std.specs.Duration.{as_nanos}
+use Rattle.r2d2_core.specs.declared.run.Step.{Step}
+use Rattle.r2d2_core.specs.declared.run.Step.TheVariants as step
 use Rattle.r2d2_core.specs.Limits.{Settings}
 use Rattle.pool_steps.specs.declared.program.line.Line.{Line}
 use Rattle.pool_steps.specs.declared.program.line.Line.TheVariants as line
@@ -115,17 +117,20 @@ pub data Said : Type 0 where
   Close : Said
   State : Said
 
+abbrev pub seen_step : Step ℕ → Said
+seen_step (step.Take now or_order) = Take (as_nanos now) or_order
+seen_step (step.Begin now) = Begin (as_nanos now)
+seen_step (step.Number tries) = Number tries
+seen_step (step.Admit now id value) = Admit (as_nanos now) id value
+seen_step (step.Fail now tries text) = Fail (as_nanos now) tries (option_map string_bytes text)
+seen_step (step.FailCheck now id text) = FailCheck (as_nanos now) id (option_map string_bytes text)
+seen_step (step.PutBack now id value broken) = PutBack (as_nanos now) id value broken
+seen_step (step.Reap now) = Reap (as_nanos now)
+seen_step step.TakeError = TakeError
+seen_step step.Close = Close
+
 abbrev pub seen_line : Line → Said
-seen_line (line.Take now or_order) = Take (as_nanos now) or_order
-seen_line (line.Begin now) = Begin (as_nanos now)
-seen_line (line.Number tries) = Number tries
-seen_line (line.Admit now id value) = Admit (as_nanos now) id value
-seen_line (line.Fail now tries text) = Fail (as_nanos now) tries (option_copied text)
-seen_line (line.FailCheck now id text) = FailCheck (as_nanos now) id (option_copied text)
-seen_line (line.PutBack now id value broken) = PutBack (as_nanos now) id value broken
-seen_line (line.Reap now) = Reap (as_nanos now)
-seen_line line.TakeError = TakeError
-seen_line line.Close = Close
+seen_line (line.Step s) = seen_step s
 seen_line line.State = State
 
 -- a moment, an id and a payload
@@ -145,6 +150,12 @@ failure_in fields = do
   now ← time_in first.0
   Some (now, before_first is_space first.1, option_map (λ what. what.1) (cut first.1))
 
+abbrev pub failed_opening_in : List ℕ → Option Said
+failed_opening_in fields = failure_in fields >>= (λ f. option_map (λ tries. Fail f.0 tries f.2) (number_in 32 f.1))
+
+abbrev pub failed_check_in : List ℕ → Option Said
+failed_check_in fields = failure_in fields >>= (λ f. option_map (λ id. FailCheck f.0 id f.2) (number_in 64 f.1))
+
 -- a word that stands alone
 abbrev pub said_alone : List ℕ → Option Said
 said_alone word =
@@ -157,8 +168,8 @@ said_alone word =
 unfoldable pub said_of_failure : List ℕ → List ℕ → Option Said
 said_of_failure word fields =
     if bytes_eq word (codes "number") then option_map (λ tries. Number tries) (number_in 32 fields)
-    else if bytes_eq word (codes "fail") then failure_in fields >>= (λ f. option_map (λ tries. Fail f.0 tries f.2) (number_in 32 f.1))
-    else if bytes_eq word (codes "bad") then failure_in fields >>= (λ f. option_map (λ id. FailCheck f.0 id f.2) (number_in 64 f.1))
+    else if bytes_eq word (codes "fail") then failed_opening_in fields
+    else if bytes_eq word (codes "bad") then failed_check_in fields
     else None
 
 -- a word and a connection

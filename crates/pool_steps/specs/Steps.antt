@@ -1,8 +1,11 @@
 -- What the core does at a line, and what the program writes then, in the core's own words.
 use Rattle.std.specs.Prelude.{ℕ, List, length, Option, Some, None}
+use Rattle.r2d2_core.specs.declared.run.Step.{Step}
+use Rattle.r2d2_core.specs.declared.run.Step.TheVariants as step
 use Rattle.r2d2_core.specs.OnOrder.{fail_refusal}
 use Rattle.r2d2_core.specs.Refusals.{unless_refused}
 use Rattle.r2d2_core.specs.Picture.{Picture}
+use Rattle.r2d2_core.specs.Reply.{Reply, Taken, Begun, Numbered, Admitted, Failed, CheckFailed, CameBack, Reaped, Told, Left}
 use Rattle.r2d2_core.specs.Table.{take_answer, begin_answer, number_answer, admit_answer, fail_answer, return_answer, check_answer, reap_closed, reap_orders, close_answer}
 use Rattle.r2d2_core.specs.Table.{after_take, after_begin, after_number, after_admit, after_fail, after_return, lent_refusal, after_check, after_reap, after_take_error, after_close}
 use Rattle.pool_steps.specs.Lines.{Said, Take, Begin, Number, Admit, Fail, FailCheck, PutBack, Reap, TakeError, Close, State}
@@ -40,3 +43,24 @@ after_said (Reap now) p = after_reap now p
 after_said TakeError p = after_take_error p
 after_said Close p = after_close p
 after_said State p = p
+
+-- ANSWERS
+
+-- the id that a step of a lent connection names; 0 where it is another step
+abbrev pub id_in : Step ℕ → ℕ
+id_in (step.FailCheck now id text) = id
+id_in (step.PutBack now id value broken) = id
+id_in _ = 0
+
+-- what is written for an answer to a step that names the id
+abbrev pub reply_text : ℕ → Reply ℕ → List ℕ
+reply_text id (Taken taking) = take_text taking
+reply_text id (Begun task) = task_text task
+reply_text id (Numbered r) = number_text r
+reply_text id (Admitted r) = admission_text r
+reply_text id (Failed r) = failure_text r
+reply_text id (CheckFailed r) = check_text id r
+reply_text id (CameBack r) = return_text id r
+reply_text id (Reaped closed n) = reap_text closed n
+reply_text id (Told text) = error_text text
+reply_text id (Left left) = close_text left

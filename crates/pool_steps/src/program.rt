@@ -126,10 +126,10 @@ fn take_steps<R: Read + Drop, W: Write + Drop>(
         if !next_line(input, &mut line)? {
             return Ok(());
         }
-        let Some(step) = Line::read(&line) else {
+        let Some(said) = Line::read(alloc, &line)? else {
             return Err(Fault::NotAStep(number));
         };
-        answer::answer(alloc, core, step, output)?;
+        answer::answer(alloc, core, said, output)?;
     }
     Err(too_many_lines)
 }

@@ -28,6 +28,7 @@ pub mod FollowsReturn
 pub mod FollowsReap
 pub mod FollowsTakeError
 pub mod FollowsClose
+pub mod FollowsStep
 pub mod Runs
 pub mod Rows
 pub mod InOrder

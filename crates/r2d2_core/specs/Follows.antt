@@ -1,31 +1,14 @@
 -- What it is for a core to follow a history: it answers as the definitions say, and shows the history's picture.
-use Rattle.std.specs.Prelude.{◌≡◌, ℕ, ◌≤◌, false, map, option_map, string_bytes}
-use Rattle.std.specs.Duration.{as_nanos}
+use Rattle.std.specs.Prelude.{◌≡◌, ℕ, ◌≤◌, false}
 use Rattle.r2d2_core.specs.declared.run.Step.{Step}
-use Rattle.r2d2_core.specs.declared.run.Answer.{Answer}
-use Rattle.r2d2_core.specs.declared.run.Answer.TheVariants as answer
-use Rattle.r2d2_core.specs.Tasks.{seen_job}
 use Rattle.r2d2_core.specs.Picture.{Picture, IsSound}
-use Rattle.r2d2_core.specs.Reply.{Reply, Taken, Begun, Numbered, Admitted, Failed, CheckFailed, CameBack, Reaped, Told, Left, seen_take, seen_return, seen_gone, seen_released, map_ok}
+use Rattle.r2d2_core.specs.Reply.{Reply}
 use Rattle.r2d2_core.specs.History.{History, is_closed}
 use Rattle.r2d2_core.specs.Deeds.{admitted_count, gone_count}
 use Rattle.r2d2_core.specs.Pending.{ordered_of, begun_of, ended_of, next_id_of, is_admitted}
 use Rattle.r2d2_core.specs.Answers.{answer_of, after, picture_of}
 
 module _ {T : Type 0} where
-  -- what a caller sees of an answer
-  abbrev pub seen : Answer T → Reply T
-  seen (answer.Take t) = Taken (seen_take t)
-  seen (answer.Begin job) = Begun (seen_job job)
-  seen (answer.Number r) = Numbered r
-  seen (answer.Admit r) = Admitted r
-  seen (answer.Fail r) = Failed (map_ok as_nanos r)
-  seen (answer.FailCheck r) = CheckFailed (map_ok seen_gone r)
-  seen (answer.PutBack r) = CameBack (map_ok seen_return r)
-  seen (answer.Reap released ordered) = Reaped (map seen_released released.items) ordered
-  seen (answer.TakeError text) = Told (option_map string_bytes text)
-  seen (answer.Close left) = Left left
-
   -- what keeps with each accepted step
   pub record IsKept (h : History T) : Type 0 where
     pub sound : IsSound (picture_of h)

@@ -23,4 +23,5 @@ pub mod Replay
 pub mod Recorded
 pub mod Log
 pub mod Book
+pub mod Steps
 pub mod Reports

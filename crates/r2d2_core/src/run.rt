@@ -1,19 +1,20 @@
-// A list of steps.
-ghost use Rattle.std.specs.Prelude.{◌≡◌, map, IfOk};
+// Steps as data: one step, and a list of them.
+ghost use Rattle.std.specs.Prelude.{◌≡◌, true, map, IfOk, IfErr, OnOk};
 ghost use Rattle.std.specs.Duration.{as_nanos};
 ghost use Rattle.r2d2_core.specs.Limits.{settings_of};
 ghost use Rattle.r2d2_core.specs.Picture.{IsSound};
 ghost use Rattle.r2d2_core.specs.History.{History, Made};
 ghost use Rattle.r2d2_core.specs.Answers.{answers_of, after_all, picture_of};
-ghost use Rattle.r2d2_core.specs.Follows.{seen, IsKept, Follows};
+ghost use Rattle.r2d2_core.specs.Steps.{seen};
 
+use crate::journal::Book;
 use crate::machine::{Core, Gone, Leftover, Limits, Refusal, Released, Returned, Take};
 use crate::schedule::Job;
-use std::alloc::{AllocError, Global};
+use std::alloc::{AllocError, Allocator, Global};
 use std::time::Duration;
 
 /// One call of the core. Each moment `now` is a `Duration` since the pool was made.
-#[derive(Drop)]
+#[derive(Clone, Drop)]
 pub enum Step<T> {
     /// A caller wants a connection; where none is idle, `or_order` asks for an opening.
     Take {
@@ -65,7 +66,7 @@ pub enum Step<T> {
 
 /// What a step answered.
 #[derive(Drop)]
-pub enum Answer<T> {
+pub enum Answer<T, A: Allocator = Global> {
     Take(Take<T>),
     Begin(Job),
     Number(Result<u64, Refusal>),
@@ -78,10 +79,78 @@ pub enum Answer<T> {
         ordered: u32,
     },
     TakeError(Option<String>),
-    Close(Leftover<T>),
+    Close(Leftover<T, A>),
 }
 
-/// Takes each step in turn, on a new core, and gives one answer each. The error comes only where memory is refused.
+// The machine's own call for a step. What a reap's list takes of memory is taken before the call.
+macro_rules! answer_by {
+    ($machine:expr, $alloc:expr, $step:expr) => {
+        match $step {
+            Step::Take { now, or_order } => Ok(Answer::Take($machine.take(now, or_order))),
+            Step::Begin { now } => Ok(Answer::Begin($machine.begin(now))),
+            Step::Number { tries } => Ok(Answer::Number($machine.number(tries))),
+            Step::Admit { now, id, value } => Ok(Answer::Admit($machine.admit(now, id, value))),
+            Step::Fail { now, tries, text } => Ok(Answer::Fail($machine.fail(now, tries, text))),
+            Step::FailCheck { now, id, text } => {
+                Ok(Answer::FailCheck($machine.fail_check(now, id, text)))
+            }
+            Step::PutBack {
+                now,
+                id,
+                value,
+                broken,
+            } => Ok(Answer::PutBack($machine.put_back(now, id, value, broken))),
+            Step::Reap { now } => {
+                let room = $machine.limits().max_size() as usize;
+                let mut released = Vec::with_capacity($alloc, room)?;
+                let ordered = $machine.reap(now, &mut released);
+                Ok(Answer::Reap { released, ordered })
+            }
+            Step::TakeError => Ok(Answer::TakeError($machine.take_error())),
+            Step::Close => Ok(Answer::Close($machine.close())),
+        }
+    };
+}
+
+impl<T, A: Allocator> Core<T, A> {
+    ghost use Rattle.r2d2_core.specs.Picture.{IsSound};
+    ghost use Rattle.r2d2_core.specs.Steps.{seen, step_answer, after_step, is_reap};
+
+    /// Takes a step by the call of its kind, and gives the answer of that call. A reap lists what
+    /// it closes in memory of `alloc`, with room for `max_size`; no other step takes any. The error
+    /// comes only where that list is refused: then nothing changed, and the same reap may be tried
+    /// again.
+    pub fn answer(&mut self, alloc: Global, step: Step<T>) -> Result<Answer<T, A>, AllocError>
+        ensures answer { IfOk result (λ a. seen a ≡ step_answer step self.old) }
+        ensures after { OnOk result (self.new ≡ after_step step self.old) }
+        ensures unchanged { IfErr result (λ _. self.new ≡ self.old) }
+        ensures only_reaps { IfErr result (λ _. is_reap step ≡ true) }
+        ensures sound { IsSound self.new }
+    {
+        answer_by!(self, alloc, step)
+    }
+}
+
+impl<T, A: Allocator> Book<T, A> {
+    ghost use Rattle.r2d2_core.specs.Picture.{IsSound};
+    ghost use Rattle.r2d2_core.specs.Log.{with_noted};
+    ghost use Rattle.r2d2_core.specs.Steps.{seen, step_answer, after_step, record_of_step, is_reap};
+
+    /// As `Core::answer`. A step is noted where the call of its kind notes it.
+    pub fn answer(&mut self, alloc: Global, step: Step<T>) -> Result<Answer<T, A>, AllocError>
+        ensures answer { IfOk result (λ a. seen a ≡ step_answer step self.old.picture) }
+        ensures after { OnOk result (self.new.picture ≡ after_step step self.old.picture) }
+        ensures noted { OnOk result (self.new.log ≡ with_noted (record_of_step step self.old.picture) self.old.log) }
+        ensures unchanged { IfErr result (λ _. self.new ≡ self.old) }
+        ensures only_reaps { IfErr result (λ _. is_reap step ≡ true) }
+        ensures sound { IsSound self.new.picture }
+    {
+        answer_by!(self, alloc, step)
+    }
+}
+
+/// Takes each step in turn by `Core::answer`, on a new core, and gives one answer each. The error
+/// comes only where memory is refused.
 pub fn run<T: Drop>(
     alloc: Global,
     limits: Limits,
@@ -95,40 +164,8 @@ pub fn run<T: Drop>(
     let mut core: Core<T> = Core::new(alloc, limits, now)?;
     let mut answers = Vec::with_capacity(alloc, steps.len())?;
     for step in steps {
-        let answer = answer_to(alloc, &mut core, step)?;
+        let answer = core.answer(alloc, step)?;
         answers.push(answer)?;
     }
     Ok((core, answers))
-}
-
-// Takes one step. Whatever history the core shows, the answer is that of the history. Only a reap takes memory, for its list.
-fn answer_to<T: Drop>(
-    alloc: Global,
-    core: &mut Core<T>,
-    step: Step<T>,
-) -> Result<Answer<T>, AllocError>
-    ensures { IfOk result (λ a. (h : History T) → IsKept h → core.old ≡ picture_of h → Follows h step (seen a) core.new) }
-{
-    match step {
-        Step::Take { now, or_order } => Ok(Answer::Take(core.take(now, or_order))),
-        Step::Begin { now } => Ok(Answer::Begin(core.begin(now))),
-        Step::Number { tries } => Ok(Answer::Number(core.number(tries))),
-        Step::Admit { now, id, value } => Ok(Answer::Admit(core.admit(now, id, value))),
-        Step::Fail { now, tries, text } => Ok(Answer::Fail(core.fail(now, tries, text))),
-        Step::FailCheck { now, id, text } => Ok(Answer::FailCheck(core.fail_check(now, id, text))),
-        Step::PutBack {
-            now,
-            id,
-            value,
-            broken,
-        } => Ok(Answer::PutBack(core.put_back(now, id, value, broken))),
-        Step::Reap { now } => {
-            let room = core.limits().max_size() as usize;
-            let mut released = Vec::with_capacity(alloc, room)?;
-            let ordered = core.reap(now, &mut released);
-            Ok(Answer::Reap { released, ordered })
-        }
-        Step::TakeError => Ok(Answer::TakeError(core.take_error())),
-        Step::Close => Ok(Answer::Close(core.close())),
-    }
 }

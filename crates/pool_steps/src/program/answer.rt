@@ -1,11 +1,12 @@
 // The answers to the lines.
-ghost use Rattle.std.specs.Prelude.{◌≡◌, ◌⊎◌, Some, IfOk, IfErr, OnOk, map, length, option_map, option_copied, string_bytes};
+ghost use Rattle.std.specs.Prelude.{◌≡◌, ◌⊎◌, Some, IfErr, OnOk, map, length, option_map, string_bytes};
 ghost use Rattle.std.specs.Duration.{as_nanos};
 ghost use Rattle.std.specs.Io.KnownBytes.{Appends};
 ghost use Rattle.r2d2_core.specs.Reply.{seen_take, seen_return, seen_gone, seen_released, map_ok};
 ghost use Rattle.r2d2_core.specs.Tasks.{seen_job};
+ghost use Rattle.r2d2_core.specs.Steps.{seen};
 ghost use Rattle.pool_steps.specs.Lines.{seen_line};
-ghost use Rattle.pool_steps.specs.Steps.{answer_text, after_said};
+ghost use Rattle.pool_steps.specs.Steps.{answer_text, after_said, id_in, reply_text};
 ghost use Rattle.pool_steps.specs.Texts.{milliseconds, word_of, refusal_text, take_text, task_text, number_text, admission_text};
 ghost use Rattle.pool_steps.specs.Texts.{failure_text, gone_text, check_text, return_text, reap_text, released_text};
 ghost use Rattle.pool_steps.specs.Texts.{error_text, close_text, left_text, state_text};
@@ -13,52 +14,61 @@ ghost use Rattle.pool_steps.specs.declared.program.Fault.TheVariants.{Memory, Wr
 
 use super::Fault;
 use super::line::Line;
-use r2d2_core::{Core, Gone, Job, Leftover, Refusal, Released, Returned, Take};
-use std::alloc::{AllocError, Global};
+use r2d2_core::{Answer, Core, Gone, Job, Leftover, Refusal, Released, Returned, Step, Take};
+use std::alloc::Global;
 use std::io::Write;
 use std::time::Duration;
 use std::{fmt, io};
 
 /// Does what a line says, and writes the answer.
-#[tactic(auto, using(crate::proofs::Texts::failed_with, crate::proofs::Texts::check_failed_with))]
+#[tactic(auto, using(crate::proofs::Texts::text_of_step, crate::proofs::Texts::after_of_step))]
 pub(crate) fn answer<W: Write>(
     alloc: Global,
     core: &mut Core<u64>,
-    line: Line<'_>,
+    line: Line,
     output: &mut W,
 ) -> Result<(), Fault>
     ensures fault { IfErr result (λ fault. (fault ≡ Memory) ⊎ (fault ≡ Write)) }
     ensures written { OnOk result (Appends (W.contents output.old) (W.contents output.new)
-        (answer_text (seen_line line.entry) core.old)) }
-    ensures after { OnOk result (core.new ≡ after_said (seen_line line.entry) core.old) }
+        (answer_text (seen_line line) core.old)) }
+    ensures after { OnOk result (core.new ≡ after_said (seen_line line) core.old) }
 {
     match line {
-        Line::Take { now, or_order } => write_take(output, core.take(now, or_order)),
-        Line::Begin { now } => write_job(output, core.begin(now)),
-        Line::Number { tries } => write_number(output, core.number(tries)),
-        Line::Admit { now, id, value } => write_admission(output, core.admit(now, id, value)),
-        Line::Fail { now, tries, text } => {
-            let text = kept(alloc, text)?;
-            write_failure(output, core.fail(now, tries, text))
+        Line::Step(step) => {
+            let id = id_of(&step);
+            let answer = core.answer(alloc, step)?;
+            write_answer(output, id, answer)
         }
-        Line::FailCheck { now, id, text } => {
-            let text = kept(alloc, text)?;
-            write_failed_check(output, id, core.fail_check(now, id, text))
-        }
-        Line::PutBack {
-            now,
-            id,
-            value,
-            broken,
-        } => write_return(output, id, core.put_back(now, id, value, broken)),
-        Line::Reap { now } => {
-            let mut released = Vec::with_capacity(alloc, core.limits().max_size() as usize)?;
-            let ordered = core.reap(now, &mut released);
-            write_reap(output, &released, ordered)
-        }
-        Line::TakeError => write_error(output, core.take_error()),
-        Line::Close => write_close(output, core.close()),
         Line::State => write_state(output, core),
+    }
+}
+
+// The id that a step of a lent connection names; 0 of any other step.
+fn id_of(step: &Step<u64>) -> u64
+    ensures { result ≡ id_in step.now }
+{
+    match step {
+        Step::FailCheck { id, .. } | Step::PutBack { id, .. } => *id,
+        _ => 0,
+    }
+}
+
+// Writes an answer. The id is that of the step, which the answer does not name.
+fn write_answer<W: Write>(output: &mut W, id: u64, answer: Answer<u64>) -> Result<(), Fault>
+    ensures fault { IfErr result (λ fault. fault ≡ Write) }
+    ensures written { OnOk result (Appends (W.contents output.old) (W.contents output.new) (reply_text id (seen answer))) }
+{
+    match answer {
+        Answer::Take(take) => write_take(output, take),
+        Answer::Begin(job) => write_job(output, job),
+        Answer::Number(number) => write_number(output, number),
+        Answer::Admit(admission) => write_admission(output, admission),
+        Answer::Fail(failure) => write_failure(output, failure),
+        Answer::FailCheck(check) => write_failed_check(output, id, check),
+        Answer::PutBack(returned) => write_return(output, id, returned),
+        Answer::Reap { released, ordered } => write_reap(output, &released, ordered),
+        Answer::TakeError(text) => write_error(output, text),
+        Answer::Close(leftover) => write_close(output, leftover),
     }
 }
 
@@ -66,16 +76,6 @@ fn unwritten(_: io::Error) -> Fault
     ensures { result ≡ Write }
 {
     Fault::Write
-}
-
-// A copy of the text of a line, for the core to keep.
-fn kept(alloc: Global, text: Option<&str>) -> Result<Option<String>, AllocError>
-    ensures { IfOk result (λ copy. option_map string_bytes copy ≡ option_copied text.entry) }
-{
-    match text {
-        Some(text) => Ok(Some(String::from_str(alloc, text)?)),
-        None => Ok(None),
-    }
 }
 
 fn write_take<W: Write>(output: &mut W, answer: Take<u64>) -> Result<(), Fault>

@@ -1,16 +1,18 @@
 // The lines of the input.
-ghost use Rattle.std.specs.Prelude.{◌≡◌, ◌*◌, ◌↔◌, ◌⊎◌, None, Some, IsSome, IfSome, IfOk, IfErr, option_map, option_copied};
+ghost use Rattle.std.specs.Prelude.{◌≡◌, ◌*◌, ◌↔◌, ◌⊎◌, None, Some, IsSome, IfSome, IfOk, IfErr, option_map, option_copied, string_bytes};
 ghost use Rattle.std.specs.Duration.{as_nanos};
 ghost use Rattle.r2d2_core.specs.Limits.{Settings as Bounds, settings_of, AreLegal};
 ghost use Rattle.pool_steps.specs.declared.program.Fault.TheVariants.{NotAStep, LimitsRefused};
 ghost use Rattle.pool_steps.specs.Number.{IsNumber, number_of};
 ghost use Rattle.pool_steps.specs.Lines.{number_in, time_in, optional_in, text_in, connection_in, failure_in};
 ghost use Rattle.pool_steps.specs.Lines.{lengths_in, fields_in, sizes_in, sizes_of, limits_in};
-ghost use Rattle.pool_steps.specs.Lines.{seen_line, said_alone, said_with, said_of_connection, said_of_failure, said_in, step_in, Take, PutBack};
+ghost use Rattle.pool_steps.specs.Lines.{seen_line, said_alone, said_with, said_of_connection, said_of_failure, said_in, step_in};
+ghost use Rattle.pool_steps.specs.Lines.{failed_opening_in, failed_check_in, Take, Begin, Number, Admit, PutBack, Reap};
 ghost use Rattle.pool_steps.specs.Lines as spec;
 
 use super::Fault;
-use r2d2_core::Limits;
+use r2d2_core::{Limits, Step};
+use std::alloc::{AllocError, Global};
 use std::str;
 use std::time::Duration;
 
@@ -94,144 +96,164 @@ impl Settings {
 }
 
 /// What a line after the first says: a step of the pool, or a look at its state.
-pub(crate) enum Line<'a> {
-    Take {
-        now: Duration,
-        or_order: bool,
-    },
-    Begin {
-        now: Duration,
-    },
-    Number {
-        tries: u32,
-    },
-    Admit {
-        now: Duration,
-        id: u64,
-        value: u64,
-    },
-    Fail {
-        now: Duration,
-        tries: u32,
-        text: Option<&'a str>,
-    },
-    FailCheck {
-        now: Duration,
-        id: u64,
-        text: Option<&'a str>,
-    },
-    PutBack {
-        now: Duration,
-        id: u64,
-        value: u64,
-        broken: bool,
-    },
-    Reap {
-        now: Duration,
-    },
-    TakeError,
-    Close,
+#[derive(Drop)]
+pub(crate) enum Line {
+    Step(Step<u64>),
     State,
 }
 
-impl<'a> Line<'a> {
-    /// What the line says; none where it is not a step.
+impl Line {
+    /// What the line says; none where it is not a step. The text of a failure takes memory, and the
+    /// error comes only where that is refused.
     #[tactic(auto, unfolding(crate::specs::Lines::step_in))]
-    pub(crate) fn read(line: &'a [u8]) -> Option<Line<'a>>
-        ensures { option_map seen_line result ≡ step_in line.now }
+    pub(crate) fn read(alloc: Global, line: &[u8]) -> Result<Option<Line>, AllocError>
+        ensures { IfOk result (λ said. option_map seen_line said ≡ step_in line.now) }
     {
-        Line::parse(text(line)?)
-    }
-
-    #[tactic(auto, unfolding(crate::specs::Lines::said_in))]
-    fn parse(line: &'a str) -> Option<Line<'a>>
-        ensures { option_map seen_line result ≡ said_in line.now }
-    {
-        match cut(line) {
-            Some((word, fields)) => Line::with_fields(word, fields),
-            None => Line::of_word(line),
+        match text(line) {
+            Some(text) => Line::parse(alloc, text),
+            None => Ok(None),
         }
     }
 
-    fn of_word(word: &str) -> Option<Line<'a>>
+    #[tactic(auto, unfolding(crate::specs::Lines::said_in))]
+    fn parse(alloc: Global, line: &str) -> Result<Option<Line>, AllocError>
+        ensures { IfOk result (λ said. option_map seen_line said ≡ said_in line.now) }
+    {
+        match cut(line) {
+            Some((word, fields)) => Line::with_fields(alloc, word, fields),
+            None => Ok(Line::of_word(line)),
+        }
+    }
+
+    fn of_word(word: &str) -> Option<Line>
         ensures { option_map seen_line result ≡ said_alone word.now }
     {
         match word {
-            "error" => Some(Line::TakeError),
-            "close" => Some(Line::Close),
+            "error" => Some(Line::Step(Step::TakeError)),
+            "close" => Some(Line::Step(Step::Close)),
             "state" => Some(Line::State),
             _ => None,
         }
     }
 
     #[tactic(auto, unfolding(crate::specs::Lines::said_with))]
-    fn with_fields(word: &str, fields: &'a str) -> Option<Line<'a>>
-        ensures { option_map seen_line result ≡ said_with word.now fields.now }
+    fn with_fields(alloc: Global, word: &str, fields: &str) -> Result<Option<Line>, AllocError>
+        ensures { IfOk result (λ said. option_map seen_line said ≡ said_with word.now fields.now) }
     {
         match word {
-            "take" => Line::take(fields, false),
-            "want" => Line::take(fields, true),
-            "begin" => Some(Line::Begin { now: time(fields)? }),
-            "reap" => Some(Line::Reap { now: time(fields)? }),
-            _ => Line::of_connection(word, fields),
+            "take" => Ok(Line::take(fields, false)),
+            "want" => Ok(Line::take(fields, true)),
+            "begin" => Ok(Line::begin(fields)),
+            "reap" => Ok(Line::reap(fields)),
+            _ => Line::of_connection(alloc, word, fields),
         }
     }
 
     #[tactic(auto, unfolding(crate::specs::Lines::said_of_connection))]
-    fn of_connection(word: &str, fields: &'a str) -> Option<Line<'a>>
-        ensures { option_map seen_line result ≡ said_of_connection word.now fields.now }
+    fn of_connection(alloc: Global, word: &str, fields: &str) -> Result<Option<Line>, AllocError>
+        ensures { IfOk result (λ said. option_map seen_line said ≡ said_of_connection word.now fields.now) }
     {
         match word {
-            "admit" => {
-                let (now, id, value) = connection(fields)?;
-                Some(Line::Admit { now, id, value })
-            }
-            "return" => Line::put_back(fields, false),
-            "broken" => Line::put_back(fields, true),
-            _ => Line::of_failure(word, fields),
+            "admit" => Ok(Line::admit(fields)),
+            "return" => Ok(Line::put_back(fields, false)),
+            "broken" => Ok(Line::put_back(fields, true)),
+            _ => Line::of_failure(alloc, word, fields),
         }
     }
 
     #[tactic(auto, unfolding(crate::specs::Lines::said_of_failure))]
-    fn of_failure(word: &str, fields: &'a str) -> Option<Line<'a>>
-        ensures { option_map seen_line result ≡ said_of_failure word.now fields.now }
+    fn of_failure(alloc: Global, word: &str, fields: &str) -> Result<Option<Line>, AllocError>
+        ensures { IfOk result (λ said. option_map seen_line said ≡ said_of_failure word.now fields.now) }
     {
         match word {
-            "number" => {
-                let tries = small_number(fields)?;
-                Some(Line::Number { tries })
-            }
-            "fail" => {
-                let (now, tries, text) = failure(fields)?;
-                let tries = small_number(tries)?;
-                Some(Line::Fail { now, tries, text })
-            }
-            "bad" => {
-                let (now, id, text) = failure(fields)?;
-                let id = number(id)?;
-                Some(Line::FailCheck { now, id, text })
-            }
-            _ => None,
+            "number" => Ok(Line::number(fields)),
+            "fail" => Line::fail(alloc, fields),
+            "bad" => Line::fail_check(alloc, fields),
+            _ => Ok(None),
         }
     }
 
-    fn take(fields: &str, or_order: bool) -> Option<Line<'a>>
+    fn take(fields: &str, or_order: bool) -> Option<Line>
         ensures { option_map seen_line result ≡ option_map (λ now. Take now or_order) (time_in fields.now) }
     {
         let now = time(fields)?;
-        Some(Line::Take { now, or_order })
+        Some(Line::Step(Step::Take { now, or_order }))
     }
 
-    fn put_back(fields: &str, broken: bool) -> Option<Line<'a>>
+    fn begin(fields: &str) -> Option<Line>
+        ensures { option_map seen_line result ≡ option_map (λ now. Begin now) (time_in fields.now) }
+    {
+        let now = time(fields)?;
+        Some(Line::Step(Step::Begin { now }))
+    }
+
+    fn reap(fields: &str) -> Option<Line>
+        ensures { option_map seen_line result ≡ option_map (λ now. Reap now) (time_in fields.now) }
+    {
+        let now = time(fields)?;
+        Some(Line::Step(Step::Reap { now }))
+    }
+
+    fn number(fields: &str) -> Option<Line>
+        ensures { option_map seen_line result ≡ option_map (λ tries. Number tries) (number_in 32 fields.now) }
+    {
+        let tries = small_number(fields)?;
+        Some(Line::Step(Step::Number { tries }))
+    }
+
+    fn admit(fields: &str) -> Option<Line>
+        ensures { option_map seen_line result ≡ option_map (λ c. Admit c.0 c.1 c.2) (connection_in fields.now) }
+    {
+        let (now, id, value) = connection(fields)?;
+        Some(Line::Step(Step::Admit { now, id, value }))
+    }
+
+    fn put_back(fields: &str, broken: bool) -> Option<Line>
         ensures { option_map seen_line result ≡ option_map (λ c. PutBack c.0 c.1 c.2 broken) (connection_in fields.now) }
     {
         let (now, id, value) = connection(fields)?;
-        Some(Line::PutBack {
+        Some(Line::Step(Step::PutBack {
             now,
             id,
             value,
             broken,
-        })
+        }))
+    }
+
+    fn fail(alloc: Global, fields: &str) -> Result<Option<Line>, AllocError>
+        ensures { IfOk result (λ said. option_map seen_line said ≡ failed_opening_in fields.now) }
+    {
+        let Some((now, tries, text)) = failure(fields) else {
+            return Ok(None);
+        };
+        let Some(tries) = small_number(tries) else {
+            return Ok(None);
+        };
+        let text = copied(alloc, text)?;
+        Ok(Some(Line::Step(Step::Fail { now, tries, text })))
+    }
+
+    fn fail_check(alloc: Global, fields: &str) -> Result<Option<Line>, AllocError>
+        ensures { IfOk result (λ said. option_map seen_line said ≡ failed_check_in fields.now) }
+    {
+        let Some((now, id, text)) = failure(fields) else {
+            return Ok(None);
+        };
+        let Some(id) = number(id) else {
+            return Ok(None);
+        };
+        let text = copied(alloc, text)?;
+        Ok(Some(Line::Step(Step::FailCheck { now, id, text })))
+    }
+}
+
+// A copy of the text of a line, for the core to keep.
+fn copied(alloc: Global, text: Option<&str>) -> Result<Option<String>, AllocError>
+    ensures { IfOk result (λ copy. option_map string_bytes copy ≡ option_copied text.entry) }
+{
+    match text {
+        Some(text) => Ok(Some(String::from_str(alloc, text)?)),
+        None => Ok(None),
     }
 }
 

@@ -7,7 +7,7 @@ use Rattle.r2d2_core.specs.Limits.{settings_of, wanted_of}
 use Rattle.r2d2_core.specs.Picture.{IsSound}
 use Rattle.r2d2_core.specs.History.{Made}
 use Rattle.r2d2_core.specs.Answers.{answers_of, after_all, picture_of}
-use Rattle.r2d2_core.specs.Follows.{seen}
+use Rattle.r2d2_core.specs.Steps.{seen}
 use Rattle.r2d2_core.proofs.Made.{kept_made, picture_of-made}
 use Rattle.r2d2_core.proofs.Runs.{run_more}
 use Rattle.r2d2_core.proofs.run.run.Goals as goal
@@ -23,8 +23,8 @@ loop-step-init g c =
 
 pub loop-step-preserved : goal.loop-step-preserved
 loop-step-preserved g c =
-    run_more (Made (settings_of c.args.limits) (as_nanos c.args.now) 0) c.loop-step.yielded c.loop-step.answers.items c.push.new.self.items c.loop-step.core c.answer_to.new.core c.in-Some.step c.in_ok-answer.answer
-    c.loop-step.invariant c.in_ok-push.ensures.items c.in_ok-answer.ensures
+    run_more (Made (settings_of c.args.limits) (as_nanos c.args.now) 0) c.loop-step.yielded c.loop-step.answers.items c.push.new.self.items c.loop-step.core c.answer.new.self c.in-Some.step c.in_ok-answer.answer
+    c.loop-step.invariant c.in_ok-push.ensures.items c.in_ok-answer.ensures.answer c.in_ok-answer.ensures.after
 
 pub returns-clause-answers : goal.returns-clause-answers
 returns-clause-answers g c =

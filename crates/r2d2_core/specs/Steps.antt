@@ -1,0 +1,67 @@
+-- A step of any kind: what it answers, what it makes of the picture, and which record it makes. Each line is that of the step's own call.
+use Rattle.std.specs.Prelude.{max, Bool, true, false, length, map, Option, None, option_map, string_bytes}
+use Rattle.std.specs.Duration.{as_nanos}
+use Rattle.r2d2_core.specs.declared.run.Step.{Step}
+use Rattle.r2d2_core.specs.declared.run.Step.TheVariants as step
+use Rattle.r2d2_core.specs.declared.run.Answer.{Answer}
+use Rattle.r2d2_core.specs.declared.run.Answer.TheVariants as answer
+use Rattle.r2d2_core.specs.Tasks.{seen_job}
+use Rattle.r2d2_core.specs.Picture.{Picture}
+use Rattle.r2d2_core.specs.Reply.{Reply, Taken, Begun, Numbered, Admitted, Failed, CheckFailed, CameBack, Reaped, Told, Left, seen_take, seen_return, seen_gone, seen_released, map_ok}
+use Rattle.r2d2_core.specs.Table.{take_answer, after_take, begin_answer, after_begin, number_answer, after_number, admit_answer, after_admit, fail_answer, after_fail, return_answer, after_return, check_answer, after_check, reap_closed, reap_orders, after_reap, after_take_error, close_answer, after_close}
+use Rattle.r2d2_core.specs.Records.{Noted}
+use Rattle.r2d2_core.specs.Recorded.{record_of_take, record_of_admission, record_of_return, record_of_check, record_of_reap, record_of_close}
+
+-- what a caller sees of an answer
+abbrev pub seen : {T A : Type 0} → Answer T A → Reply T
+seen (answer.Take t) = Taken (seen_take t)
+seen (answer.Begin job) = Begun (seen_job job)
+seen (answer.Number r) = Numbered r
+seen (answer.Admit r) = Admitted r
+seen (answer.Fail r) = Failed (map_ok as_nanos r)
+seen (answer.FailCheck r) = CheckFailed (map_ok seen_gone r)
+seen (answer.PutBack r) = CameBack (map_ok seen_return r)
+seen (answer.Reap released ordered) = Reaped (map seen_released released.items) ordered
+seen (answer.TakeError text) = Told (option_map string_bytes text)
+seen (answer.Close left) = Left left
+
+module _ {T : Type 0} where
+  -- the answer to the step, from that picture
+  abbrev pub step_answer : Step T → Picture T → Reply T
+  step_answer (step.Take now or_order) p = Taken (take_answer or_order p)
+  step_answer (step.Begin now) p = Begun (begin_answer (as_nanos now) p)
+  step_answer (step.Number tries) p = Numbered (number_answer tries p)
+  step_answer (step.Admit now id value) p = Admitted (admit_answer id value p)
+  step_answer (step.Fail now tries text) p = Failed (fail_answer (as_nanos now) tries p)
+  step_answer (step.FailCheck now id text) p = CheckFailed (check_answer (as_nanos now) id p)
+  step_answer (step.PutBack now id value broken) p = CameBack (return_answer (as_nanos now) id value broken p)
+  step_answer (step.Reap now) p = Reaped (reap_closed (as_nanos now) p) (reap_orders (as_nanos now) p)
+  step_answer step.TakeError p = Told p.last_error
+  step_answer step.Close p = Left (close_answer p)
+
+  -- the picture after it
+  abbrev pub after_step : Step T → Picture T → Picture T
+  after_step (step.Take now or_order) p = after_take (as_nanos now) or_order p
+  after_step (step.Begin now) p = after_begin (as_nanos now) p
+  after_step (step.Number tries) p = after_number tries p
+  after_step (step.Admit now id value) p = after_admit (as_nanos now) id value p
+  after_step (step.Fail now tries text) p = after_fail (as_nanos now) tries text p
+  after_step (step.FailCheck now id text) p = after_check (as_nanos now) id text p
+  after_step (step.PutBack now id value broken) p = after_return (as_nanos now) id value broken p
+  after_step (step.Reap now) p = after_reap (as_nanos now) p
+  after_step step.TakeError p = after_take_error p
+  after_step step.Close p = after_close p
+
+  -- the record that it makes, if it makes one
+  abbrev pub record_of_step : Step T → Picture T → Option Noted
+  record_of_step (step.Take now or_order) p = record_of_take (max p.latest (as_nanos now)) (take_answer or_order p)
+  record_of_step (step.Admit now id value) p = record_of_admission (max p.latest (as_nanos now)) id (admit_answer id value p)
+  record_of_step (step.FailCheck now id text) p = record_of_check (max p.latest (as_nanos now)) id (check_answer (as_nanos now) id p)
+  record_of_step (step.PutBack now id value broken) p = record_of_return (max p.latest (as_nanos now)) id (return_answer (as_nanos now) id value broken p)
+  record_of_step (step.Reap now) p = record_of_reap (max p.latest (as_nanos now)) (length (reap_closed (as_nanos now) p)) (reap_orders (as_nanos now) p)
+  record_of_step step.Close p = record_of_close p.latest p.on_order.closed
+  record_of_step _ p = None
+
+  abbrev pub is_reap : Step T → Bool
+  is_reap (step.Reap now) = true
+  is_reap _ = false
