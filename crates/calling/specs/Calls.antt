@@ -1,6 +1,6 @@
 -- What the calls of this crate leave of a core. A moment is in nanoseconds.
 use Rattle.std.specs.Prelude.{ℕ, None}
-use Rattle.r2d2_core.specs.Tasks.{Task, Open, Reap, Wait, Nothing, Ended}
+use Rattle.r2d2_core.specs.Jobs.{SeenJob, Open, Reap, Wait, Nothing, Ended}
 use Rattle.r2d2_core.specs.Refusals.{unless_refused}
 use Rattle.r2d2_core.specs.OnOrder.{number_refusal}
 use Rattle.r2d2_core.specs.Picture.{Picture}
@@ -13,7 +13,7 @@ module _ {T : Type 0} where
       unless_refused (number_refusal tries p.on_order) (after_admit t p.on_order.next_id value (after_number tries p)) p
 
   -- a value comes in where the task is to open, and nowhere else
-  abbrev pub opened_by : Task → ℕ → T → Picture T → Picture T
+  abbrev pub opened_by : SeenJob → ℕ → T → Picture T → Picture T
   opened_by (Open tries) t value p = handed_in tries t value p
   opened_by Reap t value p = p
   opened_by (Wait due) t value p = p

@@ -1,7 +1,7 @@
 -- A count of lent connections that a caller keeps beside a core.
 use Rattle.std.specs.Prelude.{◌≡◌, ℕ, length, Option, Some, None}
 use Rattle.r2d2_core.specs.Picture.{Picture}
-use Rattle.r2d2_core.specs.Connections.{IdleConnection}
+use Rattle.r2d2_core.specs.Connections.{SeenIdleConnection}
 
 module _ {T : Type 0} where
   -- the count is that of the core's lent connections
@@ -9,6 +9,6 @@ module _ {T : Type 0} where
   IsCounted core lent = lent ≡ length core.lent
 
   -- the id and the value of a connection
-  abbrev pub shown_found : Option (IdleConnection T) → Option (ℕ × T)
+  abbrev pub shown_found : Option (SeenIdleConnection T) → Option (ℕ × T)
   shown_found None = None
   shown_found (Some c) = Some (c.id, c.value)

@@ -109,9 +109,7 @@ pub fn lend_with_timeout<
     V: HandleEvent + 'static,
     Z: CustomizeConnection<M::Connection, M::Error>,
     R: PoolRuntime,
->(
-    pool: &Pool<M, H, V, Z, R>,
-) -> Result<(PooledConnection<M, H, V, Z, R>, Duration), Error>
+>(pool: &Pool<M, H, V, Z, R>) -> Result<(PooledConnection<M, H, V, Z, R>, Duration), Error>
     ensures { IfOk result (λ lent. lent.1 ≡ lent.0.settings.connection_timeout) }
 {
     let lent = pool.get()?;

@@ -8,14 +8,14 @@ use Rattle.std.proofs.lemmas.Str.{IsUtf8-from_is_utf8, is_utf8-from_IsUtf8}
 use Rattle.std.proofs.lemmas.Str.Parse.{IsNumeralModel, numerals_by_value, tells_all_ascii_digits}
 use Rattle.std.proofs.lemmas.Grind.{common_steps}
 use Rattle.std.specs.Option.{ok_or}
-use Rattle.r2d2_core.specs.Limits.{Settings, AreLegal}
+use Rattle.r2d2_core.specs.Limits.{SeenLimits, AreLegal}
 use Rattle.r2d2_core.specs.declared.schedule.limits.Limits.{Limits}
 use Rattle.pool_steps.specs.declared.program.Fault.{Fault}
 use Rattle.pool_steps.specs.declared.program.Fault.TheVariants.{LimitsRefused}
-use Rattle.pool_steps.specs.declared.program.line.Settings as first
+use Rattle.pool_steps.specs.declared.program.line.LimitsLine as first
 use Rattle.pool_steps.specs.Number.{IsNumber, number_of}
 use Rattle.pool_steps.specs.Lines.{is_number, number_in, text_in, limits_in, sizes_of, is_space}
-use Rattle.pool_steps.specs.Settings.{bounds_of, seen_settings}
+use Rattle.pool_steps.specs.LimitsLine.{bounds_of, seen_limits_line}
 
 digits : IsNumeralModel (λ ds. all_ascii_digits ds ≡ true) (digits_value 10)
 digits = numerals_by_value _ tells_all_ascii_digits
@@ -63,10 +63,10 @@ before_none text h = grind (arith, common_steps)
 -- LIMITS
 
 abbrev IsRefused : List ℕ → Result Limits Fault → Type 0
-IsRefused line r = IfErr r (λ fault. fault ≡ LimitsRefused → (s : Settings) × (limits_in line ≡ Some (sizes_of s)) × ¬ (AreLegal s))
+IsRefused line r = IfErr r (λ fault. fault ≡ LimitsRefused → (s : SeenLimits) × (limits_in line ≡ Some (sizes_of s)) × ¬ (AreLegal s))
 
-pub refused_limits : (line : List ℕ) (settings : first.Settings) (o : Option Limits) (r : Result Limits Fault) → r ≡ ok_or o LimitsRefused →
-    (IsSome o ↔ AreLegal (bounds_of settings)) → limits_in line ≡ Some (seen_settings settings) → IsRefused line r
+pub refused_limits : (line : List ℕ) (settings : first.LimitsLine) (o : Option Limits) (r : Result Limits Fault) → r ≡ ok_or o LimitsRefused →
+    (IsSome o ↔ AreLegal (bounds_of settings)) → limits_in line ≡ Some (seen_limits_line settings) → IsRefused line r
 refused_limits line settings None r e legal says =
     subst (λ (z : Result Limits Fault). IsRefused line z) (sym e) (λ i. (bounds_of settings, says, λ l. let h : false ≡ true = legal.1 l in cc))
 refused_limits line settings (Some l) r e legal says = subst (λ (z : Result Limits Fault). IsRefused line z) (sym e) tt

@@ -4,12 +4,12 @@ use Rattle.std.specs.Io.KnownBytes.{Appends, Keeps}
 use Rattle.std.specs.Io.BufRead.{first_piece, drop_through, take_through, strip_last}
 use Rattle.std.proofs.lemmas.Bool.Decides.{nat_tests}
 use Rattle.std.proofs.lemmas.Result.{err_from_is_err_and}
-use Rattle.r2d2_core.specs.Limits.{Settings, AreLegal}
+use Rattle.r2d2_core.specs.Limits.{SeenLimits, AreLegal}
 use Rattle.r2d2_core.specs.Picture.{Picture}
 use Rattle.r2d2_core.specs.Table.{first_picture}
 use Rattle.pool_steps.specs.declared.program.Fault.{Fault}
 use Rattle.pool_steps.specs.declared.program.Fault.TheVariants.{NotAStep, LimitsRefused}
-use Rattle.pool_steps.specs.Lines.{Said, sizes_of, step_in, limits_in}
+use Rattle.pool_steps.specs.Lines.{SeenLine, sizes_of, step_in, limits_in}
 use Rattle.pool_steps.specs.Steps.{answer_text, after_said}
 use Rattle.pool_steps.specs.Script.{lines_of, onto_first, and_then, TakesLine, steps_of, outcome_of, answers_to, first_of, Goes, Plays, no_limits, refused, played, Serves}
 use Rattle.pool_steps.proofs.Writing.{join, kept_alone, kept_then, nothing}
@@ -84,14 +84,14 @@ first_taken (b ∷ bytes) line false left takes = let t : false ≡ true = takes
 
 -- ONE LINE
 
-go_on : (n : ℕ) (p : Picture ℕ) (bytes line : List ℕ) (left : Option (List ℕ)) (said : Said) (r : Result (Unit {0}) Fault) (o w new : Option (List ℕ)) →
+go_on : (n : ℕ) (p : Picture ℕ) (bytes line : List ℕ) (left : Option (List ℕ)) (said : SeenLine) (r : Result (Unit {0}) Fault) (o w new : Option (List ℕ)) →
     TakesLine bytes true line left → step_in line ≡ Some said → Appends o w (answer_text said p) →
     IfSome left (λ rest. Goes (n + 1) (after_said said p) rest r w new) → Goes n p bytes r o new
 go_on n p bytes line left said r o w new takes is wrote later go =
     let k : Goes (n + 1) (after_said said p) (rest_of bytes) r w new = subst (λ (z : Option (List ℕ)). IfSome z (λ rest. Goes (n + 1) (after_said said p) rest r w new)) takes.left later in
     let e : lines_of bytes ≡ line ∷ lines_of (rest_of bytes) = there_is bytes line left takes in
-    let ends : outcome_of n (lines_of bytes) ≡ outcome_of (n + 1) (lines_of (rest_of bytes)) = ap (outcome_of n) e ∙ ap (λ (z : Option Said). cond (is_some z) (outcome_of (n + 1) (lines_of (rest_of bytes))) (Err (NotAStep n))) is in
-    let writes : answers_to p (steps_of (lines_of bytes)) ≡ answer_text said p ++ answers_to (after_said said p) (steps_of (lines_of (rest_of bytes))) = ap (λ (z : List (List ℕ)). answers_to p (steps_of z)) e ∙ ap (λ (z : Option Said). answers_to p (and_then z (steps_of (lines_of (rest_of bytes))))) is in
+    let ends : outcome_of n (lines_of bytes) ≡ outcome_of (n + 1) (lines_of (rest_of bytes)) = ap (outcome_of n) e ∙ ap (λ (z : Option SeenLine). cond (is_some z) (outcome_of (n + 1) (lines_of (rest_of bytes))) (Err (NotAStep n))) is in
+    let writes : answers_to p (steps_of (lines_of bytes)) ≡ answer_text said p ++ answers_to (after_said said p) (steps_of (lines_of (rest_of bytes))) = ap (λ (z : List (List ℕ)). answers_to p (steps_of z)) e ∙ ap (λ (z : Option SeenLine). answers_to p (and_then z (steps_of (lines_of (rest_of bytes))))) is in
     ((k go).0 ∙ sym ends, subst (λ (z : List ℕ). Appends o new z) (sym writes) (join o w new _ _ wrote (k go).1))
 
 stop : (n : ℕ) (p : Picture ℕ) (bytes line : List ℕ) (left o new : Option (List ℕ)) → TakesLine bytes false line left → Keeps o new → Goes n p bytes (Ok tt) o new
@@ -102,14 +102,14 @@ stop n p bytes line left o new takes kept go =
 no_step : (n : ℕ) (p : Picture ℕ) (bytes line : List ℕ) (left o new : Option (List ℕ)) → TakesLine bytes true line left → step_in line ≡ None → Keeps o new → Goes n p bytes (Err (NotAStep n)) o new
 no_step n p bytes line left o new takes is kept go =
     let e = there_is bytes line left takes in
-    let ends : outcome_of n (lines_of bytes) ≡ Err (NotAStep n) = ap (outcome_of n) e ∙ ap (λ (z : Option Said). cond (is_some z) (outcome_of (n + 1) (lines_of (rest_of bytes))) (Err (NotAStep n))) is in
-    let writes : answers_to p (steps_of (lines_of bytes)) ≡ [] = ap (λ (z : List (List ℕ)). answers_to p (steps_of z)) e ∙ ap (λ (z : Option Said). answers_to p (and_then z (steps_of (lines_of (rest_of bytes))))) is in
+    let ends : outcome_of n (lines_of bytes) ≡ Err (NotAStep n) = ap (outcome_of n) e ∙ ap (λ (z : Option SeenLine). cond (is_some z) (outcome_of (n + 1) (lines_of (rest_of bytes))) (Err (NotAStep n))) is in
+    let writes : answers_to p (steps_of (lines_of bytes)) ≡ [] = ap (λ (z : List (List ℕ)). answers_to p (steps_of z)) e ∙ ap (λ (z : Option SeenLine). answers_to p (and_then z (steps_of (lines_of (rest_of bytes))))) is in
     (sym ends, subst (λ (z : List ℕ). Appends o new z) (sym writes) (kept_alone o new kept))
 
 -- THE SAME OF A READER WHOSE BYTES MAY BE UNKNOWN
 
 module _ (n : ℕ) (p : Picture ℕ) (line : List ℕ) (left o new : Option (List ℕ)) where
-  pub goes_on : (known : Option (List ℕ)) (there : Bool) (said : Said) (r : Result (Unit {0}) Fault) (kept w : Option (List ℕ)) (m : ℕ) (q : Picture ℕ) →
+  pub goes_on : (known : Option (List ℕ)) (there : Bool) (said : SeenLine) (r : Result (Unit {0}) Fault) (kept w : Option (List ℕ)) (m : ℕ) (q : Picture ℕ) →
       IfSome known (λ bytes. TakesLine bytes there line left) → there ≡ true → step_in line ≡ Some said → Keeps o kept → Appends kept w (answer_text said p) →
       m ≡ n + 1 → q ≡ after_said said p → IfSome left (λ rest. Goes m q rest r w new) → IfSome known (λ bytes. Goes n p bytes r o new)
   goes_on None there said r kept w m q takes is_there is keeps wrote counts after later = tt
@@ -129,7 +129,7 @@ module _ (n : ℕ) (p : Picture ℕ) (line : List ℕ) (left o new : Option (Lis
 
 -- what `?` made of the error of `limits`
 not_started : (lines : List (List ℕ)) (e : Fault) (o : Option (List ℕ)) → (e ≡ NotAStep 1) ⊎ (e ≡ LimitsRefused) → (e ≡ NotAStep 1 → limits_in (first_of lines) ≡ None) →
-    (e ≡ LimitsRefused → (s : Settings) × (limits_in (first_of lines) ≡ Some (sizes_of s)) × ¬ (AreLegal s)) → (text : List ℕ) × Plays lines (Err e) text × Appends o o text
+    (e ≡ LimitsRefused → (s : SeenLimits) × (limits_in (first_of lines) ≡ Some (sizes_of s)) × ¬ (AreLegal s)) → (text : List ℕ) × Plays lines (Err e) text × Appends o o text
 not_started lines e o (inl is) no_form no_leave = ([], subst (λ (z : Fault). Plays lines (Err z) []) (sym is) (no_limits (no_form is)), nothing o)
 not_started lines e o (inr is) no_form no_leave =
     let (s, says, wrong) = no_leave is in
@@ -138,7 +138,7 @@ not_started lines e o (inr is) no_form no_leave =
 module _ (line : List ℕ) (there : Bool) (left o : Option (List ℕ)) (d : List ℕ) (same : d ≡ line) where
   pub says_no_limits : (known : Option (List ℕ)) (r : Result (Unit {0}) Fault) (e : Fault) → IfSome known (λ bytes. TakesLine bytes there line left) → IsErrAnd r (λ x. x ≡ e) →
       (e ≡ NotAStep 1) ⊎ (e ≡ LimitsRefused) → (e ≡ NotAStep 1 → limits_in d ≡ None) →
-      (e ≡ LimitsRefused → (s : Settings) × (limits_in d ≡ Some (sizes_of s)) × ¬ (AreLegal s)) → IfSome known (λ bytes. Serves bytes r o o)
+      (e ≡ LimitsRefused → (s : SeenLimits) × (limits_in d ≡ Some (sizes_of s)) × ¬ (AreLegal s)) → IfSome known (λ bytes. Serves bytes r o o)
   says_no_limits None r e takes fails why no_form no_leave = tt
   says_no_limits (Some bytes) r e takes fails why no_form no_leave =
       let (x, is, ends) = err_from_is_err_and r fails in
@@ -146,7 +146,7 @@ module _ (line : List ℕ) (there : Bool) (left o : Option (List ℕ)) (d : List
       λ go. subst (λ (z : Result (Unit {0}) Fault). (text : List ℕ) × Plays (lines_of bytes) z text × Appends o o text) (sym (is ∙ ap (λ (z : Fault). Err z) ends))
       (not_started (lines_of bytes) e o why (λ i. ap limits_in f ∙ no_form i) (λ i. let (s, says, wrong) = no_leave i in (s, ap limits_in f ∙ says, wrong)))
 
-  pub starts : (known : Option (List ℕ)) (r : Result (Unit {0}) Fault) (new : Option (List ℕ)) (s : Settings) (p : Picture ℕ) → IfSome known (λ bytes. TakesLine bytes there line left) →
+  pub starts : (known : Option (List ℕ)) (r : Result (Unit {0}) Fault) (new : Option (List ℕ)) (s : SeenLimits) (p : Picture ℕ) → IfSome known (λ bytes. TakesLine bytes there line left) →
       limits_in d ≡ Some (sizes_of s) → AreLegal s → p ≡ first_picture s 0 0 → IfSome left (λ rest. Goes 2 p rest r o new) → IfSome known (λ bytes. Serves bytes r o new)
   starts None r new s p takes says legal made later = tt
   starts (Some bytes) r new s p takes says legal made later =

@@ -6,7 +6,7 @@ use Rattle.std.specs.Str.Parse.{digits_value}
 use Rattle.std.specs.Duration.{as_nanos}
 use Rattle.r2d2_core.specs.declared.run.Step.{Step}
 use Rattle.r2d2_core.specs.declared.run.Step.TheVariants as step
-use Rattle.r2d2_core.specs.Limits.{Settings}
+use Rattle.r2d2_core.specs.Limits.{SeenLimits}
 use Rattle.pool_steps.specs.declared.program.line.Line.{Line}
 use Rattle.pool_steps.specs.declared.program.line.Line.TheVariants as line
 
@@ -44,7 +44,7 @@ cut text =
 
 -- THE FIRST LINE
 
-pub record Sizes : Type 0 where
+pub record SeenLimitsLine : Type 0 where
   pub max_size : ℕ
   pub min_idle : Option ℕ
   pub max_lifetime : Option ℕ
@@ -53,7 +53,7 @@ pub record Sizes : Type 0 where
   pub reap_every : ℕ
 
 -- limits, with their lengths of time in nanoseconds
-abbrev pub sizes_of : Settings → Sizes
+abbrev pub sizes_of : SeenLimits → SeenLimitsLine
 sizes_of s = record {
   max_size = s.max_size;
   min_idle = s.min_idle;
@@ -63,7 +63,7 @@ sizes_of s = record {
   reap_every = as_nanos s.reap_every;
 }
 
-abbrev pub sizes : ℕ → Option ℕ → Option ℕ × Option ℕ × ℕ × ℕ → Sizes
+abbrev pub sizes : ℕ → Option ℕ → Option ℕ × Option ℕ × ℕ × ℕ → SeenLimitsLine
 sizes size least l = record {
   max_size = size;
   min_idle = least;
@@ -86,7 +86,7 @@ lengths_in fields = do
   Some (max_lifetime, idle_timeout, connection_timeout, reap_every)
 
 -- a size, how many are wanted idle, and the lengths of time
-unfoldable pub fields_in : List ℕ → Option Sizes
+unfoldable pub fields_in : List ℕ → Option SeenLimitsLine
 fields_in fields = do
   size ← cut fields
   least ← cut size.1
@@ -96,7 +96,7 @@ fields_in fields = do
   Some (sizes max_size min_idle lengths)
 
 -- `limits` and its fields
-unfoldable pub sizes_in : List ℕ → Option Sizes
+unfoldable pub sizes_in : List ℕ → Option SeenLimitsLine
 sizes_in text = do
   first ← cut text
   if bytes_eq first.0 (codes "limits") then fields_in first.1 else None
@@ -104,20 +104,20 @@ sizes_in text = do
 -- THE LINES AFTER IT
 
 -- a step, or a look at the state
-pub data Said : Type 0 where
-  Take : (now : ℕ) (or_order : Bool) → Said
-  Begin : (now : ℕ) → Said
-  Number : (tries : ℕ) → Said
-  Admit : (now id value : ℕ) → Said
-  Fail : (now tries : ℕ) (text : Option (List ℕ)) → Said
-  FailCheck : (now id : ℕ) (text : Option (List ℕ)) → Said
-  PutBack : (now id value : ℕ) (broken : Bool) → Said
-  Reap : (now : ℕ) → Said
-  TakeError : Said
-  Close : Said
-  State : Said
+pub data SeenLine : Type 0 where
+  Take : (now : ℕ) (or_order : Bool) → SeenLine
+  Begin : (now : ℕ) → SeenLine
+  Number : (tries : ℕ) → SeenLine
+  Admit : (now id value : ℕ) → SeenLine
+  Fail : (now tries : ℕ) (text : Option (List ℕ)) → SeenLine
+  FailCheck : (now id : ℕ) (text : Option (List ℕ)) → SeenLine
+  PutBack : (now id value : ℕ) (broken : Bool) → SeenLine
+  Reap : (now : ℕ) → SeenLine
+  TakeError : SeenLine
+  Close : SeenLine
+  State : SeenLine
 
-abbrev pub seen_step : Step ℕ → Said
+abbrev pub seen_step : Step ℕ → SeenLine
 seen_step (step.Take now or_order) = Take (as_nanos now) or_order
 seen_step (step.Begin now) = Begin (as_nanos now)
 seen_step (step.Number tries) = Number tries
@@ -129,7 +129,7 @@ seen_step (step.Reap now) = Reap (as_nanos now)
 seen_step step.TakeError = TakeError
 seen_step step.Close = Close
 
-abbrev pub seen_line : Line → Said
+abbrev pub seen_line : Line → SeenLine
 seen_line (line.Step s) = seen_step s
 seen_line line.State = State
 
@@ -150,14 +150,14 @@ failure_in fields = do
   now ← time_in first.0
   Some (now, before_first is_space first.1, option_map (λ what. what.1) (cut first.1))
 
-abbrev pub failed_opening_in : List ℕ → Option Said
+abbrev pub failed_opening_in : List ℕ → Option SeenLine
 failed_opening_in fields = failure_in fields >>= (λ f. option_map (λ tries. Fail f.0 tries f.2) (number_in 32 f.1))
 
-abbrev pub failed_check_in : List ℕ → Option Said
+abbrev pub failed_check_in : List ℕ → Option SeenLine
 failed_check_in fields = failure_in fields >>= (λ f. option_map (λ id. FailCheck f.0 id f.2) (number_in 64 f.1))
 
 -- a word that stands alone
-abbrev pub said_alone : List ℕ → Option Said
+abbrev pub said_alone : List ℕ → Option SeenLine
 said_alone word =
     if bytes_eq word (codes "error") then Some TakeError
     else if bytes_eq word (codes "close") then Some Close
@@ -165,7 +165,7 @@ said_alone word =
     else None
 
 -- a word, and a number or what failed
-unfoldable pub said_of_failure : List ℕ → List ℕ → Option Said
+unfoldable pub said_of_failure : List ℕ → List ℕ → Option SeenLine
 said_of_failure word fields =
     if bytes_eq word (codes "number") then option_map (λ tries. Number tries) (number_in 32 fields)
     else if bytes_eq word (codes "fail") then failed_opening_in fields
@@ -173,7 +173,7 @@ said_of_failure word fields =
     else None
 
 -- a word and a connection
-unfoldable pub said_of_connection : List ℕ → List ℕ → Option Said
+unfoldable pub said_of_connection : List ℕ → List ℕ → Option SeenLine
 said_of_connection word fields =
     if bytes_eq word (codes "admit") then option_map (λ c. Admit c.0 c.1 c.2) (connection_in fields)
     else if bytes_eq word (codes "return") then option_map (λ c. PutBack c.0 c.1 c.2 false) (connection_in fields)
@@ -181,7 +181,7 @@ said_of_connection word fields =
     else said_of_failure word fields
 
 -- a word and its fields, which for these four are a moment
-unfoldable pub said_with : List ℕ → List ℕ → Option Said
+unfoldable pub said_with : List ℕ → List ℕ → Option SeenLine
 said_with word fields =
     if bytes_eq word (codes "take") then option_map (λ now. Take now false) (time_in fields)
     else if bytes_eq word (codes "want") then option_map (λ now. Take now true) (time_in fields)
@@ -189,12 +189,12 @@ said_with word fields =
     else if bytes_eq word (codes "reap") then option_map (λ now. Reap now) (time_in fields)
     else said_of_connection word fields
 
-abbrev pub said_by : List ℕ → Option (List ℕ × List ℕ) → Option Said
+abbrev pub said_by : List ℕ → Option (List ℕ × List ℕ) → Option SeenLine
 said_by text None = said_alone text
 said_by text (Some a) = said_with a.0 a.1
 
 -- what a text says, if it is a step
-unfoldable pub said_in : List ℕ → Option Said
+unfoldable pub said_in : List ℕ → Option SeenLine
 said_in text = said_by text (cut text)
 
 -- LINES
@@ -203,9 +203,9 @@ unfoldable pub text_in : List ℕ → Option (List ℕ)
 text_in line = if is_utf8 line then Some line else None
 
 -- what a line says, if it is a step
-unfoldable pub step_in : List ℕ → Option Said
+unfoldable pub step_in : List ℕ → Option SeenLine
 step_in line = text_in line >>= said_in
 
 -- the sizes that a line says, if it is of the form of `limits`
-unfoldable pub limits_in : List ℕ → Option Sizes
+unfoldable pub limits_in : List ℕ → Option SeenLimitsLine
 limits_in line = text_in line >>= sizes_in

@@ -2,12 +2,12 @@
 use Rattle.std.specs.Prelude.{◌≡◌, ℕ, ◌+◌, ◌<◌, ◌↔◌, Bool, IsTrue, ◌==◌, if◌then◌else◌, List, [], ◌∷◌, ◌++◌, length, drop, slice_get, Option, Some, None, is_some, unwrap_or, Result, Ok, Err, ⊤}
 use Rattle.std.specs.Io.KnownBytes.{Appends}
 use Rattle.std.specs.Io.BufRead.{first_piece, drop_through}
-use Rattle.r2d2_core.specs.Limits.{Settings, AreLegal}
+use Rattle.r2d2_core.specs.Limits.{SeenLimits, AreLegal}
 use Rattle.r2d2_core.specs.Picture.{Picture}
 use Rattle.r2d2_core.specs.Table.{first_picture}
 use Rattle.pool_steps.specs.declared.program.Fault.{Fault}
 use Rattle.pool_steps.specs.declared.program.Fault.TheVariants.{NotAStep, LimitsRefused, Memory, Read, Write}
-use Rattle.pool_steps.specs.Lines.{Said, sizes_of, step_in, limits_in}
+use Rattle.pool_steps.specs.Lines.{SeenLine, sizes_of, step_in, limits_in}
 use Rattle.pool_steps.specs.Steps.{answer_text, after_said}
 
 -- LINES
@@ -29,12 +29,12 @@ pub record TakesLine (bytes : List ℕ) (is_there : Bool) (taken : List ℕ) (re
 
 -- THE LINES AFTER THE FIRST
 
-abbrev pub and_then : Option Said → List Said → List Said
+abbrev pub and_then : Option SeenLine → List SeenLine → List SeenLine
 and_then None steps = []
 and_then (Some said) steps = said ∷ steps
 
 -- the steps up to the first line that is none
-abbrev pub steps_of : List (List ℕ) → List Said
+abbrev pub steps_of : List (List ℕ) → List SeenLine
 steps_of [] = []
 steps_of (line ∷ lines) = and_then (step_in line) (steps_of lines)
 
@@ -44,7 +44,7 @@ outcome_of n [] = Ok tt
 outcome_of n (line ∷ lines) = if is_some (step_in line) then outcome_of (n + 1) lines else Err (NotAStep n)
 
 -- the answers to the steps of a pool
-abbrev pub answers_to : Picture ℕ → List Said → List ℕ
+abbrev pub answers_to : Picture ℕ → List SeenLine → List ℕ
 answers_to p [] = []
 answers_to p (said ∷ steps) = answer_text said p ++ answers_to (after_said said p) steps
 
@@ -72,8 +72,8 @@ first_of lines = unwrap_or (slice_get lines 0) []
 -- how a script of these lines ends, and what it writes
 pub data Plays (lines : List (List ℕ)) : Result (Unit {0}) Fault → List ℕ → Type 0 where
   no_limits : limits_in (first_of lines) ≡ None → Plays lines (Err (NotAStep 1)) []
-  refused : (s : Settings) → limits_in (first_of lines) ≡ Some (sizes_of s) → ¬ (AreLegal s) → Plays lines (Err LimitsRefused) []
-  played : (s : Settings) → limits_in (first_of lines) ≡ Some (sizes_of s) → AreLegal s →
+  refused : (s : SeenLimits) → limits_in (first_of lines) ≡ Some (sizes_of s) → ¬ (AreLegal s) → Plays lines (Err LimitsRefused) []
+  played : (s : SeenLimits) → limits_in (first_of lines) ≡ Some (sizes_of s) → AreLegal s →
       Plays lines (outcome_of 2 (drop 1 lines)) (answers_to (first_picture s 0 0) (steps_of (drop 1 lines)))
 
 -- the output grew by what the script of the bytes writes, and the outcome is the script's

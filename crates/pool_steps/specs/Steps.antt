@@ -5,14 +5,14 @@ use Rattle.r2d2_core.specs.declared.run.Step.TheVariants as step
 use Rattle.r2d2_core.specs.OnOrder.{fail_refusal}
 use Rattle.r2d2_core.specs.Refusals.{unless_refused}
 use Rattle.r2d2_core.specs.Picture.{Picture}
-use Rattle.r2d2_core.specs.Reply.{Reply, Taken, Begun, Numbered, Admitted, Failed, CheckFailed, CameBack, Reaped, Told, Left}
+use Rattle.r2d2_core.specs.Seen.{SeenAnswer, Taken, Begun, Numbered, Admitted, Failed, CheckFailed, CameBack, Reaped, Told, Left}
 use Rattle.r2d2_core.specs.Table.{take_answer, begin_answer, number_answer, admit_answer, fail_answer, return_answer, check_answer, reap_closed, reap_orders, close_answer}
 use Rattle.r2d2_core.specs.Table.{after_take, after_begin, after_number, after_admit, after_fail, after_return, lent_refusal, after_check, after_reap, after_take_error, after_close}
-use Rattle.pool_steps.specs.Lines.{Said, Take, Begin, Number, Admit, Fail, FailCheck, PutBack, Reap, TakeError, Close, State}
+use Rattle.pool_steps.specs.Lines.{SeenLine, Take, Begin, Number, Admit, Fail, FailCheck, PutBack, Reap, TakeError, Close, State}
 use Rattle.pool_steps.specs.Texts.{take_text, task_text, number_text, admission_text, failure_text, check_text, return_text, reap_text, error_text, close_text, state_text}
 
 -- what is written for a step
-abbrev pub answer_text : Said → Picture ℕ → List ℕ
+abbrev pub answer_text : SeenLine → Picture ℕ → List ℕ
 answer_text (Take now or_order) p = take_text (take_answer or_order p)
 answer_text (Begin now) p = task_text (begin_answer now p)
 answer_text (Number tries) p = number_text (number_answer tries p)
@@ -31,7 +31,7 @@ with_error None p = p
 with_error (Some text) p = record p { last_error = Some text }
 
 -- what the core shows after it; a refused step records no text
-abbrev pub after_said : Said → Picture ℕ → Picture ℕ
+abbrev pub after_said : SeenLine → Picture ℕ → Picture ℕ
 after_said (Take now or_order) p = after_take now or_order p
 after_said (Begin now) p = after_begin now p
 after_said (Number tries) p = after_number tries p
@@ -53,7 +53,7 @@ id_in (step.PutBack now id value broken) = id
 id_in _ = 0
 
 -- what is written for an answer to a step that names the id
-abbrev pub reply_text : ℕ → Reply ℕ → List ℕ
+abbrev pub reply_text : ℕ → SeenAnswer ℕ → List ℕ
 reply_text id (Taken taking) = take_text taking
 reply_text id (Begun task) = task_text task
 reply_text id (Numbered r) = number_text r

@@ -3,10 +3,10 @@ use Rattle.std.specs.Prelude.{ℕ, ◌-◌, ◌/◌, ◌%◌, ◌==◌, ◌^◌,
 use Rattle.std.specs.Fmt.{padded_integral, format_spec}
 use Rattle.r2d2_core.specs.declared.machine.answers.Refusal.{Refusal}
 use Rattle.r2d2_core.specs.declared.machine.answers.Refusal.TheVariants.{Closed, NotLent, NoOpening, IdsUsedUp, NotNumbered}
-use Rattle.r2d2_core.specs.Connections.{Closing}
-use Rattle.r2d2_core.specs.Tasks.{Task, Open, Reap, Wait, Nothing, Ended}
-use Rattle.r2d2_core.specs.Reply.{Taking, Found, Empty, Return, Kept, Loss}
-use Rattle.r2d2_core.specs.Reply as reply
+use Rattle.r2d2_core.specs.Connections.{SeenReleased}
+use Rattle.r2d2_core.specs.Jobs.{SeenJob, Open, Reap, Wait, Nothing, Ended}
+use Rattle.r2d2_core.specs.Seen.{SeenTake, Found, Empty, SeenReturned, Kept, SeenGone}
+use Rattle.r2d2_core.specs.Seen as reply
 
 -- what `{:06}` writes
 abbrev pub six_digits : ℕ → List ℕ
@@ -36,11 +36,11 @@ word_of NotNumbered = codes "NotNumbered"
 abbrev pub refusal_text : Refusal → List ℕ
 refusal_text why = line (codes "refused " ++ word_of why)
 
-abbrev pub take_text : Taking ℕ → List ℕ
+abbrev pub take_text : SeenTake ℕ → List ℕ
 take_text (Found id birth value n) = line (codes "taken " ++ decimal id ++ codes " " ++ decimal value ++ codes " ordered " ++ decimal n)
 take_text (Empty n) = line (codes "empty ordered " ++ decimal n)
 
-abbrev pub task_text : Task → List ℕ
+abbrev pub task_text : SeenJob → List ℕ
 task_text (Open tries) = line (codes "open " ++ decimal tries)
 task_text Reap = line (codes "reap")
 task_text (Wait due) = line (codes "wait " ++ milliseconds due)
@@ -63,20 +63,20 @@ failure_text (Err why) = refusal_text why
 abbrev pub gone_text : ℕ → ℕ → ℕ → List ℕ
 gone_text id age n = line (codes "gone " ++ decimal id ++ codes " age " ++ milliseconds age ++ codes " ordered " ++ decimal n)
 
-abbrev pub check_text : ℕ → Result Loss Refusal → List ℕ
+abbrev pub check_text : ℕ → Result SeenGone Refusal → List ℕ
 check_text id (Ok loss) = gone_text id loss.age loss.ordered
 check_text id (Err why) = refusal_text why
 
-abbrev pub return_text : ℕ → Result (Return ℕ) (Refusal × ℕ) → List ℕ
+abbrev pub return_text : ℕ → Result (SeenReturned ℕ) (Refusal × ℕ) → List ℕ
 return_text id (Ok Kept) = line (codes "kept")
 return_text id (Ok (reply.Closed value age n)) = gone_text id age n
 return_text id (Err back) = refusal_text back.0
 
 -- the ids of the connections that are to be shut, each after a space
-abbrev pub released_text : List (Closing ℕ) → List ℕ
+abbrev pub released_text : List (SeenReleased ℕ) → List ℕ
 released_text closed = flat_map (λ c. then_number c.id) closed
 
-abbrev pub reap_text : List (Closing ℕ) → ℕ → List ℕ
+abbrev pub reap_text : List (SeenReleased ℕ) → ℕ → List ℕ
 reap_text closed n = line (codes "reaped" ++ released_text closed ++ codes " ordered " ++ decimal n)
 
 abbrev pub error_text : Option (List ℕ) → List ℕ

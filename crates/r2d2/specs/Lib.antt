@@ -3,6 +3,6 @@ pub mod Events
 pub mod Failures
 pub mod Settings
 pub mod Wakes
-pub mod Settling
+pub mod Settled
 pub use Rattle.r2d2_core.specs.Limits
-pub mod Lending
+pub mod Lent

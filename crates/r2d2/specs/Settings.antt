@@ -2,7 +2,7 @@
 use Rattle.std.specs.Prelude.{◌≡◌, ℕ, ◌*◌, ◌<◌, true, Some, None, option_map}
 use Rattle.std.specs.Option.{ForSome}
 use Rattle.std.specs.Duration.{as_nanos}
-use Rattle.r2d2_core.specs.Limits.{Settings, settings}
+use Rattle.r2d2_core.specs.Limits.{SeenLimits, settings}
 use Rattle.r2d2.specs.declared.config.Config.{Config}
 
 -- a number of seconds, in nanoseconds
@@ -31,7 +31,7 @@ pub record ArePositive {H V Z : Type 0} (config : Config H V Z) : Type 0 where
   pub reaps : 0 < as_nanos config.reaper_rate
 
 -- the limits among the settings
-abbrev pub limits_in : {H V Z : Type 0} → Config H V Z → Settings
+abbrev pub limits_in : {H V Z : Type 0} → Config H V Z → SeenLimits
 limits_in config = settings config.max_size config.min_idle config.max_lifetime config.idle_timeout config.connection_timeout config.reaper_rate
 
 -- the same settings with other handlers

@@ -2,7 +2,7 @@
 -- one; all waiting workers where something is due.
 use Rattle.std.specs.Prelude.{ℕ, nat_lt, Bool, true, false, Result, Ok, Err}
 use Rattle.r2d2_core.specs.declared.machine.answers.Refusal.{Refusal}
-use Rattle.r2d2_core.specs.Reply.{Taking, Found, Empty, Return, Kept, Closed}
+use Rattle.r2d2_core.specs.Seen.{SeenTake, Found, Empty, SeenReturned, Kept, Closed}
 use Rattle.r2d2.specs.declared.engine.Wakes.{Wakes}
 
 abbrev pub wakes : Bool → Bool → Wakes
@@ -25,12 +25,12 @@ caller_and_workers_for n = wakes true (is_some_number n)
 
 module _ {T : Type 0} where
   -- after a take, that found or not, the workers where it ordered
-  abbrev pub wakes_of_take : Taking T → Wakes
+  abbrev pub wakes_of_take : SeenTake T → Wakes
   wakes_of_take (Found id birth value n) = workers_for n
   wakes_of_take (Empty n) = workers_for n
 
   -- after a return that was kept, a caller; after one that was closed, a caller, and the workers where it ordered
-  abbrev pub wakes_of_return : Result (Return T) (Refusal × T) → Wakes
+  abbrev pub wakes_of_return : Result (SeenReturned T) (Refusal × T) → Wakes
   wakes_of_return (Ok Kept) = wakes true false
   wakes_of_return (Ok (Closed value age n)) = caller_and_workers_for n
   wakes_of_return (Err back) = nobody

@@ -2,7 +2,7 @@
 ghost use Rattle.std.specs.Prelude.{◌≡◌, ◌<◌, ◌≤◌, ◌↔◌, IsSome, IfSome};
 ghost use Rattle.std.specs.Option.{ForSome};
 ghost use Rattle.std.specs.Duration.{as_nanos};
-ghost use Rattle.r2d2_core.specs.Limits.{settings_of};
+ghost use Rattle.r2d2_core.specs.Limits.{seen_limits};
 
 use crate::event::{HandleEvent, NopEventHandler};
 use crate::{
@@ -324,7 +324,7 @@ impl<
     /// built from settings that come from outside.
     pub fn limits(&self) -> Option<Limits>
         ensures legal { IsSome result ↔ ForSome self.now.min_idle (λ n. n ≤ self.now.max_size) }
-        ensures given { IfSome result (λ limits. settings_of limits ≡ limits_in self.now) }
+        ensures given { IfSome result (λ limits. seen_limits limits ≡ limits_in self.now) }
     {
         let config = &self.config;
         Limits::of(

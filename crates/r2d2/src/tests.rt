@@ -7,6 +7,7 @@ use crate::event::{AcquireEvent, CheckinEvent, CheckoutEvent, ReleaseEvent, Time
 use log::sink::Locked;
 use log::{Level, Logged};
 use std::io;
+use std::sync::atomic::{AtomicU64, Ordering};
 use std::sync::{Arc, Mutex, Wait};
 use std::test::Fail;
 use std::time::Duration;
@@ -70,6 +71,18 @@ impl HandleEvent for Listener {}
 
 impl CustomizeConnection<u32, &'static str> for Listener {}
 
+/// Counts what is released, and keeps to the other default bodies.
+#[derive(Debug, Drop)]
+struct Releases {
+    seen: AtomicU64,
+}
+
+impl HandleEvent for Releases {
+    fn handle_release(&self, _event: ReleaseEvent) {
+        self.seen.fetch_add(1, Ordering::SeqCst);
+    }
+}
+
 type Settings = Builder<Numbers, NopErrorHandler, NopEventHandler, NopConnectionCustomizer>;
 
 /// A writer whose bytes others can read.
@@ -128,13 +141,14 @@ fn settings(rt: HostRuntime) -> Result<(), Fail> {
 
     let builder = Settings::new()
         .max_size(7)
+        .connection_timeout(Duration::from_secs(20))
         .event_handler(Listener { name: 'v' })
         .connection_customizer(Listener { name: 'z' });
     assert_eq!(rt; builder.limits().ok_or("limits")?.max_size(), 7);
     let shown = format!(in rt.alloc(); "{builder:?}")?;
     assert_eq!(rt;
         shown.as_str(),
-        "Builder { max_size: 7, min_idle: None, test_on_check_out: true, max_lifetime: Some(1800s), idle_timeout: Some(600s), connection_timeout: 30s, error_handler: NopErrorHandler, event_handler: Listener { name: 'v' }, connection_customizer: Listener { name: 'z' } }"
+        "Builder { max_size: 7, min_idle: None, test_on_check_out: true, max_lifetime: Some(1800s), idle_timeout: Some(600s), connection_timeout: 20s, error_handler: NopErrorHandler, event_handler: Listener { name: 'v' }, connection_customizer: Listener { name: 'z' } }"
     );
 
     let config = Config {
@@ -175,6 +189,11 @@ fn events_and_what_does_nothing(rt: HostRuntime) -> Result<(), Fail> {
         shown.as_str(),
         "AcquireEvent { id: 1 } ReleaseEvent { id: 2, age: 1.5s } CheckoutEvent { id: 3, duration: 5ms } TimeoutEvent { timeout: 123ms } CheckinEvent { id: 4, duration: 2s }"
     );
+    let releases = Releases {
+        seen: AtomicU64::new(0),
+    };
+    releases.handle_checkin(CheckinEvent::of(4, Duration::ZERO, Duration::ZERO));
+    assert_eq!(rt; releases.seen.load(Ordering::SeqCst), 0);
     let listener = Listener { name: 'v' };
     listener.handle_acquire(acquire);
     listener.handle_release(release);

@@ -4,7 +4,7 @@ use Rattle.std.specs.Prelude.{filter_map}
 use Rattle.std.specs.List.{AllByRecursion}
 use Rattle.std.specs.Option.{MatchOption}
 use Rattle.r2d2_core.specs.Ids.{latest, last_of}
-use Rattle.r2d2_core.specs.Connections.{IdleConnection}
+use Rattle.r2d2_core.specs.Connections.{SeenIdleConnection}
 use Rattle.r2d2_core.specs.History.{History}
 use Rattle.r2d2_core.specs.Deeds.{What, Admission, Taking_out, Keeping, Going, deeds_of, id_of_deed, birth_of, as_idle, idle_of}
 
@@ -34,5 +34,5 @@ unfolding idle_of
 births_of-idle h = shown_all (λ c. c.birth ≡ birth_of h c.id) (λ d. as_idle (birth_of h d.id) d) (λ d. birth_shown (birth_of h) d.id d.at d.what) (latest id_of_deed (deeds_of h))
 
 -- the last idle one too
-pub birth_of-last : {T : Type 0} (h : History T) (c : IdleConnection T) → last_of (idle_of h) ≡ Some c → c.birth ≡ birth_of h c.id
+pub birth_of-last : {T : Type 0} (h : History T) (c : SeenIdleConnection T) → last_of (idle_of h) ≡ Some c → c.birth ≡ birth_of h c.id
 birth_of-last h c e = last_holds (λ c. c.birth ≡ birth_of h c.id) (idle_of h) c (births_of-idle h) e

@@ -9,7 +9,7 @@ use Rattle.r2d2_core.specs.declared.run.Step.{Step}
 use Rattle.r2d2_core.specs.Ids.{latest}
 use Rattle.r2d2_core.specs.History.{History, Then, moment_of}
 use Rattle.r2d2_core.specs.Deeds.{Deed, What, Admission, Taking_out, Keeping, Going, deeds_of, deeds_in, id_of_deed, birth_of, admits, as_idle, as_lent, idle_of, lent_of}
-use Rattle.r2d2_core.specs.Reply.{Reply}
+use Rattle.r2d2_core.specs.Seen.{SeenAnswer}
 use Rattle.r2d2_core.proofs.Filters.{filter_true}
 use Rattle.r2d2_core.proofs.Latest.{is_other, latest-append}
 
@@ -50,7 +50,7 @@ filter_map-agree p f g e [] = refl
 filter_map-agree p f g e (x ∷ xs) = births_step (p x) f g x (filter p xs) (e x) (filter_map-agree p f g e xs)
 
 -- what is idle after a step: what was, but for the ids of its deeds, and what its deeds leave
-pub idle_of-then : {T : Type 0} (h : History T) (s : Step T) (r : Reply T) (es : List (Deed T)) → deeds_in (moment_of h s) s r ≡ es
+pub idle_of-then : {T : Type 0} (h : History T) (s : Step T) (r : SeenAnswer T) (es : List (Deed T)) → deeds_in (moment_of h s) s r ≡ es
     → ((i : ℕ) → is_other id_of_deed es i ≡ true → admits s i ≡ false)
     → idle_of (Then h s r) ≡ filter (λ c. is_other id_of_deed es c.id) (idle_of h) ++ filter_map (λ d. as_idle (birth_of (Then h s r) d.id) d) (latest id_of_deed es)
 unfolding idle_of
@@ -64,7 +64,7 @@ idle_of-then h s r es e new =
     ∙ filter_map-filter (λ d. as_idle (birth_of h d.id) d) (λ d. is_other id_of_deed es d.id) (λ c. is_other id_of_deed es c.id) (λ d. idle_keeps (is_other id_of_deed es) (birth_of h d.id) d.id d.at d.what) (latest id_of_deed (deeds_of h)))))
 
 -- the same of what is lent
-pub lent_of-then : {T : Type 0} (h : History T) (s : Step T) (r : Reply T) (es : List (Deed T)) → deeds_in (moment_of h s) s r ≡ es
+pub lent_of-then : {T : Type 0} (h : History T) (s : Step T) (r : SeenAnswer T) (es : List (Deed T)) → deeds_in (moment_of h s) s r ≡ es
     → ((i : ℕ) → is_other id_of_deed es i ≡ true → admits s i ≡ false)
     → lent_of (Then h s r) ≡ filter (λ c. is_other id_of_deed es c.id) (lent_of h) ++ filter_map (λ d. as_lent (birth_of (Then h s r) d.id) d) (latest id_of_deed es)
 unfolding lent_of
@@ -78,8 +78,8 @@ lent_of-then h s r es e new =
     ∙ filter_map-filter (λ d. as_lent (birth_of h d.id) d) (λ d. is_other id_of_deed es d.id) (λ c. is_other id_of_deed es c.id) (λ d. lent_keeps (is_other id_of_deed es) (birth_of h d.id) d.id d.at d.what) (latest id_of_deed (deeds_of h)))))
 
 -- a step with no deeds leaves what is idle and lent
-pub idle_of-none : {T : Type 0} (h : History T) (s : Step T) (r : Reply T) → deeds_in (moment_of h s) s r ≡ [] → ((i : ℕ) → admits s i ≡ false) → idle_of (Then h s r) ≡ idle_of h
+pub idle_of-none : {T : Type 0} (h : History T) (s : Step T) (r : SeenAnswer T) → deeds_in (moment_of h s) s r ≡ [] → ((i : ℕ) → admits s i ≡ false) → idle_of (Then h s r) ≡ idle_of h
 idle_of-none h s r e a = idle_of-then h s r [] e (λ i other. a i) ∙ (append-nil _ ∙ filter_true (idle_of h))
 
-pub lent_of-none : {T : Type 0} (h : History T) (s : Step T) (r : Reply T) → deeds_in (moment_of h s) s r ≡ [] → ((i : ℕ) → admits s i ≡ false) → lent_of (Then h s r) ≡ lent_of h
+pub lent_of-none : {T : Type 0} (h : History T) (s : Step T) (r : SeenAnswer T) → deeds_in (moment_of h s) s r ≡ [] → ((i : ℕ) → admits s i ≡ false) → lent_of (Then h s r) ≡ lent_of h
 lent_of-none h s r e a = lent_of-then h s r [] e (λ i other. a i) ∙ (append-nil _ ∙ filter_true (lent_of h))

@@ -3,14 +3,14 @@ use Rattle.std.proofs.Common.{◌≡◌, Some, None, sym, ◌∙◌, ap, subst}
 use Rattle.r2d2_core.specs.declared.run.Step.{Step}
 use Rattle.r2d2_core.specs.declared.machine.answers.Refusal.{Refusal}
 use Rattle.r2d2_core.specs.Picture.{Picture}
-use Rattle.r2d2_core.specs.Reply.{Reply}
+use Rattle.r2d2_core.specs.Seen.{SeenAnswer}
 use Rattle.r2d2_core.specs.History.{History, Then}
 use Rattle.r2d2_core.specs.Answers.{refusal_of, refused_with, reply_with, orders_of, answer_by, after_by, after, picture_of}
 use Rattle.r2d2_core.specs.Follows.{IsKept, Follows}
 
 module _ {T : Type 0} where
   -- nothing refuses the step
-  pub follows_accepted : (h : History T) (s : Step T) (reply : Reply T) (new : Picture T) → refusal_of h s ≡ None → reply ≡ reply_with h (orders_of h s) s
+  pub follows_accepted : (h : History T) (s : Step T) (reply : SeenAnswer T) (new : Picture T) → refusal_of h s ≡ None → reply ≡ reply_with h (orders_of h s) s
       → new ≡ picture_of (Then h s (reply_with h (orders_of h s) s)) → IsKept (Then h s (reply_with h (orders_of h s) s)) → Follows h s reply new
   follows_accepted h s reply new none is picture kept =
       let next : after h s ≡ Then h s (reply_with h (orders_of h s) s) = ap (after_by h s) none in
@@ -21,7 +21,7 @@ module _ {T : Type 0} where
       }
 
   -- something does
-  pub follows_refused : (h : History T) (s : Step T) (reply : Reply T) (new : Picture T) (why : Refusal) → refusal_of h s ≡ Some why → reply ≡ refused_with s why → new ≡ picture_of h → IsKept h → Follows h s reply new
+  pub follows_refused : (h : History T) (s : Step T) (reply : SeenAnswer T) (new : Picture T) (why : Refusal) → refusal_of h s ≡ Some why → reply ≡ refused_with s why → new ≡ picture_of h → IsKept h → Follows h s reply new
   follows_refused h s reply new why some is picture kept =
       let next : after h s ≡ h = ap (after_by h s) some in
       record {

@@ -12,7 +12,7 @@ use Rattle.r2d2_core.specs.declared.machine.answers.Refusal.TheVariants as refus
 use Rattle.r2d2_core.specs.Ids.{found, without, same_id, copies_of}
 use Rattle.r2d2_core.specs.Connections.{idle_connection, id_of_idle, id_of_lent}
 use Rattle.r2d2_core.specs.Refusals.{refused_if, ok_or_back, unless_refused}
-use Rattle.r2d2_core.specs.Reply.{Admitted}
+use Rattle.r2d2_core.specs.Seen.{Admitted}
 use Rattle.r2d2_core.specs.OnOrder.{admit_refusal}
 use Rattle.r2d2_core.specs.Picture.{IsSound}
 use Rattle.r2d2_core.specs.Table.{admitted_at, admit_answer, after_admit}

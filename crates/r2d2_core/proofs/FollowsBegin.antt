@@ -6,15 +6,15 @@ use Rattle.std.specs.declared.time.Duration.{Duration}
 use Rattle.std.proofs.lemmas.Bool.{ne_eqb}
 use Rattle.r2d2_core.specs.declared.run.Step.TheVariants as step
 use Rattle.r2d2_core.specs.Limits.{later_by, has_reaps}
-use Rattle.r2d2_core.specs.Tasks.{Task, Open, Reap, Wait, Nothing, Ended, first_task}
-use Rattle.r2d2_core.specs.Plan.{next_by}
-use Rattle.r2d2_core.specs.Reply.{Begun}
+use Rattle.r2d2_core.specs.Jobs.{SeenJob, Open, Reap, Wait, Nothing, Ended, first_job}
+use Rattle.r2d2_core.specs.Schedule.{next_by}
+use Rattle.r2d2_core.specs.Seen.{Begun}
 use Rattle.r2d2_core.specs.OnOrder.{begun_by}
 use Rattle.r2d2_core.specs.Picture.{IsSound}
 use Rattle.r2d2_core.specs.Table.{at, with_on_order, begin_answer, after_begin}
 use Rattle.r2d2_core.specs.History.{History, Then, limits_of, start_of, is_closed, moment_of}
 use Rattle.r2d2_core.specs.Deeds.{connections_of}
-use Rattle.r2d2_core.specs.Pending.{begun_of, scheduled_of, next_id_of, numbered_of, reaps_of, next_reap_of, task_of, on_order_of}
+use Rattle.r2d2_core.specs.Pending.{begun_of, scheduled_of, next_id_of, numbered_of, reaps_of, next_reap_of, job_of, on_order_of}
 use Rattle.r2d2_core.specs.Answers.{picture_of}
 use Rattle.r2d2_core.specs.Follows.{IsKept, Follows}
 use Rattle.r2d2_core.proofs.Deeds.{idle_of-none, lent_of-none}
@@ -33,7 +33,7 @@ next_by-reap true start every n = ap Some (sym (next_by-later start every n))
 next_by-reap false start every n = refl
 
 -- what opens is open
-opens_open : (closed : Bool) (k : ℕ) (task : Task) → cond closed Ended task ≡ Open k → (closed ≡ false) × (Open k ≡ task)
+opens_open : (closed : Bool) (k : ℕ) (task : SeenJob) → cond closed Ended task ≡ Open k → (closed ≡ false) × (Open k ≡ task)
 opens_open true k task e = absurd cc
 opens_open false k task e = (refl, sym e)
 
@@ -56,13 +56,13 @@ module _ {T : Type 0} where
   ending : (h : History T) (now : Duration) → IsOrdering h (step.Begin now) (Begun Ended)
   ending h now = record { closed = refl; scheduled = refl; begun = λ k. refl; ended = λ k. refl; ids = refl; admitted = λ i. refl; count = refl; reaps = refl }
 
-  picture_of-begin : (h : History T) (now : Duration) (task : Task) → task_of h (moment_of h (step.Begin now)) ≡ task → IsKept h
+  picture_of-begin : (h : History T) (now : Duration) (task : SeenJob) → job_of h (moment_of h (step.Begin now)) ≡ task → IsKept h
       → picture_of (Then h (step.Begin now) (Begun task)) ≡ with_on_order (begun_by task (on_order_of h)) (at (as_nanos now) (picture_of h))
   unfolding picture_of on_order_of connections_of numbered_of next_id_of
   picture_of-begin h now (Open tries) e kept =
       let s = step.Begin now in
       let r = Begun (Open tries) in
-      let opens = opens_open (is_closed h) tries (first_task (moment_of h s) (scheduled_of h) (next_reap_of h)) e in
+      let opens = opens_open (is_closed h) tries (first_job (moment_of h s) (scheduled_of h) (next_reap_of h)) e in
       picture_of-is (Then h s r) (with_on_order (begun_by (Open tries) (on_order_of h)) (at (as_nanos now) (picture_of h))) refl
       (idle_of-none h s r refl (λ i. refl)) (lent_of-none h s r refl (λ i. refl))
       (same_on_order (on_order_of h) refl
@@ -91,11 +91,11 @@ module _ {T : Type 0} where
       let r = Begun Ended in
       picture_of-unordered h s r (at (as_nanos now) (picture_of h)) (ending h now) kept refl refl (idle_of-none h s r refl (λ i. refl)) (lent_of-none h s r refl (λ i. refl)) refl refl refl
 
-  kept_begin : (h : History T) (now : Duration) (task : Task) → task_of h (moment_of h (step.Begin now)) ≡ task → IsKept h → IsSound (picture_of (Then h (step.Begin now) (Begun task))) → IsKept (Then h (step.Begin now) (Begun task))
+  kept_begin : (h : History T) (now : Duration) (task : SeenJob) → job_of h (moment_of h (step.Begin now)) ≡ task → IsKept h → IsSound (picture_of (Then h (step.Begin now) (Begun task))) → IsKept (Then h (step.Begin now) (Begun task))
   unfolding picture_of on_order_of next_id_of
   kept_begin h now (Open tries) e kept sound =
       let s = step.Begin now in
-      let opens = opens_open (is_closed h) tries (first_task (moment_of h s) (scheduled_of h) (next_reap_of h)) e in
+      let opens = opens_open (is_closed h) tries (first_job (moment_of h s) (scheduled_of h) (next_reap_of h)) e in
       let few = begins_within (moment_of h s) tries (on_order_of h) opens.1 kept.sound.accounted in
       record {
         sound = sound;
@@ -121,7 +121,7 @@ module _ {T : Type 0} where
   unfolding picture_of on_order_of
   follows_begin h now kept =
       let s = step.Begin now in
-      let task = task_of h (moment_of h s) in
+      let task = job_of h (moment_of h s) in
       let picture : picture_of (Then h s (Begun task)) ≡ after_begin (as_nanos now) (picture_of h) = picture_of-begin h now task refl kept in
       follows_accepted h s (Begun task) (after_begin (as_nanos now) (picture_of h)) refl refl (sym picture)
       (kept_begin h now task refl kept (subst IsSound (sym picture) (sound_begin (as_nanos now) kept.sound)))

@@ -7,7 +7,7 @@ use Rattle.r2d2_core.specs.declared.run.Step.TheVariants as step
 use Rattle.r2d2_core.specs.declared.machine.answers.Refusal.{Refusal}
 use Rattle.r2d2_core.specs.declared.machine.answers.Refusal.TheVariants as refusal
 use Rattle.r2d2_core.specs.Refusals.{ok_unless, unless_refused}
-use Rattle.r2d2_core.specs.Reply.{Reply, Loss, CheckFailed}
+use Rattle.r2d2_core.specs.Seen.{SeenAnswer, SeenGone, CheckFailed}
 use Rattle.r2d2_core.specs.OnOrder.{top_up}
 use Rattle.r2d2_core.specs.Picture.{Picture, IsSound}
 use Rattle.r2d2_core.specs.Table.{at, ordered, topped_up, lent_refusal, lent_birth, lost, with_text, loss, check_answer, after_check}
@@ -26,7 +26,7 @@ module _ {T : Type 0} where
   abbrev checking : Duration → ℕ → Option (String Global) → Step T
   checking now id text = step.FailCheck now id text
 
-  abbrev lost_reply : History T → ℕ → ℕ → ℕ → Reply T
+  abbrev lost_reply : History T → ℕ → ℕ → ℕ → SeenAnswer T
   lost_reply h t id n = CheckFailed (Ok (record { age = max (now_of h) t - birth_of h id; ordered = n }))
 
   abbrev then_lost : History T → Duration → ℕ → Option (String Global) → ℕ → History T
@@ -80,7 +80,7 @@ module _ {T : Type 0} where
     n : ℕ
     n = orders_of h s
 
-    lost_at : ℕ → Loss
+    lost_at : ℕ → SeenGone
     lost_at birth = loss id birth (at (as_nanos now) (picture_of h))
 
     new : Picture T

@@ -6,11 +6,11 @@ use Rattle.std.specs.Duration.{as_nanos}
 use Rattle.std.proofs.lemmas.List.{length-map}
 use Rattle.r2d2_core.specs.declared.run.Step.TheVariants as step
 use Rattle.r2d2_core.specs.Limits.{later_by, has_reaps}
-use Rattle.r2d2_core.specs.Connections.{IdleConnection, LentConnection, id_of_idle, pair_of}
+use Rattle.r2d2_core.specs.Connections.{SeenIdleConnection, SeenLentConnection, id_of_idle, pair_of}
 use Rattle.r2d2_core.specs.OnOrder.{emptied, IsEmpty}
 use Rattle.r2d2_core.specs.Picture.{Picture, IsSound}
 use Rattle.r2d2_core.specs.Table.{close_answer, after_close}
-use Rattle.r2d2_core.specs.Reply.{Reply, Left}
+use Rattle.r2d2_core.specs.Seen.{SeenAnswer, Left}
 use Rattle.r2d2_core.specs.History.{History, Then, limits_of, start_of, now_of, is_closed, moment_of}
 use Rattle.r2d2_core.specs.Deeds.{deed, Going, deeds_in, idle_of, lent_of, admitted_count, gone_count, connections_of}
 use Rattle.r2d2_core.specs.Pending.{pending_of, in_work_of, in_work_at, numbered_of, reaps_of, next_reap_of, next_id_of, on_order_of}
@@ -30,11 +30,11 @@ all_zero a zero = refl
 all_zero a (suc n) = ap (λ (l : List ℕ). 0 ∷ l) (all_zero (a + 1) n)
 
 module _ {T : Type 0} where
-  pairs_go : (t : ℕ) (cs : List (IdleConnection T)) → map (λ p. deed {T = T} p.0 t Going) (map pair_of cs) ≡ going_deeds id_of_idle t cs
+  pairs_go : (t : ℕ) (cs : List (SeenIdleConnection T)) → map (λ p. deed {T = T} p.0 t Going) (map pair_of cs) ≡ going_deeds id_of_idle t cs
   pairs_go t [] = refl
   pairs_go t (c ∷ cs) = ap (λ l. deed c.id t Going ∷ l) (pairs_go t cs)
 
-  abbrev left_by : History T → Reply T
+  abbrev left_by : History T → SeenAnswer T
   left_by h = Left (map pair_of (idle_of h))
 
   -- the deeds of a close: all that are idle go
@@ -48,7 +48,7 @@ module _ {T : Type 0} where
   lent_of-close h kept = lent_of-going h step.Close (left_by h) (now_of h) (λ c. true) (all_go h) (λ i. refl) kept.sound
 
   -- two pictures that differ in these fields alone
-  same_close : (p : Picture T) {idle idle' : List (IdleConnection T)} {lent lent' : List LentConnection} {work work' : List ℕ} {n n' : ℕ}
+  same_close : (p : Picture T) {idle idle' : List (SeenIdleConnection T)} {lent lent' : List SeenLentConnection} {work work' : List ℕ} {n n' : ℕ}
       → idle ≡ idle' → lent ≡ lent' → work ≡ work' → n ≡ n'
       → ◌≡◌ {A = Picture T} (record p { idle = idle; lent = lent; on_order = record (emptied p.on_order) { in_work = work }; connections = n }) (record p { idle = idle'; lent = lent'; on_order = record (emptied p.on_order) { in_work = work' }; connections = n' })
   same_close p e1 e2 e3 e4 = rw (e1, e2, e3, e4)

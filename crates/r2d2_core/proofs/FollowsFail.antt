@@ -8,7 +8,7 @@ use Rattle.r2d2_core.specs.declared.machine.answers.Refusal.{Refusal}
 use Rattle.r2d2_core.specs.declared.machine.answers.Refusal.TheVariants as refusal
 use Rattle.r2d2_core.specs.Limits.{later_by, delay_of}
 use Rattle.r2d2_core.specs.Refusals.{refused_if, ok_unless, unless_refused}
-use Rattle.r2d2_core.specs.Reply.{Reply, Failed}
+use Rattle.r2d2_core.specs.Seen.{SeenAnswer, Failed}
 use Rattle.r2d2_core.specs.OnOrder.{fail_refusal, failed_one}
 use Rattle.r2d2_core.specs.Picture.{Picture, IsSound}
 use Rattle.r2d2_core.specs.Table.{fail_answer, failed, after_fail}
@@ -51,7 +51,7 @@ module _ {T : Type 0} where
   unfolding picture_of connections_of
   picture_of-fail h now tries text =
       let s = failing now tries text in
-      let r : Reply T = Failed (Ok (due h (as_nanos now) tries)) in
+      let r : SeenAnswer T = Failed (Ok (due h (as_nanos now) tries)) in
       picture_of-is (then_failed h now tries text) (failed (as_nanos now) tries text (picture_of h))
       refl (idle_of-none h s r refl (λ i. refl)) (lent_of-none h s r refl (λ i. refl)) (on_order_of-fail h now tries text) refl refl
 
@@ -74,7 +74,7 @@ module _ {T : Type 0} where
     s : Step T
     s = failing now tries text
 
-    reply : Reply T
+    reply : SeenAnswer T
     reply = Failed (fail_answer (as_nanos now) tries (picture_of h))
 
     new : Picture T

@@ -8,7 +8,7 @@ use Rattle.r2d2_core.specs.declared.run.Step.TheVariants as step
 use Rattle.r2d2_core.specs.declared.machine.answers.Refusal.{Refusal}
 use Rattle.r2d2_core.specs.declared.machine.answers.Refusal.TheVariants as refusal
 use Rattle.r2d2_core.specs.Refusals.{refused_if, ok_unless, unless_refused}
-use Rattle.r2d2_core.specs.Reply.{Numbered}
+use Rattle.r2d2_core.specs.Seen.{Numbered}
 use Rattle.r2d2_core.specs.OnOrder.{number_refusal, numbered_one}
 use Rattle.r2d2_core.specs.Picture.{IsSound}
 use Rattle.r2d2_core.specs.Table.{with_on_order, number_answer, after_number}

@@ -5,10 +5,10 @@ use Rattle.std.specs.Duration.{as_nanos}
 use Rattle.std.specs.declared.time.Duration.{Duration}
 use Rattle.std.proofs.lemmas.List.{length-map}
 use Rattle.r2d2_core.specs.declared.run.Step.TheVariants as step
-use Rattle.r2d2_core.specs.Connections.{IdleConnection, id_of_idle, is_expired, is_kept, closing, closed_of}
+use Rattle.r2d2_core.specs.Connections.{SeenIdleConnection, id_of_idle, is_expired, is_kept, closing, closed_of}
 use Rattle.r2d2_core.specs.Picture.{IsSound}
 use Rattle.r2d2_core.specs.Table.{at, ordered, swept, reap_closed, reap_orders, after_reap}
-use Rattle.r2d2_core.specs.Reply.{Reply, Reaped}
+use Rattle.r2d2_core.specs.Seen.{SeenAnswer, Reaped}
 use Rattle.r2d2_core.specs.History.{History, Then, limits_of, now_of, is_closed, moment_of}
 use Rattle.r2d2_core.specs.Deeds.{Going, deed, deeds_in, idle_of, lent_of, admitted_count, gone_count, connections_of}
 use Rattle.r2d2_core.specs.Pending.{on_order_of}
@@ -21,7 +21,7 @@ use Rattle.r2d2_core.proofs.Following.{follows_accepted}
 use Rattle.r2d2_core.proofs.Sounds.{sound_reap}
 
 module _ {T : Type 0} where
-  closings_go : (t : ℕ) (cs : List (IdleConnection T)) → map (λ c. deed {T = T} c.id t Going) (map (closing t) cs) ≡ going_deeds id_of_idle t cs
+  closings_go : (t : ℕ) (cs : List (SeenIdleConnection T)) → map (λ c. deed {T = T} c.id t Going) (map (closing t) cs) ≡ going_deeds id_of_idle t cs
   unfolding closing
   closings_go t [] = refl
   closings_go t (c ∷ cs) = ap (λ l. deed c.id t Going ∷ l) (closings_go t cs)
@@ -30,10 +30,10 @@ module _ {T : Type 0} where
   abbrev reaped_at : History T → Duration → ℕ
   reaped_at h now = max (now_of h) (as_nanos now)
 
-  abbrev expired_of : History T → Duration → List (IdleConnection T)
+  abbrev expired_of : History T → Duration → List (SeenIdleConnection T)
   expired_of h now = filter (is_expired (limits_of h) (reaped_at h now)) (idle_of h)
 
-  abbrev reaped_by : History T → Duration → ℕ → Reply T
+  abbrev reaped_by : History T → Duration → ℕ → SeenAnswer T
   reaped_by h now n = Reaped (closed_of (limits_of h) (reaped_at h now) (idle_of h)) n
 
   expired_go : (h : History T) (now : Duration) (n : ℕ) → deeds_in (moment_of h (step.Reap now)) (step.Reap now) (reaped_by h now n) ≡ going_deeds id_of_idle (reaped_at h now) (expired_of h now)

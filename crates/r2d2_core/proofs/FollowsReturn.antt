@@ -7,7 +7,7 @@ use Rattle.r2d2_core.specs.declared.run.Step.TheVariants as step
 use Rattle.r2d2_core.specs.declared.machine.answers.Refusal.{Refusal}
 use Rattle.r2d2_core.specs.declared.machine.answers.Refusal.TheVariants as refusal
 use Rattle.r2d2_core.specs.Refusals.{ok_or_back, unless_refused}
-use Rattle.r2d2_core.specs.Reply.{Reply, Kept, CameBack}
+use Rattle.r2d2_core.specs.Seen.{SeenAnswer, Kept, CameBack}
 use Rattle.r2d2_core.specs.OnOrder.{top_up}
 use Rattle.r2d2_core.specs.Picture.{Picture, IsSound}
 use Rattle.r2d2_core.specs.Table.{at, ordered, lent_refusal, lent_birth, kept as kept_one, lost, return_by, returned_by, returning, returned, return_answer, after_return}
@@ -28,7 +28,7 @@ none_ordered false = refl
 
 module _ {T : Type 0} where
   -- the answer to one that is closed, or kept
-  abbrev back_reply : History T → ℕ → ℕ → T → ℕ → Bool → Reply T
+  abbrev back_reply : History T → ℕ → ℕ → T → ℕ → Bool → SeenAnswer T
   back_reply h t id value n b = CameBack (Ok (return_with b value (max (now_of h) t - birth_of h id) n))
 
   abbrev then_back : History T → Duration → ℕ → T → Bool → ℕ → Bool → History T

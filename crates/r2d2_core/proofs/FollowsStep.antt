@@ -3,7 +3,7 @@ use Rattle.std.proofs.Common.{◌≡◌, ◌∙◌, ap}
 use Rattle.r2d2_core.specs.declared.run.Step.{Step}
 use Rattle.r2d2_core.specs.declared.run.Step.TheVariants as step
 use Rattle.r2d2_core.specs.Picture.{Picture}
-use Rattle.r2d2_core.specs.Reply.{Reply}
+use Rattle.r2d2_core.specs.Seen.{SeenAnswer}
 use Rattle.r2d2_core.specs.History.{History}
 use Rattle.r2d2_core.specs.Answers.{picture_of}
 use Rattle.r2d2_core.specs.Follows.{IsKept, Follows}
@@ -33,7 +33,7 @@ module _ {T : Type 0} where
   follows_step h step.Close kept = follows_close h kept
 
   -- a core that shows h answers, and goes on, as the table says of the picture of h
-  pub follows_there : (h : History T) (s : Step T) {core new : Picture T} {reply : Reply T} → IsKept h → core ≡ picture_of h → reply ≡ step_answer s core → new ≡ after_step s core → Follows h s reply new
+  pub follows_there : (h : History T) (s : Step T) {core new : Picture T} {reply : SeenAnswer T} → IsKept h → core ≡ picture_of h → reply ≡ step_answer s core → new ≡ after_step s core → Follows h s reply new
   follows_there h s kept is answered went =
       let f = follows_step h s kept in
       record {

@@ -7,11 +7,11 @@ use Rattle.std.proofs.lemmas.List.{append-nil}
 use Rattle.std.proofs.lemmas.Bool.{eq-eqb}
 use Rattle.r2d2_core.specs.declared.run.Step.TheVariants as step
 use Rattle.r2d2_core.specs.Ids.{last_of, front, copies_of}
-use Rattle.r2d2_core.specs.Connections.{IdleConnection, lent_connection, id_of_idle, id_of_lent}
-use Rattle.r2d2_core.specs.Reply.{Taken, Found, Empty}
+use Rattle.r2d2_core.specs.Connections.{SeenIdleConnection, lent_connection, id_of_idle, id_of_lent}
+use Rattle.r2d2_core.specs.Seen.{Taken, Found, Empty}
 use Rattle.r2d2_core.specs.Picture.{IsSound}
 use Rattle.r2d2_core.specs.Table.{at, ordered, lent_out, take_orders, taken, take_answer, after_take}
-use Rattle.r2d2_core.specs.Reply.{taking}
+use Rattle.r2d2_core.specs.Seen.{taking}
 use Rattle.r2d2_core.specs.History.{History, Then, is_closed, moment_of}
 use Rattle.r2d2_core.specs.Deeds.{Deed, deed, id_of_deed, Taking_out, birth_of, idle_of, lent_of, connections_of, gone_count}
 use Rattle.r2d2_core.specs.Pending.{on_order_of}
@@ -31,19 +31,19 @@ copies_of-self i = ap (λ b. cond b 1 0 + 0) (eq-eqb i i refl)
 
 module _ {T : Type 0} where
   -- the last idle one stands once among the idle, and is not lent
-  once_in_front : (h : History T) (c : IdleConnection T) → last_of (idle_of h) ≡ Some c → IsSound (picture_of h) → copies_of c.id (map id_of_idle (front (idle_of h))) ≡ 0
+  once_in_front : (h : History T) (c : SeenIdleConnection T) → last_of (idle_of h) ≡ Some c → IsSound (picture_of h) → copies_of c.id (map id_of_idle (front (idle_of h))) ≡ 0
   unfolding picture_of
   once_in_front h c e sound =
       let self : copies_of c.id (c.id ∷ []) ≡ 1 = copies_of-self c.id in
       omega (arith, sound.apart c.id, copies_of-append3 c.id (map id_of_idle (idle_of h)) (map id_of_lent (lent_of h)) (on_order_of h).numbered, copies_of-last id_of_idle c.id (idle_of h) c e, self)
 
-  idle_not_lent : (h : History T) (c : IdleConnection T) → last_of (idle_of h) ≡ Some c → IsSound (picture_of h) → copies_of c.id (map id_of_lent (lent_of h)) ≡ 0
+  idle_not_lent : (h : History T) (c : SeenIdleConnection T) → last_of (idle_of h) ≡ Some c → IsSound (picture_of h) → copies_of c.id (map id_of_lent (lent_of h)) ≡ 0
   unfolding picture_of
   idle_not_lent h c e sound =
       let self : copies_of c.id (c.id ∷ []) ≡ 1 = copies_of-self c.id in
       omega (arith, sound.apart c.id, copies_of-append3 c.id (map id_of_idle (idle_of h)) (map id_of_lent (lent_of h)) (on_order_of h).numbered, copies_of-last id_of_idle c.id (idle_of h) c e, self)
 
-  idle_of-take : (h : History T) (now : Duration) (or_order : Bool) (c : IdleConnection T) (n : ℕ) → last_of (idle_of h) ≡ Some c → IsSound (picture_of h)
+  idle_of-take : (h : History T) (now : Duration) (or_order : Bool) (c : SeenIdleConnection T) (n : ℕ) → last_of (idle_of h) ≡ Some c → IsSound (picture_of h)
       → idle_of (Then h (step.Take now or_order) (Taken (Found c.id c.birth c.value n))) ≡ front (idle_of h)
   idle_of-take h now or_order c n e sound =
       let d : Deed T = deed c.id (moment_of h (step.Take now or_order)) Taking_out in
@@ -53,7 +53,7 @@ module _ {T : Type 0} where
       ∙ (ap (filter (λ y. not (c.id == y.id))) (last_is (idle_of h) c e)
       ∙ filter-last id_of_idle (front (idle_of h)) c (once_in_front h c e sound))))
 
-  lent_of-take : (h : History T) (now : Duration) (or_order : Bool) (c : IdleConnection T) (n : ℕ) → last_of (idle_of h) ≡ Some c → IsSound (picture_of h)
+  lent_of-take : (h : History T) (now : Duration) (or_order : Bool) (c : SeenIdleConnection T) (n : ℕ) → last_of (idle_of h) ≡ Some c → IsSound (picture_of h)
       → lent_of (Then h (step.Take now or_order) (Taken (Found c.id c.birth c.value n))) ≡ lent_of h ++ lent_connection c.id c.birth ∷ []
   lent_of-take h now or_order c n e sound =
       let d : Deed T = deed c.id (moment_of h (step.Take now or_order)) Taking_out in
@@ -61,13 +61,13 @@ module _ {T : Type 0} where
       ∙ (ap (λ l. l ++ lent_connection c.id (birth_of h c.id) ∷ []) (one_other id_of_deed d id_of_lent (lent_of h) ∙ filter-absent id_of_lent c.id (lent_of h) (idle_not_lent h c e sound))
       ∙ ap (λ b. lent_of h ++ lent_connection c.id b ∷ []) (sym (birth_of-last h c e)))
 
-  connections_of-take : (h : History T) (now : Duration) (or_order : Bool) (m : Option (IdleConnection T)) (n : ℕ) → connections_of (Then h (step.Take now or_order) (Taken (taking m n))) ≡ connections_of h
+  connections_of-take : (h : History T) (now : Duration) (or_order : Bool) (m : Option (SeenIdleConnection T)) (n : ℕ) → connections_of (Then h (step.Take now or_order) (Taken (taking m n))) ≡ connections_of h
   unfolding connections_of
   connections_of-take h now or_order None n = refl
   connections_of-take h now or_order (Some c) n = refl
 
   -- what a take orders
-  orders_of-take : (h : History T) (now : Duration) (or_order : Bool) (m : Option (IdleConnection T)) → last_of (idle_of h) ≡ m → IsSound (picture_of h)
+  orders_of-take : (h : History T) (now : Duration) (or_order : Bool) (m : Option (SeenIdleConnection T)) → last_of (idle_of h) ≡ m → IsSound (picture_of h)
       → orders_of h (step.Take now or_order) ≡ take_orders m or_order (picture_of h)
   unfolding orders_of picture_of on_order_of
   orders_of-take h now or_order None e sound =
@@ -80,7 +80,7 @@ module _ {T : Type 0} where
       (rw e (ap length (idle_of-take h now or_order c 0 e sound)))
       (connections_of-take h now or_order (last_of (idle_of h)) 0)
 
-  ordering_take : (h : History T) (now : Duration) (or_order : Bool) (m : Option (IdleConnection T)) (n : ℕ) → IsOrdering h (step.Take now or_order) (Taken (taking m n))
+  ordering_take : (h : History T) (now : Duration) (or_order : Bool) (m : Option (SeenIdleConnection T)) (n : ℕ) → IsOrdering h (step.Take now or_order) (Taken (taking m n))
   ordering_take h now or_order m n = record {
     closed = refl;
     scheduled = refl;
@@ -93,7 +93,7 @@ module _ {T : Type 0} where
   }
 
   -- the picture after a take
-  picture_of-take : (h : History T) (now : Duration) (or_order : Bool) (m : Option (IdleConnection T)) (n : ℕ) → last_of (idle_of h) ≡ m → IsKept h
+  picture_of-take : (h : History T) (now : Duration) (or_order : Bool) (m : Option (SeenIdleConnection T)) (n : ℕ) → last_of (idle_of h) ≡ m → IsKept h
       → n ≡ take_orders m or_order (picture_of h) → (is_closed h ≡ true → n ≡ 0)
       → picture_of (Then h (step.Take now or_order) (Taken (taking m n))) ≡ taken m or_order (at (as_nanos now) (picture_of h))
   unfolding picture_of
@@ -110,7 +110,7 @@ module _ {T : Type 0} where
       refl (idle_of-take h now or_order c n e kept.sound) (lent_of-take h now or_order c n e kept.sound) refl (connections_of-take h now or_order (Some c) n) refl
       ∙ ap (λ k. ordered k p) orders
 
-  gone_of-take : (h : History T) (now : Duration) (or_order : Bool) (m : Option (IdleConnection T)) (n : ℕ) → gone_count (Then h (step.Take now or_order) (Taken (taking m n))) ≡ gone_count h
+  gone_of-take : (h : History T) (now : Duration) (or_order : Bool) (m : Option (SeenIdleConnection T)) (n : ℕ) → gone_count (Then h (step.Take now or_order) (Taken (taking m n))) ≡ gone_count h
   gone_of-take h now or_order None n = refl
   gone_of-take h now or_order (Some c) n = refl
 

@@ -1,7 +1,7 @@
 -- A taking of the last error follows the history.
 use Rattle.std.proofs.Common.{◌≡◌, refl, sym, subst}
 use Rattle.r2d2_core.specs.declared.run.Step.TheVariants as step
-use Rattle.r2d2_core.specs.Reply.{Reply, Told}
+use Rattle.r2d2_core.specs.Seen.{SeenAnswer, Told}
 use Rattle.r2d2_core.specs.Picture.{IsSound}
 use Rattle.r2d2_core.specs.Table.{after_take_error}
 use Rattle.r2d2_core.specs.History.{History, Then}
@@ -29,7 +29,7 @@ module _ {T : Type 0} where
   picture_of-take_error : (h : History T) → IsKept h → picture_of (Then h step.TakeError (Told (last_error_of h))) ≡ after_take_error (picture_of h)
   unfolding picture_of connections_of
   picture_of-take_error h kept =
-      let r : Reply T = Told (last_error_of h) in
+      let r : SeenAnswer T = Told (last_error_of h) in
       picture_of-unordered h step.TakeError r (after_take_error (picture_of h)) (ordering_take_error h) kept refl
       refl (idle_of-none h step.TakeError r refl (λ i. refl)) (lent_of-none h step.TakeError r refl (λ i. refl)) refl refl refl
 

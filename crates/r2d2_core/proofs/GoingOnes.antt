@@ -5,9 +5,9 @@ use Rattle.std.specs.List.{list_any}
 use Rattle.std.proofs.lemmas.List.{append-nil}
 use Rattle.std.proofs.lemmas.List.Elements.{filter_agree}
 use Rattle.r2d2_core.specs.declared.run.Step.{Step}
-use Rattle.r2d2_core.specs.Connections.{IdleConnection, LentConnection, id_of_idle, id_of_lent}
+use Rattle.r2d2_core.specs.Connections.{SeenIdleConnection, SeenLentConnection, id_of_idle, id_of_lent}
 use Rattle.r2d2_core.specs.Ids.{copies_of, latest}
-use Rattle.r2d2_core.specs.Reply.{Reply}
+use Rattle.r2d2_core.specs.Seen.{SeenAnswer}
 use Rattle.r2d2_core.specs.History.{History, Then, moment_of}
 use Rattle.r2d2_core.specs.Deeds.{Deed, Going, deed, deeds_in, id_of_deed, birth_of, admits, as_idle, as_lent, idle_of, lent_of, connections_of, admitted_count, gone_count}
 use Rattle.r2d2_core.specs.Picture.{IsSound}
@@ -44,11 +44,11 @@ module _ {T : Type 0} where
   idle_and_lent_apart h sound i = omega (arith, sound.apart i, copies_of-append3 i (map id_of_idle (idle_of h)) (map id_of_lent (lent_of h)) (numbered_of h))
 
   -- of the idle ones, those stay that do not go
-  pub idle_of-going : (h : History T) (s : Step T) (r : Reply T) (t : ℕ) (p : IdleConnection T → Bool) → deeds_in (moment_of h s) s r ≡ going_deeds id_of_idle t (filter p (idle_of h)) → ((i : ℕ) → admits s i ≡ false)
+  pub idle_of-going : (h : History T) (s : Step T) (r : SeenAnswer T) (t : ℕ) (p : SeenIdleConnection T → Bool) → deeds_in (moment_of h s) s r ≡ going_deeds id_of_idle t (filter p (idle_of h)) → ((i : ℕ) → admits s i ≡ false)
       → IsSound (picture_of h) → idle_of (Then h s r) ≡ filter (λ c. not (p c)) (idle_of h)
   idle_of-going h s r t p e none sound =
       let es : List (Deed T) = going_deeds id_of_idle t (filter p (idle_of h)) in
-      let stay : List (IdleConnection T) = filter (λ c. is_other id_of_deed es c.id) (idle_of h) in
+      let stay : List (SeenIdleConnection T) = filter (λ c. is_other id_of_deed es c.id) (idle_of h) in
       let left : filter_map (λ d. as_idle (birth_of (Then h s r) d.id) d) (latest id_of_deed es) ≡ [] = none_left id_of_deed _ (going id_of_idle t) (filter p (idle_of h)) (λ c. refl) in
       idle_of-then h s r es e (λ i other. none i)
       ∙ (ap (λ l. stay ++ l) left
@@ -57,12 +57,12 @@ module _ {T : Type 0} where
       ∙ filter-outside p id_of_idle (idle_of h) (idle_apart h sound))))
 
   -- and what is lent stays
-  pub lent_of-going : (h : History T) (s : Step T) (r : Reply T) (t : ℕ) (p : IdleConnection T → Bool) → deeds_in (moment_of h s) s r ≡ going_deeds id_of_idle t (filter p (idle_of h)) → ((i : ℕ) → admits s i ≡ false)
+  pub lent_of-going : (h : History T) (s : Step T) (r : SeenAnswer T) (t : ℕ) (p : SeenIdleConnection T → Bool) → deeds_in (moment_of h s) s r ≡ going_deeds id_of_idle t (filter p (idle_of h)) → ((i : ℕ) → admits s i ≡ false)
       → IsSound (picture_of h) → lent_of (Then h s r) ≡ lent_of h
   lent_of-going h s r t p e none sound =
-      let cs : List (IdleConnection T) = filter p (idle_of h) in
+      let cs : List (SeenIdleConnection T) = filter p (idle_of h) in
       let es : List (Deed T) = going_deeds id_of_idle t cs in
-      let stay : List LentConnection = filter (λ c. is_other id_of_deed es c.id) (lent_of h) in
+      let stay : List SeenLentConnection = filter (λ c. is_other id_of_deed es c.id) (lent_of h) in
       let left : filter_map (λ d. as_lent (birth_of (Then h s r) d.id) d) (latest id_of_deed es) ≡ [] = none_left id_of_deed _ (going id_of_idle t) cs (λ c. refl) in
       lent_of-then h s r es e (λ i other. none i)
       ∙ (ap (λ l. stay ++ l) left

@@ -9,8 +9,8 @@ use Rattle.r2d2_core.specs.declared.run.Step.{Step}
 use Rattle.r2d2_core.specs.declared.machine.answers.Refusal.TheVariants as refusal
 use Rattle.r2d2_core.specs.Refusals.{refused_if}
 use Rattle.r2d2_core.specs.Ids.{latest, found, without, copies_of}
-use Rattle.r2d2_core.specs.Connections.{LentConnection, idle_connection, id_of_idle, id_of_lent, birth_in}
-use Rattle.r2d2_core.specs.Reply.{Reply}
+use Rattle.r2d2_core.specs.Connections.{SeenLentConnection, idle_connection, id_of_idle, id_of_lent, birth_in}
+use Rattle.r2d2_core.specs.Seen.{SeenAnswer}
 use Rattle.r2d2_core.specs.Picture.{IsSound}
 use Rattle.r2d2_core.specs.Table.{lent_refusal, lent_birth}
 use Rattle.r2d2_core.specs.History.{History, Then, moment_of}
@@ -25,23 +25,23 @@ use Rattle.r2d2_core.proofs.Ids.{copies_of-append3}
 
 -- AMONG LENT ONES
 
-birth_step : (b c : Bool) (x : LentConnection) (o : Option LentConnection) → is_some (option_map (λ (c : LentConnection). c.birth) o) ≡ c → is_some (option_map (λ (c : LentConnection). c.birth) (cond b (Some x) o)) ≡ (b || c)
+birth_step : (b c : Bool) (x : SeenLentConnection) (o : Option SeenLentConnection) → is_some (option_map (λ (c : SeenLentConnection). c.birth) o) ≡ c → is_some (option_map (λ (c : SeenLentConnection). c.birth) (cond b (Some x) o)) ≡ (b || c)
 birth_step true c x o e = refl
 birth_step false c x o e = e
 
 -- an id has a birth where it is found
-pub is_some-birth_in : (i : ℕ) (lent : List LentConnection) → is_some (birth_in i lent) ≡ list_any (λ c. c.id == i) lent
+pub is_some-birth_in : (i : ℕ) (lent : List SeenLentConnection) → is_some (birth_in i lent) ≡ list_any (λ c. c.id == i) lent
 is_some-birth_in i [] = refl
 is_some-birth_in i (x ∷ xs) = birth_step (x.id == i) (list_any (λ c. c.id == i) xs) x (found id_of_lent i xs) (is_some-birth_in i xs)
 
-born_step : (birth_at : ℕ → ℕ) (i : ℕ) (b rest : Bool) (x : LentConnection) (o : Option LentConnection) → (x.id == i) ≡ b → x.birth ≡ birth_at x.id
-    → (rest ≡ true → unwrap_or (option_map (λ (c : LentConnection). c.birth) o) 0 ≡ birth_at i)
-    → (b || rest) ≡ true → unwrap_or (option_map (λ (c : LentConnection). c.birth) (cond b (Some x) o)) 0 ≡ birth_at i
+born_step : (birth_at : ℕ → ℕ) (i : ℕ) (b rest : Bool) (x : SeenLentConnection) (o : Option SeenLentConnection) → (x.id == i) ≡ b → x.birth ≡ birth_at x.id
+    → (rest ≡ true → unwrap_or (option_map (λ (c : SeenLentConnection). c.birth) o) 0 ≡ birth_at i)
+    → (b || rest) ≡ true → unwrap_or (option_map (λ (c : SeenLentConnection). c.birth) (cond b (Some x) o)) 0 ≡ birth_at i
 born_step birth_at i true rest x o is born ih e = born ∙ ap birth_at (eqb-true x.id i is)
 born_step birth_at i false rest x o is born ih e = ih e
 
 -- where each birth is that of the id, so is the one that is found
-born_as : (birth_at : ℕ → ℕ) (i : ℕ) (lent : List LentConnection) → AllByRecursion (λ c. c.birth ≡ birth_at c.id) lent → list_any (λ c. c.id == i) lent ≡ true → unwrap_or (birth_in i lent) 0 ≡ birth_at i
+born_as : (birth_at : ℕ → ℕ) (i : ℕ) (lent : List SeenLentConnection) → AllByRecursion (λ c. c.birth ≡ birth_at c.id) lent → list_any (λ c. c.id == i) lent ≡ true → unwrap_or (birth_in i lent) 0 ≡ birth_at i
 born_as birth_at i [] all e = absurd cc
 born_as birth_at i (x ∷ xs) all e = born_step birth_at i (x.id == i) (list_any (λ c. c.id == i) xs) x (found id_of_lent i xs) refl all.0 (born_as birth_at i xs all.1) e
 
@@ -93,7 +93,7 @@ module _ {T : Type 0} where
       omega (arith, sound.apart id, copies_of-append3 id (map id_of_idle (idle_of h)) (map id_of_lent (lent_of h)) (numbered_of h), copies_of-found id_of_lent id (lent_of h) lent)
 
   -- a step that takes a lent one back, whether it keeps it or not
-  pub lent_of-back : (h : History T) (s : Step T) (r : Reply T) (id t : ℕ) (w : What T) → deeds_in (moment_of h s) s r ≡ deed id t w ∷ [] → ((i : ℕ) → admits s i ≡ false)
+  pub lent_of-back : (h : History T) (s : Step T) (r : SeenAnswer T) (id t : ℕ) (w : What T) → deeds_in (moment_of h s) s r ≡ deed id t w ∷ [] → ((i : ℕ) → admits s i ≡ false)
       → ((birth : ℕ) → as_lent birth (deed id t w) ≡ None) → IsSound (picture_of h) → lent_of (Then h s r) ≡ without id_of_lent id (lent_of h)
   lent_of-back h s r id t w e none not_taken sound =
       let d : Deed T = deed id t w in
@@ -104,7 +104,7 @@ module _ {T : Type 0} where
       ∙ filter-once id_of_lent id (lent_of h) (once_lent h id sound))))
 
   -- what is idle stays where it is gone
-  pub idle_of-lost : (h : History T) (s : Step T) (r : Reply T) (id t : ℕ) → deeds_in (moment_of h s) s r ≡ deed id t Going ∷ [] → ((i : ℕ) → admits s i ≡ false)
+  pub idle_of-lost : (h : History T) (s : Step T) (r : SeenAnswer T) (id t : ℕ) → deeds_in (moment_of h s) s r ≡ deed id t Going ∷ [] → ((i : ℕ) → admits s i ≡ false)
       → is_lent h id ≡ true → IsSound (picture_of h) → idle_of (Then h s r) ≡ idle_of h
   idle_of-lost h s r id t e none lent sound =
       let d : Deed T = deed id t Going in
@@ -114,7 +114,7 @@ module _ {T : Type 0} where
       ∙ filter-absent id_of_idle id (idle_of h) (lent_not_idle h id lent sound)))
 
   -- where it is kept, it is the last
-  pub idle_of-kept : (h : History T) (s : Step T) (r : Reply T) (id t : ℕ) (value : T) → deeds_in (moment_of h s) s r ≡ deed id t (Keeping value) ∷ [] → ((i : ℕ) → admits s i ≡ false)
+  pub idle_of-kept : (h : History T) (s : Step T) (r : SeenAnswer T) (id t : ℕ) (value : T) → deeds_in (moment_of h s) s r ≡ deed id t (Keeping value) ∷ [] → ((i : ℕ) → admits s i ≡ false)
       → is_lent h id ≡ true → IsSound (picture_of h) → idle_of (Then h s r) ≡ idle_of h ++ idle_connection id (birth_of h id) t value ∷ []
   idle_of-kept h s r id t value e none lent sound =
       let d : Deed T = deed id t (Keeping value) in

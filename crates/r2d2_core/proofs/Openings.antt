@@ -7,20 +7,20 @@ use Rattle.std.proofs.lemmas.List.Sorted.{IsPermutation-keeps, IsPermutation-swa
 use Rattle.std.proofs.lemmas.List.{get_or_read}
 use Rattle.std.proofs.lemmas.Bool.{cases_Bool, cases_eq, cond-true, cond-false}
 use Rattle.std.proofs.lemmas.Bool.Decides.{nat_tests}
-use Rattle.r2d2_core.specs.Openings.{Opening, is_before, with_opening, in_order, with_many, IsLeast}
+use Rattle.r2d2_core.specs.Openings.{SeenOpening, is_before, with_opening, in_order, with_many, IsLeast}
 
-abbrev opening : ℕ → ℕ → Opening
+abbrev opening : ℕ → ℕ → SeenOpening
 opening d t = record { due = d; tries = t }
 
-pub not_before_itself : (a : Opening) → is_before a a ≡ false
+pub not_before_itself : (a : SeenOpening) → is_before a a ≡ false
 unfolding is_before
 not_before_itself a = grind (arith, nat_tests)
 
-pub not_both_before : (a b : Opening) → is_before a b ≡ true → is_before b a ≡ false
+pub not_both_before : (a b : SeenOpening) → is_before a b ≡ true → is_before b a ≡ false
 unfolding is_before
 not_both_before a b p = grind (arith, nat_tests)
 
-pub same_from_neither : (a b : Opening) → is_before a b ≡ false → is_before b a ≡ false → a ≡ b
+pub same_from_neither : (a b : SeenOpening) → is_before a b ≡ false → is_before b a ≡ false → a ≡ b
 unfolding is_before
 same_from_neither a b p q =
     let due : a.due ≡ b.due = grind (arith, nat_tests) in
@@ -28,19 +28,19 @@ same_from_neither a b p q =
     ap (λ (d : ℕ). opening d a.tries) due ∙ ap (λ (t : ℕ). opening b.due t) tries
 
 -- what y comes before, when it does not come before b, b comes before
-pub before_from : (y a b : Opening) → is_before y a ≡ true → is_before y b ≡ false → is_before b a ≡ true
+pub before_from : (y a b : SeenOpening) → is_before y a ≡ true → is_before y b ≡ false → is_before b a ≡ true
 unfolding is_before
 before_from y a b p q = grind (arith, nat_tests)
 
 -- the two steps of `with_opening`
-with_past : (x y : Opening) (ys : List Opening) → is_before y x ≡ true → with_opening x (y ∷ ys) ≡ y ∷ with_opening x ys
+with_past : (x y : SeenOpening) (ys : List SeenOpening) → is_before y x ≡ true → with_opening x (y ∷ ys) ≡ y ∷ with_opening x ys
 with_past x y ys p = cond-true (is_before y x) (y ∷ with_opening x ys) (x ∷ y ∷ ys) p
 
-with_here : (x y : Opening) (ys : List Opening) → is_before y x ≡ false → with_opening x (y ∷ ys) ≡ x ∷ y ∷ ys
+with_here : (x y : SeenOpening) (ys : List SeenOpening) → is_before y x ≡ false → with_opening x (y ∷ ys) ≡ x ∷ y ∷ ys
 with_here x y ys p = cond-false (is_before y x) (y ∷ with_opening x ys) (x ∷ y ∷ ys) p
 
 -- two that both go to the front
-front_comm : (a b : Opening) (t : List Opening) → with_opening a t ≡ a ∷ t → with_opening b t ≡ b ∷ t → with_opening a (with_opening b t) ≡ with_opening b (with_opening a t)
+front_comm : (a b : SeenOpening) (t : List SeenOpening) → with_opening a t ≡ a ∷ t → with_opening b t ≡ b ∷ t → with_opening a (with_opening b t) ≡ with_opening b (with_opening a t)
 front_comm a b t p q =
     elim (cases_Bool (is_before b a)) [
       | inl before ↦ let past = with_past a b t before in let here = with_here b a t (not_both_before b a before) in cc
@@ -50,7 +50,7 @@ front_comm a b t p q =
       ]
     ]
 
-pub with_comm : (a b : Opening) (l : List Opening) → with_opening a (with_opening b l) ≡ with_opening b (with_opening a l)
+pub with_comm : (a b : SeenOpening) (l : List SeenOpening) → with_opening a (with_opening b l) ≡ with_opening b (with_opening a l)
 with_comm a b [] = front_comm a b [] refl refl
 with_comm a b (y ∷ ys) =
     elim (cases_Bool (is_before y a)) [
@@ -81,12 +81,12 @@ with_comm a b (y ∷ ys) =
     ]
 
 -- an opening that joins at the end
-pub in_order-push : (xs : List Opening) (x : Opening) → in_order (xs ++ x ∷ []) ≡ with_opening x (in_order xs)
+pub in_order-push : (xs : List SeenOpening) (x : SeenOpening) → in_order (xs ++ x ∷ []) ≡ with_opening x (in_order xs)
 in_order-push [] x = refl
 in_order-push (y ∷ ys) x = ap (with_opening y) (in_order-push ys x) ∙ with_comm y x (in_order ys)
 
 -- one opening in another's place
-in_order-set : (xs : List Opening) (i : ℕ) (x d : Opening) → i < length xs → with_opening (get_or xs i d) (in_order (set xs i x)) ≡ with_opening x (in_order xs)
+in_order-set : (xs : List SeenOpening) (i : ℕ) (x d : SeenOpening) → i < length xs → with_opening (get_or xs i d) (in_order (set xs i x)) ≡ with_opening x (in_order xs)
 in_order-set [] i x d h = absurd (omega arith)
 in_order-set (y ∷ ys) zero x d h = with_comm y x (in_order ys)
 in_order-set (y ∷ ys) (suc i) x d h =
@@ -94,26 +94,26 @@ in_order-set (y ∷ ys) (suc i) x d h =
     with_comm (get_or ys i d) y (in_order (set ys i x)) ∙ ap (with_opening y) rest ∙ with_comm y x (in_order ys)
 
 -- xs without the first of those that equal x
-without : Opening → List Opening → List Opening
+without : SeenOpening → List SeenOpening → List SeenOpening
 without x [] = []
 without x (y ∷ ys) = cond (is_before y x) (y ∷ without x ys) ys
 
-without-with : (x : Opening) (u : List Opening) → without x (with_opening x u) ≡ u
+without-with : (x : SeenOpening) (u : List SeenOpening) → without x (with_opening x u) ≡ u
 unfolding without
 without-with x [] = cond-false (is_before x x) (x ∷ []) [] (not_before_itself x)
 without-with x (y ∷ ys) =
     elim (cases_Bool (is_before y x)) [
-      | inl p ↦ ap (without x) (with_past x y ys p) ∙ cond-true (is_before y x) (y ∷ without x (with_opening x ys)) (with_opening x ys) p ∙ ap (λ (l : List Opening). y ∷ l) (without-with x ys)
+      | inl p ↦ ap (without x) (with_past x y ys p) ∙ cond-true (is_before y x) (y ∷ without x (with_opening x ys)) (with_opening x ys) p ∙ ap (λ (l : List SeenOpening). y ∷ l) (without-with x ys)
       | inr p ↦ ap (without x) (with_here x y ys p) ∙ cond-false (is_before x x) (x ∷ without x (y ∷ ys)) (y ∷ ys) (not_before_itself x)
     ]
 
-with_cancel : (x : Opening) (u v : List Opening) → with_opening x u ≡ with_opening x v → u ≡ v
+with_cancel : (x : SeenOpening) (u v : List SeenOpening) → with_opening x u ≡ with_opening x v → u ≡ v
 with_cancel x u v e = sym (without-with x u) ∙ ap (without x) e ∙ without-with x v
 
-get_or-set_there : (l : List Opening) (i j : ℕ) (b d : Opening) → i < length l → j ≡ i → get_or (set l i b) j d ≡ b
+get_or-set_there : (l : List SeenOpening) (i j : ℕ) (b d : SeenOpening) → i < length l → j ≡ i → get_or (set l i b) j d ≡ b
 get_or-set_there l i j b d p e = rw e (get_or-set_same l i b d p)
 
-in_order-swapped : (l : List Opening) (i j : ℕ) (d : Opening) → i < length l → j < length l → in_order (set (set l i (get_or l j d)) j (get_or l i d)) ≡ in_order l
+in_order-swapped : (l : List SeenOpening) (i j : ℕ) (d : SeenOpening) → i < length l → j < length l → in_order (set (set l i (get_or l j d)) j (get_or l i d)) ≡ in_order l
 in_order-swapped l i j d p q =
     let a = get_or l i d in
     let b = get_or l j d in
@@ -124,33 +124,33 @@ in_order-swapped l i j d p q =
       | inl e ↦ get_or-set_there l i j b d p e
       | inr ne ↦ get_or-set_other l i j b d ne
     ] in
-    with_cancel b _ _ (ap (λ (x : Opening). with_opening x (in_order (set (set l i b) j a))) (sym there) ∙ second ∙ first)
+    with_cancel b _ _ (ap (λ (x : SeenOpening). with_opening x (in_order (set (set l i b) j a))) (sym there) ∙ second ∙ first)
 
-in_order-swap : (l : List Opening) (i j : ℕ) → i < length l → j < length l → in_order (swap l i j) ≡ in_order l
+in_order-swap : (l : List SeenOpening) (i j : ℕ) → i < length l → j < length l → in_order (swap l i j) ≡ in_order l
 in_order-swap [] i j p q = refl
 in_order-swap (y ∷ ys) i j p q = in_order-swapped (y ∷ ys) i j y p q
 
 -- two lists with the same openings are one in order
-pub in_order-permutation : (xs ys : List Opening) → IsPermutation xs ys → in_order ys ≡ in_order xs
+pub in_order-permutation : (xs ys : List SeenOpening) → IsPermutation xs ys → in_order ys ≡ in_order xs
 in_order-permutation xs ys h =
-    IsPermutation-keeps xs (λ (l : List Opening). in_order l ≡ in_order xs) refl (λ l i j p q e. in_order-swap l i j p q ∙ e) ys h
+    IsPermutation-keeps xs (λ (l : List SeenOpening). in_order l ≡ in_order xs) refl (λ l i j p q e. in_order-swap l i j p q ∙ e) ys h
 
 -- ---- which opening is first
 
 -- `All`, by recursion
-abbrev Each : (Opening → Type 0) → List Opening → Type 0
+abbrev Each : (SeenOpening → Type 0) → List SeenOpening → Type 0
 Each P [] = Unit {0}
 Each P (x ∷ xs) = P x × Each P xs
 
-Each-from_All : (P : Opening → Type 0) (l : List Opening) → All P l → Each P l
+Each-from_All : (P : SeenOpening → Type 0) (l : List SeenOpening) → All P l → Each P l
 Each-from_All P [] h = tt
 Each-from_All P (x ∷ xs) h = (h 0 x (omega arith), Each-from_All P xs (λ k d q. h (suc k) d (omega arith)))
 
-with_first : (m : Opening) (l : List Opening) → Each (λ y. is_before y m ≡ false) l → with_opening m l ≡ m ∷ l
+with_first : (m : SeenOpening) (l : List SeenOpening) → Each (λ y. is_before y m ≡ false) l → with_opening m l ≡ m ∷ l
 with_first m [] h = refl
 with_first m (y ∷ ys) h = with_here m y ys h.0
 
-Each-with : (P : Opening → Type 0) (x : Opening) (l : List Opening) → P x → Each P l → Each P (with_opening x l)
+Each-with : (P : SeenOpening → Type 0) (x : SeenOpening) (l : List SeenOpening) → P x → Each P l → Each P (with_opening x l)
 Each-with P x [] p h = (p, tt)
 Each-with P x (y ∷ ys) p h =
     elim (cases_Bool (is_before y x)) [
@@ -158,18 +158,18 @@ Each-with P x (y ∷ ys) p h =
       | inr q ↦ rw (with_here x y ys q) (p, h)
     ]
 
-Each-in_order : (P : Opening → Type 0) (l : List Opening) → Each P l → Each P (in_order l)
+Each-in_order : (P : SeenOpening → Type 0) (l : List SeenOpening) → Each P l → Each P (in_order l)
 Each-in_order P [] h = tt
 Each-in_order P (x ∷ xs) h = Each-with P x (in_order xs) h.0 (Each-in_order P xs h.1)
 
 -- the least of xs, and the rest
-pub in_order-least : (xs ys : List Opening) (m : Opening) → IsPermutation xs (m ∷ ys) → All (λ y. is_before y m ≡ false) xs → in_order xs ≡ m ∷ in_order ys
+pub in_order-least : (xs ys : List SeenOpening) (m : SeenOpening) → IsPermutation xs (m ∷ ys) → All (λ y. is_before y m ≡ false) xs → in_order xs ≡ m ∷ in_order ys
 in_order-least xs ys m h least =
-    let P : Opening → Type 0 = λ y. is_before y m ≡ false in
+    let P : SeenOpening → Type 0 = λ y. is_before y m ≡ false in
     let moved : Each P (m ∷ ys) = Each-from_All P (m ∷ ys) (All-permutation P xs (m ∷ ys) h least) in
     sym (in_order-permutation xs (m ∷ ys) h) ∙ with_first m (in_order ys) (Each-in_order P ys moved.1)
 
-pub length-with : (x : Opening) (l : List Opening) → length (with_opening x l) ≡ length l + 1
+pub length-with : (x : SeenOpening) (l : List SeenOpening) → length (with_opening x l) ≡ length l + 1
 length-with x [] = refl
 length-with x (y ∷ ys) =
     elim (cases_Bool (is_before y x)) [
@@ -177,21 +177,21 @@ length-with x (y ∷ ys) =
       | inr q ↦ rw (with_here x y ys q) (omega arith)
     ]
 
-pub length-in_order : (xs : List Opening) → length (in_order xs) ≡ length xs
+pub length-in_order : (xs : List SeenOpening) → length (in_order xs) ≡ length xs
 length-in_order [] = refl
 length-in_order (x ∷ xs) = omega (arith, length-with x (in_order xs), length-in_order xs)
 
 -- a later least one still has nothing before it
-pub not_before_through : (y p x : Opening) → is_before y p ≡ false → is_before x p ≡ true → is_before y x ≡ false
+pub not_before_through : (y p x : SeenOpening) → is_before y p ≡ false → is_before x p ≡ true → is_before y x ≡ false
 unfolding is_before
 not_before_through y p x q r = grind (arith, nat_tests)
 
 -- the opening at a least place goes first
-pub in_order-from_least : (xs : List Opening) (i : ℕ) (x : Opening) → IsLeast xs i → x ≡ get_or xs i x → in_order xs ≡ x ∷ in_order (swap_remove xs i x)
+pub in_order-from_least : (xs : List SeenOpening) (i : ℕ) (x : SeenOpening) → IsLeast xs i → x ≡ get_or xs i x → in_order xs ≡ x ∷ in_order (swap_remove xs i x)
 in_order-from_least xs i x least read =
     in_order-least xs (swap_remove xs i x) x (IsPermutation-swap_remove xs i x least.within read)
     (λ k d h. rw (get_or_read xs i x least.within read d) (least.least k d h))
 
-pub length-with_many : (n : ℕ) (x : Opening) (xs : List Opening) → length (with_many n x xs) ≡ length xs + n
+pub length-with_many : (n : ℕ) (x : SeenOpening) (xs : List SeenOpening) → length (with_many n x xs) ≡ length xs + n
 length-with_many zero x xs = omega arith
 length-with_many (suc n) x xs = omega (arith, length-with x (with_many n x xs), length-with_many n x xs)

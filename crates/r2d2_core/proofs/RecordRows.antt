@@ -1,9 +1,9 @@
 -- Worked rows of records, computed from the definitions alone: what they come to, and which are legal. The newest stands first.
 use Rattle.std.proofs.Common.{◌≡◌, ℕ, ◌*◌, Bool, true, false, List, [], ◌∷◌, Option, Some, None, refl}
 use Rattle.std.specs.declared.time.Duration.{Duration}
-use Rattle.r2d2_core.specs.Limits.{Settings, settings}
+use Rattle.r2d2_core.specs.Limits.{SeenLimits, settings}
 use Rattle.r2d2_core.specs.Connections.{idle_connection, lent_connection, is_expired}
-use Rattle.r2d2_core.specs.Records.{Noted, Taken, Ordered, Admitted, Kept, Closed, Reaped, ClosedAll}
+use Rattle.r2d2_core.specs.Records.{SeenRecord, Taken, Ordered, Admitted, Kept, Closed, Reaped, ClosedAll}
 use Rattle.r2d2_core.specs.Replay.{Standing, first_standing, replay_of, is_legal}
 
 abbrev seconds : ℕ → Duration
@@ -13,17 +13,17 @@ abbrev ms : ℕ → ℕ
 ms n = n * 1_000_000
 
 -- so many at most, so many wanted; closed at these ages and idle times
-abbrev limited : ℕ → Option ℕ → Option Duration → Option Duration → Settings
+abbrev limited : ℕ → Option ℕ → Option Duration → Option Duration → SeenLimits
 limited size least life idle = settings size least life idle (seconds 30) (seconds 30)
 
-abbrev small : Settings
+abbrev small : SeenLimits
 small = limited 1 None None None
 
-abbrev pair : Settings
+abbrev pair : SeenLimits
 pair = limited 2 None None None
 
 -- whether records are legal from the making on
-abbrev legal : Settings → List Noted → Bool
+abbrev legal : SeenLimits → List SeenRecord → Bool
 legal limits rs = is_legal limits (first_standing limits 0) rs
 
 abbrev standing : ℕ → ℕ → ℕ → Bool → Standing
@@ -31,7 +31,7 @@ standing at connections pending closed = record { at = at; idle = []; lent = [];
 
 -- ONE CONNECTION, taken and kept
 
-abbrev one_kept : List Noted
+abbrev one_kept : List SeenRecord
 one_kept = Kept (ms 3) 0 ∷ Taken (ms 2) 0 0 ∷ Admitted (ms 1) 0 ∷ []
 
 one_kept-replays : replay_of small (first_standing small 0) one_kept ≡ record (standing (ms 3) 1 0 false) { idle = idle_connection 0 (ms 1) (ms 3) tt ∷ [] }
@@ -48,10 +48,10 @@ one_lent-replays = refl
 
 -- TWO CONNECTIONS, reaped when they were idle for a second, and closed
 
-abbrev idling : Settings
+abbrev idling : SeenLimits
 idling = limited 2 None None (Some (seconds 1))
 
-abbrev two_reaped : List Noted
+abbrev two_reaped : List SeenRecord
 two_reaped = Reaped (ms 1000) 2 ∷ Admitted 0 1 ∷ Admitted 0 0 ∷ []
 
 two_reaped-replays : replay_of idling (first_standing idling 0) two_reaped ≡ standing (ms 1000) 0 2 false

@@ -6,12 +6,12 @@ use Rattle.std.proofs.lemmas.List.{append-nil, length-map}
 use Rattle.std.proofs.lemmas.List.Elements.{filter_agree}
 use Rattle.std.proofs.lemmas.Bool.{eq-eqb, eqb-true}
 use Rattle.std.proofs.lemmas.Bool.Decides.{nat_tests}
-use Rattle.r2d2_core.specs.Limits.{Settings, wanted_of}
+use Rattle.r2d2_core.specs.Limits.{SeenLimits, wanted_of}
 use Rattle.r2d2_core.specs.Ids.{copies_of, latest}
-use Rattle.r2d2_core.specs.Connections.{IdleConnection, LentConnection, id_of_idle, id_of_lent, is_expired, is_kept}
+use Rattle.r2d2_core.specs.Connections.{SeenIdleConnection, SeenLentConnection, id_of_idle, id_of_lent, is_expired, is_kept}
 use Rattle.r2d2_core.specs.Picture.{Picture, IsSound}
 use Rattle.r2d2_core.specs.Table.{top_up_of, topped_up, swept, after_close}
-use Rattle.r2d2_core.specs.Records.{Noted, Reaped, ClosedAll}
+use Rattle.r2d2_core.specs.Records.{SeenRecord, Reaped, ClosedAll}
 use Rattle.r2d2_core.specs.Replay.{Idle, Standing, BornDeed, id_of_born, goes, is_untouched, idle_after, lent_after, admissions, departures, is_none_idle}
 use Rattle.r2d2_core.specs.Recorded.{record_of_reap, record_of_close}
 use Rattle.r2d2_core.specs.Book.{bare, KeepReplaying}
@@ -43,11 +43,11 @@ stay_idle p at cs apart =
     ∙ filter-outside p id_of_idle cs apart))
 
 -- and so does all that is lent
-stay_lent : (p : Idle → Bool) (at : ℕ) (cs : List Idle) (lent : List LentConnection) → ((i : ℕ) → copies_of i (map id_of_idle cs) + copies_of i (map id_of_lent lent) ≤ 1)
+stay_lent : (p : Idle → Bool) (at : ℕ) (cs : List Idle) (lent : List SeenLentConnection) → ((i : ℕ) → copies_of i (map id_of_idle cs) + copies_of i (map id_of_lent lent) ≤ 1)
     → filter (λ c. is_untouched (map (goes at) (filter p cs)) c.id) lent ++ filter_map lent_after (latest id_of_born (map (goes at) (filter p cs))) ≡ lent
 stay_lent p at cs lent apart =
     let gone = filter p cs in
-    let stay = filter (λ (c : LentConnection). is_untouched (map (goes at) gone) c.id) lent in
+    let stay = filter (λ (c : SeenLentConnection). is_untouched (map (goes at) gone) c.id) lent in
     ap (λ l. stay ++ l) (none_left id_of_born lent_after (goes at) gone (λ c. refl))
     ∙ (append-nil stay
     ∙ (filter_agree (λ c. is_untouched (map (goes at) gone) c.id) (λ c. not (list_any (λ x. id_of_idle x == id_of_lent c) gone)) (λ c. ap not (any_id id_of_born (goes at) c.id gone)) lent
@@ -105,21 +105,21 @@ open_if_some true gone n g o some = absurd (cc (some, none_is gone n (g refl) (o
 open_if_some false gone n g o some = refl
 
 module _ {T : Type 0} where
-  filter_bare : (p : Idle → Bool) (xs : List (IdleConnection T)) → filter p (map bare xs) ≡ map bare (filter (λ c. p (bare c)) xs)
+  filter_bare : (p : Idle → Bool) (xs : List (SeenIdleConnection T)) → filter p (map bare xs) ≡ map bare (filter (λ c. p (bare c)) xs)
   filter_bare p [] = refl
   filter_bare p (x ∷ xs) = ap (λ l. cond (p (bare x)) (bare x ∷ l) l) (filter_bare p xs) ∙ sym (map_cond bare (p (bare x)) x (filter (λ c. p (bare c)) xs))
 
   -- a payload is not asked for
-  expired_bare : (limits : Settings) (now : ℕ) (xs : List (IdleConnection T)) → filter (is_expired limits now) (map bare xs) ≡ map bare (filter (is_expired limits now) xs)
+  expired_bare : (limits : SeenLimits) (now : ℕ) (xs : List (SeenIdleConnection T)) → filter (is_expired limits now) (map bare xs) ≡ map bare (filter (is_expired limits now) xs)
   unfolding is_expired
   expired_bare limits now xs = filter_bare (is_expired limits now) xs
 
-  kept_bare : (limits : Settings) (now : ℕ) (xs : List (IdleConnection T)) → filter (λ c. not (is_expired limits now c)) (map bare xs) ≡ map bare (filter (is_kept limits now) xs)
+  kept_bare : (limits : SeenLimits) (now : ℕ) (xs : List (SeenIdleConnection T)) → filter (λ c. not (is_expired limits now c)) (map bare xs) ≡ map bare (filter (is_kept limits now) xs)
   unfolding is_expired is_kept
   kept_bare limits now xs = filter_bare (λ c. not (is_expired limits now c)) xs
 
   -- a reap that closed or ordered, at its moment
-  replaying_reaped : (base : Standing) (rs : List Noted) (p : Picture T) → ((length (filter (is_expired p.on_order.limits p.latest) p.idle) == 0) && (top_up_of (swept p) == 0)) ≡ false
+  replaying_reaped : (base : Standing) (rs : List SeenRecord) (p : Picture T) → ((length (filter (is_expired p.on_order.limits p.latest) p.idle) == 0) && (top_up_of (swept p) == 0)) ≡ false
       → (p.on_order.closed ≡ false) → IsSound p → KeepReplaying p.on_order.limits base rs p
       → KeepReplaying p.on_order.limits base (Reaped p.latest (top_up_of (swept p)) ∷ rs) (topped_up (swept p))
   replaying_reaped base rs p some is_open sound old =
@@ -157,7 +157,7 @@ module _ {T : Type 0} where
       })
 
   -- a reap that closed and ordered nothing
-  replaying_idle_reap : (base : Standing) (rs : List Noted) (p : Picture T) → length (filter (is_expired p.on_order.limits p.latest) p.idle) ≡ 0 → top_up_of (swept p) ≡ 0 → KeepReplaying p.on_order.limits base rs p
+  replaying_idle_reap : (base : Standing) (rs : List SeenRecord) (p : Picture T) → length (filter (is_expired p.on_order.limits p.latest) p.idle) ≡ 0 → top_up_of (swept p) ≡ 0 → KeepReplaying p.on_order.limits base rs p
       → KeepReplaying p.on_order.limits base rs (topped_up (swept p))
   unfolding is_expired is_kept
   replaying_idle_reap base rs p none_gone none old =
@@ -165,7 +165,7 @@ module _ {T : Type 0} where
       with_none_more limits base rs p (topped_up (swept p)) old
       (sym (ap (map bare) (all_stay (is_expired limits p.latest) p.idle none_gone))) refl (omega (arith, none_gone)) (omega (arith, none)) refl (omega arith) (λ i k. k)
 
-  reap_step : (base : Standing) (rs : List Noted) (p : Picture T) (b : Bool) → ((length (filter (is_expired p.on_order.limits p.latest) p.idle) == 0) && (top_up_of (swept p) == 0)) ≡ b → IsSound p
+  reap_step : (base : Standing) (rs : List SeenRecord) (p : Picture T) (b : Bool) → ((length (filter (is_expired p.on_order.limits p.latest) p.idle) == 0) && (top_up_of (swept p) == 0)) ≡ b → IsSound p
       → KeepReplaying p.on_order.limits base rs p → KeepReplaying p.on_order.limits base (newest (cond b None (Some (Reaped p.latest (top_up_of (swept p))))) rs) (topped_up (swept p))
   reap_step base rs p true e sound old =
       let none = none_at_all (length (filter (is_expired p.on_order.limits p.latest) p.idle)) (top_up_of (swept p)) e in
@@ -177,13 +177,13 @@ module _ {T : Type 0} where
       replaying_reaped base rs p e (open_if_some closed _ _ gone orders e) sound old
 
   -- a reap, at its moment
-  pub replaying_reap : (base : Standing) (rs : List Noted) (p : Picture T) → IsSound p → KeepReplaying p.on_order.limits base rs p
+  pub replaying_reap : (base : Standing) (rs : List SeenRecord) (p : Picture T) → IsSound p → KeepReplaying p.on_order.limits base rs p
       → KeepReplaying p.on_order.limits base (newest (record_of_reap p.latest (length (filter (is_expired p.on_order.limits p.latest) p.idle)) (top_up_of (swept p))) rs) (topped_up (swept p))
   replaying_reap base rs p sound old = reap_step base rs p _ refl sound old
 
   -- CLOSE
 
-  close_step : (base : Standing) (rs : List Noted) (p : Picture T) (b : Bool) → p.on_order.closed ≡ b → IsSound p → KeepReplaying p.on_order.limits base rs p
+  close_step : (base : Standing) (rs : List SeenRecord) (p : Picture T) (b : Bool) → p.on_order.closed ≡ b → IsSound p → KeepReplaying p.on_order.limits base rs p
       → KeepReplaying p.on_order.limits base (newest (cond b None (Some (ClosedAll p.latest))) rs) (after_close p)
   close_step base rs p true e sound old =
       with_none_more p.on_order.limits base rs p (after_close p) old
@@ -202,7 +202,7 @@ module _ {T : Type 0} where
       (record {
         deeds = refl;
         idle = ap (λ l. filter (λ (c : Idle). is_untouched l c.id) bares ++ filter_map idle_after (latest id_of_born l)) (sym every) ∙ (stay_idle all at bares (λ i. omega (arith, sound.apart i, sums i, ids i)) ∙ none_true bares);
-        lent = ap (λ l. filter (λ (c : LentConnection). is_untouched l c.id) p.lent ++ filter_map lent_after (latest id_of_born l)) (sym every) ∙ stay_lent all at bares p.lent (λ i. omega (arith, sound.apart i, sums i, ids i));
+        lent = ap (λ l. filter (λ (c : SeenLentConnection). is_untouched l c.id) p.lent ++ filter_map lent_after (latest id_of_born l)) (sym every) ∙ stay_lent all at bares p.lent (λ i. omega (arith, sound.apart i, sums i, ids i));
         connections = omega (arith, departs, admits);
         some_there = omega (arith, departs, admits, sound.counted);
         pending = refl;
@@ -216,6 +216,6 @@ module _ {T : Type 0} where
       })
 
   -- a close
-  pub replaying_close : (base : Standing) (rs : List Noted) (p : Picture T) → IsSound p → KeepReplaying p.on_order.limits base rs p
+  pub replaying_close : (base : Standing) (rs : List SeenRecord) (p : Picture T) → IsSound p → KeepReplaying p.on_order.limits base rs p
       → KeepReplaying p.on_order.limits base (newest (record_of_close p.latest p.on_order.closed) rs) (after_close p)
   replaying_close base rs p sound old = close_step base rs p p.on_order.closed refl sound old

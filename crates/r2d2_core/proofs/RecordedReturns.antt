@@ -6,12 +6,12 @@ use Rattle.std.proofs.lemmas.List.{append-nil, map-append, length-map}
 use Rattle.std.proofs.lemmas.Bool.{eq-eqb}
 use Rattle.r2d2_core.specs.Limits.{wanted_of, has_reached}
 use Rattle.r2d2_core.specs.Ids.{copies_of}
-use Rattle.r2d2_core.specs.Connections.{IdleConnection, idle_connection, id_of_idle, id_of_lent, birth_in}
+use Rattle.r2d2_core.specs.Connections.{SeenIdleConnection, idle_connection, id_of_idle, id_of_lent, birth_in}
 use Rattle.r2d2_core.specs.OnOrder.{room_beside}
 use Rattle.r2d2_core.specs.Picture.{Picture, IsSound}
 use Rattle.r2d2_core.specs.Table.{top_up_of, topped_up, lent_birth, is_closing, kept, lost, return_by, returned_by}
 use Rattle.r2d2_core.specs.Deeds.{Keeping, Going}
-use Rattle.r2d2_core.specs.Records.{Noted, Kept, Closed}
+use Rattle.r2d2_core.specs.Records.{SeenRecord, Kept, Closed}
 use Rattle.r2d2_core.specs.Replay.{Standing, BornDeed, born, id_of_born}
 use Rattle.r2d2_core.specs.Recorded.{record_of_return}
 use Rattle.r2d2_core.specs.Book.{bare, KeepReplaying}
@@ -41,12 +41,12 @@ module _ {T : Type 0} where
       (omega (arith, sound.apart id, sums), omega (arith, here, sound.apart id, sums), some-found (λ c. c.id == id) p.lent there)
 
   -- a return that is kept, at its moment
-  replaying_kept : (base : Standing) (rs : List Noted) (p : Picture T) (id : ℕ) (value : T) → p.on_order.closed ≡ false → is_some (birth_in id p.lent) ≡ true
+  replaying_kept : (base : Standing) (rs : List SeenRecord) (p : Picture T) (id : ℕ) (value : T) → p.on_order.closed ≡ false → is_some (birth_in id p.lent) ≡ true
       → has_reached p.on_order.limits.max_lifetime (p.latest - lent_birth id p) ≡ false → IsSound p → KeepReplaying p.on_order.limits base rs p
       → KeepReplaying p.on_order.limits base (Kept p.latest id ∷ rs) (kept id (lent_birth id p) value p)
   replaying_kept base rs p id value is_open lent young sound old =
       let birth = lent_birth id p in
-      let c : IdleConnection T = idle_connection id birth p.latest value in
+      let c : SeenIdleConnection T = idle_connection id birth p.latest value in
       let d : BornDeed = born birth id p.latest (Keeping tt) in
       let once = once_lent p id lent sound in
       with_one_more p.on_order.limits base rs (Kept p.latest id) (d ∷ []) p (kept id birth value p) old
@@ -69,7 +69,7 @@ module _ {T : Type 0} where
       })
 
   -- one that was lent is gone, at its moment
-  pub replaying_lost : (base : Standing) (rs : List Noted) (p : Picture T) (id : ℕ) → is_some (birth_in id p.lent) ≡ true → IsSound p → KeepReplaying p.on_order.limits base rs p
+  pub replaying_lost : (base : Standing) (rs : List SeenRecord) (p : Picture T) (id : ℕ) → is_some (birth_in id p.lent) ≡ true → IsSound p → KeepReplaying p.on_order.limits base rs p
       → KeepReplaying p.on_order.limits base (Closed p.latest id (top_up_of (lost id p)) ∷ rs) (topped_up (lost id p))
   replaying_lost base rs p id lent sound old =
       let limits = p.on_order.limits in
@@ -98,7 +98,7 @@ module _ {T : Type 0} where
       })
 
   -- a return, at its moment
-  pub replaying_returned : (closes : Bool) (base : Standing) (rs : List Noted) (p : Picture T) (id : ℕ) (value : T) (broken : Bool) → is_closing (lent_birth id p) broken p ≡ closes → is_some (birth_in id p.lent) ≡ true
+  pub replaying_returned : (closes : Bool) (base : Standing) (rs : List SeenRecord) (p : Picture T) (id : ℕ) (value : T) (broken : Bool) → is_closing (lent_birth id p) broken p ≡ closes → is_some (birth_in id p.lent) ≡ true
       → IsSound p → KeepReplaying p.on_order.limits base rs p
       → KeepReplaying p.on_order.limits base (newest (record_of_return p.latest id (Ok (return_by closes id (lent_birth id p) value p))) rs) (returned_by closes id (lent_birth id p) value p)
   replaying_returned true base rs p id value broken e lent sound old = replaying_lost base rs p id lent sound old

@@ -6,13 +6,13 @@ use Rattle.std.proofs.lemmas.Bool.{eq-eqb, eqb-true, cases_lt}
 use Rattle.std.proofs.lemmas.Bool.Decides.{nat_tests}
 use Rattle.r2d2_core.specs.Limits.{wanted_of}
 use Rattle.r2d2_core.specs.Ids.{last_of, front, found, without, same_id, copies_of}
-use Rattle.r2d2_core.specs.Connections.{IdleConnection, idle_connection, lent_connection, id_of_idle, id_of_lent}
+use Rattle.r2d2_core.specs.Connections.{SeenIdleConnection, idle_connection, lent_connection, id_of_idle, id_of_lent}
 use Rattle.r2d2_core.specs.OnOrder.{room_beside, IsEmpty}
 use Rattle.r2d2_core.specs.Picture.{Picture, IsSound}
 use Rattle.r2d2_core.specs.Table.{at, ordered, top_up_of, topped_up, miss_order_of, lent_out, take_orders, taken, admitted_at}
-use Rattle.r2d2_core.specs.Reply.{taking}
+use Rattle.r2d2_core.specs.Seen.{taking}
 use Rattle.r2d2_core.specs.Deeds.{Admission, Taking_out}
-use Rattle.r2d2_core.specs.Records.{Noted, Taken, Ordered, Admitted}
+use Rattle.r2d2_core.specs.Records.{SeenRecord, Taken, Ordered, Admitted}
 use Rattle.r2d2_core.specs.Replay.{Idle, Standing, BornDeed, born, id_of_born, idle_birth, is_untouched, is_known, has_id, is_none_idle, top_up_by}
 use Rattle.r2d2_core.specs.Recorded.{record_of_take}
 use Rattle.r2d2_core.specs.Book.{bare, standing_in, KeepReplaying}
@@ -22,7 +22,7 @@ use Rattle.r2d2_core.proofs.Latest.{one_other}
 use Rattle.r2d2_core.proofs.Replaying.{both, with_one_more, with_none_more}
 
 -- the newest first
-abbrev pub newest : Option Noted → List Noted → List Noted
+abbrev pub newest : Option SeenRecord → List SeenRecord → List SeenRecord
 newest None rs = rs
 newest (Some r) rs = r ∷ rs
 
@@ -93,11 +93,11 @@ pending_admitted true pending e = absurd cc
 pending_admitted false pending e = omega arith
 
 module _ {T : Type 0} where
-  pub ids_bare : (xs : List (IdleConnection T)) → map id_of_idle (map bare xs) ≡ map id_of_idle xs
+  pub ids_bare : (xs : List (SeenIdleConnection T)) → map id_of_idle (map bare xs) ≡ map id_of_idle xs
   ids_bare [] = refl
   ids_bare (x ∷ xs) = ap (λ l. x.id ∷ l) (ids_bare xs)
 
-  last_bare : (xs : List (IdleConnection T)) (c : IdleConnection T) → last_of xs ≡ Some c → last_of (map bare xs) ≡ Some (bare c)
+  last_bare : (xs : List (SeenIdleConnection T)) (c : SeenIdleConnection T) → last_of xs ≡ Some c → last_of (map bare xs) ≡ Some (bare c)
   last_bare xs c e = ap last_of (ap (map bare) (last_is xs c e) ∙ map-append bare (front xs) (c ∷ [])) ∙ last_of-push (map bare (front xs)) (bare c)
 
   -- nothing is pending once closed
@@ -109,13 +109,13 @@ module _ {T : Type 0} where
   none_idle p sound closed = ap length (sound.none_once_closed closed)
 
   -- a step's moment changes nothing that records tell
-  pub replaying_at : (t : ℕ) (base : Standing) (rs : List Noted) (p : Picture T) → KeepReplaying p.on_order.limits base rs p → KeepReplaying p.on_order.limits base rs (at t p)
+  pub replaying_at : (t : ℕ) (base : Standing) (rs : List SeenRecord) (p : Picture T) → KeepReplaying p.on_order.limits base rs p → KeepReplaying p.on_order.limits base rs (at t p)
   replaying_at t base rs p old = with_none_more p.on_order.limits base rs p (at t p) old refl refl refl refl refl (omega arith) (λ i k. k)
 
   -- TAKE
 
   -- a take that found
-  replaying_found : (base : Standing) (rs : List Noted) (p : Picture T) (c : IdleConnection T) → last_of p.idle ≡ Some c → IsSound p → KeepReplaying p.on_order.limits base rs p
+  replaying_found : (base : Standing) (rs : List SeenRecord) (p : Picture T) (c : SeenIdleConnection T) → last_of p.idle ≡ Some c → IsSound p → KeepReplaying p.on_order.limits base rs p
       → KeepReplaying p.on_order.limits base (Taken p.latest c.id (top_up_of (lent_out c p)) ∷ rs) (topped_up (lent_out c p))
   replaying_found base rs p c e sound old =
       let limits = p.on_order.limits in
@@ -156,7 +156,7 @@ module _ {T : Type 0} where
       })
 
   -- a take that found none, and ordered
-  replaying_ordered : (base : Standing) (rs : List Noted) (p : Picture T) (o : Bool) → last_of p.idle ≡ None → 1 ≤ miss_order_of o p → KeepReplaying p.on_order.limits base rs p
+  replaying_ordered : (base : Standing) (rs : List SeenRecord) (p : Picture T) (o : Bool) → last_of p.idle ≡ None → 1 ≤ miss_order_of o p → KeepReplaying p.on_order.limits base rs p
       → KeepReplaying p.on_order.limits base (Ordered p.latest (miss_order_of o p) ∷ rs) (ordered (miss_order_of o p) p)
   replaying_ordered base rs p o e some old =
       let n = miss_order_of o p in
@@ -183,10 +183,10 @@ module _ {T : Type 0} where
       })
 
   -- and that ordered nothing
-  replaying_missed : (base : Standing) (rs : List Noted) (p : Picture T) (o : Bool) → miss_order_of o p ≡ 0 → KeepReplaying p.on_order.limits base rs p → KeepReplaying p.on_order.limits base rs (ordered (miss_order_of o p) p)
+  replaying_missed : (base : Standing) (rs : List SeenRecord) (p : Picture T) (o : Bool) → miss_order_of o p ≡ 0 → KeepReplaying p.on_order.limits base rs p → KeepReplaying p.on_order.limits base rs (ordered (miss_order_of o p) p)
   replaying_missed base rs p o none old = with_none_more p.on_order.limits base rs p (ordered (miss_order_of o p) p) old refl refl refl (omega (arith, none)) refl (omega arith) (λ i k. k)
 
-  miss_step : (base : Standing) (rs : List Noted) (p : Picture T) (o b : Bool) → last_of p.idle ≡ None → (miss_order_of o p == 0) ≡ b → KeepReplaying p.on_order.limits base rs p
+  miss_step : (base : Standing) (rs : List SeenRecord) (p : Picture T) (o b : Bool) → last_of p.idle ≡ None → (miss_order_of o p == 0) ≡ b → KeepReplaying p.on_order.limits base rs p
       → KeepReplaying p.on_order.limits base (newest (cond b None (Some (Ordered p.latest (miss_order_of o p)))) rs) (ordered (miss_order_of o p) p)
   miss_step base rs p o true e n old = replaying_missed base rs p o (eqb-true (miss_order_of o p) 0 n) old
   miss_step base rs p o false e n old = replaying_ordered base rs p o e (some (miss_order_of o p) n) old where
@@ -194,7 +194,7 @@ module _ {T : Type 0} where
     some k f = grind (arith, nat_tests)
 
   -- a take, at its moment
-  pub replaying_taken : (base : Standing) (rs : List Noted) (p : Picture T) (o : Bool) (m : Option (IdleConnection T)) → last_of p.idle ≡ m → IsSound p → KeepReplaying p.on_order.limits base rs p
+  pub replaying_taken : (base : Standing) (rs : List SeenRecord) (p : Picture T) (o : Bool) (m : Option (SeenIdleConnection T)) → last_of p.idle ≡ m → IsSound p → KeepReplaying p.on_order.limits base rs p
       → KeepReplaying p.on_order.limits base (newest (record_of_take p.latest (taking m (take_orders m o p))) rs) (taken m o p)
   replaying_taken base rs p o None e sound old = miss_step base rs p o (miss_order_of o p == 0) e refl old
   replaying_taken base rs p o (Some c) e sound old = replaying_found base rs p c e sound old
@@ -202,11 +202,11 @@ module _ {T : Type 0} where
   -- ADMIT
 
   -- an admission, at its moment
-  pub replaying_admitted : (base : Standing) (rs : List Noted) (p : Picture T) (id : ℕ) (value : T) → p.on_order.closed ≡ false → found same_id id p.on_order.numbered ≡ Some id → IsSound p
+  pub replaying_admitted : (base : Standing) (rs : List SeenRecord) (p : Picture T) (id : ℕ) (value : T) → p.on_order.closed ≡ false → found same_id id p.on_order.numbered ≡ Some id → IsSound p
       → KeepReplaying p.on_order.limits base rs p → KeepReplaying p.on_order.limits base (Admitted p.latest id ∷ rs) (admitted_at p.latest id value p)
   replaying_admitted base rs p id value is_open there sound old =
       let p' = admitted_at p.latest id value p in
-      let c : IdleConnection T = idle_connection id p.latest p.latest value in
+      let c : SeenIdleConnection T = idle_connection id p.latest p.latest value in
       let d : BornDeed = born p.latest id p.latest (Admission tt) in
       let numbered = p.on_order.numbered in
       let sums = copies_of-append3 id (map id_of_idle p.idle) (map id_of_lent p.lent) numbered in

@@ -5,11 +5,11 @@ use Rattle.std.specs.List.{list_any}
 use Rattle.std.proofs.lemmas.Bool.Decides.{nat_tests}
 use Rattle.std.proofs.lemmas.List.Folds.{list_any-append}
 use Rattle.std.proofs.lemmas.List.Elements.{filter_map-append, filter-append, filter_agree}
-use Rattle.r2d2_core.specs.Limits.{Settings}
+use Rattle.r2d2_core.specs.Limits.{SeenLimits}
 use Rattle.r2d2_core.specs.Ids.{copies_of, latest}
-use Rattle.r2d2_core.specs.Connections.{LentConnection}
+use Rattle.r2d2_core.specs.Connections.{SeenLentConnection}
 use Rattle.r2d2_core.specs.Picture.{Picture}
-use Rattle.r2d2_core.specs.Records.{Noted}
+use Rattle.r2d2_core.specs.Records.{SeenRecord}
 use Rattle.r2d2_core.specs.Replay.{Idle, Standing, BornDeed, id_of_born, at_of, ordered_by, closes_one, closes_all, deeds_by, is_untouched, idle_after, lent_after, idle_by, lent_by, all_deeds, is_admission, is_going, admissions, departures, all_ordered, closed_by, moment_by, is_known, replay_of, fits, is_legal}
 use Rattle.r2d2_core.specs.Book.{bare, standing_in, KeepReplaying}
 use Rattle.r2d2_core.proofs.Filters.{filter-both}
@@ -50,7 +50,7 @@ idle_by-append base ds es =
 -- the same of what is lent
 pub lent_by-append : (base : Standing) (ds es : List BornDeed) → lent_by base (ds ++ es) ≡ filter (λ c. is_untouched es c.id) (lent_by base ds) ++ filter_map lent_after (latest id_of_born es)
 lent_by-append base ds es =
-    let old = filter (λ (c : LentConnection). is_untouched ds c.id) base.lent in
+    let old = filter (λ (c : SeenLentConnection). is_untouched ds c.id) base.lent in
     let now = filter_map lent_after (latest id_of_born ds) in
     let more = filter_map lent_after (latest id_of_born es) in
     let left : filter_map lent_after (latest id_of_born (ds ++ es)) ≡ filter (λ c. is_untouched es c.id) now ++ more =
@@ -74,7 +74,7 @@ pub both : (a b : Bool) → a ≡ true → b ≡ true → (a && b) ≡ true
 both a b e f = rw (e, f) refl
 
 -- one that fits
-legal_more : (limits : Settings) (base now after : Standing) (rs : List Noted) (r : Noted)
+legal_more : (limits : SeenLimits) (base now after : Standing) (rs : List SeenRecord) (r : SeenRecord)
     → is_legal limits base rs ≡ true → replay_of limits base rs ≡ now → replay_of limits base (r ∷ rs) ≡ after
     → nat_le now.at (at_of r) ≡ true → (not now.closed || closes_one r) ≡ true → fits limits now after (is_known base rs) r ≡ true
     → is_legal limits base (r ∷ rs) ≡ true
@@ -86,7 +86,7 @@ legal_more limits base now after rs r legal is_now is_after later is_open fit =
     ∙ both (nat_le now.at (at_of r)) _ later (both (not now.closed || closes_one r) _ is_open fit)))
 
 -- what stands, field by field
-pub same_standing : {a a' k k' n n' : ℕ} {i i' : List Idle} {l l' : List LentConnection} {b b' : Bool} → a ≡ a' → i ≡ i' → l ≡ l' → k ≡ k' → n ≡ n' → b ≡ b'
+pub same_standing : {a a' k k' n n' : ℕ} {i i' : List Idle} {l l' : List SeenLentConnection} {b b' : Bool} → a ≡ a' → i ≡ i' → l ≡ l' → k ≡ k' → n ≡ n' → b ≡ b'
     → ◌≡◌ {A = Standing} (record { at = a; idle = i; lent = l; connections = k; pending = n; closed = b }) (record { at = a'; idle = i'; lent = l'; connections = k'; pending = n'; closed = b' })
 same_standing e1 e2 e3 e4 e5 e6 = rw (e1, e2, e3, e4, e5, e6) refl
 
@@ -108,33 +108,33 @@ le_is a b c x y = grind (arith, nat_tests)
 module _ {T : Type 0} where
   -- WHAT A PICTURE SHOWS, field by field
 
-  idle_is : (limits : Settings) (base : Standing) (rs : List Noted) (p : Picture T) → KeepReplaying limits base rs p → idle_by base (all_deeds limits base rs) ≡ map bare p.idle
+  idle_is : (limits : SeenLimits) (base : Standing) (rs : List SeenRecord) (p : Picture T) → KeepReplaying limits base rs p → idle_by base (all_deeds limits base rs) ≡ map bare p.idle
   unfolding replay_of
   idle_is limits base rs p k = ap (λ (s : Standing). s.idle) k.told.shows
 
-  lent_is : (limits : Settings) (base : Standing) (rs : List Noted) (p : Picture T) → KeepReplaying limits base rs p → lent_by base (all_deeds limits base rs) ≡ p.lent
+  lent_is : (limits : SeenLimits) (base : Standing) (rs : List SeenRecord) (p : Picture T) → KeepReplaying limits base rs p → lent_by base (all_deeds limits base rs) ≡ p.lent
   unfolding replay_of
   lent_is limits base rs p k = ap (λ (s : Standing). s.lent) k.told.shows
 
-  connections_is : (limits : Settings) (base : Standing) (rs : List Noted) (p : Picture T) → KeepReplaying limits base rs p → base.connections + admissions (all_deeds limits base rs) - departures (all_deeds limits base rs) ≡ p.connections
+  connections_is : (limits : SeenLimits) (base : Standing) (rs : List SeenRecord) (p : Picture T) → KeepReplaying limits base rs p → base.connections + admissions (all_deeds limits base rs) - departures (all_deeds limits base rs) ≡ p.connections
   unfolding replay_of
   connections_is limits base rs p k = ap (λ (s : Standing). s.connections) k.told.shows
 
-  pending_is : (limits : Settings) (base : Standing) (rs : List Noted) (p : Picture T) → KeepReplaying limits base rs p → cond (closed_by base rs) 0 (all_ordered base rs - admissions (all_deeds limits base rs)) ≡ p.on_order.pending
+  pending_is : (limits : SeenLimits) (base : Standing) (rs : List SeenRecord) (p : Picture T) → KeepReplaying limits base rs p → cond (closed_by base rs) 0 (all_ordered base rs - admissions (all_deeds limits base rs)) ≡ p.on_order.pending
   unfolding replay_of
   pending_is limits base rs p k = ap (λ (s : Standing). s.pending) k.told.shows
 
-  closed_is : (limits : Settings) (base : Standing) (rs : List Noted) (p : Picture T) → KeepReplaying limits base rs p → closed_by base rs ≡ p.on_order.closed
+  closed_is : (limits : SeenLimits) (base : Standing) (rs : List SeenRecord) (p : Picture T) → KeepReplaying limits base rs p → closed_by base rs ≡ p.on_order.closed
   unfolding replay_of
   closed_is limits base rs p k = ap (λ (s : Standing). s.closed) k.told.shows
 
   -- THE LAW
 
   -- what a record says of the picture before it, and what that makes of the picture after it
-  pub record Says (limits : Settings) (base : Standing) (rs : List Noted) (r : Noted) (es : List BornDeed) (p p' : Picture T) : Type 0 where
+  pub record Says (limits : SeenLimits) (base : Standing) (rs : List SeenRecord) (r : SeenRecord) (es : List BornDeed) (p p' : Picture T) : Type 0 where
     pub deeds : deeds_by limits r (map bare p.idle) p.lent ≡ es
     pub idle : filter (λ (c : Idle). is_untouched es c.id) (map bare p.idle) ++ filter_map idle_after (latest id_of_born es) ≡ map bare p'.idle
-    pub lent : filter (λ (c : LentConnection). is_untouched es c.id) p.lent ++ filter_map lent_after (latest id_of_born es) ≡ p'.lent
+    pub lent : filter (λ (c : SeenLentConnection). is_untouched es c.id) p.lent ++ filter_map lent_after (latest id_of_born es) ≡ p'.lent
     pub connections : p.connections + admissions es - departures es ≡ p'.connections
     pub some_there : departures es ≤ p.connections + admissions es
     pub pending : cond (closes_all r || p.on_order.closed) 0 (p.on_order.pending + ordered_by r - admissions es) ≡ p'.on_order.pending
@@ -147,7 +147,7 @@ module _ {T : Type 0} where
     pub fit : (m : ℕ) → fits limits (standing_in m p) (standing_in (at_of r) p') (is_known base rs) r ≡ true
 
   -- then the records with it are legal, and replay to the picture after it
-  pub with_one_more : (limits : Settings) (base : Standing) (rs : List Noted) (r : Noted) (es : List BornDeed) (p p' : Picture T) → KeepReplaying limits base rs p → Says limits base rs r es p p' → KeepReplaying limits base (r ∷ rs) p'
+  pub with_one_more : (limits : SeenLimits) (base : Standing) (rs : List SeenRecord) (r : SeenRecord) (es : List BornDeed) (p p' : Picture T) → KeepReplaying limits base rs p → Says limits base rs r es p p' → KeepReplaying limits base (r ∷ rs) p'
   unfolding replay_of
   with_one_more limits base rs r es p p' old says =
       let ds = all_deeds limits base rs in
@@ -160,7 +160,7 @@ module _ {T : Type 0} where
       ∙ (ap (λ l. filter (λ (c : Idle). is_untouched es c.id) l ++ filter_map idle_after (latest id_of_born es)) (idle_is limits base rs p old) ∙ says.idle)))
       (ap (λ l. lent_by base (ds ++ l)) is
       ∙ (lent_by-append base ds es
-      ∙ (ap (λ l. filter (λ (c : LentConnection). is_untouched es c.id) l ++ filter_map lent_after (latest id_of_born es)) (lent_is limits base rs p old) ∙ says.lent)))
+      ∙ (ap (λ l. filter (λ (c : SeenLentConnection). is_untouched es c.id) l ++ filter_map lent_after (latest id_of_born es)) (lent_is limits base rs p old) ∙ says.lent)))
       (ap (λ l. base.connections + admissions (ds ++ l) - departures (ds ++ l)) is
       ∙ omega (arith, admissions-append ds es, departures-append ds es, connections_is limits base rs p old, says.connections, says.some_there, old.some_came))
       (ap (λ l. cond (closes_all r || closed_by base rs) 0 (all_ordered base rs + ordered_by r - admissions (ds ++ l))) is
@@ -186,7 +186,7 @@ module _ {T : Type 0} where
       }
 
   -- a step with no record
-  pub with_none_more : (limits : Settings) (base : Standing) (rs : List Noted) (p p' : Picture T) → KeepReplaying limits base rs p
+  pub with_none_more : (limits : SeenLimits) (base : Standing) (rs : List SeenRecord) (p p' : Picture T) → KeepReplaying limits base rs p
       → map bare p.idle ≡ map bare p'.idle → p.lent ≡ p'.lent → p.connections ≡ p'.connections → p.on_order.pending ≡ p'.on_order.pending → p.on_order.closed ≡ p'.on_order.closed → p.latest ≤ p'.latest
       → ((i : ℕ) → (i < p.on_order.next_id) × (copies_of i p.on_order.numbered ≡ 0) → (i < p'.on_order.next_id) × (copies_of i p'.on_order.numbered ≡ 0))
       → KeepReplaying limits base rs p'

@@ -4,11 +4,11 @@ use Rattle.std.specs.declared.time.Duration.{Duration}
 use Rattle.r2d2_core.specs.declared.run.Step.{Step}
 use Rattle.r2d2_core.specs.declared.run.Step.TheVariants as step
 use Rattle.r2d2_core.specs.declared.machine.answers.Refusal.TheVariants as refusal
-use Rattle.r2d2_core.specs.Limits.{Settings, settings, delay_of}
+use Rattle.r2d2_core.specs.Limits.{SeenLimits, settings, delay_of}
 use Rattle.r2d2_core.specs.Openings.{opening, is_before}
-use Rattle.r2d2_core.specs.Tasks.{Open, Reap, Wait, Nothing, Ended}
-use Rattle.r2d2_core.specs.Connections.{Closing, lent_connection, is_expired, is_kept, closing}
-use Rattle.r2d2_core.specs.Reply.{Reply, Taken, Found, Empty, Begun, Numbered, Admitted, Failed, CheckFailed, CameBack, Kept, Closed, Reaped, Told, Left}
+use Rattle.r2d2_core.specs.Jobs.{Open, Reap, Wait, Nothing, Ended}
+use Rattle.r2d2_core.specs.Connections.{SeenReleased, lent_connection, is_expired, is_kept, closing}
+use Rattle.r2d2_core.specs.Seen.{SeenAnswer, Taken, Found, Empty, Begun, Numbered, Admitted, Failed, CheckFailed, CameBack, Kept, Closed, Reaped, Told, Left}
 use Rattle.r2d2_core.specs.History.{History, Made, now_of}
 use Rattle.r2d2_core.specs.Deeds.{connections_of, idle_of, lent_of}
 use Rattle.r2d2_core.specs.Pending.{pending_of, in_work_of, in_work_at, numbered_of, next_reap_of, next_id_of, on_order_of}
@@ -22,11 +22,11 @@ ms n = record { secs = n / 1000; nanos = n % 1000 * 1_000_000 }
 abbrev longest : Duration
 longest = record { secs = 18_446_744_073_709_551_615; nanos = 999_999_999 }
 
-abbrev limits : ℕ → Option ℕ → Option ℕ → Option ℕ → ℕ → ℕ → Settings
+abbrev limits : ℕ → Option ℕ → Option ℕ → Option ℕ → ℕ → ℕ → SeenLimits
 limits size least life idle timeout every = settings size least (option_map ms life) (option_map ms idle) (ms timeout) (ms every)
 
 -- a size alone
-abbrev sized : ℕ → Settings
+abbrev sized : ℕ → SeenLimits
 sized n = limits n None None None 30_000 30_000
 
 -- STEPS: a `want` is a take that orders on a miss, a `broken` a return of a broken one, a `bad` a failed check
@@ -69,64 +69,64 @@ reap t = step.Reap (ms t)
 
 -- ANSWERS
 
-abbrev taken : ℕ → ℕ → ℕ → ℕ → Reply ℕ
+abbrev taken : ℕ → ℕ → ℕ → ℕ → SeenAnswer ℕ
 taken id birth value ordered = Taken (Found id (birth * 1_000_000) value ordered)
 
-abbrev empty : ℕ → Reply ℕ
+abbrev empty : ℕ → SeenAnswer ℕ
 empty ordered = Taken (Empty ordered)
 
-abbrev opens : ℕ → Reply ℕ
+abbrev opens : ℕ → SeenAnswer ℕ
 opens tries = Begun (Open tries)
 
-abbrev reaps : Reply ℕ
+abbrev reaps : SeenAnswer ℕ
 reaps = Begun Reap
 
-abbrev waits : ℕ → Reply ℕ
+abbrev waits : ℕ → SeenAnswer ℕ
 waits t = Begun (Wait (t * 1_000_000))
 
-abbrev numbered : ℕ → Reply ℕ
+abbrev numbered : ℕ → SeenAnswer ℕ
 numbered id = Numbered (Ok id)
 
-abbrev admitted : Reply ℕ
+abbrev admitted : SeenAnswer ℕ
 admitted = Admitted (Ok tt)
 
-abbrev retry : ℕ → Reply ℕ
+abbrev retry : ℕ → SeenAnswer ℕ
 retry t = Failed (Ok (t * 1_000_000))
 
-abbrev lost : ℕ → ℕ → Reply ℕ
+abbrev lost : ℕ → ℕ → SeenAnswer ℕ
 lost age ordered = CheckFailed (Ok (record { age = age * 1_000_000; ordered = ordered }))
 
-abbrev kept : Reply ℕ
+abbrev kept : SeenAnswer ℕ
 kept = CameBack (Ok Kept)
 
-abbrev closed : ℕ → ℕ → ℕ → Reply ℕ
+abbrev closed : ℕ → ℕ → ℕ → SeenAnswer ℕ
 closed value age ordered = CameBack (Ok (Closed value (age * 1_000_000) ordered))
 
-abbrev not_lent : ℕ → Reply ℕ
+abbrev not_lent : ℕ → SeenAnswer ℕ
 not_lent value = CameBack (Err (refusal.NotLent, value))
 
-abbrev gone : ℕ → ℕ → ℕ → Closing ℕ
+abbrev gone : ℕ → ℕ → ℕ → SeenReleased ℕ
 gone id age value = record { id = id; age = age * 1_000_000; value = value }
 
-abbrev told : String Global → Reply ℕ
+abbrev told : String Global → SeenAnswer ℕ
 told text = Told (Some (string_bytes text))
 
 -- HISTORIES: of a new core, and of one with one or two idle connections, whose values are 70 and 71
 
-abbrev new : Settings → History ℕ
+abbrev new : SeenLimits → History ℕ
 new limits = Made limits 0 0
 
-abbrev opened_one : Settings → History ℕ
+abbrev opened_one : SeenLimits → History ℕ
 opened_one limits = after_all (new limits) (begin 0 ∷ number 0 ∷ admit 0 0 70 ∷ [])
 
-abbrev opened_two : Settings → History ℕ
+abbrev opened_two : SeenLimits → History ℕ
 opened_two limits = after_all (new limits) (begin 0 ∷ begin 0 ∷ number 0 ∷ number 0 ∷ admit 0 0 70 ∷ admit 0 1 71 ∷ [])
 
 -- how many are connected, idle and pending in the end, and the answers
-abbrev ends : ℕ → ℕ → ℕ → List (Reply ℕ) → ℕ × ℕ × ℕ × List (Reply ℕ)
+abbrev ends : ℕ → ℕ → ℕ → List (SeenAnswer ℕ) → ℕ × ℕ × ℕ × List (SeenAnswer ℕ)
 ends connections idle pending replies = (connections, idle, pending, replies)
 
-abbrev run : History ℕ → List (Step ℕ) → ℕ × ℕ × ℕ × List (Reply ℕ)
+abbrev run : History ℕ → List (Step ℕ) → ℕ × ℕ × ℕ × List (SeenAnswer ℕ)
 run h steps = let end = after_all h steps in ends (connections_of end) (length (idle_of end)) (pending_of end) (answers_of h steps)
 
 -- MAKING AND OPENING

@@ -7,7 +7,7 @@ use Rattle.r2d2_core.specs.Picture.{Picture}
 use Rattle.r2d2_core.specs.History.{History}
 use Rattle.r2d2_core.specs.Answers.{answer_of, after, answers_of, after_all, picture_of}
 use Rattle.r2d2_core.specs.Follows.{IsKept}
-use Rattle.r2d2_core.specs.Steps.{seen, step_answer, after_step}
+use Rattle.r2d2_core.specs.Steps.{seen_answer, step_answer, after_step}
 use Rattle.r2d2_core.proofs.FollowsStep.{follows_there}
 
 module _ {T : Type 0} where
@@ -22,19 +22,19 @@ module _ {T : Type 0} where
 module _ {T A : Type 0} where
   -- the answers and the picture are those of the steps
   pub record IsRun (start : History T) (steps : List (Step T)) (answers : List (Answer T A)) (core : Picture T) : Type 0 where
-    pub answers_are : map seen answers ≡ answers_of start steps
+    pub answers_are : map seen_answer answers ≡ answers_of start steps
     pub picture_is : core ≡ picture_of (after_all start steps)
     pub kept : IsKept (after_all start steps)
 
   -- a run goes on with a step that the core answers as the table says
   pub run_more : (start : History T) (steps : List (Step T)) (answers more : List (Answer T A)) (core new : Picture T) (s : Step T) (a : Answer T A)
-      → IsRun start steps answers core → more ≡ answers ++ a ∷ [] → seen a ≡ step_answer s core → new ≡ after_step s core
+      → IsRun start steps answers core → more ≡ answers ++ a ∷ [] → seen_answer a ≡ step_answer s core → new ≡ after_step s core
       → IsRun start (steps ++ s ∷ []) more new
   run_more start steps answers more core new s a run pushed answered went =
       let f = follows_there (after_all start steps) s run.kept run.picture_is answered went in
       let next : after_all start (steps ++ s ∷ []) ≡ after (after_all start steps) s = after_all-push start steps s in
       record {
-        answers_are = ap (map seen) pushed ∙ (map-append seen answers (a ∷ []) ∙ (ap (λ l. l ++ seen a ∷ []) run.answers_are ∙ (ap (λ r. answers_of start steps ++ r ∷ []) f.answer_is ∙ sym (answers_of-push start steps s))));
+        answers_are = ap (map seen_answer) pushed ∙ (map-append seen_answer answers (a ∷ []) ∙ (ap (λ l. l ++ seen_answer a ∷ []) run.answers_are ∙ (ap (λ r. answers_of start steps ++ r ∷ []) f.answer_is ∙ sym (answers_of-push start steps s))));
         picture_is = f.picture_is ∙ ap picture_of (sym next);
         kept = subst IsKept (sym next) f.kept;
       }

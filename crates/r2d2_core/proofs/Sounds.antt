@@ -3,15 +3,15 @@ use Rattle.std.proofs.Common.{◌≡◌, ℕ, ◌≤◌, max, Bool, true, false,
 use Rattle.std.specs.Prelude.{option_map, is_some, unwrap_or}
 use Rattle.r2d2_core.specs.declared.machine.answers.Refusal.{Refusal}
 use Rattle.r2d2_core.specs.declared.machine.answers.Refusal.TheVariants as refusal
-use Rattle.r2d2_core.specs.Limits.{Settings, wanted_of}
+use Rattle.r2d2_core.specs.Limits.{SeenLimits, wanted_of}
 use Rattle.r2d2_core.specs.Ids.{last_of, found}
-use Rattle.r2d2_core.specs.Tasks.{Task, Open, Reap, Wait, Nothing, Ended}
+use Rattle.r2d2_core.specs.Jobs.{SeenJob, Open, Reap, Wait, Nothing, Ended}
 use Rattle.r2d2_core.specs.Refusals.{unless_refused}
-use Rattle.r2d2_core.specs.Connections.{IdleConnection, LentConnection, id_of_idle, id_of_lent, birth_in}
-use Rattle.r2d2_core.specs.OnOrder.{IsAccounted, task_at, begun_by, number_refusal, numbered_one, admit_refusal, admitted_one, fail_refusal, failed_one}
+use Rattle.r2d2_core.specs.Connections.{SeenIdleConnection, SeenLentConnection, id_of_idle, id_of_lent, birth_in}
+use Rattle.r2d2_core.specs.OnOrder.{IsAccounted, job_at, begun_by, number_refusal, numbered_one, admit_refusal, admitted_one, fail_refusal, failed_one}
 use Rattle.r2d2_core.specs.Picture.{Picture, IsSound}
 use Rattle.r2d2_core.specs.Table.{at, with_on_order, topped_up, first_picture, taken, after_take, after_begin, after_number, admitted_at, after_admit, failed, after_fail, lent_refusal, lent_birth, is_closing, lost, returned_by, returned, after_return, with_text, after_check, after_reap, after_take_error, after_close}
-use Rattle.r2d2_core.specs.Reply.{or_text}
+use Rattle.r2d2_core.specs.Seen.{or_text}
 use Rattle.r2d2_core.proofs.Ids.{copies_of-append3}
 use Rattle.r2d2_core.proofs.Accounted.{unless_refused-keeps, passes, not_false, is_not, found_numbered, accounted_first, accounted_begun, accounted_numbering, accounted_admitted, accounted_failed, accounted_emptied}
 use Rattle.r2d2_core.proofs.Steady.{steady, apart_still, sound_at, sound_topped_up, sound_missed, sound_rescheduled, sound_told, steady_lent_out, steady_lost, sound_kept, sound_numbered, sound_admitted, steady_swept}
@@ -20,7 +20,7 @@ use Rattle.r2d2_core.proofs.Steady.{steady, apart_still, sound_at, sound_topped_
 accepted_is : {X : Type 0} (P : X → Type 0) (why : Option Refusal) (new old : X) → why ≡ None → P (unless_refused why new old) → P new
 accepted_is P why new old e p = subst (λ (w : Option Refusal). P (unless_refused w new old)) e p
 
-loan_found : (o : Option LentConnection) → is_some (option_map (λ (l : LentConnection). l.birth) o) ≡ true → (l : LentConnection) × (o ≡ Some l) × (l.birth ≡ unwrap_or (option_map (λ (l : LentConnection). l.birth) o) 0)
+loan_found : (o : Option SeenLentConnection) → is_some (option_map (λ (l : SeenLentConnection). l.birth) o) ≡ true → (l : SeenLentConnection) × (o ≡ Some l) × (l.birth ≡ unwrap_or (option_map (λ (l : SeenLentConnection). l.birth) o) 0)
 loan_found None e = absurd cc
 loan_found (Some l) e = (l, refl, refl)
 
@@ -32,7 +32,7 @@ none_holds false false c e = e
 module _ {T : Type 0} where
   -- MAKING
 
-  pub sound_first : (limits : Settings) (now first_id : ℕ) → wanted_of limits ≤ limits.max_size → IsSound (first_picture {T = T} limits now first_id)
+  pub sound_first : (limits : SeenLimits) (now first_id : ℕ) → wanted_of limits ≤ limits.max_size → IsSound (first_picture {T = T} limits now first_id)
   sound_first limits now first_id le = record {
     apart = λ i. omega arith;
     below_next = λ i past. refl;
@@ -49,7 +49,7 @@ module _ {T : Type 0} where
 
   -- TAKE
 
-  sound_taken : (or_order : Bool) (p : Picture T) (o : Option (IdleConnection T)) → last_of p.idle ≡ o → IsSound p → IsSound (taken o or_order p)
+  sound_taken : (or_order : Bool) (p : Picture T) (o : Option (SeenIdleConnection T)) → last_of p.idle ≡ o → IsSound p → IsSound (taken o or_order p)
   sound_taken or_order p None e s = sound_missed or_order s
   sound_taken or_order p (Some c) e s = sound_topped_up (steady_lent_out c e (steady s))
 
@@ -58,7 +58,7 @@ module _ {T : Type 0} where
 
   -- BEGIN, NUMBER, ADMIT, FAIL
 
-  sound_task : (task : Task) {p : Picture T} → IsAccounted (begun_by task p.on_order) → IsSound p → IsSound (with_on_order (begun_by task p.on_order) p)
+  sound_task : (task : SeenJob) {p : Picture T} → IsAccounted (begun_by task p.on_order) → IsSound p → IsSound (with_on_order (begun_by task p.on_order) p)
   sound_task (Open tries) {p} a s = sound_rescheduled _ _ _ a s
   sound_task Reap {p} a s = sound_rescheduled _ _ _ a s
   sound_task (Wait due) {p} a s = s
@@ -66,7 +66,7 @@ module _ {T : Type 0} where
   sound_task Ended {p} a s = s
 
   pub sound_begin : (t : ℕ) {p : Picture T} → IsSound p → IsSound (after_begin t p)
-  sound_begin t {p} s = sound_task (task_at (max p.latest t) p.on_order) (accounted_begun (max p.latest t) p.on_order s.accounted) (sound_at t s)
+  sound_begin t {p} s = sound_task (job_at (max p.latest t) p.on_order) (accounted_begun (max p.latest t) p.on_order s.accounted) (sound_at t s)
 
   number_by : (tries : ℕ) (p : Picture T) (why : Option Refusal) → IsAccounted (unless_refused why (numbered_one tries p.on_order) p.on_order) → IsSound p → IsSound (with_on_order (unless_refused why (numbered_one tries p.on_order) p.on_order) p)
   number_by tries p None a s = sound_numbered tries a s
@@ -93,12 +93,12 @@ module _ {T : Type 0} where
   -- RETURN, FAILED CHECK
 
   -- one that is lent is found, with its birth
-  found_lent : (id : ℕ) (p : Picture T) → lent_refusal id p ≡ None → (l : LentConnection) × (found id_of_lent id p.lent ≡ Some l) × (l.birth ≡ lent_birth id p)
+  found_lent : (id : ℕ) (p : Picture T) → lent_refusal id p ≡ None → (l : SeenLentConnection) × (found id_of_lent id p.lent ≡ Some l) × (l.birth ≡ lent_birth id p)
   found_lent id p accepted =
       let there = passes (not (is_some (birth_in id p.lent))) refusal.NotLent None accepted in
       loan_found (found id_of_lent id p.lent) (not_false (is_some (birth_in id p.lent)) there.0)
 
-  sound_returned : (closes : Bool) (id : ℕ) (value : T) (l : LentConnection) (p : Picture T) → found id_of_lent id p.lent ≡ Some l → (closes ≡ false → p.on_order.closed ≡ false) → IsSound p → IsSound (returned_by closes id l.birth value p)
+  sound_returned : (closes : Bool) (id : ℕ) (value : T) (l : SeenLentConnection) (p : Picture T) → found id_of_lent id p.lent ≡ Some l → (closes ≡ false → p.on_order.closed ≡ false) → IsSound p → IsSound (returned_by closes id l.birth value p)
   sound_returned true id value l p is is_open s = sound_topped_up (steady_lost id l is (steady s))
   sound_returned false id value l p is is_open s = sound_kept id value l is (is_open refl) s
 

@@ -10,8 +10,8 @@ use Rattle.std.proofs.lemmas.List.Sorted.{IsNonDecreasingBy-take, IsNonDecreasin
 use Rattle.std.proofs.lemmas.Bool.{cases_lt, cases_eq}
 use Rattle.r2d2_core.specs.Limits.{wanted_of}
 use Rattle.r2d2_core.specs.Ids.{same_id, last_of, front, found, without, copies_of}
-use Rattle.r2d2_core.specs.Openings.{Opening}
-use Rattle.r2d2_core.specs.Connections.{IdleConnection, LentConnection, idle_connection, lent_connection, id_of_idle, id_of_lent, since_of, is_expired, is_kept}
+use Rattle.r2d2_core.specs.Openings.{SeenOpening}
+use Rattle.r2d2_core.specs.Connections.{SeenIdleConnection, SeenLentConnection, idle_connection, lent_connection, id_of_idle, id_of_lent, since_of, is_expired, is_kept}
 use Rattle.r2d2_core.specs.OnOrder.{IsAccounted, admitted_one, numbered_one}
 use Rattle.r2d2_core.specs.Picture.{Picture, IsSound, ids_in}
 use Rattle.r2d2_core.specs.Table.{at, with_on_order, ordered, top_up_of, topped_up, miss_order_of, lent_out, admitted_at, kept, lost, swept}
@@ -167,7 +167,7 @@ module _ {T : Type 0} where
       (λ is_open. with_more_pending (miss_order_of or_order p) (wanted_of o.limits) (length p.idle) p.connections o.pending o.limits.max_size fits (s.replenished is_open))
 
   -- what is on order changes, but for its counts, its numbers and its limits
-  pub sound_rescheduled : (xs : List Opening) (ws : List ℕ) (r : Option ℕ) {p : Picture T} → IsAccounted (record p.on_order { scheduled = xs; in_work = ws; next_reap = r }) → IsSound p
+  pub sound_rescheduled : (xs : List SeenOpening) (ws : List ℕ) (r : Option ℕ) {p : Picture T} → IsAccounted (record p.on_order { scheduled = xs; in_work = ws; next_reap = r }) → IsSound p
       → IsSound (with_on_order (record p.on_order { scheduled = xs; in_work = ws; next_reap = r }) p)
   sound_rescheduled xs ws r {p} a s = record {
     apart = s.apart;
@@ -201,7 +201,7 @@ module _ {T : Type 0} where
 
   -- TAKE
 
-  pub steady_lent_out : (c : IdleConnection T) {p : Picture T} → last_of p.idle ≡ Some c → IsSteady p → IsSteady (lent_out c p)
+  pub steady_lent_out : (c : SeenIdleConnection T) {p : Picture T} → last_of p.idle ≡ Some c → IsSteady p → IsSteady (lent_out c p)
   steady_lent_out c {p} is s =
       let l = lent_connection c.id c.birth in
       let ids = apart_still p (lent_out c p) refl (λ i. omega (
@@ -229,7 +229,7 @@ module _ {T : Type 0} where
   -- RETURNS
 
   -- one that was lent is gone
-  pub steady_lost : (id : ℕ) (l : LentConnection) {p : Picture T} → found id_of_lent id p.lent ≡ Some l → IsSteady p → IsSteady (lost id p)
+  pub steady_lost : (id : ℕ) (l : SeenLentConnection) {p : Picture T} → found id_of_lent id p.lent ≡ Some l → IsSteady p → IsSteady (lost id p)
   steady_lost id l {p} is s =
       let ids = apart_still p (lost id p) refl (λ i. omega (
         arith,
@@ -252,9 +252,9 @@ module _ {T : Type 0} where
       }
 
   -- it is idle again
-  pub sound_kept : (id : ℕ) (value : T) (l : LentConnection) {p : Picture T} → found id_of_lent id p.lent ≡ Some l → p.on_order.closed ≡ false → IsSound p → IsSound (kept id l.birth value p)
+  pub sound_kept : (id : ℕ) (value : T) (l : SeenLentConnection) {p : Picture T} → found id_of_lent id p.lent ≡ Some l → p.on_order.closed ≡ false → IsSound p → IsSound (kept id l.birth value p)
   sound_kept id value l {p} is is_open s =
-      let c : IdleConnection T = idle_connection id l.birth p.latest value in
+      let c : SeenIdleConnection T = idle_connection id l.birth p.latest value in
       let ids = apart_still p (kept id l.birth value p) refl (λ i. omega (
         arith,
         copies_of-append3 i (map id_of_idle p.idle) (map id_of_lent p.lent) p.on_order.numbered,
@@ -312,7 +312,7 @@ module _ {T : Type 0} where
   pub sound_admitted : (id : ℕ) (value : T) {p : Picture T} → found same_id id p.on_order.numbered ≡ Some id → p.on_order.closed ≡ false → IsAccounted (admitted_one id p.on_order) → IsSound p → IsSound (admitted_at p.latest id value p)
   sound_admitted id value {p} is is_open a s =
       let o = p.on_order in
-      let c : IdleConnection T = idle_connection id p.latest p.latest value in
+      let c : SeenIdleConnection T = idle_connection id p.latest p.latest value in
       let ids = apart_still p (admitted_at p.latest id value p) refl (λ i. omega (
         arith,
         copies_of-append3 i (map id_of_idle p.idle) (map id_of_lent p.lent) o.numbered,
@@ -344,8 +344,8 @@ module _ {T : Type 0} where
   pub steady_swept : {p : Picture T} → IsSteady p → IsSteady (swept p)
   unfolding is_kept is_expired
   steady_swept {p} s =
-      let goes : IdleConnection T → Bool = is_expired p.on_order.limits p.latest in
-      let stays : IdleConnection T → Bool = is_kept p.on_order.limits p.latest in
+      let goes : SeenIdleConnection T → Bool = is_expired p.on_order.limits p.latest in
+      let stays : SeenIdleConnection T → Bool = is_kept p.on_order.limits p.latest in
       let ids = apart_still p (swept p) refl (λ i. omega (
         arith,
         copies_of-append3 i (map id_of_idle p.idle) (map id_of_lent p.lent) p.on_order.numbered,

@@ -1,16 +1,16 @@
 -- A core is whole where its picture is a sound one, and openings keep where what is on order is accounted for.
 use Rattle.std.proofs.Common.{◌≡◌, sym, subst}
 use Rattle.r2d2_core.specs.declared.machine.Core.TheInside.{Inside}
-use Rattle.r2d2_core.specs.declared.machine.openings.Openings.TheInside.{Inside as OpeningsInside}
-use Rattle.r2d2_core.specs.OnOrder.{OnOrder, IsAccounted}
-use Rattle.r2d2_core.specs.OpeningsView.{on_order_in, HasParts, IsKeeping}
+use Rattle.r2d2_core.specs.declared.machine.on_order.OnOrder.TheInside.{Inside as OpeningsInside}
+use Rattle.r2d2_core.specs.OnOrder.{SeenOnOrder, IsAccounted}
+use Rattle.r2d2_core.specs.OnOrderParts.{seen_on_order, HasParts, IsKeeping}
 use Rattle.r2d2_core.specs.Picture.{Picture, IsSound}
-use Rattle.r2d2_core.specs.View.{view_of, HasRoom, IsWhole}
+use Rattle.r2d2_core.specs.CoreParts.{view_of, HasRoom, IsWhole}
 
 pub whole : {T A : Type 0} {c : Inside T A} (p : Picture T) → view_of c ≡ p → IsSound p → HasRoom c → IsWhole c
 whole {c = c} p is s room = record { sound = subst IsSound (sym is) s; room = room }
 
-pub keeping : {A : Type 0} {c : OpeningsInside A} (o : OnOrder) → on_order_in c ≡ o → IsAccounted o → HasParts c → IsKeeping c
+pub keeping : {A : Type 0} {c : OpeningsInside A} (o : SeenOnOrder) → seen_on_order c ≡ o → IsAccounted o → HasParts c → IsKeeping c
 keeping {c = c} o is a parts = record { accounted = subst IsAccounted (sym is) a; parts = parts }
 
 -- a picture is sound where it is a sound one

@@ -7,15 +7,15 @@ use Rattle.r2d2_core.specs.declared.machine.answers.Refusal.{Refusal}
 use Rattle.r2d2_core.specs.declared.machine.answers.Refusal.TheVariants as refusal
 use Rattle.r2d2_core.specs.Limits.{wanted_of, later_by, delay_of, has_reached}
 use Rattle.r2d2_core.specs.Ids.{last_of}
-use Rattle.r2d2_core.specs.Connections.{closed_of, pair_of, Closing}
+use Rattle.r2d2_core.specs.Connections.{closed_of, pair_of, SeenReleased}
 use Rattle.r2d2_core.specs.Refusals.{refused_if}
-use Rattle.r2d2_core.specs.Reply.{Reply, Taken, Found, Empty, Begun, Numbered, Admitted, Failed, CheckFailed, CameBack, Return, Kept, Closed, Reaped, Told, Left}
+use Rattle.r2d2_core.specs.Seen.{SeenAnswer, Taken, Found, Empty, Begun, Numbered, Admitted, Failed, CheckFailed, CameBack, SeenReturned, Kept, Closed, Reaped, Told, Left}
 use Rattle.r2d2_core.specs.Picture.{Picture}
-use Rattle.r2d2_core.specs.Reply.{taking}
-use Rattle.r2d2_core.specs.Reply.{or_text}
+use Rattle.r2d2_core.specs.Seen.{taking}
+use Rattle.r2d2_core.specs.Seen.{or_text}
 use Rattle.r2d2_core.specs.History.{History, Made, Then, limits_of, is_closed, now_of, moment_of}
 use Rattle.r2d2_core.specs.Deeds.{connections_of, idle_of, lent_of, birth_of}
-use Rattle.r2d2_core.specs.Pending.{pending_of, task_of, in_work_at, next_id_of, numbered_of, on_order_of}
+use Rattle.r2d2_core.specs.Pending.{pending_of, job_of, in_work_at, next_id_of, numbered_of, on_order_of}
 
 module _ {T : Type 0} where
   -- REFUSALS
@@ -39,7 +39,7 @@ module _ {T : Type 0} where
   refusal_of h _ = None
 
   -- the answer to a refused step: the payload comes back
-  abbrev pub refused_with : Step T → Refusal → Reply T
+  abbrev pub refused_with : Step T → Refusal → SeenAnswer T
   refused_with (step.Number tries) why = Numbered (Err why)
   refused_with (step.Admit now id value) why = Admitted (Err (why, value))
   refused_with (step.Fail now tries text) why = Failed (Err why)
@@ -70,16 +70,16 @@ module _ {T : Type 0} where
   closes h t id broken = broken || (has_reached (limits_of h).max_lifetime (age_of h t id) || is_closed h)
 
   -- what a reap at a moment after h closes, oldest first
-  abbrev pub reaped_of : History T → ℕ → List (Closing T)
+  abbrev pub reaped_of : History T → ℕ → List (SeenReleased T)
   reaped_of h t = closed_of (limits_of h) t (idle_of h)
 
-  abbrev pub return_with : Bool → T → ℕ → ℕ → Return T
+  abbrev pub return_with : Bool → T → ℕ → ℕ → SeenReturned T
   return_with b value age n = if b then Closed value age n else Kept
 
   -- the answer to a step that is accepted, were it to order n openings
-  abbrev pub reply_with : History T → ℕ → Step T → Reply T
+  abbrev pub reply_with : History T → ℕ → Step T → SeenAnswer T
   reply_with h n (step.Take now or_order) = Taken (taking (last_of (idle_of h)) n)
-  reply_with h n (step.Begin now) = Begun (task_of h (moment_of h (step.Begin now)))
+  reply_with h n (step.Begin now) = Begun (job_of h (moment_of h (step.Begin now)))
   reply_with h n (step.Number tries) = Numbered (Ok (next_id_of h))
   reply_with h n (step.Admit now id value) = Admitted (Ok tt)
   reply_with h n (step.Fail now tries text) = Failed (Ok (later_by (moment_of h (step.Fail now tries text)) (delay_of (limits_of h) (tries + 1))))
@@ -102,7 +102,7 @@ module _ {T : Type 0} where
   order_on_miss h or_order = if or_order then min 1 ((limits_of h).max_size - connections_of h - pending_of h) else 0
 
   -- how many openings a step with that answer orders, where after is h and the step
-  abbrev pub orders_by : History T → History T → Step T → Reply T → ℕ
+  abbrev pub orders_by : History T → History T → Step T → SeenAnswer T → ℕ
   orders_by h after s (Taken (Found id birth value n)) = top_up_after h after
   orders_by h after (step.Take now or_order) (Taken (Empty n)) = order_on_miss h or_order
   orders_by h after s (CheckFailed (Ok gone)) = top_up_after h after
@@ -116,12 +116,12 @@ module _ {T : Type 0} where
 
   -- A STEP
 
-  abbrev pub answer_by : History T → Step T → Option Refusal → Reply T
+  abbrev pub answer_by : History T → Step T → Option Refusal → SeenAnswer T
   answer_by h s None = reply_with h (orders_of h s) s
   answer_by h s (Some why) = refused_with s why
 
   -- the answer to a step after h
-  abbrev pub answer_of : History T → Step T → Reply T
+  abbrev pub answer_of : History T → Step T → SeenAnswer T
   answer_of h s = answer_by h s (refusal_of h s)
 
   abbrev pub after_by : History T → Step T → Option Refusal → History T
@@ -135,7 +135,7 @@ module _ {T : Type 0} where
   -- A LIST OF STEPS
 
   -- the answers, each after the accepted ones before it
-  abbrev pub answers_of : History T → List (Step T) → List (Reply T)
+  abbrev pub answers_of : History T → List (Step T) → List (SeenAnswer T)
   answers_of h [] = []
   answers_of h (s ∷ steps) = answer_of h s ∷ answers_of (after h s) steps
 

@@ -3,8 +3,8 @@ use Rattle.std.specs.Prelude.{ℕ, ◌+◌, ◌-◌, Bool, true, false, ◌==◌
 use Rattle.r2d2_core.specs.declared.run.Step.{Step}
 use Rattle.r2d2_core.specs.declared.run.Step.TheVariants as step
 use Rattle.r2d2_core.specs.Ids.{latest}
-use Rattle.r2d2_core.specs.Connections.{IdleConnection, LentConnection, idle_connection, lent_connection}
-use Rattle.r2d2_core.specs.Reply.{Reply, Taken, Found, CameBack, Kept, Closed, Reaped, Left, CheckFailed}
+use Rattle.r2d2_core.specs.Connections.{SeenIdleConnection, SeenLentConnection, idle_connection, lent_connection}
+use Rattle.r2d2_core.specs.Seen.{SeenAnswer, Taken, Found, CameBack, Kept, Closed, Reaped, Left, CheckFailed}
 use Rattle.r2d2_core.specs.History.{History, Made, Then, moment_of}
 
 -- what was done to a connection; where it came to be idle, with the payload that was handed in
@@ -28,24 +28,24 @@ module _ {T : Type 0} where
 
   -- DEEDS OF A STEP, by its answer
 
-  abbrev pub take_deeds : ℕ → Reply T → List (Deed T)
+  abbrev pub take_deeds : ℕ → SeenAnswer T → List (Deed T)
   take_deeds at (Taken (Found id birth value ordered)) = deed id at Taking_out ∷ []
   take_deeds at _ = []
 
-  abbrev pub return_deeds : ℕ → ℕ → T → Reply T → List (Deed T)
+  abbrev pub return_deeds : ℕ → ℕ → T → SeenAnswer T → List (Deed T)
   return_deeds at id value (CameBack (Ok Kept)) = deed id at (Keeping value) ∷ []
   return_deeds at id value (CameBack (Ok (Closed v age ordered))) = deed id at Going ∷ []
   return_deeds at id value _ = []
 
-  abbrev pub reap_deeds : ℕ → Reply T → List (Deed T)
+  abbrev pub reap_deeds : ℕ → SeenAnswer T → List (Deed T)
   reap_deeds at (Reaped closed ordered) = map (λ c. deed c.id at Going) closed
   reap_deeds at _ = []
 
-  abbrev pub close_deeds : ℕ → Reply T → List (Deed T)
+  abbrev pub close_deeds : ℕ → SeenAnswer T → List (Deed T)
   close_deeds at (Left left) = map (λ p. deed p.0 at Going) left
   close_deeds at _ = []
 
-  abbrev pub deeds_in : ℕ → Step T → Reply T → List (Deed T)
+  abbrev pub deeds_in : ℕ → Step T → SeenAnswer T → List (Deed T)
   deeds_in at (step.Take now or_order) r = take_deeds at r
   deeds_in at (step.Admit now id value) r = deed id at (Admission value) ∷ []
   deeds_in at (step.FailCheck now id text) r = deed id at Going ∷ []
@@ -88,19 +88,19 @@ module _ {T : Type 0} where
   is_taking _ = false
 
   -- an idle connection, of this birth, where the deed leaves one
-  abbrev pub as_idle : ℕ → Deed T → Option (IdleConnection T)
+  abbrev pub as_idle : ℕ → Deed T → Option (SeenIdleConnection T)
   as_idle birth d = option_map (idle_connection d.id birth d.at) (value_in d.what)
 
   -- a lent one
-  abbrev pub as_lent : ℕ → Deed T → Option LentConnection
+  abbrev pub as_lent : ℕ → Deed T → Option SeenLentConnection
   as_lent birth d = if is_taking d.what then Some (lent_connection d.id birth) else None
 
   -- the connections whose latest deed is an admission or a kept return, in the order of those deeds
-  unfoldable pub idle_of : History T → List (IdleConnection T)
+  unfoldable pub idle_of : History T → List (SeenIdleConnection T)
   idle_of h = filter_map (λ d. as_idle (birth_of h d.id) d) (latest id_of_deed (deeds_of h))
 
   -- those whose latest deed is a take, in the order of those deeds
-  unfoldable pub lent_of : History T → List LentConnection
+  unfoldable pub lent_of : History T → List SeenLentConnection
   lent_of h = filter_map (λ d. as_lent (birth_of h d.id) d) (latest id_of_deed (deeds_of h))
 
   -- HOW MANY
@@ -111,7 +111,7 @@ module _ {T : Type 0} where
   admitted_count (Then h (step.Admit now id value) r) = admitted_count h + 1
   admitted_count (Then h _ r) = admitted_count h
 
-  abbrev pub gone_count_after : ℕ → Reply T → ℕ
+  abbrev pub gone_count_after : ℕ → SeenAnswer T → ℕ
   gone_count_after n (CheckFailed (Ok gone)) = n + 1
   gone_count_after n (CameBack (Ok (Closed value age ordered))) = n + 1
   gone_count_after n (Reaped closed ordered) = n + length closed

@@ -2,7 +2,7 @@
 use Rattle.std.specs.Prelude.{◌≡◌, ℕ, ◌≤◌, false}
 use Rattle.r2d2_core.specs.declared.run.Step.{Step}
 use Rattle.r2d2_core.specs.Picture.{Picture, IsSound}
-use Rattle.r2d2_core.specs.Reply.{Reply}
+use Rattle.r2d2_core.specs.Seen.{SeenAnswer}
 use Rattle.r2d2_core.specs.History.{History, is_closed}
 use Rattle.r2d2_core.specs.Deeds.{admitted_count, gone_count}
 use Rattle.r2d2_core.specs.Pending.{ordered_of, begun_of, ended_of, next_id_of, is_admitted}
@@ -19,7 +19,7 @@ module _ {T : Type 0} where
     pub none_admitted_ahead : (i : ℕ) → next_id_of h ≤ i → is_admitted h i ≡ false
 
   -- after h, the step has that reply and leaves that picture
-  pub record Follows (h : History T) (s : Step T) (reply : Reply T) (new : Picture T) : Type 0 where
+  pub record Follows (h : History T) (s : Step T) (reply : SeenAnswer T) (new : Picture T) : Type 0 where
     pub answer_is : reply ≡ answer_of h s
     pub picture_is : new ≡ picture_of (after h s)
     pub kept : IsKept (after h s)

@@ -5,7 +5,7 @@ use Rattle.std.specs.Duration.{as_nanos, max_nanos}
 use Rattle.std.specs.declared.time.Duration.{Duration}
 use Rattle.r2d2_core.specs.declared.schedule.limits.Limits.{Limits}
 
-pub record Settings : Type 0 where
+pub record SeenLimits : Type 0 where
   pub max_size : ℕ
   pub min_idle : Option ℕ
   pub max_lifetime : Option Duration
@@ -13,14 +13,14 @@ pub record Settings : Type 0 where
   pub connection_timeout : Duration
   pub reap_every : Duration
 
-abbrev pub settings : ℕ → Option ℕ → Option Duration → Option Duration → Duration → Duration → Settings
+abbrev pub settings : ℕ → Option ℕ → Option Duration → Option Duration → Duration → Duration → SeenLimits
 settings size least life idle timeout every = record { max_size = size; min_idle = least; max_lifetime = life; idle_timeout = idle; connection_timeout = timeout; reap_every = every }
 
-abbrev pub settings_of : Limits → Settings
-settings_of l = settings l.max_size l.min_idle l.max_lifetime l.idle_timeout l.connection_timeout l.reap_every
+abbrev pub seen_limits : Limits → SeenLimits
+seen_limits l = settings l.max_size l.min_idle l.max_lifetime l.idle_timeout l.connection_timeout l.reap_every
 
 -- sizes and lengths are positive, and no more are wanted idle than there may be
-pub record AreLegal (limits : Settings) : Type 0 where
+pub record AreLegal (limits : SeenLimits) : Type 0 where
   pub has_size : 0 < limits.max_size
   pub idle_within : ForSome limits.min_idle (λ n. n ≤ limits.max_size)
   pub lives : ForSome limits.max_lifetime (λ d. 0 < as_nanos d)
@@ -29,11 +29,11 @@ pub record AreLegal (limits : Settings) : Type 0 where
   pub reaps : 0 < as_nanos limits.reap_every
 
 -- how many connections are wanted idle: `min_idle`, else `max_size`
-abbrev pub wanted_of : Settings → ℕ
+abbrev pub wanted_of : SeenLimits → ℕ
 wanted_of limits = unwrap_or limits.min_idle limits.max_size
 
 -- whether reaps are ever due: only where an age or an idle time is limited
-abbrev pub has_reaps : Settings → Bool
+abbrev pub has_reaps : SeenLimits → Bool
 has_reaps limits = is_some limits.max_lifetime || is_some limits.idle_timeout
 
 -- a length of time has reached a limit, where one is set; exactly the limit has reached it
@@ -46,5 +46,5 @@ abbrev pub later_by : ℕ → ℕ → ℕ
 later_by moment length = min (moment + length) max_nanos
 
 -- the k-th delay in a row of one opening: 200 ms doubled k times, at most half the connection timeout
-abbrev pub delay_of : Settings → ℕ → ℕ
+abbrev pub delay_of : SeenLimits → ℕ → ℕ
 delay_of limits k = min (as_nanos limits.connection_timeout / 2) (200_000_000 * 2 ^ k)

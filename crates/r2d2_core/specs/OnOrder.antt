@@ -4,17 +4,17 @@ use Rattle.std.specs.List.{All}
 use Rattle.std.specs.Duration.{as_nanos}
 use Rattle.r2d2_core.specs.declared.machine.answers.Refusal.{Refusal}
 use Rattle.r2d2_core.specs.declared.machine.answers.Refusal.TheVariants as refusal
-use Rattle.r2d2_core.specs.Limits.{Settings, wanted_of, later_by, delay_of}
+use Rattle.r2d2_core.specs.Limits.{SeenLimits, wanted_of, later_by, delay_of}
 use Rattle.r2d2_core.specs.Ids.{found, without, same_id}
-use Rattle.r2d2_core.specs.Openings.{Opening, opening, with_opening, with_many, one_more, one_less}
-use Rattle.r2d2_core.specs.Tasks.{Task, Open, Reap, Wait, Nothing, Ended, first_task}
-use Rattle.r2d2_core.specs.Plan.{first_reap, next_by}
+use Rattle.r2d2_core.specs.Openings.{SeenOpening, opening, with_opening, with_many, one_more, one_less}
+use Rattle.r2d2_core.specs.Jobs.{SeenJob, Open, Reap, Wait, Nothing, Ended, first_job}
+use Rattle.r2d2_core.specs.Schedule.{first_reap, next_by}
 use Rattle.r2d2_core.specs.Refusals.{refused_if, unless_refused}
 
-pub record OnOrder : Type 0 where
-  pub limits : Settings
+pub record SeenOnOrder : Type 0 where
+  pub limits : SeenLimits
   -- ordered and not begun
-  pub scheduled : List Opening
+  pub scheduled : List SeenOpening
   -- how many are in work, for each number of tries from 0 to 99
   pub in_work : List ℕ
   -- the ids that await their admission
@@ -25,7 +25,7 @@ pub record OnOrder : Type 0 where
   pub closed : Bool
 
 -- nothing is on order, and no reap is due any more
-pub record IsEmpty (o : OnOrder) : Type 0 where
+pub record IsEmpty (o : SeenOnOrder) : Type 0 where
   pub pending : o.pending ≡ 0
   pub scheduled : o.scheduled ≡ []
   pub in_work : o.in_work ≡ replicate 100 0
@@ -33,7 +33,7 @@ pub record IsEmpty (o : OnOrder) : Type 0 where
   pub next_reap : o.next_reap ≡ None
 
 -- each pending opening stands in one of three places
-pub record IsAccounted (o : OnOrder) : Type 0 where
+pub record IsAccounted (o : SeenOnOrder) : Type 0 where
   pub placed : o.pending ≡ length o.scheduled + (sum o.in_work + length o.numbered)
   pub within : o.pending ≤ o.limits.max_size
   pub tries : All (λ x. x.tries ≤ 99) o.scheduled
@@ -43,23 +43,23 @@ pub record IsAccounted (o : OnOrder) : Type 0 where
 -- ORDERS
 
 -- how many more there may be beside so many connections
-abbrev pub room_beside : ℕ → OnOrder → ℕ
+abbrev pub room_beside : ℕ → SeenOnOrder → ℕ
 room_beside connections o = o.limits.max_size - connections - o.pending
 
 -- what a top-up orders: what is wanted beside the idle ones, as far as there is room
-abbrev pub top_up : ℕ → ℕ → OnOrder → ℕ
+abbrev pub top_up : ℕ → ℕ → SeenOnOrder → ℕ
 top_up idle connections o = if o.closed then 0 else min (wanted_of o.limits - idle) (room_beside connections o)
 
 -- what a miss orders: one, where it is asked for and there is room
-abbrev pub miss_order : Bool → ℕ → OnOrder → ℕ
+abbrev pub miss_order : Bool → ℕ → SeenOnOrder → ℕ
 miss_order or_order connections o = if o.closed then 0 else (if or_order then min 1 (room_beside connections o) else 0)
 
 -- n more, due at a moment
-abbrev pub with_orders : ℕ → ℕ → OnOrder → OnOrder
+abbrev pub with_orders : ℕ → ℕ → SeenOnOrder → SeenOnOrder
 with_orders n due o = record o { scheduled = with_many n (opening due 0) o.scheduled; pending = o.pending + n }
 
 -- what is wanted is ordered at the making
-abbrev pub first_on_order : Settings → ℕ → ℕ → OnOrder
+abbrev pub first_on_order : SeenLimits → ℕ → ℕ → SeenOnOrder
 first_on_order limits now first_id = record {
   limits = limits;
   scheduled = with_many (wanted_of limits) (opening now 0) [];
@@ -73,57 +73,57 @@ first_on_order limits now first_id = record {
 
 -- BEGIN
 
-abbrev pub task_at : ℕ → OnOrder → Task
-task_at now o = if o.closed then Ended else first_task now o.scheduled o.next_reap
+abbrev pub job_at : ℕ → SeenOnOrder → SeenJob
+job_at now o = if o.closed then Ended else first_job now o.scheduled o.next_reap
 
-abbrev pub begun_by : Task → OnOrder → OnOrder
+abbrev pub begun_by : SeenJob → SeenOnOrder → SeenOnOrder
 begun_by (Open tries) o = record o { scheduled = drop 1 o.scheduled; in_work = one_more tries o.in_work }
 begun_by Reap o = record o { next_reap = next_by (as_nanos o.limits.reap_every) o.next_reap }
 begun_by (Wait due) o = o
 begun_by Nothing o = o
 begun_by Ended o = o
 
-abbrev pub begun : ℕ → OnOrder → OnOrder
-begun now o = begun_by (task_at now o) o
+abbrev pub begun : ℕ → SeenOnOrder → SeenOnOrder
+begun now o = begun_by (job_at now o) o
 
 -- NUMBER
 
-abbrev pub is_in_work : ℕ → OnOrder → Bool
+abbrev pub is_in_work : ℕ → SeenOnOrder → Bool
 is_in_work tries o = nat_lt 0 (slice_index o.in_work tries)
 
-abbrev pub number_refusal : ℕ → OnOrder → Option Refusal
+abbrev pub number_refusal : ℕ → SeenOnOrder → Option Refusal
 number_refusal tries o = refused_if o.closed refusal.Closed (refused_if (not (is_in_work tries o)) refusal.NoOpening (refused_if (o.next_id == 2 ^ 64 - 1) refusal.IdsUsedUp None))
 
 -- one in work becomes a number
-abbrev pub numbered_one : ℕ → OnOrder → OnOrder
+abbrev pub numbered_one : ℕ → SeenOnOrder → SeenOnOrder
 numbered_one tries o = record o { in_work = one_less tries o.in_work; numbered = o.numbered ++ o.next_id ∷ []; next_id = o.next_id + 1 }
 
-abbrev pub after_numbering : ℕ → OnOrder → OnOrder
+abbrev pub after_numbering : ℕ → SeenOnOrder → SeenOnOrder
 after_numbering tries o = unless_refused (number_refusal tries o) (numbered_one tries o) o
 
 -- ADMIT
 
-abbrev pub admit_refusal : ℕ → OnOrder → Option Refusal
+abbrev pub admit_refusal : ℕ → SeenOnOrder → Option Refusal
 admit_refusal id o = refused_if o.closed refusal.Closed (refused_if (not (is_some (found same_id id o.numbered))) refusal.NotNumbered None)
 
 -- a numbered one is pending no more
-abbrev pub admitted_one : ℕ → OnOrder → OnOrder
+abbrev pub admitted_one : ℕ → SeenOnOrder → SeenOnOrder
 admitted_one id o = record o { numbered = without same_id id o.numbered; pending = o.pending - 1 }
 
 -- FAIL
 
-abbrev pub fail_refusal : ℕ → OnOrder → Option Refusal
+abbrev pub fail_refusal : ℕ → SeenOnOrder → Option Refusal
 fail_refusal tries o = refused_if o.closed refusal.Closed (refused_if (not (is_in_work tries o)) refusal.NoOpening None)
 
 -- when an opening that failed at a moment is due again
-abbrev pub due_again : ℕ → ℕ → OnOrder → ℕ
+abbrev pub due_again : ℕ → ℕ → SeenOnOrder → ℕ
 due_again now tries o = later_by now (delay_of o.limits (tries + 1))
 
 -- one in work is scheduled again; tries stay at 99 once there
-abbrev pub failed_one : ℕ → ℕ → OnOrder → OnOrder
+abbrev pub failed_one : ℕ → ℕ → SeenOnOrder → SeenOnOrder
 failed_one now tries o = record o { in_work = one_less tries o.in_work; scheduled = with_opening (opening (due_again now tries o) (min (tries + 1) 99)) o.scheduled }
 
 -- CLOSE
 
-abbrev pub emptied : OnOrder → OnOrder
+abbrev pub emptied : SeenOnOrder → SeenOnOrder
 emptied o = record o { scheduled = []; in_work = replicate 100 0; numbered = []; next_reap = None; pending = 0; closed = true }

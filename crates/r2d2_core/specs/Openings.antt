@@ -2,36 +2,36 @@
 use Rattle.std.specs.Prelude.{◌≡◌, ℕ, zero, suc, ◌+◌, ◌-◌, ◌<◌, Bool, false, ◌&&◌, ◌||◌, ◌==◌, nat_lt, if◌then◌else◌, List, [], ◌∷◌, length, slice_index, slice_index_or, slice_set}
 
 -- when an opening is due, in nanoseconds, and how often it failed
-pub record Opening : Type 0 where
+pub record SeenOpening : Type 0 where
   pub due : ℕ
   pub tries : ℕ
 
-abbrev pub opening : ℕ → ℕ → Opening
+abbrev pub opening : ℕ → ℕ → SeenOpening
 opening due tries = record { due = due; tries = tries }
 
 -- a comes before b: by the due moment, then by the tries
-unfoldable pub is_before : Opening → Opening → Bool
+unfoldable pub is_before : SeenOpening → SeenOpening → Bool
 is_before a b = nat_lt a.due b.due || (a.due == b.due && nat_lt a.tries b.tries)
 
 -- xs, which are in order, with x at its place
-abbrev pub with_opening : Opening → List Opening → List Opening
+abbrev pub with_opening : SeenOpening → List SeenOpening → List SeenOpening
 with_opening x [] = x ∷ []
 with_opening x (y ∷ ys) = if is_before y x then y ∷ with_opening x ys else x ∷ y ∷ ys
 
 -- xs with n more alike
-abbrev pub with_many : ℕ → Opening → List Opening → List Opening
+abbrev pub with_many : ℕ → SeenOpening → List SeenOpening → List SeenOpening
 with_many zero x xs = xs
 with_many (suc n) x xs = with_opening x (with_many n x xs)
 
 -- xs in order, which is the same for all lists with the same openings
-abbrev pub in_order : List Opening → List Opening
+abbrev pub in_order : List SeenOpening → List SeenOpening
 in_order [] = []
 in_order (x ∷ xs) = with_opening x (in_order xs)
 
 -- the opening at i is a least one of xs
-pub record IsLeast (xs : List Opening) (i : ℕ) : Type 0 where
+pub record IsLeast (xs : List SeenOpening) (i : ℕ) : Type 0 where
   pub within : i < length xs
-  pub least : (k : ℕ) (d : Opening) → k < length xs → is_before (slice_index_or xs k d) (slice_index_or xs i d) ≡ false
+  pub least : (k : ℕ) (d : SeenOpening) → k < length xs → is_before (slice_index_or xs k d) (slice_index_or xs i d) ≡ false
 
 -- one more in work that failed k times, where counts says how many there are for each number of tries
 abbrev pub one_more : ℕ → List ℕ → List ℕ

@@ -5,10 +5,10 @@ use Rattle.std.specs.Duration.{as_nanos}
 use Rattle.r2d2_core.specs.declared.run.Step.{Step}
 use Rattle.r2d2_core.specs.declared.run.Step.TheVariants as step
 use Rattle.r2d2_core.specs.Limits.{wanted_of, later_by, has_reaps}
-use Rattle.r2d2_core.specs.Openings.{Opening, opening, with_opening, with_many}
-use Rattle.r2d2_core.specs.Tasks.{Task, Open, Reap, Ended, first_task}
-use Rattle.r2d2_core.specs.OnOrder.{OnOrder}
-use Rattle.r2d2_core.specs.Reply.{Reply, Taken, Found, Empty, Begun, Numbered, Failed, CameBack, Closed, Reaped, CheckFailed}
+use Rattle.r2d2_core.specs.Openings.{SeenOpening, opening, with_opening, with_many}
+use Rattle.r2d2_core.specs.Jobs.{SeenJob, Open, Reap, Ended, first_job}
+use Rattle.r2d2_core.specs.OnOrder.{SeenOnOrder}
+use Rattle.r2d2_core.specs.Seen.{SeenAnswer, Taken, Found, Empty, Begun, Numbered, Failed, CameBack, Closed, Reaped, CheckFailed}
 use Rattle.r2d2_core.specs.History.{History, Made, Then, limits_of, start_of, first_of, is_closed, moment_of}
 use Rattle.r2d2_core.specs.Deeds.{admits, admitted_count}
 
@@ -16,7 +16,7 @@ module _ {T : Type 0} where
   -- PENDING
 
   -- how many openings an answer says that it ordered
-  abbrev pub ordered_in : Reply T → ℕ
+  abbrev pub ordered_in : SeenAnswer T → ℕ
   ordered_in (Taken (Found id birth value ordered)) = ordered
   ordered_in (Taken (Empty ordered)) = ordered
   ordered_in (CheckFailed (Ok gone)) = gone.ordered
@@ -35,14 +35,14 @@ module _ {T : Type 0} where
 
   -- SCHEDULED
 
-  abbrev pub scheduled_after : ℕ → List Opening → Step T → Reply T → List Opening
+  abbrev pub scheduled_after : ℕ → List SeenOpening → Step T → SeenAnswer T → List SeenOpening
   scheduled_after t xs step.Close r = []
   scheduled_after t xs (step.Fail now tries text) (Failed (Ok due)) = with_opening (opening due (min (tries + 1) 99)) xs
   scheduled_after t xs (step.Begin now) (Begun (Open tries)) = drop 1 xs
   scheduled_after t xs s r = with_many (ordered_in r) (opening t 0) xs
 
   -- the openings made, less those handed out, each of which was the least one then; the least first
-  abbrev pub scheduled_of : History T → List Opening
+  abbrev pub scheduled_of : History T → List SeenOpening
   scheduled_of (Made limits moment first) = with_many (wanted_of limits) (opening moment 0) []
   scheduled_of (Then h s r) = scheduled_after (moment_of h s) (scheduled_of h) s r
 
@@ -105,12 +105,12 @@ module _ {T : Type 0} where
       else None
 
   -- what a worker is to do at a moment
-  abbrev pub task_of : History T → ℕ → Task
-  task_of h t = if is_closed h then Ended else first_task t (scheduled_of h) (next_reap_of h)
+  abbrev pub job_of : History T → ℕ → SeenJob
+  job_of h t = if is_closed h then Ended else first_job t (scheduled_of h) (next_reap_of h)
 
   -- ALL OF IT
 
-  unfoldable pub on_order_of : History T → OnOrder
+  unfoldable pub on_order_of : History T → SeenOnOrder
   on_order_of h = record {
     limits = limits_of h;
     scheduled = scheduled_of h;

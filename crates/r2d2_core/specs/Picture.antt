@@ -4,17 +4,17 @@ use Rattle.std.specs.List.{All}
 use Rattle.std.specs.List.Sorted.{IsNonDecreasingBy}
 use Rattle.r2d2_core.specs.Limits.{wanted_of}
 use Rattle.r2d2_core.specs.Ids.{copies_of}
-use Rattle.r2d2_core.specs.Connections.{IdleConnection, LentConnection, id_of_idle, id_of_lent, since_of}
-use Rattle.r2d2_core.specs.OnOrder.{OnOrder, IsAccounted}
+use Rattle.r2d2_core.specs.Connections.{SeenIdleConnection, SeenLentConnection, id_of_idle, id_of_lent, since_of}
+use Rattle.r2d2_core.specs.OnOrder.{SeenOnOrder, IsAccounted}
 
 pub record Picture (T : Type 0) : Type 0 where
   -- the latest moment
   pub latest : ℕ
   -- the oldest first
-  pub idle : List (IdleConnection T)
+  pub idle : List (SeenIdleConnection T)
   -- in the order of the takes
-  pub lent : List LentConnection
-  pub on_order : OnOrder
+  pub lent : List SeenLentConnection
+  pub on_order : SeenOnOrder
   pub connections : ℕ
   pub last_error : Option (List ℕ)
 

@@ -5,23 +5,23 @@ use Rattle.r2d2_core.specs.declared.journal.record.Record.{Record}
 use Rattle.r2d2_core.specs.declared.journal.record.Record.TheVariants as record_
 
 -- a `Record`
-pub data Noted : Type 0 where
+pub data SeenRecord : Type 0 where
   -- a connection was lent
-  Taken : (at id ordered : ℕ) → Noted
+  Taken : (at id ordered : ℕ) → SeenRecord
   -- none was idle, and an opening was ordered
-  Ordered : (at ordered : ℕ) → Noted
+  Ordered : (at ordered : ℕ) → SeenRecord
   -- a connection came in
-  Admitted : (at id : ℕ) → Noted
+  Admitted : (at id : ℕ) → SeenRecord
   -- a lent one came back, and is idle
-  Kept : (at id : ℕ) → Noted
+  Kept : (at id : ℕ) → SeenRecord
   -- a lent one is gone
-  Closed : (at id ordered : ℕ) → Noted
+  Closed : (at id ordered : ℕ) → SeenRecord
   -- the idle ones that were expired are gone
-  Reaped : (at ordered : ℕ) → Noted
+  Reaped : (at ordered : ℕ) → SeenRecord
   -- the pool was closed, and all idle ones are gone
-  ClosedAll : (at : ℕ) → Noted
+  ClosedAll : (at : ℕ) → SeenRecord
 
-abbrev pub seen_record : Record → Noted
+abbrev pub seen_record : Record → SeenRecord
 seen_record (record_.Taken at id ordered) = Taken (as_nanos at) id ordered
 seen_record (record_.Ordered at ordered) = Ordered (as_nanos at) ordered
 seen_record (record_.Admitted at id) = Admitted (as_nanos at) id

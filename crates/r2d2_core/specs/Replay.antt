@@ -3,15 +3,15 @@
 -- looks back, where a book and a report have the oldest first.
 use Rattle.std.specs.Prelude.{ℕ, ◌+◌, ◌-◌, min, Bool, true, false, ◌==◌, ◌||◌, ◌&&◌, not, nat_lt, nat_le, if◌then◌else◌, List, [], ◌∷◌, ◌++◌, map, length, filter, filter_map, Option, Some, None, is_some, option_map, unwrap_or}
 use Rattle.std.specs.List.{list_any}
-use Rattle.r2d2_core.specs.Limits.{Settings, wanted_of, has_reached}
+use Rattle.r2d2_core.specs.Limits.{SeenLimits, wanted_of, has_reached}
 use Rattle.r2d2_core.specs.Ids.{last_of, found, latest}
-use Rattle.r2d2_core.specs.Connections.{IdleConnection, LentConnection, id_of_idle, birth_in, is_expired}
+use Rattle.r2d2_core.specs.Connections.{SeenIdleConnection, SeenLentConnection, id_of_idle, birth_in, is_expired}
 use Rattle.r2d2_core.specs.Deeds.{Deed, What, Admission, Taking_out, Keeping, Going, deed, as_idle, as_lent}
-use Rattle.r2d2_core.specs.Records.{Noted, Taken, Ordered, Admitted, Kept, Closed, Reaped, ClosedAll}
+use Rattle.r2d2_core.specs.Records.{SeenRecord, Taken, Ordered, Admitted, Kept, Closed, Reaped, ClosedAll}
 
 -- an idle connection; no record tells its payload
 abbrev pub Idle : Type 0
-Idle = IdleConnection (Unit {0})
+Idle = SeenIdleConnection (Unit {0})
 
 -- what stands at a moment: what records start from, and what they come to
 pub record Standing : Type 0 where
@@ -19,19 +19,19 @@ pub record Standing : Type 0 where
   -- the oldest first
   pub idle : List Idle
   -- in the order of the takes
-  pub lent : List LentConnection
+  pub lent : List SeenLentConnection
   pub connections : ℕ
   pub pending : ℕ
   pub closed : Bool
 
 -- what stands at a making: nothing, but that what is wanted was ordered
-abbrev pub first_standing : Settings → ℕ → Standing
+abbrev pub first_standing : SeenLimits → ℕ → Standing
 first_standing limits moment = record { at = moment; idle = []; lent = []; connections = 0; pending = wanted_of limits; closed = false }
 
 -- ONE RECORD
 
 -- its moment
-abbrev pub at_of : Noted → ℕ
+abbrev pub at_of : SeenRecord → ℕ
 at_of (Taken at id n) = at
 at_of (Ordered at n) = at
 at_of (Admitted at id) = at
@@ -41,7 +41,7 @@ at_of (Reaped at n) = at
 at_of (ClosedAll at) = at
 
 -- how many openings it says were ordered
-abbrev pub ordered_by : Noted → ℕ
+abbrev pub ordered_by : SeenRecord → ℕ
 ordered_by (Taken at id n) = n
 ordered_by (Ordered at n) = n
 ordered_by (Closed at id n) = n
@@ -51,17 +51,17 @@ ordered_by (Kept at id) = 0
 ordered_by (ClosedAll at) = 0
 
 -- whether it is the admission of an id
-abbrev pub admits_id : Noted → ℕ → Bool
+abbrev pub admits_id : SeenRecord → ℕ → Bool
 admits_id (Admitted at id) i = id == i
 admits_id _ i = false
 
 -- whether it is a closing of one connection
-abbrev pub closes_one : Noted → Bool
+abbrev pub closes_one : SeenRecord → Bool
 closes_one (Closed at id n) = true
 closes_one _ = false
 
 -- whether it is the closing of the pool
-abbrev pub closes_all : Noted → Bool
+abbrev pub closes_all : SeenRecord → Bool
 closes_all (ClosedAll at) = true
 closes_all _ = false
 
@@ -83,7 +83,7 @@ abbrev pub idle_birth : ℕ → List Idle → ℕ
 idle_birth i idle = unwrap_or (option_map (λ c. c.birth) (found id_of_idle i idle)) 0
 
 -- when a lent one was admitted
-abbrev pub lent_birth : ℕ → List LentConnection → ℕ
+abbrev pub lent_birth : ℕ → List SeenLentConnection → ℕ
 lent_birth i lent = unwrap_or (birth_in i lent) 0
 
 -- one that is idle goes
@@ -91,7 +91,7 @@ abbrev pub goes : ℕ → Idle → BornDeed
 goes at c = born c.birth c.id at Going
 
 -- the deeds that a record says, where these are idle and lent before it; a reap and a close name no ids, and are read off what was idle
-abbrev pub deeds_by : Settings → Noted → List Idle → List LentConnection → List BornDeed
+abbrev pub deeds_by : SeenLimits → SeenRecord → List Idle → List SeenLentConnection → List BornDeed
 deeds_by limits (Taken at id n) idle lent = born (idle_birth id idle) id at Taking_out ∷ []
 deeds_by limits (Ordered at n) idle lent = []
 deeds_by limits (Admitted at id) idle lent = born at id at (Admission tt) ∷ []
@@ -106,7 +106,7 @@ deeds_by limits (ClosedAll at) idle lent = map (goes at) idle
 abbrev pub idle_after : BornDeed → Option Idle
 idle_after d = as_idle d.birth d.done
 
-abbrev pub lent_after : BornDeed → Option LentConnection
+abbrev pub lent_after : BornDeed → Option SeenLentConnection
 lent_after d = as_lent d.birth d.done
 
 -- no deed is of this id
@@ -118,11 +118,11 @@ abbrev pub idle_by : Standing → List BornDeed → List Idle
 idle_by base ds = filter (λ c. is_untouched ds c.id) base.idle ++ filter_map idle_after (latest id_of_born ds)
 
 -- lent are those of before whose id has no deed, and then those whose latest deed is a take
-abbrev pub lent_by : Standing → List BornDeed → List LentConnection
+abbrev pub lent_by : Standing → List BornDeed → List SeenLentConnection
 lent_by base ds = filter (λ c. is_untouched ds c.id) base.lent ++ filter_map lent_after (latest id_of_born ds)
 
 -- all deeds, the oldest first
-abbrev pub all_deeds : Settings → Standing → List Noted → List BornDeed
+abbrev pub all_deeds : SeenLimits → Standing → List SeenRecord → List BornDeed
 all_deeds limits base [] = []
 all_deeds limits base (r ∷ before) = let ds = all_deeds limits base before in ds ++ deeds_by limits r (idle_by base ds) (lent_by base ds)
 
@@ -143,27 +143,27 @@ abbrev pub departures : List BornDeed → ℕ
 departures ds = length (filter (λ d. is_going d.done.what) ds)
 
 -- how many were ordered, before the records and in them
-abbrev pub all_ordered : Standing → List Noted → ℕ
+abbrev pub all_ordered : Standing → List SeenRecord → ℕ
 all_ordered base [] = base.pending
 all_ordered base (r ∷ before) = all_ordered base before + ordered_by r
 
 -- whether the pool was closed, before the records or in them
-abbrev pub closed_by : Standing → List Noted → Bool
+abbrev pub closed_by : Standing → List SeenRecord → Bool
 closed_by base [] = base.closed
 closed_by base (r ∷ before) = closes_all r || closed_by base before
 
 -- the moment of the newest
-abbrev pub moment_by : Standing → List Noted → ℕ
+abbrev pub moment_by : Standing → List SeenRecord → ℕ
 moment_by base [] = base.at
 moment_by base (r ∷ before) = at_of r
 
 -- whether an id was there before the records, or was admitted in them
-abbrev pub is_known : Standing → List Noted → ℕ → Bool
+abbrev pub is_known : Standing → List SeenRecord → ℕ → Bool
 is_known base [] i = list_any (λ c. c.id == i) base.idle || list_any (λ c. c.id == i) base.lent
 is_known base (r ∷ before) i = admits_id r i || is_known base before i
 
 -- what the records come to: connections are those admitted less those gone, and pending openings those ordered less those admitted, until the close
-unfoldable pub replay_of : Settings → Standing → List Noted → Standing
+unfoldable pub replay_of : SeenLimits → Standing → List SeenRecord → Standing
 replay_of limits base rs =
     let ds = all_deeds limits base rs in
     record {
@@ -187,17 +187,17 @@ is_none_idle [] = true
 is_none_idle (c ∷ cs) = false
 
 -- how many more there may be
-abbrev pub room_in : Settings → ℕ → ℕ → ℕ
+abbrev pub room_in : SeenLimits → ℕ → ℕ → ℕ
 room_in limits connections pending = limits.max_size - connections - pending
 
 -- what a top-up orders: what is wanted beside those that are idle after the record, as far as there is room
-abbrev pub top_up_by : Settings → Standing → Standing → ℕ
+abbrev pub top_up_by : SeenLimits → Standing → Standing → ℕ
 top_up_by limits now after = if now.closed then 0 else min (wanted_of limits - length after.idle) (room_in limits after.connections now.pending)
 
 -- whether a record fits what stands before it and after it, where these ids are known:
 -- the one taken is the last idle one; an opening is ordered alone where none is idle and there is room; an id is admitted once, and only where an
 -- opening is pending; what is kept or closed is lent, and what is kept is not too old; a reap closes or orders; and all orders are top-ups
-abbrev pub fits : Settings → (now after : Standing) → (known : ℕ → Bool) → Noted → Bool
+abbrev pub fits : SeenLimits → (now after : Standing) → (known : ℕ → Bool) → SeenRecord → Bool
 fits limits now after known (Taken at id n) = has_id id (last_of now.idle) && (n == top_up_by limits now after)
 fits limits now after known (Ordered at n) = is_none_idle now.idle && ((n == 1) && nat_lt 0 (room_in limits now.connections now.pending))
 fits limits now after known (Admitted at id) = not (known id) && nat_lt 0 now.pending
@@ -207,12 +207,12 @@ fits limits now after known (Reaped at n) = (n == top_up_by limits now after) &&
 fits limits now after known (ClosedAll at) = true
 
 -- whether a record may come after these: moments never fall, and once the pool is closed there are closings of one alone
-abbrev pub may_follow : Settings → Standing → List Noted → Noted → Bool
+abbrev pub may_follow : SeenLimits → Standing → List SeenRecord → SeenRecord → Bool
 may_follow limits base before r =
     let now = replay_of limits base before in
     nat_le now.at (at_of r) && ((not now.closed || closes_one r) && fits limits now (replay_of limits base (r ∷ before)) (is_known base before) r)
 
 -- records are legal where each may come after those before it
-abbrev pub is_legal : Settings → Standing → List Noted → Bool
+abbrev pub is_legal : SeenLimits → Standing → List SeenRecord → Bool
 is_legal limits base [] = true
 is_legal limits base (r ∷ before) = is_legal limits base before && may_follow limits base before r

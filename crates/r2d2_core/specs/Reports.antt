@@ -1,19 +1,19 @@
 -- What a report says. It has the oldest record first.
 use Rattle.std.specs.Prelude.{◌≡◌, ◌⊎◌, ◌+◌, ◌≤◌, true, false, length, map, reverse}
 use Rattle.r2d2_core.specs.declared.journal.report.Report.{Report}
-use Rattle.r2d2_core.specs.Limits.{settings_of, wanted_of}
+use Rattle.r2d2_core.specs.Limits.{seen_limits, wanted_of}
 use Rattle.r2d2_core.specs.Connections.{id_of_idle, id_of_lent}
 use Rattle.r2d2_core.specs.Replay.{Standing, first_standing, replay_of, is_legal}
-use Rattle.r2d2_core.specs.Book.{Account, limits_in}
+use Rattle.r2d2_core.specs.Book.{SeenBook, limits_in}
 
 module _ {B : Type 0} where
   -- what its records come to, read from the making on
   abbrev pub replay_in : Report B → Standing
-  replay_in r = replay_of (settings_of r.limits) (first_standing (settings_of r.limits) 0) (reverse r.records)
+  replay_in r = replay_of (seen_limits r.limits) (first_standing (seen_limits r.limits) 0) (reverse r.records)
 
   -- its records are legal, and come to its ids and counts
   pub record DoesReplay (r : Report B) : Type 0 where
-    pub legal : is_legal (settings_of r.limits) (first_standing (settings_of r.limits) 0) (reverse r.records) ≡ true
+    pub legal : is_legal (seen_limits r.limits) (first_standing (seen_limits r.limits) 0) (reverse r.records) ≡ true
     pub idle : map id_of_idle (let s = replay_in r in s.idle) ≡ r.idle
     pub lent : map id_of_lent (let s = replay_in r in s.lent) ≡ r.lent
     pub connections : (let s = replay_in r in s.connections) ≡ r.connections
@@ -24,14 +24,14 @@ module _ {B : Type 0} where
   pub record HasSoundCounts (r : Report B) : Type 0 where
     pub counted : r.connections ≡ length r.idle + length r.lent
     pub fits : r.connections + r.pending ≤ r.limits.max_size
-    pub replenished : r.closed ≡ false → (wanted_of (settings_of r.limits) ≤ length r.idle + r.pending) ⊎ (r.connections + r.pending ≡ r.limits.max_size)
+    pub replenished : r.closed ≡ false → (wanted_of (seen_limits r.limits) ≤ length r.idle + r.pending) ⊎ (r.connections + r.pending ≡ r.limits.max_size)
 
 module _ {T B : Type 0} where
   -- it says what the book shows
-  pub record IsReportOf (a : Account T) (r : Report B) : Type 0 where
-    pub limits : settings_of r.limits ≡ limits_in a
-    pub records : r.records ≡ a.log.records
-    pub lost : r.lost ≡ a.log.lost
+  pub record IsReportOf (a : SeenBook T) (r : Report B) : Type 0 where
+    pub limits : seen_limits r.limits ≡ limits_in a
+    pub records : r.records ≡ a.journal.records
+    pub lost : r.lost ≡ a.journal.lost
     pub idle : r.idle ≡ map id_of_idle a.picture.idle
     pub lent : r.lent ≡ map id_of_lent a.picture.lent
     pub connections : r.connections ≡ a.picture.connections

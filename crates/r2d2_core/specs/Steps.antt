@@ -5,29 +5,29 @@ use Rattle.r2d2_core.specs.declared.run.Step.{Step}
 use Rattle.r2d2_core.specs.declared.run.Step.TheVariants as step
 use Rattle.r2d2_core.specs.declared.run.Answer.{Answer}
 use Rattle.r2d2_core.specs.declared.run.Answer.TheVariants as answer
-use Rattle.r2d2_core.specs.Tasks.{seen_job}
+use Rattle.r2d2_core.specs.Jobs.{seen_job}
 use Rattle.r2d2_core.specs.Picture.{Picture}
-use Rattle.r2d2_core.specs.Reply.{Reply, Taken, Begun, Numbered, Admitted, Failed, CheckFailed, CameBack, Reaped, Told, Left, seen_take, seen_return, seen_gone, seen_released, map_ok}
+use Rattle.r2d2_core.specs.Seen.{SeenAnswer, Taken, Begun, Numbered, Admitted, Failed, CheckFailed, CameBack, Reaped, Told, Left, seen_take, seen_returned, seen_gone, seen_released, map_ok}
 use Rattle.r2d2_core.specs.Table.{take_answer, after_take, begin_answer, after_begin, number_answer, after_number, admit_answer, after_admit, fail_answer, after_fail, return_answer, after_return, check_answer, after_check, reap_closed, reap_orders, after_reap, after_take_error, close_answer, after_close}
-use Rattle.r2d2_core.specs.Records.{Noted}
+use Rattle.r2d2_core.specs.Records.{SeenRecord}
 use Rattle.r2d2_core.specs.Recorded.{record_of_take, record_of_admission, record_of_return, record_of_check, record_of_reap, record_of_close}
 
 -- what a caller sees of an answer
-abbrev pub seen : {T A : Type 0} → Answer T A → Reply T
-seen (answer.Take t) = Taken (seen_take t)
-seen (answer.Begin job) = Begun (seen_job job)
-seen (answer.Number r) = Numbered r
-seen (answer.Admit r) = Admitted r
-seen (answer.Fail r) = Failed (map_ok as_nanos r)
-seen (answer.FailCheck r) = CheckFailed (map_ok seen_gone r)
-seen (answer.PutBack r) = CameBack (map_ok seen_return r)
-seen (answer.Reap released ordered) = Reaped (map seen_released released.items) ordered
-seen (answer.TakeError text) = Told (option_map string_bytes text)
-seen (answer.Close left) = Left left
+abbrev pub seen_answer : {T A : Type 0} → Answer T A → SeenAnswer T
+seen_answer (answer.Take t) = Taken (seen_take t)
+seen_answer (answer.Begin job) = Begun (seen_job job)
+seen_answer (answer.Number r) = Numbered r
+seen_answer (answer.Admit r) = Admitted r
+seen_answer (answer.Fail r) = Failed (map_ok as_nanos r)
+seen_answer (answer.FailCheck r) = CheckFailed (map_ok seen_gone r)
+seen_answer (answer.PutBack r) = CameBack (map_ok seen_returned r)
+seen_answer (answer.Reap released ordered) = Reaped (map seen_released released.items) ordered
+seen_answer (answer.TakeError text) = Told (option_map string_bytes text)
+seen_answer (answer.Close left) = Left left
 
 module _ {T : Type 0} where
   -- the answer to the step, from that picture
-  abbrev pub step_answer : Step T → Picture T → Reply T
+  abbrev pub step_answer : Step T → Picture T → SeenAnswer T
   step_answer (step.Take now or_order) p = Taken (take_answer or_order p)
   step_answer (step.Begin now) p = Begun (begin_answer (as_nanos now) p)
   step_answer (step.Number tries) p = Numbered (number_answer tries p)
@@ -53,7 +53,7 @@ module _ {T : Type 0} where
   after_step step.Close p = after_close p
 
   -- the record that it makes, if it makes one
-  abbrev pub record_of_step : Step T → Picture T → Option Noted
+  abbrev pub record_of_step : Step T → Picture T → Option SeenRecord
   record_of_step (step.Take now or_order) p = record_of_take (max p.latest (as_nanos now)) (take_answer or_order p)
   record_of_step (step.Admit now id value) p = record_of_admission (max p.latest (as_nanos now)) id (admit_answer id value p)
   record_of_step (step.FailCheck now id text) p = record_of_check (max p.latest (as_nanos now)) id (check_answer (as_nanos now) id p)

@@ -2,21 +2,21 @@
 use Rattle.std.specs.Prelude.{ℕ, ◌+◌, ◌-◌, max, Bool, true, false, ◌||◌, not, List, [], ◌∷◌, ◌++◌, length, map, filter, Option, Some, None, is_some, unwrap_or, Result, String}
 use Rattle.r2d2_core.specs.declared.machine.answers.Refusal.{Refusal}
 use Rattle.r2d2_core.specs.declared.machine.answers.Refusal.TheVariants as refusal
-use Rattle.r2d2_core.specs.Limits.{Settings, has_reached}
+use Rattle.r2d2_core.specs.Limits.{SeenLimits, has_reached}
 use Rattle.r2d2_core.specs.Ids.{last_of, front, without}
-use Rattle.r2d2_core.specs.Tasks.{Task}
-use Rattle.r2d2_core.specs.Connections.{IdleConnection, Closing, idle_connection, lent_connection, id_of_lent, pair_of, birth_in, is_expired, is_kept, closed_of}
+use Rattle.r2d2_core.specs.Jobs.{SeenJob}
+use Rattle.r2d2_core.specs.Connections.{SeenIdleConnection, SeenReleased, idle_connection, lent_connection, id_of_lent, pair_of, birth_in, is_expired, is_kept, closed_of}
 use Rattle.r2d2_core.specs.Refusals.{refused_if, ok_unless, ok_or_back, unless_refused}
-use Rattle.r2d2_core.specs.OnOrder.{OnOrder, top_up, miss_order, with_orders, first_on_order, task_at, begun, number_refusal, after_numbering, admit_refusal, admitted_one, fail_refusal, due_again, failed_one, emptied}
+use Rattle.r2d2_core.specs.OnOrder.{SeenOnOrder, top_up, miss_order, with_orders, first_on_order, job_at, begun, number_refusal, after_numbering, admit_refusal, admitted_one, fail_refusal, due_again, failed_one, emptied}
 use Rattle.r2d2_core.specs.Picture.{Picture}
-use Rattle.r2d2_core.specs.Reply.{Taking, Return, Kept, Closed, Loss, taking, or_text}
+use Rattle.r2d2_core.specs.Seen.{SeenTake, SeenReturned, Kept, Closed, SeenGone, taking, or_text}
 
 module _ {T : Type 0} where
   -- the raised moment becomes the latest
   abbrev pub at : ℕ → Picture T → Picture T
   at t p = record p { latest = max p.latest t }
 
-  abbrev pub with_on_order : OnOrder → Picture T → Picture T
+  abbrev pub with_on_order : SeenOnOrder → Picture T → Picture T
   with_on_order o p = record p { on_order = o }
 
   -- ORDERS
@@ -35,23 +35,23 @@ module _ {T : Type 0} where
 
   -- MAKING
 
-  abbrev pub first_picture : Settings → ℕ → ℕ → Picture T
+  abbrev pub first_picture : SeenLimits → ℕ → ℕ → Picture T
   first_picture limits now first_id = record { latest = now; idle = []; lent = []; on_order = first_on_order limits now first_id; connections = 0; last_error = None }
 
   -- TAKE: the last idle one is lent
 
-  abbrev pub lent_out : IdleConnection T → Picture T → Picture T
+  abbrev pub lent_out : SeenIdleConnection T → Picture T → Picture T
   lent_out c p = record p { idle = front p.idle; lent = p.lent ++ lent_connection c.id c.birth ∷ [] }
 
-  abbrev pub take_orders : Option (IdleConnection T) → Bool → Picture T → ℕ
+  abbrev pub take_orders : Option (SeenIdleConnection T) → Bool → Picture T → ℕ
   take_orders None or_order p = miss_order_of or_order p
   take_orders (Some c) or_order p = top_up_of (lent_out c p)
 
-  abbrev pub taken : Option (IdleConnection T) → Bool → Picture T → Picture T
+  abbrev pub taken : Option (SeenIdleConnection T) → Bool → Picture T → Picture T
   taken None or_order p = ordered (miss_order_of or_order p) p
   taken (Some c) or_order p = topped_up (lent_out c p)
 
-  abbrev pub take_answer : Bool → Picture T → Taking T
+  abbrev pub take_answer : Bool → Picture T → SeenTake T
   take_answer or_order p = taking (last_of p.idle) (take_orders (last_of p.idle) or_order p)
 
   abbrev pub after_take : ℕ → Bool → Picture T → Picture T
@@ -59,8 +59,8 @@ module _ {T : Type 0} where
 
   -- BEGIN: the least opening is in work, or the next reap moves on
 
-  abbrev pub begin_answer : ℕ → Picture T → Task
-  begin_answer t p = task_at (max p.latest t) p.on_order
+  abbrev pub begin_answer : ℕ → Picture T → SeenJob
+  begin_answer t p = job_at (max p.latest t) p.on_order
 
   abbrev pub after_begin : ℕ → Picture T → Picture T
   after_begin t p = with_on_order (begun (max p.latest t) p.on_order) (at t p)
@@ -121,7 +121,7 @@ module _ {T : Type 0} where
   abbrev pub lost : ℕ → Picture T → Picture T
   lost id p = record p { lent = without id_of_lent id p.lent; connections = p.connections - 1 }
 
-  abbrev pub return_by : Bool → ℕ → ℕ → T → Picture T → Return T
+  abbrev pub return_by : Bool → ℕ → ℕ → T → Picture T → SeenReturned T
   return_by false id birth value p = Kept
   return_by true id birth value p = Closed value (p.latest - birth) (top_up_of (lost id p))
 
@@ -129,13 +129,13 @@ module _ {T : Type 0} where
   returned_by false id birth value p = kept id birth value p
   returned_by true id birth value p = topped_up (lost id p)
 
-  abbrev pub returning : ℕ → ℕ → T → Bool → Picture T → Return T
+  abbrev pub returning : ℕ → ℕ → T → Bool → Picture T → SeenReturned T
   returning id birth value broken p = return_by (is_closing birth broken p) id birth value p
 
   abbrev pub returned : ℕ → ℕ → T → Bool → Picture T → Picture T
   returned id birth value broken p = returned_by (is_closing birth broken p) id birth value p
 
-  abbrev pub return_answer : ℕ → ℕ → T → Bool → Picture T → Result (Return T) (Refusal × T)
+  abbrev pub return_answer : ℕ → ℕ → T → Bool → Picture T → Result (SeenReturned T) (Refusal × T)
   return_answer t id value broken p = ok_or_back (lent_refusal id p) value (returning id (lent_birth id p) value broken (at t p))
 
   abbrev pub after_return : ℕ → ℕ → T → Bool → Picture T → Picture T
@@ -146,10 +146,10 @@ module _ {T : Type 0} where
   abbrev pub with_text : {A : Type 0} → Option (String A) → Picture T → Picture T
   with_text text p = record p { last_error = or_text text p.last_error }
 
-  abbrev pub loss : ℕ → ℕ → Picture T → Loss
+  abbrev pub loss : ℕ → ℕ → Picture T → SeenGone
   loss id birth p = record { age = p.latest - birth; ordered = top_up_of (lost id p) }
 
-  abbrev pub check_answer : ℕ → ℕ → Picture T → Result Loss Refusal
+  abbrev pub check_answer : ℕ → ℕ → Picture T → Result SeenGone Refusal
   check_answer t id p = ok_unless (lent_refusal id p) (loss id (lent_birth id p) (at t p))
 
   abbrev pub after_check : {A : Type 0} → ℕ → ℕ → Option (String A) → Picture T → Picture T
@@ -163,7 +163,7 @@ module _ {T : Type 0} where
     connections = p.connections - length (filter (is_expired p.on_order.limits p.latest) p.idle);
   }
 
-  abbrev pub reap_closed : ℕ → Picture T → List (Closing T)
+  abbrev pub reap_closed : ℕ → Picture T → List (SeenReleased T)
   reap_closed t p = closed_of p.on_order.limits (max p.latest t) p.idle
 
   abbrev pub reap_orders : ℕ → Picture T → ℕ

@@ -4,16 +4,16 @@ ghost use Rattle.std.specs.Duration.{as_nanos};
 
 use crate::machine::{Core, Gone, Leftover, Refusal, Released, Returned, Take, later};
 use crate::schedule::{Job, Limits};
+use bounded::Journal;
 pub use record::Record;
 pub use report::{IdList, RecordList, Report};
-use ring::Ring;
 use std::alloc::{AllocError, Allocator, Global};
 use std::marker::Model;
 use std::time::Duration;
 
+pub(crate) mod bounded;
 pub mod record;
 pub mod report;
-pub(crate) mod ring;
 
 /// A core that notes what each step did, in a journal of bounded room.
 ///
@@ -22,25 +22,25 @@ pub(crate) mod ring;
 pub struct Book<T, A: Allocator = Global> {
     alloc: A,
     machine: Core<T, A>,
-    ring: Ring<A>,
+    journal: Journal<A>,
 }
 
 impl<T, A: Allocator> Model for Book<T, A> {
-    ghost use Rattle.r2d2_core.specs.Book.{Account, account, IsRecorded};
+    ghost use Rattle.r2d2_core.specs.Book.{SeenBook, seen_book, IsRecorded};
 
-    ghost Value = { Account T };
+    ghost Value = { SeenBook T };
 
-    ghost view = { λ b. account b.machine b.ring };
+    ghost view = { λ b. seen_book b.machine b.journal };
 
-    ghost invariant = { λ b. IsRecorded (account b.machine b.ring) };
+    ghost invariant = { λ b. IsRecorded (seen_book b.machine b.journal) };
 }
 
 impl<T, A: Allocator> Book<T, A> {
-    ghost use Rattle.r2d2_core.specs.Limits.{settings_of};
+    ghost use Rattle.r2d2_core.specs.Limits.{seen_limits};
     ghost use Rattle.r2d2_core.specs.Picture.{IsSound};
     ghost use Rattle.r2d2_core.specs.Table.{first_picture};
-    ghost use Rattle.r2d2_core.specs.Log.{log};
-    ghost use Rattle.r2d2_core.specs.Book.{account, IsReplayed};
+    ghost use Rattle.r2d2_core.specs.Journal.{seen_journal};
+    ghost use Rattle.r2d2_core.specs.Book.{seen_book, IsReplayed};
     ghost use Rattle.r2d2_core.specs.Reports.{IsReportOf, DoesReplay, HasSoundCounts};
 
     /// A book of a core whose ids are counted from 0, made at the moment `now`, that keeps the newest records, `room` of them at
@@ -54,7 +54,7 @@ impl<T, A: Allocator> Book<T, A> {
     where
         T: Drop,
         A: Copy,
-        ensures { IfOk result (λ book. book ≡ account (first_picture (settings_of limits) (as_nanos now) 0) (log [] room 0)) }
+        ensures { IfOk result (λ book. book ≡ seen_book (first_picture (seen_limits limits) (as_nanos now) 0) (seen_journal [] room 0)) }
     {
         Book::with_first_id(alloc, limits, now, 0, room)
     }
@@ -70,14 +70,14 @@ impl<T, A: Allocator> Book<T, A> {
     where
         T: Drop,
         A: Copy,
-        ensures { IfOk result (λ book. book ≡ account (first_picture (settings_of limits) (as_nanos now) first_id) (log [] room 0)) }
+        ensures { IfOk result (λ book. book ≡ seen_book (first_picture (seen_limits limits) (as_nanos now) first_id) (seen_journal [] room 0)) }
     {
         let machine = Core::with_first_id(alloc, limits, now, first_id)?;
-        let ring = Ring::new(alloc, room)?;
+        let journal = Journal::new(alloc, room)?;
         Ok(Book {
             alloc,
             machine,
-            ring,
+            journal,
         })
     }
 
@@ -118,7 +118,7 @@ impl<T, A: Allocator> Book<T, A> {
 
     /// The limits that the book was made with.
     pub fn limits(&self) -> Limits
-        ensures value { settings_of result ≡ self.now.picture.on_order.limits }
+        ensures value { seen_limits result ≡ self.now.picture.on_order.limits }
         ensures sound { IsSound self.now.picture }
         ensures replayed { IsReplayed self.now }
     {
@@ -145,13 +145,13 @@ impl<T, A: Allocator> Book<T, A> {
         ensures replays { IfOk result (λ report. report.lost ≡ 0 → DoesReplay report) }
         ensures sound { IfOk result HasSoundCounts }
     {
-        let records = self.ring.copied(alloc)?;
+        let records = self.journal.copied(alloc)?;
         let idle = IdList::of_idle(alloc, &self.machine)?;
         let lent = IdList::of_lent(alloc, &self.machine)?;
         Ok(Report {
             limits: self.machine.limits(),
             records: RecordList::of(records),
-            lost: self.ring.lost(),
+            lost: self.journal.lost(),
             idle,
             lent,
             connections: self.machine.connections(),
@@ -162,23 +162,23 @@ impl<T, A: Allocator> Book<T, A> {
 }
 
 impl<T, A: Allocator> Book<T, A> {
-    ghost use Rattle.r2d2_core.specs.Reply.{seen_take, seen_return, seen_gone, seen_released, map_ok};
-    ghost use Rattle.r2d2_core.specs.Tasks.{seen_job};
+    ghost use Rattle.r2d2_core.specs.Seen.{seen_take, seen_returned, seen_gone, seen_released, map_ok};
+    ghost use Rattle.r2d2_core.specs.Jobs.{seen_job};
     ghost use Rattle.r2d2_core.specs.Picture.{IsSound};
     ghost use Rattle.r2d2_core.specs.Table.{take_answer, after_take, begin_answer, after_begin, number_answer, after_number, admit_answer, after_admit, fail_answer, after_fail, return_answer, after_return, check_answer, after_check, reap_closed, reap_orders, after_reap, after_take_error, close_answer, after_close};
     ghost use Rattle.r2d2_core.specs.Recorded.{record_of_take, record_of_admission, record_of_return, record_of_check, record_of_reap, record_of_close};
-    ghost use Rattle.r2d2_core.specs.Log.{with_noted};
+    ghost use Rattle.r2d2_core.specs.Journal.{with_noted};
 
     /// As `Core::take`. A take that found is noted, and one that ordered.
     pub fn take(&mut self, now: Duration, or_order: bool) -> Take<T>
         ensures answer { seen_take result ≡ take_answer or_order self.old.picture }
         ensures after { self.new.picture ≡ after_take (as_nanos now) or_order self.old.picture }
         ensures sound { IsSound self.new.picture }
-        ensures noted { self.new.log ≡ with_noted (record_of_take (max self.old.picture.latest (as_nanos now)) (seen_take result)) self.old.log }
+        ensures noted { self.new.journal ≡ with_noted (record_of_take (max self.old.picture.latest (as_nanos now)) (seen_take result)) self.old.journal }
     {
         let at = later(self.machine.latest(), now);
         let taken = self.machine.take(now, or_order);
-        self.ring.note(Record::of_take(at, &taken));
+        self.journal.note(Record::of_take(at, &taken));
         taken
     }
 
@@ -187,7 +187,7 @@ impl<T, A: Allocator> Book<T, A> {
         ensures answer { seen_job result ≡ begin_answer (as_nanos now) self.old.picture }
         ensures after { self.new.picture ≡ after_begin (as_nanos now) self.old.picture }
         ensures sound { IsSound self.new.picture }
-        ensures noted { self.new.log ≡ self.old.log }
+        ensures noted { self.new.journal ≡ self.old.journal }
     {
         self.machine.begin(now)
     }
@@ -197,7 +197,7 @@ impl<T, A: Allocator> Book<T, A> {
         ensures answer { result ≡ number_answer tries self.old.picture }
         ensures after { self.new.picture ≡ after_number tries self.old.picture }
         ensures sound { IsSound self.new.picture }
-        ensures noted { self.new.log ≡ self.old.log }
+        ensures noted { self.new.journal ≡ self.old.journal }
     {
         self.machine.number(tries)
     }
@@ -207,11 +207,11 @@ impl<T, A: Allocator> Book<T, A> {
         ensures answer { result ≡ admit_answer id value self.old.picture }
         ensures after { self.new.picture ≡ after_admit (as_nanos now) id value self.old.picture }
         ensures sound { IsSound self.new.picture }
-        ensures noted { self.new.log ≡ with_noted (record_of_admission (max self.old.picture.latest (as_nanos now)) id result) self.old.log }
+        ensures noted { self.new.journal ≡ with_noted (record_of_admission (max self.old.picture.latest (as_nanos now)) id result) self.old.journal }
     {
         let at = later(self.machine.latest(), now);
         let answer = self.machine.admit(now, id, value);
-        self.ring.note(Record::of_admission(at, id, &answer));
+        self.journal.note(Record::of_admission(at, id, &answer));
         answer
     }
 
@@ -225,7 +225,7 @@ impl<T, A: Allocator> Book<T, A> {
         ensures answer { map_ok as_nanos result ≡ fail_answer (as_nanos now) tries self.old.picture }
         ensures after { self.new.picture ≡ after_fail (as_nanos now) tries text self.old.picture }
         ensures sound { IsSound self.new.picture }
-        ensures noted { self.new.log ≡ self.old.log }
+        ensures noted { self.new.journal ≡ self.old.journal }
     {
         self.machine.fail(now, tries, text)
     }
@@ -240,11 +240,11 @@ impl<T, A: Allocator> Book<T, A> {
         ensures answer { map_ok seen_gone result ≡ check_answer (as_nanos now) id self.old.picture }
         ensures after { self.new.picture ≡ after_check (as_nanos now) id text self.old.picture }
         ensures sound { IsSound self.new.picture }
-        ensures noted { self.new.log ≡ with_noted (record_of_check (max self.old.picture.latest (as_nanos now)) id (map_ok seen_gone result)) self.old.log }
+        ensures noted { self.new.journal ≡ with_noted (record_of_check (max self.old.picture.latest (as_nanos now)) id (map_ok seen_gone result)) self.old.journal }
     {
         let at = later(self.machine.latest(), now);
         let answer = self.machine.fail_check(now, id, text);
-        self.ring.note(Record::of_check(at, id, &answer));
+        self.journal.note(Record::of_check(at, id, &answer));
         answer
     }
 
@@ -256,14 +256,14 @@ impl<T, A: Allocator> Book<T, A> {
         value: T,
         broken: bool,
     ) -> Result<Returned<T>, (Refusal, T)>
-        ensures answer { map_ok seen_return result ≡ return_answer (as_nanos now) id value broken self.old.picture }
+        ensures answer { map_ok seen_returned result ≡ return_answer (as_nanos now) id value broken self.old.picture }
         ensures after { self.new.picture ≡ after_return (as_nanos now) id value broken self.old.picture }
         ensures sound { IsSound self.new.picture }
-        ensures noted { self.new.log ≡ with_noted (record_of_return (max self.old.picture.latest (as_nanos now)) id (map_ok seen_return result)) self.old.log }
+        ensures noted { self.new.journal ≡ with_noted (record_of_return (max self.old.picture.latest (as_nanos now)) id (map_ok seen_returned result)) self.old.journal }
     {
         let at = later(self.machine.latest(), now);
         let answer = self.machine.put_back(now, id, value, broken);
-        self.ring.note(Record::of_return(at, id, &answer));
+        self.journal.note(Record::of_return(at, id, &answer));
         answer
     }
 
@@ -275,11 +275,11 @@ impl<T, A: Allocator> Book<T, A> {
         ensures answer { result ≡ reap_orders (as_nanos now) self.old.picture }
         ensures after { self.new.picture ≡ after_reap (as_nanos now) self.old.picture }
         ensures sound { IsSound self.new.picture }
-        ensures noted { self.new.log ≡ with_noted (record_of_reap (max self.old.picture.latest (as_nanos now)) (length out.new.items) result) self.old.log }
+        ensures noted { self.new.journal ≡ with_noted (record_of_reap (max self.old.picture.latest (as_nanos now)) (length out.new.items) result) self.old.journal }
     {
         let at = later(self.machine.latest(), now);
         let ordered = self.machine.reap(now, out);
-        self.ring.note(Record::of_reap(at, out.len(), ordered));
+        self.journal.note(Record::of_reap(at, out.len(), ordered));
         ordered
     }
 
@@ -288,7 +288,7 @@ impl<T, A: Allocator> Book<T, A> {
         ensures answer { option_map string_bytes result ≡ self.old.picture.last_error }
         ensures after { self.new.picture ≡ after_take_error self.old.picture }
         ensures sound { IsSound self.new.picture }
-        ensures noted { self.new.log ≡ self.old.log }
+        ensures noted { self.new.journal ≡ self.old.journal }
     {
         self.machine.take_error()
     }
@@ -298,10 +298,10 @@ impl<T, A: Allocator> Book<T, A> {
         ensures answer { result ≡ close_answer self.old.picture }
         ensures after { self.new.picture ≡ after_close self.old.picture }
         ensures sound { IsSound self.new.picture }
-        ensures noted { self.new.log ≡ with_noted (record_of_close self.old.picture.latest self.old.picture.on_order.closed) self.old.log }
+        ensures noted { self.new.journal ≡ with_noted (record_of_close self.old.picture.latest self.old.picture.on_order.closed) self.old.journal }
     {
         let made = Record::of_close(self.machine.latest(), self.machine.is_closed());
-        self.ring.note(made);
+        self.journal.note(made);
         self.machine.close()
     }
 }

@@ -5,11 +5,11 @@ ghost use Rattle.std.specs.Duration.{as_nanos};
 use crate::schedule::Job;
 pub use crate::schedule::Limits;
 pub use answers::{Gone, Refusal, Released, Returned, Take};
-use idle::{Entry, Idle, reached};
+use idle::{Idle, IdleConnection, reached};
 pub use leftover::Leftover;
-use loan::Loan;
-use openings::Openings;
-use shelf::Shelf;
+use lent::LentConnection;
+use on_order::OnOrder;
+use roster::Roster;
 use std::alloc::{AllocError, Allocator, Global};
 use std::marker::Model;
 use std::time::Duration;
@@ -17,9 +17,9 @@ use std::time::Duration;
 pub(crate) mod answers;
 pub(crate) mod idle;
 pub(crate) mod leftover;
-pub(crate) mod loan;
-pub(crate) mod openings;
-pub(crate) mod shelf;
+pub(crate) mod lent;
+pub(crate) mod on_order;
+pub(crate) mod roster;
 
 /// Which connections there are, and which openings are pending.
 ///
@@ -29,8 +29,8 @@ pub(crate) mod shelf;
 pub struct Core<T, A: Allocator = Global> {
     latest: Duration,
     idle: Idle<T, A>,
-    lent: Shelf<Loan, A>,
-    openings: Openings<A>,
+    lent: Roster<LentConnection, A>,
+    on_order: OnOrder<A>,
     last_error: Option<String>,
 }
 
@@ -39,7 +39,7 @@ impl<T, A: Allocator> Model for Core<T, A> {
 
     ghost Value = { Picture T };
 
-    ghost use Rattle.r2d2_core.specs.View.{view_of, IsWhole};
+    ghost use Rattle.r2d2_core.specs.CoreParts.{view_of, IsWhole};
 
     ghost view = { view_of };
 
@@ -47,7 +47,7 @@ impl<T, A: Allocator> Model for Core<T, A> {
 }
 
 impl<T, A: Allocator> Core<T, A> {
-    ghost use Rattle.r2d2_core.specs.Limits.{settings_of};
+    ghost use Rattle.r2d2_core.specs.Limits.{seen_limits};
     ghost use Rattle.r2d2_core.specs.Connections.{id_of_idle, id_of_lent};
     ghost use Rattle.r2d2_core.specs.Picture.{IsSound};
     ghost use Rattle.r2d2_core.specs.Table.{first_picture};
@@ -58,7 +58,7 @@ impl<T, A: Allocator> Core<T, A> {
     where
         T: Drop,
         A: Copy,
-        ensures { IfOk result (λ core. core ≡ first_picture (settings_of limits) (as_nanos now) 0) }
+        ensures { IfOk result (λ core. core ≡ first_picture (seen_limits limits) (as_nanos now) 0) }
     {
         Core::with_first_id(alloc, limits, now, 0)
     }
@@ -73,17 +73,17 @@ impl<T, A: Allocator> Core<T, A> {
     where
         T: Drop,
         A: Copy,
-        ensures { IfOk result (λ core. core ≡ first_picture (settings_of limits) (as_nanos now) first_id) }
+        ensures { IfOk result (λ core. core ≡ first_picture (seen_limits limits) (as_nanos now) first_id) }
     {
         let room = limits.max_size() as usize;
         let idle = Idle::new(alloc, room)?;
-        let lent = Shelf::new(alloc, room)?;
-        let openings = Openings::new(alloc, limits, now, first_id)?;
+        let lent = Roster::new(alloc, room)?;
+        let on_order = OnOrder::new(alloc, limits, now, first_id)?;
         Ok(Core {
             latest: now,
             idle,
             lent,
-            openings,
+            on_order,
             last_error: None,
         })
     }
@@ -93,7 +93,7 @@ impl<T, A: Allocator> Core<T, A> {
         ensures value { result ≡ self.now.connections }
         ensures sound { IsSound self.now }
     {
-        let _max_size = self.openings.limits().max_size();
+        let _max_size = self.on_order.limits().max_size();
         self.count() as u32
     }
 
@@ -102,7 +102,7 @@ impl<T, A: Allocator> Core<T, A> {
         ensures value { result ≡ length self.now.idle }
         ensures sound { IsSound self.now }
     {
-        let _max_size = self.openings.limits().max_size();
+        let _max_size = self.on_order.limits().max_size();
         self.idle.len() as u32
     }
 
@@ -111,22 +111,22 @@ impl<T, A: Allocator> Core<T, A> {
         ensures value { result ≡ self.now.on_order.pending }
         ensures sound { IsSound self.now }
     {
-        self.openings.pending()
+        self.on_order.pending()
     }
 
     pub fn is_closed(&self) -> bool
         ensures value { result ≡ self.now.on_order.closed }
         ensures sound { IsSound self.now }
     {
-        self.openings.is_closed()
+        self.on_order.is_closed()
     }
 
     /// The limits that the core was made with.
     pub fn limits(&self) -> Limits
-        ensures value { settings_of result ≡ self.now.on_order.limits }
+        ensures value { seen_limits result ≡ self.now.on_order.limits }
         ensures sound { IsSound self.now }
     {
-        self.openings.limits()
+        self.on_order.limits()
     }
 
     /// The latest moment so far.
@@ -156,14 +156,14 @@ impl<T, A: Allocator> Core<T, A> {
         ensures value { result ≡ self.now.connections }
         ensures sound { IsSound self.now }
     {
-        let _max_size = self.openings.limits().max_size();
+        let _max_size = self.on_order.limits().max_size();
         self.idle.len() + self.lent.len()
     }
 }
 
 impl<T, A: Allocator> Core<T, A> {
-    ghost use Rattle.r2d2_core.specs.Reply.{seen_take, seen_return, seen_gone, seen_released, map_ok};
-    ghost use Rattle.r2d2_core.specs.Tasks.{seen_job};
+    ghost use Rattle.r2d2_core.specs.Seen.{seen_take, seen_returned, seen_gone, seen_released, map_ok};
+    ghost use Rattle.r2d2_core.specs.Jobs.{seen_job};
     ghost use Rattle.r2d2_core.specs.Picture.{IsSound};
     ghost use Rattle.r2d2_core.specs.Table.{take_answer, after_take, begin_answer, after_begin, number_answer, after_number, admit_answer, after_admit, fail_answer, after_fail, return_answer, after_return, check_answer, after_check, reap_closed, reap_orders, after_reap, after_take_error, close_answer, after_close};
 
@@ -176,9 +176,9 @@ impl<T, A: Allocator> Core<T, A> {
         self.latest = later(self.latest, now);
         match self.idle.take() {
             Some(entry) => {
-                self.lent.add(Loan::new(entry.id, entry.birth));
+                self.lent.add(LentConnection::new(entry.id, entry.birth));
                 let ordered = self
-                    .openings
+                    .on_order
                     .top_up(self.idle.len(), self.lent.len(), self.latest);
                 Take::Found {
                     id: entry.id,
@@ -190,7 +190,7 @@ impl<T, A: Allocator> Core<T, A> {
             None => {
                 let connections = self.idle.len() + self.lent.len();
                 let ordered = self
-                    .openings
+                    .on_order
                     .order_missed(or_order, connections, self.latest);
                 Take::Empty { ordered }
             }
@@ -204,7 +204,7 @@ impl<T, A: Allocator> Core<T, A> {
         ensures sound { IsSound self.new }
     {
         self.latest = later(self.latest, now);
-        self.openings.begin(self.latest)
+        self.on_order.begin(self.latest)
     }
 
     /// Gives an id to the connection of an opening in work with these tries. It is refused where the core is closed, where
@@ -214,7 +214,7 @@ impl<T, A: Allocator> Core<T, A> {
         ensures after { self.new ≡ after_number tries self.old }
         ensures sound { IsSound self.new }
     {
-        self.openings.number(tries)
+        self.on_order.number(tries)
     }
 
     /// Takes in a connection that was numbered, as the newest idle one. It is refused, and the value comes back, where
@@ -224,10 +224,10 @@ impl<T, A: Allocator> Core<T, A> {
         ensures after { self.new ≡ after_admit (as_nanos now) id value self.old }
         ensures sound { IsSound self.new }
     {
-        match self.openings.admit(id) {
+        match self.on_order.admit(id) {
             Ok(()) => {
                 self.latest = later(self.latest, now);
-                self.idle.add(Entry {
+                self.idle.add(IdleConnection {
                     id,
                     birth: self.latest,
                     since: self.latest,
@@ -253,7 +253,7 @@ impl<T, A: Allocator> Core<T, A> {
         ensures sound { IsSound self.new }
     {
         let latest = later(self.latest, now);
-        match self.openings.fail(latest, tries) {
+        match self.on_order.fail(latest, tries) {
             Ok(due) => {
                 self.latest = latest;
                 record(&mut self.last_error, text);
@@ -279,7 +279,7 @@ impl<T, A: Allocator> Core<T, A> {
                 self.latest = later(self.latest, now);
                 let age = self.latest.saturating_sub(loan.birth());
                 let ordered = self
-                    .openings
+                    .on_order
                     .top_up(self.idle.len(), self.lent.len(), self.latest);
                 record(&mut self.last_error, text);
                 Ok(Gone { age, ordered })
@@ -298,7 +298,7 @@ impl<T, A: Allocator> Core<T, A> {
         value: T,
         broken: bool,
     ) -> Result<Returned<T>, (Refusal, T)>
-        ensures answer { map_ok seen_return result ≡ return_answer (as_nanos now) id value broken self.old }
+        ensures answer { map_ok seen_returned result ≡ return_answer (as_nanos now) id value broken self.old }
         ensures after { self.new ≡ after_return (as_nanos now) id value broken self.old }
         ensures sound { IsSound self.new }
     {
@@ -307,10 +307,10 @@ impl<T, A: Allocator> Core<T, A> {
                 self.latest = later(self.latest, now);
                 let birth = loan.birth();
                 let age = self.latest.saturating_sub(birth);
-                let limits = self.openings.limits();
-                if broken || reached(limits.max_lifetime(), age) || self.openings.is_closed() {
+                let limits = self.on_order.limits();
+                if broken || reached(limits.max_lifetime(), age) || self.on_order.is_closed() {
                     let ordered = self
-                        .openings
+                        .on_order
                         .top_up(self.idle.len(), self.lent.len(), self.latest);
                     Ok(Returned::Closed {
                         value,
@@ -318,7 +318,7 @@ impl<T, A: Allocator> Core<T, A> {
                         ordered,
                     })
                 } else {
-                    self.idle.add(Entry {
+                    self.idle.add(IdleConnection {
                         id,
                         birth,
                         since: self.latest,
@@ -342,8 +342,8 @@ impl<T, A: Allocator> Core<T, A> {
         ensures sound { IsSound self.new }
     {
         self.latest = later(self.latest, now);
-        self.idle.reap(&self.openings.limits(), self.latest, out);
-        self.openings
+        self.idle.reap(&self.on_order.limits(), self.latest, out);
+        self.on_order
             .top_up(self.idle.len(), self.lent.len(), self.latest)
     }
 
@@ -363,7 +363,7 @@ impl<T, A: Allocator> Core<T, A> {
         ensures sound { IsSound self.new }
     {
         let left = self.idle.close();
-        self.openings.close();
+        self.on_order.close();
         left
     }
 }
@@ -376,7 +376,7 @@ pub(crate) fn later(a: Duration, b: Duration) -> Duration
     if a.as_nanos() < b.as_nanos() { b } else { a }
 }
 
-ghost use Rattle.r2d2_core.specs.Reply.{or_text};
+ghost use Rattle.r2d2_core.specs.Seen.{or_text};
 
 // A text takes the place of the last one; where there is none, that stays.
 fn record(last_error: &mut Option<String>, text: Option<String>)

@@ -1,11 +1,11 @@
 // Steps as data: one step, and a list of them.
 ghost use Rattle.std.specs.Prelude.{◌≡◌, true, map, IfOk, IfErr, OnOk};
 ghost use Rattle.std.specs.Duration.{as_nanos};
-ghost use Rattle.r2d2_core.specs.Limits.{settings_of};
+ghost use Rattle.r2d2_core.specs.Limits.{seen_limits};
 ghost use Rattle.r2d2_core.specs.Picture.{IsSound};
 ghost use Rattle.r2d2_core.specs.History.{History, Made};
 ghost use Rattle.r2d2_core.specs.Answers.{answers_of, after_all, picture_of};
-ghost use Rattle.r2d2_core.specs.Steps.{seen};
+ghost use Rattle.r2d2_core.specs.Steps.{seen_answer};
 
 use crate::journal::Book;
 use crate::machine::{Core, Gone, Leftover, Limits, Refusal, Released, Returned, Take};
@@ -114,14 +114,14 @@ macro_rules! answer_by {
 
 impl<T, A: Allocator> Core<T, A> {
     ghost use Rattle.r2d2_core.specs.Picture.{IsSound};
-    ghost use Rattle.r2d2_core.specs.Steps.{seen, step_answer, after_step, is_reap};
+    ghost use Rattle.r2d2_core.specs.Steps.{seen_answer, step_answer, after_step, is_reap};
 
     /// Takes a step by the call of its kind, and gives the answer of that call. A reap lists what
     /// it closes in memory of `alloc`, with room for `max_size`; no other step takes any. The error
     /// comes only where that list is refused: then nothing changed, and the same reap may be tried
     /// again.
     pub fn answer(&mut self, alloc: Global, step: Step<T>) -> Result<Answer<T, A>, AllocError>
-        ensures answer { IfOk result (λ a. seen a ≡ step_answer step self.old) }
+        ensures answer { IfOk result (λ a. seen_answer a ≡ step_answer step self.old) }
         ensures after { OnOk result (self.new ≡ after_step step self.old) }
         ensures unchanged { IfErr result (λ _. self.new ≡ self.old) }
         ensures only_reaps { IfErr result (λ _. is_reap step ≡ true) }
@@ -133,14 +133,14 @@ impl<T, A: Allocator> Core<T, A> {
 
 impl<T, A: Allocator> Book<T, A> {
     ghost use Rattle.r2d2_core.specs.Picture.{IsSound};
-    ghost use Rattle.r2d2_core.specs.Log.{with_noted};
-    ghost use Rattle.r2d2_core.specs.Steps.{seen, step_answer, after_step, record_of_step, is_reap};
+    ghost use Rattle.r2d2_core.specs.Journal.{with_noted};
+    ghost use Rattle.r2d2_core.specs.Steps.{seen_answer, step_answer, after_step, record_of_step, is_reap};
 
     /// As `Core::answer`. A step is noted where the call of its kind notes it.
     pub fn answer(&mut self, alloc: Global, step: Step<T>) -> Result<Answer<T, A>, AllocError>
-        ensures answer { IfOk result (λ a. seen a ≡ step_answer step self.old.picture) }
+        ensures answer { IfOk result (λ a. seen_answer a ≡ step_answer step self.old.picture) }
         ensures after { OnOk result (self.new.picture ≡ after_step step self.old.picture) }
-        ensures noted { OnOk result (self.new.log ≡ with_noted (record_of_step step self.old.picture) self.old.log) }
+        ensures noted { OnOk result (self.new.journal ≡ with_noted (record_of_step step self.old.picture) self.old.journal) }
         ensures unchanged { IfErr result (λ _. self.new ≡ self.old) }
         ensures only_reaps { IfErr result (λ _. is_reap step ≡ true) }
         ensures sound { IsSound self.new.picture }
@@ -157,8 +157,8 @@ pub fn run<T: Drop>(
     now: Duration,
     steps: Vec<Step<T>>,
 ) -> Result<(Core<T>, Vec<Answer<T>>), AllocError>
-    ensures answers { IfOk result (λ r. map seen r.1.items ≡ answers_of (Made (settings_of limits) (as_nanos now) 0) steps.items) }
-    ensures picture { IfOk result (λ r. r.0 ≡ picture_of (after_all (Made (settings_of limits) (as_nanos now) 0) steps.items)) }
+    ensures answers { IfOk result (λ r. map seen_answer r.1.items ≡ answers_of (Made (seen_limits limits) (as_nanos now) 0) steps.items) }
+    ensures picture { IfOk result (λ r. r.0 ≡ picture_of (after_all (Made (seen_limits limits) (as_nanos now) 0) steps.items)) }
     ensures sound { IfOk result (λ r. IsSound r.0) }
 {
     let mut core: Core<T> = Core::new(alloc, limits, now)?;

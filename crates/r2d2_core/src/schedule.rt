@@ -2,16 +2,16 @@
 ghost use Rattle.std.specs.Prelude.{◌≡◌, ℕ, ◌+◌, ◌*◌, ◌/◌, ◌^◌, ◌<◌, ◌≤◌, min, length, IfOk};
 ghost use Rattle.std.specs.Duration.{as_nanos};
 ghost use Rattle.r2d2_core.specs.Openings.{IsLeast};
-ghost use Rattle.r2d2_core.specs.Plan.{is_due_before};
+ghost use Rattle.r2d2_core.specs.Schedule.{is_due_before};
 
-use entry::Entry;
 pub use limits::Limits;
+use opening::Opening;
 use std::alloc::{AllocError, Allocator, Global};
 use std::marker::Model;
 use std::time::Duration;
 
-mod entry;
 pub(crate) mod limits;
+mod opening;
 
 /// What a worker is to do now.
 #[derive(Clone, Copy, PartialEq, Eq, Debug)]
@@ -35,7 +35,7 @@ pub enum Job {
 pub struct Schedule<A: Allocator = Global> {
     max_size: u32,
     reap_every: Duration,
-    entries: Vec<Entry, A>,
+    entries: Vec<Opening, A>,
     next_reap: Option<Duration>,
 }
 
@@ -45,9 +45,9 @@ impl<A: Allocator> Model for Schedule<A> {
     ghost use Rattle.std.specs.Option.{option_map};
     ghost use Rattle.std.specs.Duration.{as_nanos};
     ghost use Rattle.r2d2_core.specs.Openings.{in_order};
-    ghost use Rattle.r2d2_core.specs.Plan.{Plan};
+    ghost use Rattle.r2d2_core.specs.Schedule.{SeenSchedule};
 
-    ghost Value = { Plan };
+    ghost Value = { SeenSchedule };
 
     ghost view = { λ s. record {
       max_size = s.max_size;
@@ -60,15 +60,15 @@ impl<A: Allocator> Model for Schedule<A> {
 }
 
 impl<A: Allocator> Schedule<A> {
-    ghost use Rattle.r2d2_core.specs.Limits.{settings_of};
+    ghost use Rattle.r2d2_core.specs.Limits.{seen_limits};
     ghost use Rattle.r2d2_core.specs.Openings.{opening, with_many};
-    ghost use Rattle.r2d2_core.specs.Plan.{first_plan, joined, cleared, with_openings, after_task};
-    ghost use Rattle.r2d2_core.specs.Tasks.{seen_job, first_task};
+    ghost use Rattle.r2d2_core.specs.Schedule.{first_schedule, joined, cleared, with_openings, after_job};
+    ghost use Rattle.r2d2_core.specs.Jobs.{seen_job, first_job};
 
     /// No openings, room for `max_size` of them, and the first reap, where an age or an idle time is limited: `reap_every` after `now`. The
     /// error comes only where memory is refused.
     pub fn new(alloc: A, limits: Limits, now: Duration) -> Result<Schedule<A>, AllocError>
-        ensures { IfOk result (λ schedule. schedule ≡ first_plan (settings_of limits) (as_nanos now)) }
+        ensures { IfOk result (λ schedule. schedule ≡ first_schedule (seen_limits limits) (as_nanos now)) }
     {
         let max_size = limits.max_size();
         let reap_every = limits.reap_every();
@@ -99,7 +99,7 @@ impl<A: Allocator> Schedule<A> {
         requires { length self.old.openings < self.old.max_size }
         ensures { self.new ≡ joined (opening (as_nanos due) tries) self.old }
     {
-        self.entries.push_reserved(Entry::new(due, tries));
+        self.entries.push_reserved(Opening::new(due, tries));
     }
 
     /// Adds so many openings that never failed.
@@ -115,8 +115,8 @@ impl<A: Allocator> Schedule<A> {
     /// What is to be done at the moment `now`, and taken out then: the opening that is due first, by its tries among equals, or the next reap if
     /// that is due before it. What is not due yet stays: then the answer is to wait for it.
     pub fn next(&mut self, now: Duration) -> Job
-        ensures answer { seen_job result ≡ first_task (as_nanos now) self.old.openings self.old.next_reap }
-        ensures after { self.new ≡ after_task (seen_job result) self.old }
+        ensures answer { seen_job result ≡ first_job (as_nanos now) self.old.openings self.old.next_reap }
+        ensures after { self.new ≡ after_job (seen_job result) self.old }
     {
         if !self.entries.is_empty() {
             let place = least_place(&self.entries);
@@ -153,7 +153,7 @@ impl<A: Allocator> Schedule<A> {
 }
 
 // The place of a least opening.
-fn least_place(entries: &[Entry]) -> usize
+fn least_place(entries: &[Opening]) -> usize
     requires { 0 < length entries.now }
     ensures { IsLeast entries.now result }
 {

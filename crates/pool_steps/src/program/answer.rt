@@ -2,9 +2,9 @@
 ghost use Rattle.std.specs.Prelude.{◌≡◌, ◌⊎◌, Some, IfErr, OnOk, map, length, option_map, string_bytes};
 ghost use Rattle.std.specs.Duration.{as_nanos};
 ghost use Rattle.std.specs.Io.KnownBytes.{Appends};
-ghost use Rattle.r2d2_core.specs.Reply.{seen_take, seen_return, seen_gone, seen_released, map_ok};
-ghost use Rattle.r2d2_core.specs.Tasks.{seen_job};
-ghost use Rattle.r2d2_core.specs.Steps.{seen};
+ghost use Rattle.r2d2_core.specs.Seen.{seen_take, seen_returned, seen_gone, seen_released, map_ok};
+ghost use Rattle.r2d2_core.specs.Jobs.{seen_job};
+ghost use Rattle.r2d2_core.specs.Steps.{seen_answer};
 ghost use Rattle.pool_steps.specs.Lines.{seen_line};
 ghost use Rattle.pool_steps.specs.Steps.{answer_text, after_said, id_in, reply_text};
 ghost use Rattle.pool_steps.specs.Texts.{milliseconds, word_of, refusal_text, take_text, task_text, number_text, admission_text};
@@ -56,7 +56,7 @@ fn id_of(step: &Step<u64>) -> u64
 // Writes an answer. The id is that of the step, which the answer does not name.
 fn write_answer<W: Write>(output: &mut W, id: u64, answer: Answer<u64>) -> Result<(), Fault>
     ensures fault { IfErr result (λ fault. fault ≡ Write) }
-    ensures written { OnOk result (Appends (W.contents output.old) (W.contents output.new) (reply_text id (seen answer))) }
+    ensures written { OnOk result (Appends (W.contents output.old) (W.contents output.new) (reply_text id (seen_answer answer))) }
 {
     match answer {
         Answer::Take(take) => write_take(output, take),
@@ -159,7 +159,7 @@ fn write_return<W: Write>(
     answer: Result<Returned<u64>, (Refusal, u64)>,
 ) -> Result<(), Fault>
     ensures fault { IfErr result (λ fault. fault ≡ Write) }
-    ensures written { OnOk result (Appends (W.contents output.old) (W.contents output.new) (return_text id (map_ok seen_return answer))) }
+    ensures written { OnOk result (Appends (W.contents output.old) (W.contents output.new) (return_text id (map_ok seen_returned answer))) }
 {
     match answer {
         Ok(Returned::Kept) => writeln!(output, "kept").map_err(unwritten),

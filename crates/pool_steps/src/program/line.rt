@@ -1,7 +1,7 @@
 // The lines of the input.
 ghost use Rattle.std.specs.Prelude.{◌≡◌, ◌*◌, ◌↔◌, ◌⊎◌, None, Some, IsSome, IfSome, IfOk, IfErr, option_map, option_copied, string_bytes};
 ghost use Rattle.std.specs.Duration.{as_nanos};
-ghost use Rattle.r2d2_core.specs.Limits.{Settings as Bounds, settings_of, AreLegal};
+ghost use Rattle.r2d2_core.specs.Limits.{SeenLimits as Bounds, seen_limits, AreLegal};
 ghost use Rattle.pool_steps.specs.declared.program.Fault.TheVariants.{NotAStep, LimitsRefused};
 ghost use Rattle.pool_steps.specs.Number.{IsNumber, number_of};
 ghost use Rattle.pool_steps.specs.Lines.{number_in, time_in, optional_in, text_in, connection_in, failure_in};
@@ -19,19 +19,19 @@ use std::time::Duration;
 /// The limits that the first line says. A line of another form is not a step.
 pub(crate) fn limits(line: &[u8]) -> Result<Limits, Fault>
     ensures fault { IfErr result (λ fault. (fault ≡ NotAStep 1) ⊎ (fault ≡ LimitsRefused)) }
-    ensures given { IfOk result (λ limits. limits_in line.now ≡ Some (sizes_of (settings_of limits))) }
-    ensures legal { IfOk result (λ limits. AreLegal (settings_of limits)) }
+    ensures given { IfOk result (λ limits. limits_in line.now ≡ Some (sizes_of (seen_limits limits))) }
+    ensures legal { IfOk result (λ limits. AreLegal (seen_limits limits)) }
     ensures no_limits { IfErr result (λ fault. fault ≡ NotAStep 1 → limits_in line.now ≡ None) }
     ensures refused { IfErr result (λ fault. fault ≡ LimitsRefused
         → (s : Bounds) × (limits_in line.now ≡ Some (sizes_of s)) × ¬ (AreLegal s)) }
 {
-    let settings = Settings::read(line).ok_or(Fault::NotAStep(1))?;
+    let settings = LimitsLine::read(line).ok_or(Fault::NotAStep(1))?;
     settings.limits().ok_or(Fault::LimitsRefused)
 }
 
 // What the first line says, legal or not.
 #[derive(Clone, Copy)]
-struct Settings {
+struct LimitsLine {
     max_size: u32,
     min_idle: Option<u32>,
     max_lifetime: Option<Duration>,
@@ -40,37 +40,37 @@ struct Settings {
     reap_every: Duration,
 }
 
-impl Settings {
-    ghost use Rattle.pool_steps.specs.Settings.{seen_settings, bounds_of};
+impl LimitsLine {
+    ghost use Rattle.pool_steps.specs.LimitsLine.{seen_limits_line, bounds_of};
 
     #[tactic(auto, unfolding(crate::specs::Lines::limits_in))]
-    fn read(line: &[u8]) -> Option<Settings>
-        ensures { option_map seen_settings result ≡ limits_in line.now }
+    fn read(line: &[u8]) -> Option<LimitsLine>
+        ensures { option_map seen_limits_line result ≡ limits_in line.now }
     {
-        Settings::parse(text(line)?)
+        LimitsLine::parse(text(line)?)
     }
 
     #[tactic(auto, unfolding(crate::specs::Lines::sizes_in))]
-    fn parse(line: &str) -> Option<Settings>
-        ensures { option_map seen_settings result ≡ sizes_in line.now }
+    fn parse(line: &str) -> Option<LimitsLine>
+        ensures { option_map seen_limits_line result ≡ sizes_in line.now }
     {
         let (word, fields) = cut(line)?;
         if word != "limits" {
             return None;
         }
-        Settings::of_fields(fields)
+        LimitsLine::of_fields(fields)
     }
 
     #[tactic(auto, unfolding(crate::specs::Lines::fields_in))]
-    fn of_fields(fields: &str) -> Option<Settings>
-        ensures { option_map seen_settings result ≡ fields_in fields.now }
+    fn of_fields(fields: &str) -> Option<LimitsLine>
+        ensures { option_map seen_limits_line result ≡ fields_in fields.now }
     {
         let (max_size, fields) = cut(fields)?;
         let (min_idle, fields) = cut(fields)?;
         let max_size = small_number(max_size)?;
         let min_idle = optional_number(min_idle)?;
         let (max_lifetime, idle_timeout, connection_timeout, reap_every) = lengths(fields)?;
-        Some(Settings {
+        Some(LimitsLine {
             max_size,
             min_idle,
             max_lifetime,
@@ -82,7 +82,7 @@ impl Settings {
 
     fn limits(&self) -> Option<Limits>
         ensures legal { IsSome result ↔ AreLegal (bounds_of self.now) }
-        ensures given { IfSome result (λ limits. settings_of limits ≡ bounds_of self.now) }
+        ensures given { IfSome result (λ limits. seen_limits limits ≡ bounds_of self.now) }
     {
         Limits::of(
             self.max_size,

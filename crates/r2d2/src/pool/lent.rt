@@ -45,9 +45,9 @@ pub struct AnyConnection<B: Keeps<M>, M: ManageConnection, K: Hooks<M>, R: PoolR
 impl<B: Keeps<M>, M: ManageConnection, K: Hooks<M>, R: PoolRuntime> Model
     for AnyConnection<B, M, K, R> {
     ghost use Rattle.std.specs.Arc.{arc_value};
-    ghost use Rattle.r2d2.specs.Lending.{Lending};
+    ghost use Rattle.r2d2.specs.Lent.{SeenConnection};
 
-    ghost Value = { Lending M.Connection M.Extension.Kind M.Extension K };
+    ghost Value = { SeenConnection M.Connection M.Extension.Kind M.Extension K };
 
     ghost view = { λ l. record { connection = l.lent.payload.connection; extensions = l.lent.payload.extensions; settings = (arc_value (arc_value l.closer).shared).hooks; id = l.lent.id; lent_at = l.lent_at } };
 }

@@ -17,6 +17,7 @@ mod expiring;
 mod journal;
 mod lending;
 mod opening;
+mod order;
 mod stress;
 mod telling;
 mod threads;

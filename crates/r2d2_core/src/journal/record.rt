@@ -27,7 +27,7 @@ pub enum Record {
 }
 
 impl Record {
-    ghost use Rattle.r2d2_core.specs.Reply.{seen_take, seen_return, seen_gone, map_ok};
+    ghost use Rattle.r2d2_core.specs.Seen.{seen_take, seen_returned, seen_gone, map_ok};
     ghost use Rattle.r2d2_core.specs.Records.{seen_record};
     ghost use Rattle.r2d2_core.specs.Recorded.{record_of_take, record_of_admission, record_of_return, record_of_check, record_of_reap, record_of_close};
 
@@ -73,7 +73,7 @@ impl Record {
         id: u64,
         answer: &Result<Returned<T>, (Refusal, T)>,
     ) -> Option<Record>
-        ensures { option_map seen_record result ≡ record_of_return (as_nanos at) id (map_ok seen_return answer.now) }
+        ensures { option_map seen_record result ≡ record_of_return (as_nanos at) id (map_ok seen_returned answer.now) }
     {
         match answer {
             Ok(Returned::Kept) => Some(Record::Kept { at, id }),

@@ -36,9 +36,9 @@ pub struct RecordList<A: Allocator = Global> {
 
 impl<A: Allocator> Model for RecordList<A> {
     ghost use Rattle.std.specs.Prelude.{List, map};
-    ghost use Rattle.r2d2_core.specs.Records.{Noted, seen_record};
+    ghost use Rattle.r2d2_core.specs.Records.{SeenRecord, seen_record};
 
-    ghost Value = { List Noted };
+    ghost Value = { List SeenRecord };
 
     ghost view = { λ a. map seen_record a.records.items };
 }

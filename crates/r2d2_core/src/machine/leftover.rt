@@ -3,9 +3,9 @@ ghost use Rattle.std.specs.Prelude.{◌≡◌, map, length};
 ghost use Rattle.std.specs.Iterator.{at_most};
 ghost use Rattle.std.specs.Map.Iter.{TakesFirst};
 ghost use Rattle.r2d2_core.specs.Connections.{pair_of};
-ghost use Rattle.r2d2_core.specs.Shelf.{shelf_of};
+ghost use Rattle.r2d2_core.specs.Roster.{roster_of};
 
-use super::idle::Entry;
+use super::idle::IdleConnection;
 use std::alloc::{Allocator, Global};
 use std::marker::Model;
 use std::vec;
@@ -14,7 +14,7 @@ use std::vec;
 /// them.
 #[derive(Drop)]
 pub struct Leftover<T, A: Allocator = Global> {
-    rest: Option<vec::IntoIter<Entry<T>, A>>,
+    rest: Option<vec::IntoIter<IdleConnection<T>, A>>,
 }
 
 impl<T, A: Allocator> Model for Leftover<T, A> {
@@ -23,14 +23,14 @@ impl<T, A: Allocator> Model for Leftover<T, A> {
     ghost Value = { List (ℕ × T) };
 
     ghost use Rattle.r2d2_core.specs.Connections.{pair_of};
-    ghost use Rattle.r2d2_core.specs.Shelf.{left_of};
+    ghost use Rattle.r2d2_core.specs.Roster.{left_of};
 
     ghost view = { λ a. map pair_of (left_of a.rest) };
 }
 
 impl<T, A: Allocator> Leftover<T, A> {
-    pub(crate) fn of(rest: Option<Vec<Entry<T>, A>>) -> Leftover<T, A>
-        ensures { result ≡ map pair_of (shelf_of rest).items }
+    pub(crate) fn of(rest: Option<Vec<IdleConnection<T>, A>>) -> Leftover<T, A>
+        ensures { result ≡ map pair_of (roster_of rest).items }
     {
         Leftover {
             rest: rest.map(|entries| entries.into_iter()),

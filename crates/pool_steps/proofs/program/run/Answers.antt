@@ -1,5 +1,5 @@
 use Rattle.std.specs.Io.Buffered.{reader_remaining, writer_contents}
-use Rattle.r2d2_core.specs.Limits.{settings_of}
+use Rattle.r2d2_core.specs.Limits.{seen_limits}
 use Rattle.pool_steps.proofs.Playing.{says_no_limits, starts}
 use Rattle.pool_steps.proofs.program.run.Goals as goal
 
@@ -16,5 +16,5 @@ pub returns-clause-answers : goal.returns-clause-answers
 returns-clause-answers g c =
     starts c.next_line.new.line.items c.in_ok-next_line.field-0 (reader_remaining g.R.Read.remaining c.next_line.new.input)
     (writer_contents g.W.Write.contents c.args.output.now) c.deref.result.now c.deref.ensures.value (reader_remaining g.R.Read.remaining c.args.input.now)
-    c.take_steps.result (writer_contents g.W.Write.contents c.take_steps.new.output) (settings_of c.in_ok-limits.field-0) c.in_ok-core.core
+    c.take_steps.result (writer_contents g.W.Write.contents c.take_steps.new.output) (seen_limits c.in_ok-limits.field-0) c.in_ok-core.core
     c.in_ok-next_line.ensures.line c.in_ok-limits.ensures.given c.in_ok-limits.ensures.legal c.in_ok-core.ensures c.take_steps.ensures.answers

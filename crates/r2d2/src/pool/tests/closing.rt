@@ -59,3 +59,82 @@ fn a_lent_connection_outlives_its_pool(rt: HostRuntime) -> Result<(), Fail> {
     assert_eq!(rt; told.lock(&rt).as_slice(), events.as_slice());
     Ok(())
 }
+
+/// How often there was an opening, and how many of the connections were dropped.
+#[derive(Drop)]
+struct Drops {
+    connects: AtomicU64,
+    dropped: AtomicU64,
+    waited_in_vain: AtomicU64,
+}
+
+/// A connection whose drop waits until a second one is dropped, for at most five seconds.
+struct Waiting<R: Clock + Drop> {
+    drops: Arc<Drops>,
+    rt: R,
+}
+
+impl<R: Clock + Drop> Drop for Waiting<R> {
+    fn drop(self) {
+        let Waiting { drops, rt } = self;
+        drops.dropped.fetch_add(1, Ordering::SeqCst);
+        if watched(&rt, &drops.dropped, 2, 500) < 2 {
+            drops.waited_in_vain.fetch_add(1, Ordering::SeqCst);
+        }
+    }
+}
+
+/// Its second opening waits until a connection is dropped, for at most five seconds.
+#[derive(Drop)]
+struct OpensLate<R> {
+    drops: Arc<Drops>,
+    rt: R,
+}
+
+impl<R: PoolRuntime> ManageConnection for OpensLate<R> {
+    type Connection = Waiting<R>;
+
+    type Error = Blammo;
+
+    type Extension = Value;
+
+    fn connect(&self) -> Result<Waiting<R>, Blammo> {
+        if self.drops.connects.fetch_add(1, Ordering::SeqCst) > 0 {
+            watched(&self.rt, &self.drops.dropped, 1, 500);
+        }
+        Ok(Waiting {
+            drops: Arc::try_clone(&self.drops).map_err(|_| Blammo)?,
+            rt: self.rt,
+        })
+    }
+
+    fn is_valid(&self, _connection: &mut Waiting<R>) -> Result<(), Blammo> {
+        Ok(())
+    }
+
+    fn has_broken(&self, _connection: &mut Waiting<R>) -> bool {
+        false
+    }
+}
+
+#[test]
+fn what_is_idle_at_a_close_is_dropped_without_the_lock(rt: HostRuntime) -> Result<(), Fail> {
+    let drops = Drops {
+        connects: AtomicU64::new(0),
+        dropped: AtomicU64::new(0),
+        waited_in_vain: AtomicU64::new(0),
+    };
+    let drops = Arc::new(rt.alloc(), drops)?;
+    let manager = OpensLate {
+        drops: Arc::try_clone(&drops)?,
+        rt,
+    };
+    let pool = Builder::new().max_size(2).build_unchecked(rt, manager)?;
+    assert_eq!(rt; watched(&rt, &drops.connects, 2, 1000), 2);
+    // Waits until the first connection is there, and gives it back. A worker comes with the second one while the first is dropped.
+    drop(pool.get()?);
+    drop(pool);
+    assert_eq!(rt; watched(&rt, &drops.dropped, 2, 1000), 2);
+    assert_eq!(rt; drops.waited_in_vain.load(Ordering::SeqCst), 0);
+    Ok(())
+}

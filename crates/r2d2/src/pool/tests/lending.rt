@@ -67,6 +67,8 @@ fn test_get_global_timeout(rt: HostRuntime) -> Result<(), Fail> {
         .connection_timeout(Duration::from_secs(1))
         .build(rt, Sevens)?;
     let _lent = pool.get()?;
+    // From here on a moment of the pool is no length of time.
+    thread::sleep(&rt, Duration::from_secs(1));
     let start = Instant::now(&rt)?;
     let error = pool.get().err().ok_or("a connection")?;
     let waited = start.elapsed(&rt)?.as_millis();
@@ -144,5 +146,20 @@ fn extensions_go_with_their_connection(rt: HostRuntime) -> Result<(), Fail> {
             .get(&Kind::OfWord)
             .is_none()
     );
+    Ok(())
+}
+
+#[test]
+fn a_timeout_tells_an_error_from_before_the_call(rt: HostRuntime) -> Result<(), Fail> {
+    let counts = Counts::new(rt.alloc())?;
+    let pool = Builder::new()
+        .max_size(1)
+        .build_unchecked(rt, Manager::new(&counts, 0, Breaks::Never)?)?;
+    assert!(rt; watched(&rt, &counts.connects, 2, 1000) >= 2);
+    // The first failure is told, and now the second is; the third comes 800 ms after it.
+    thread::sleep(&rt, Duration::from_millis(100));
+    let wait = Duration::from_millis(1);
+    let error = pool.get_timeout(wait).err().ok_or("a connection")?;
+    assert_eq!(rt; error.message(), Some("blammo"));
     Ok(())
 }

@@ -82,7 +82,7 @@ fn two_openings_at_once(rt: HostRuntime) -> Result<(), Fail> {
     };
     let pool = Builder::new()
         .max_size(2)
-        .thread_pool(3)
+        .thread_pool(2)
         .build(rt, manager)?;
     assert!(rt; openings.saw_both.load(Ordering::SeqCst));
     assert_eq!(rt; pool.state().connections, 2);
@@ -106,5 +106,66 @@ fn test_connection_customizer(rt: HostRuntime) -> Result<(), Fail> {
     assert!(rt; counts.dropped() >= 1);
     drop(lent);
     assert_eq!(rt; released.load(Ordering::SeqCst), 1);
+    Ok(())
+}
+
+/// Each of its openings but the first three waits until a sixth one has begun, for at most five seconds.
+#[derive(Drop)]
+struct Sixth<R> {
+    begun: Arc<AtomicU64>,
+    rt: R,
+}
+
+impl<R: PoolRuntime> ManageConnection for Sixth<R> {
+    type Connection = u32;
+
+    type Error = Blammo;
+
+    type Extension = Value;
+
+    fn connect(&self) -> Result<u32, Blammo> {
+        if self.begun.fetch_add(1, Ordering::SeqCst) >= 3 {
+            watched(&self.rt, &self.begun, 6, 500);
+        }
+        Ok(7)
+    }
+
+    fn is_valid(&self, _connection: &mut u32) -> Result<(), Blammo> {
+        Ok(())
+    }
+
+    fn has_broken(&self, _connection: &mut u32) -> bool {
+        false
+    }
+}
+
+#[test]
+fn all_workers_are_woken(rt: HostRuntime) -> Result<(), Fail> {
+    let begun = Arc::new(rt.alloc(), AtomicU64::new(0))?;
+    let manager = Sixth {
+        begun: Arc::try_clone(&begun)?,
+        rt,
+    };
+    let pool = Builder::new()
+        .max_size(6)
+        .min_idle(Some(3))
+        .thread_pool(3)
+        .build(rt, manager)?;
+    // Time for the workers to come to their waits.
+    thread::sleep(&rt, Duration::from_millis(300));
+    // The first take orders one opening, the second two.
+    let _lent = (pool.get()?, pool.get()?);
+    assert_eq!(rt; watched(&rt, &begun, 6, 400), 6);
+    Ok(())
+}
+
+#[test]
+fn retries_are_put_off_by_half_of_the_timeout_at_most(rt: HostRuntime) -> Result<(), Fail> {
+    let counts = Counts::new(rt.alloc())?;
+    let _pool = Builder::new()
+        .max_size(1)
+        .connection_timeout(Duration::from_millis(200))
+        .build_unchecked(rt, Manager::new(&counts, 0, Breaks::Never)?)?;
+    assert!(rt; watched(&rt, &counts.connects, 10, 500) >= 10);
     Ok(())
 }

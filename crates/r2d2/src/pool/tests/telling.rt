@@ -117,11 +117,14 @@ fn how_long_events_say(rt: HostRuntime) -> Result<(), Fail> {
     // From here on the time since the pool was made, and that since the first admission, is too long for each length below.
     let pause = Duration::from_millis(400);
     thread::sleep(&rt, Duration::from_secs(2));
-    let first = pool.get()?;
+    let first = pool.try_get()?.ok_or("a connection")?;
     let other = thread::spawn(&rt, move || keep(rt, pause, first))?;
-    let second = pool.get()?;
+    let mut second = pool.get()?;
     other.join(&rt);
     thread::sleep(&rt, pause);
+    // It is held from its lending on, whatever it is used for.
+    second.field = 3;
+    PooledConnection::extensions_mut(&mut second).clear();
     drop(second);
 
     let lengths = lengths.lock(&rt);
@@ -138,5 +141,34 @@ fn how_long_events_say(rt: HostRuntime) -> Result<(), Fail> {
     );
     assert!(rt; matches!(lengths[4], Length::Held(_)) && lengths[4].is_of_this_connection());
     assert!(rt; matches!(lengths[5], Length::Lived(_)) && lengths[5].is_of_this_connection());
+    Ok(())
+}
+
+#[test]
+fn how_old_an_expired_connection_is(rt: HostRuntime) -> Result<(), Fail> {
+    let lengths = Arc::new(rt.alloc(), Mutex::new(Vec::new(rt.alloc())))?;
+    let watch = Watch {
+        lengths: Arc::try_clone(&lengths)?,
+        rt,
+    };
+    let pool = Builder::new()
+        .max_size(2)
+        .min_idle(Some(0))
+        .idle_timeout(Some(Duration::from_millis(500)))
+        .reaper_rate(Duration::from_millis(500))
+        .event_handler(watch)
+        .build(rt, Sevens)?;
+    // From here on the time since the pool was made is too long for an age.
+    thread::sleep(&rt, Duration::from_secs(2));
+    drop(pool.get()?);
+    for _ in 0..1000 {
+        if pool.state().connections == 0 && lengths.lock(&rt).len() == 3 {
+            break;
+        }
+        thread::sleep(&rt, Duration::from_millis(10));
+    }
+    let lengths = lengths.lock(&rt);
+    assert_eq!(rt; lengths.len(), 3);
+    assert!(rt; matches!(lengths[2], Length::Lived(_)) && lengths[2].is_of_this_connection());
     Ok(())
 }

@@ -1,21 +1,21 @@
 use Rattle.std.proofs.Common.{arith, ◌≡◌, ℕ, ◌+◌, ◌<◌, length, true, false, get_or, sym, ◌∙◌, List, below_more}
 use Rattle.std.proofs.lemmas.List.{get_or_read}
-use Rattle.r2d2_core.specs.Openings.{Opening, is_before}
+use Rattle.r2d2_core.specs.Openings.{SeenOpening, is_before}
 use Rattle.r2d2_core.proofs.Openings.{not_before_itself, not_before_through}
 use Rattle.r2d2_core.proofs.schedule.least_place.Goals as goal
 use Rattle.r2d2_core.proofs.schedule.least_place.Goals.{then-is_before, else-is_before}
 
 -- nothing below i comes before the one at `place`
-abbrev LeastBelow : List Opening → ℕ → ℕ → Type 0
-LeastBelow xs i place = (k : ℕ) (d : Opening) → k < i → is_before (get_or xs k d) (get_or xs place d) ≡ false
+abbrev LeastBelow : List SeenOpening → ℕ → ℕ → Type 0
+LeastBelow xs i place = (k : ℕ) (d : SeenOpening) → k < i → is_before (get_or xs k d) (get_or xs place d) ≡ false
 
-moved : (xs : List Opening) (i place : ℕ) (x p : Opening) → i < length xs → place < length xs → x ≡ get_or xs i x → p ≡ get_or xs place p → LeastBelow xs i place → is_before x p ≡ true → LeastBelow xs (i + 1) i
+moved : (xs : List SeenOpening) (i place : ℕ) (x p : SeenOpening) → i < length xs → place < length xs → x ≡ get_or xs i x → p ≡ get_or xs place p → LeastBelow xs i place → is_before x p ≡ true → LeastBelow xs (i + 1) i
 moved xs i place x p within place_within read read_p least before k d =
     below_more (λ (k : ℕ). is_before (get_or xs k d) (get_or xs i d) ≡ false) i
     (λ k h. rw (← get_or_read xs i x within read d) (not_before_through (get_or xs k d) p x (rw (get_or_read xs place p place_within read_p d) (least k d h)) before))
     (not_before_itself (get_or xs i d)) k
 
-kept : (xs : List Opening) (i place : ℕ) (x p : Opening) → i < length xs → place < length xs → x ≡ get_or xs i x → p ≡ get_or xs place p → LeastBelow xs i place → is_before x p ≡ false → LeastBelow xs (i + 1) place
+kept : (xs : List SeenOpening) (i place : ℕ) (x p : SeenOpening) → i < length xs → place < length xs → x ≡ get_or xs i x → p ≡ get_or xs place p → LeastBelow xs i place → is_before x p ≡ false → LeastBelow xs (i + 1) place
 kept xs i place x p within place_within read read_p least not_before k d =
     below_more (λ (k : ℕ). is_before (get_or xs k d) (get_or xs place d) ≡ false) i
     (λ k h. least k d h)

@@ -1,5 +1,5 @@
 use Rattle.std.proofs.Common.{◌∙◌, subst}
-use Rattle.r2d2_core.specs.Book.{Account, IsReplayed}
+use Rattle.r2d2_core.specs.Book.{SeenBook, IsReplayed}
 use Rattle.r2d2_core.specs.Reports.{IsReportOf}
 use Rattle.r2d2_core.specs.Picture.{IsSound}
 use Rattle.r2d2_core.proofs.Reporting.{report_replays, report_sound}
@@ -7,7 +7,7 @@ use Rattle.r2d2_core.proofs.journal.Book.report_in.Goals as goal
 
 pub returns-clause-given : goal.returns-clause-given
 returns-clause-given g c =
-    subst (λ (a : Account _). IsReportOf a (record {
+    subst (λ (a : SeenBook _). IsReportOf a (record {
       limits = c.limits.result;
       records = c.of.result;
       lost = c.lost.result;
@@ -32,4 +32,4 @@ pub returns-clause-replays : goal.returns-clause-replays
 returns-clause-replays g c = report_replays c.args.self.now _ (returns-clause-given g c) (subst IsReplayed c.self.view_is (λ lost. (c.self.invariant lost).told))
 
 pub returns-clause-sound : goal.returns-clause-sound
-returns-clause-sound g c = report_sound c.args.self.now _ (returns-clause-given g c) (subst (λ (a : Account _). IsSound a.picture) c.self.view_is c.connections.ensures.sound)
+returns-clause-sound g c = report_sound c.args.self.now _ (returns-clause-given g c) (subst (λ (a : SeenBook _). IsSound a.picture) c.self.view_is c.connections.ensures.sound)

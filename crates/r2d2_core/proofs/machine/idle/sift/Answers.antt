@@ -1,7 +1,7 @@
 use Rattle.std.proofs.Common.{◌≡◌, ◌<◌, true, false, length, sym, refl, ◌∙◌, arith}
 use Rattle.std.specs.Duration.{as_nanos}
 use Rattle.std.proofs.lemmas.List.{get_or_default}
-use Rattle.r2d2_core.specs.Limits.{settings_of}
+use Rattle.r2d2_core.specs.Limits.{seen_limits}
 use Rattle.r2d2_core.specs.Connections.{is_expired, is_kept}
 use Rattle.r2d2_core.proofs.Sifting.{sifted_closed, sifted_kept, sifted_fits, sifted_all}
 use Rattle.std.proofs.lemmas.List.Filters.{length-filter_both}
@@ -22,11 +22,11 @@ loop-preserved g c = record {
         | then-is_expired w ↦
             let e = w.remove-entry.result in
             let same : c.index.result.now ≡ e = c.index.ensures ∙ (get_or_default c.loop.stack.items c.loop.at c.index.result.now e within ∙ sym w.remove-entry.ensures.value) in
-            let is : is_expired (settings_of c.args.limits.now) (as_nanos c.args.now) e ≡ true = rw (← same) cc in
+            let is : is_expired (seen_limits c.args.limits.now) (as_nanos c.args.now) e ≡ true = rw (← same) cc in
             rw (w.stack-is, w.out-is, w.at-is, w.remove-entry.ensures.items, w.push_reserved.ensures.items)
             (sifted_closed e w.released.result c.loop.invariant.sifted (omega arith) w.remove-entry.ensures.value is w.released.ensures)
         | else-is_expired w ↦
-            let isnt : is_expired (settings_of c.args.limits.now) (as_nanos c.args.now) c.index.result.now ≡ false = cc in
+            let isnt : is_expired (seen_limits c.args.limits.now) (as_nanos c.args.now) c.index.result.now ≡ false = cc in
             rw (w.stack-is, w.out-is, w.at-is)
             (sifted_kept c.index.result.now c.loop.invariant.sifted (omega arith) c.index.ensures isnt)
       ];
@@ -39,7 +39,7 @@ pub returns-clause-count : goal.returns-clause-count
 unfolding is_kept is_expired
 returns-clause-count g c =
     let all = sifted_all c.loop.invariant.sifted (omega (arith, c.loop.invariant.over)) in
-    rw all.0 (omega (arith, length-filter_both (is_expired (settings_of c.args.limits.now) (as_nanos c.args.now)) (is_kept (settings_of c.args.limits.now) (as_nanos c.args.now)) (λ e. refl) c.args.stack.now.items))
+    rw all.0 (omega (arith, length-filter_both (is_expired (seen_limits c.args.limits.now) (as_nanos c.args.now)) (is_kept (seen_limits c.args.limits.now) (as_nanos c.args.now)) (λ e. refl) c.args.stack.now.items))
 
 pub returns-clause-kept : goal.returns-clause-kept
 unfolding is_kept is_expired

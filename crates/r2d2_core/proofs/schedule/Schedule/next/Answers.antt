@@ -4,9 +4,9 @@ use Rattle.std.specs.Option.{option_map}
 use Rattle.std.specs.Duration.{as_nanos}
 use Rattle.std.specs.declared.time.Duration.{Duration}
 use Rattle.std.proofs.lemmas.List.{get_or_read, nil_from_length}
-use Rattle.r2d2_core.specs.Openings.{Opening, in_order, IsLeast}
-use Rattle.r2d2_core.specs.Plan.{is_due_before}
-use Rattle.r2d2_core.specs.Tasks.{Wait, Open, first_task, reap_or_wait}
+use Rattle.r2d2_core.specs.Openings.{SeenOpening, in_order, IsLeast}
+use Rattle.r2d2_core.specs.Schedule.{is_due_before}
+use Rattle.r2d2_core.specs.Jobs.{Wait, Open, first_job, reap_or_wait}
 use Rattle.r2d2_core.proofs.Openings.{in_order-from_least}
 use Rattle.r2d2_core.proofs.Tasks.{opening_is_first, reap_is_first, reap_is_alone, opening_waits, opening_opens, reap_waits, reap_reaps}
 use Rattle.r2d2_core.proofs.schedule.Schedule.next.Goals as goal
@@ -31,7 +31,7 @@ returns-then-not-is_reap_before-clause-answer g c =
     let x = c.swap_remove-least.result in
     let least : IsLeast items place = rw c.deref.ensures.value at c.least_place-place.ensures in
     let same : c.index.result.now ≡ x = get_or_read items place c.index.result.now least.within c.index.ensures x ∙ sym c.swap_remove-least.ensures.value in
-    let due : as_nanos c.due-due.result ≡ x.due = c.due-due.ensures ∙ ap (λ (o : Opening). o.due) same in
+    let due : as_nanos c.due-due.result ≡ x.due = c.due-due.ensures ∙ ap (λ (o : SeenOpening). o.due) same in
     let no_reap : is_due_before c.self.inside.next_reap x.due ≡ false = search rules in
     let first = opening_is_first now items place x c.self.inside.next_reap least c.swap_remove-least.ensures.value no_reap in
     rw (← c.self.view_is) (ap Open c.tries.ensures ∙ sym (first ∙ opening_opens now x (omega arith)))
@@ -44,11 +44,11 @@ returns-then-not-is_reap_before-clause-after g c =
     let least : IsLeast items place = rw c.deref.ensures.value at c.least_place-place.ensures in
     let first = in_order-from_least items place x least c.swap_remove-least.ensures.value in
     let rest : in_order c.swap_remove-least.new.self.items ≡ drop 1 (in_order items) =
-    ap in_order c.swap_remove-least.ensures.items ∙ sym (ap (λ (l : List Opening). drop 1 l) first) in
+    ap in_order c.swap_remove-least.ensures.items ∙ sym (ap (λ (l : List SeenOpening). drop 1 l) first) in
     rw (← c.self.view_is) (rw rest refl)
 
 -- the reap is the entry, since no opening is held or the least one is due later
-reap_job_is : (now : ℕ) (items : List Opening) (next_reap : Option Duration) (reap : Duration) → next_reap ≡ Some reap → first_task now (in_order items) (Some (as_nanos reap)) ≡ reap_or_wait now (as_nanos reap) → first_task now (in_order items) (option_map as_nanos next_reap) ≡ reap_or_wait now (as_nanos reap)
+reap_job_is : (now : ℕ) (items : List SeenOpening) (next_reap : Option Duration) (reap : Duration) → next_reap ≡ Some reap → first_job now (in_order items) (Some (as_nanos reap)) ≡ reap_or_wait now (as_nanos reap) → first_job now (in_order items) (option_map as_nanos next_reap) ≡ reap_or_wait now (as_nanos reap)
 reap_job_is now items next_reap reap e h = rw e h
 
 pub returns-then-as_nanos-2-clause-answer : goal.returns-then-as_nanos-2-clause-answer
@@ -58,7 +58,7 @@ returns-then-as_nanos-2-clause-answer g c =
     let items = entries.items in
     let reap = c.in-Some.reap in
     let there : c.self.inside.next_reap ≡ Some reap = search rules in
-    let reap_first : first_task now (in_order items) (Some (as_nanos reap)) ≡ reap_or_wait now (as_nanos reap) = elim c.if-not-is_empty.branch [
+    let reap_first : first_job now (in_order items) (Some (as_nanos reap)) ≡ reap_or_wait now (as_nanos reap) = elim c.if-not-is_empty.branch [
       | then-not-is_empty+else-not-is_reap_before w ↦
           let x = w.index.result.now in
           let least : IsLeast items w.least_place-place.result = rw w.deref.ensures.value at w.least_place-place.ensures in
@@ -82,7 +82,7 @@ returns-else-as_nanos-2-clause-answer g c =
     let items = entries.items in
     let reap = c.in-Some.reap in
     let there : c.self.inside.next_reap ≡ Some reap = search rules in
-    let reap_first : first_task now (in_order items) (Some (as_nanos reap)) ≡ reap_or_wait now (as_nanos reap) = elim c.if-not-is_empty.branch [
+    let reap_first : first_job now (in_order items) (Some (as_nanos reap)) ≡ reap_or_wait now (as_nanos reap) = elim c.if-not-is_empty.branch [
       | then-not-is_empty+else-not-is_reap_before w ↦
           let x = w.index.result.now in
           let least : IsLeast items w.least_place-place.result = rw w.deref.ensures.value at w.least_place-place.ensures in

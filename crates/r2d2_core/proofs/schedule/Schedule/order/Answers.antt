@@ -1,21 +1,21 @@
 use Rattle.std.proofs.Common.{arith, rules, ◌≡◌, ◌∙◌, ◌++◌, ◌∷◌, [], ap, sym, refl, length}
 use Rattle.r2d2_core.specs.Openings.{in_order, with_opening}
-use Rattle.r2d2_core.specs.Plan.{Plan}
+use Rattle.r2d2_core.specs.Schedule.{SeenSchedule}
 use Rattle.r2d2_core.proofs.Openings.{length-in_order, in_order-push}
 use Rattle.r2d2_core.proofs.schedule.Schedule.order.Goals as goal
 
 pub push_reserved-requires : goal.push_reserved-requires
 push_reserved-requires g c =
     let entries = c.self.inside.entries in
-    let held : length c.args.self.now.openings ≡ length entries.items = ap (λ (p : Plan). length p.openings) (sym c.self.view_is) ∙ length-in_order entries.items in
-    let size : c.args.self.now.max_size ≡ c.self.inside.max_size = ap (λ (p : Plan). p.max_size) (sym c.self.view_is) in
+    let held : length c.args.self.now.openings ≡ length entries.items = ap (λ (p : SeenSchedule). length p.openings) (sym c.self.view_is) ∙ length-in_order entries.items in
+    let size : c.args.self.now.max_size ≡ c.self.inside.max_size = ap (λ (p : SeenSchedule). p.max_size) (sym c.self.view_is) in
     omega (arith, entries.ok.0, c.requires)
 
 pub invariant_of-self : goal.invariant_of-self
 invariant_of-self g c =
     let entries = c.self.inside.entries in
-    let held : length c.args.self.now.openings ≡ length entries.items = ap (λ (p : Plan). length p.openings) (sym c.self.view_is) ∙ length-in_order entries.items in
-    let size : c.args.self.now.max_size ≡ c.self.inside.max_size = ap (λ (p : Plan). p.max_size) (sym c.self.view_is) in
+    let held : length c.args.self.now.openings ≡ length entries.items = ap (λ (p : SeenSchedule). length p.openings) (sym c.self.view_is) ∙ length-in_order entries.items in
+    let size : c.args.self.now.max_size ≡ c.self.inside.max_size = ap (λ (p : SeenSchedule). p.max_size) (sym c.self.view_is) in
     (omega (arith, entries.ok.0, c.requires, c.push_reserved.ensures.len), omega (arith, c.push_reserved.ensures.capacity), omega arith)
 
 pub returns : goal.returns

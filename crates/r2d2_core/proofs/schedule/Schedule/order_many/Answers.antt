@@ -1,19 +1,19 @@
 use Rattle.std.proofs.Common.{arith, ◌≡◌, ℕ, ◌+◌, ◌∙◌, ap, sym, length, add-one}
 use Rattle.std.specs.Duration.{as_nanos}
-use Rattle.r2d2_core.specs.Openings.{Opening, with_many}
-use Rattle.r2d2_core.specs.Plan.{Plan, joined, with_openings}
+use Rattle.r2d2_core.specs.Openings.{SeenOpening, with_many}
+use Rattle.r2d2_core.specs.Schedule.{SeenSchedule, joined, with_openings}
 use Rattle.r2d2_core.proofs.Openings.{length-with_many}
 use Rattle.r2d2_core.proofs.schedule.Schedule.order_many.Goals as goal
 
-abbrev due_at : ℕ → Opening
+abbrev due_at : ℕ → SeenOpening
 due_at d = record { due = d; tries = 0 }
 
 pub order-requires : goal.order-requires
 order-requires g c =
     let x = due_at (as_nanos c.args.due) in
     let held : length c.loop.self.openings ≡ length c.args.self.now.openings + c.loop.counter =
-    ap (λ (p : Plan). length p.openings) c.loop.invariant ∙ length-with_many c.loop.counter x c.args.self.now.openings in
-    let size : c.loop.self.max_size ≡ c.args.self.now.max_size = ap (λ (p : Plan). p.max_size) c.loop.invariant in
+    ap (λ (p : SeenSchedule). length p.openings) c.loop.invariant ∙ length-with_many c.loop.counter x c.args.self.now.openings in
+    let size : c.loop.self.max_size ≡ c.args.self.now.max_size = ap (λ (p : SeenSchedule). p.max_size) c.loop.invariant in
     omega (arith, c.requires)
 
 pub loop-preserved : goal.loop-preserved

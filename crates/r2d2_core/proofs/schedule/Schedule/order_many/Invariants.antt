@@ -1,7 +1,7 @@
 use Rattle.std.proofs.Common.{◌≡◌}
 use Rattle.std.specs.Duration.{as_nanos}
 use Rattle.r2d2_core.specs.Openings.{opening, with_many}
-use Rattle.r2d2_core.specs.Plan.{with_openings}
+use Rattle.r2d2_core.specs.Schedule.{with_openings}
 use Rattle.r2d2_core.proofs.schedule.Schedule.order_many.Given as goal
 
 abbrev pub invariant-loop : goal.invariant-loop

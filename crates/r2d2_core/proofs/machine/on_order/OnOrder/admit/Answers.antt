@@ -1,0 +1,12 @@
+use Rattle.std.proofs.Common.{rules, arith, subst}
+use Rattle.std.proofs.lemmas.Grind.{common_steps}
+use Rattle.r2d2_core.specs.Refusals.{unless_refused}
+use Rattle.r2d2_core.specs.OnOrder.{IsAccounted, admit_refusal, admitted_one}
+use Rattle.r2d2_core.proofs.Accounted.{accounted_admitted}
+use Rattle.r2d2_core.proofs.Wholes.{keeping}
+use Rattle.r2d2_core.proofs.machine.on_order.OnOrder.admit.Goals as goal
+
+pub invariant_of-self : goal.invariant_of-self
+invariant_of-self g c =
+    let a : IsAccounted c.args.self.now = subst IsAccounted c.self.view_is c.self.invariant.accounted in
+    keeping (unless_refused (admit_refusal c.args.id c.args.self.now) (admitted_one c.args.id c.args.self.now) c.args.self.now) (grind (arith, common_steps)) (accounted_admitted c.args.id c.args.self.now a) (search rules)

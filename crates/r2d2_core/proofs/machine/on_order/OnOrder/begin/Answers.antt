@@ -1,0 +1,19 @@
+use Rattle.std.proofs.Common.{rules, ◌≡◌, arith, subst}
+use Rattle.std.proofs.lemmas.Grind.{common_steps}
+use Rattle.std.specs.Duration.{as_nanos}
+use Rattle.r2d2_core.specs.Jobs.{Open, first_job}
+use Rattle.r2d2_core.specs.OnOrder.{IsAccounted, begun}
+use Rattle.r2d2_core.proofs.Accounted.{accounted_begun, begins_within}
+use Rattle.r2d2_core.proofs.Wholes.{keeping}
+use Rattle.r2d2_core.proofs.machine.on_order.OnOrder.begin.Goals as goal
+
+pub invariant_of-self : goal.invariant_of-self
+invariant_of-self g c =
+    let a : IsAccounted c.args.self.now = subst IsAccounted c.self.view_is c.self.invariant.accounted in
+    keeping (begun (as_nanos c.args.now) c.args.self.now) (grind (arith, common_steps)) (accounted_begun (as_nanos c.args.now) c.args.self.now a) (search rules)
+
+pub add-requires-clause-within : goal.add-requires-clause-within
+add-requires-clause-within g c =
+    let a : IsAccounted c.args.self.now = subst IsAccounted c.self.view_is c.self.invariant.accounted in
+    let is : Open c.in-Open.tries ≡ first_job (as_nanos c.args.now) c.args.self.now.scheduled c.args.self.now.next_reap = grind (arith, common_steps) in
+    begins_within (as_nanos c.args.now) c.in-Open.tries c.args.self.now is a

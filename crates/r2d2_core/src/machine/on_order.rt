@@ -1,0 +1,221 @@
+// The openings that are ordered and not admitted.
+ghost use Rattle.std.specs.Prelude.{◌≡◌, ◌+◌, ◌≤◌, IfOk, OnOk, true};
+ghost use Rattle.std.specs.Duration.{as_nanos};
+
+use super::answers::Refusal;
+use super::roster::Roster;
+use crate::schedule::{Job, Limits, Schedule, delay};
+use in_work::InWork;
+use std::alloc::{AllocError, Allocator, Global};
+use std::marker::Model;
+use std::time::Duration;
+
+mod in_work;
+
+/// Each pending opening is scheduled, in work or numbered.
+#[derive(Drop)]
+pub(crate) struct OnOrder<A: Allocator = Global> {
+    limits: Limits,
+    schedule: Schedule<A>,
+    in_work: InWork,
+    numbered: Roster<u64, A>,
+    next_id: u64,
+    pending: u32,
+    closed: bool,
+}
+
+impl<A: Allocator> Model for OnOrder<A> {
+    ghost use Rattle.r2d2_core.specs.OnOrder.{SeenOnOrder};
+
+    ghost Value = { SeenOnOrder };
+
+    ghost use Rattle.r2d2_core.specs.OnOrderParts.{seen_on_order, IsKeeping};
+
+    ghost view = { seen_on_order };
+
+    ghost invariant = { IsKeeping };
+}
+
+impl<A: Allocator> OnOrder<A> {
+    ghost use Rattle.r2d2_core.specs.Limits.{seen_limits};
+    ghost use Rattle.r2d2_core.specs.Refusals.{ok_unless, unless_refused};
+    ghost use Rattle.r2d2_core.specs.Jobs.{seen_job};
+    ghost use Rattle.r2d2_core.specs.Seen.{map_ok};
+    ghost use Rattle.r2d2_core.specs.OnOrder.{top_up, miss_order, with_orders, first_on_order, job_at, begun, number_refusal, after_numbering, admit_refusal, admitted_one, fail_refusal, due_again, failed_one, emptied};
+
+    /// What is wanted, due at `now`.
+    pub(crate) fn new(
+        alloc: A,
+        limits: Limits,
+        now: Duration,
+        first_id: u64,
+    ) -> Result<OnOrder<A>, AllocError>
+    where
+        A: Copy,
+        ensures { IfOk result (λ openings. openings ≡ first_on_order (seen_limits limits) (as_nanos now) first_id) }
+    {
+        let numbered = Roster::new(alloc, limits.max_size() as usize)?;
+        let mut schedule = Schedule::new(alloc, limits, now)?;
+        let pending = limits.wanted();
+        schedule.order_many(pending, now);
+        Ok(OnOrder {
+            limits,
+            schedule,
+            in_work: InWork::new(),
+            numbered,
+            next_id: first_id,
+            pending,
+            closed: false,
+        })
+    }
+
+    pub(crate) fn limits(&self) -> Limits
+        ensures { seen_limits result ≡ self.now.limits }
+    {
+        self.limits
+    }
+
+    /// How many openings are pending.
+    pub(crate) fn pending(&self) -> u32
+        ensures { result ≡ self.now.pending }
+    {
+        self.pending
+    }
+
+    pub(crate) fn is_closed(&self) -> bool
+        ensures { result ≡ self.now.closed }
+    {
+        self.closed
+    }
+
+    /// Orders what is wanted beside so many idle connections, as far as there is room beside them and the lent ones.
+    pub(crate) fn top_up(&mut self, idle: usize, lent: usize, due: Duration) -> u32
+        requires { idle + lent + self.old.pending ≤ self.old.limits.max_size }
+        ensures answer { result ≡ top_up idle (idle + lent) self.old }
+        ensures after { self.new ≡ with_orders result (as_nanos due) self.old }
+    {
+        let _max_size = self.limits.max_size();
+        let room = self.room_beside(idle + lent);
+        let wanted = self.limits.wanted().saturating_sub(idle as u32);
+        let ordered = if self.closed { 0 } else { wanted.min(room) };
+        self.order(ordered, due);
+        ordered
+    }
+
+    /// Orders one where it is asked for, as far as there is room beside the connections.
+    pub(crate) fn order_missed(&mut self, or_order: bool, connections: usize, due: Duration) -> u32
+        requires { connections + self.old.pending ≤ self.old.limits.max_size }
+        ensures answer { result ≡ miss_order or_order connections self.old }
+        ensures after { self.new ≡ with_orders result (as_nanos due) self.old }
+    {
+        let room = self.room_beside(connections);
+        let ordered = if self.closed || !or_order {
+            0
+        } else {
+            room.min(1)
+        };
+        self.order(ordered, due);
+        ordered
+    }
+
+    // How many more there may be.
+    fn room_beside(&self, connections: usize) -> u32
+        requires { connections + self.now.pending ≤ self.now.limits.max_size }
+        ensures { result + (connections + self.now.pending) ≡ self.now.limits.max_size }
+    {
+        let max_size = self.limits.max_size();
+        max_size - connections as u32 - self.pending
+    }
+
+    // Orders so many that never failed.
+    fn order(&mut self, count: u32, due: Duration)
+        requires room { self.old.pending + count ≤ self.old.limits.max_size }
+        requires still_open { self.old.closed ≡ true → count ≡ 0 }
+        ensures { self.new ≡ with_orders count (as_nanos due) self.old }
+    {
+        self.schedule.order_many(count, due);
+        self.pending += count;
+    }
+
+    /// What a worker is to do at the moment `now`.
+    pub(crate) fn begin(&mut self, now: Duration) -> Job
+        ensures answer { seen_job result ≡ job_at (as_nanos now) self.old }
+        ensures after { self.new ≡ begun (as_nanos now) self.old }
+    {
+        if self.closed {
+            return Job::Closed;
+        }
+        let job = self.schedule.next(now);
+        if let Job::Open { tries } = job {
+            self.in_work.add(tries);
+        }
+        job
+    }
+
+    /// Gives an id to an opening in work.
+    pub(crate) fn number(&mut self, tries: u32) -> Result<u64, Refusal>
+        ensures answer { result ≡ ok_unless (number_refusal tries self.old) self.old.next_id }
+        ensures after { self.new ≡ after_numbering tries self.old }
+    {
+        if self.closed {
+            return Err(Refusal::Closed);
+        }
+        if !self.in_work.holds(tries) {
+            return Err(Refusal::NoOpening);
+        }
+        if self.next_id == u64::MAX {
+            return Err(Refusal::IdsUsedUp);
+        }
+        let id = self.next_id;
+        self.in_work.remove(tries);
+        self.numbered.add(id);
+        self.next_id += 1;
+        Ok(id)
+    }
+
+    /// Takes out a numbered one, which is pending no more.
+    pub(crate) fn admit(&mut self, id: u64) -> Result<(), Refusal>
+        ensures answer { result ≡ ok_unless (admit_refusal id self.old) tt }
+        ensures after { self.new ≡ unless_refused (admit_refusal id self.old) (admitted_one id self.old) self.old }
+        ensures less { OnOk result (self.new.pending + 1 ≡ self.old.pending) }
+    {
+        if self.closed {
+            return Err(Refusal::Closed);
+        }
+        match self.numbered.remove(id) {
+            Some(_) => {
+                self.pending -= 1;
+                Ok(())
+            }
+            None => Err(Refusal::NotNumbered),
+        }
+    }
+
+    /// Puts off an opening in work that failed at the moment `now`, and says when it is due again.
+    pub(crate) fn fail(&mut self, now: Duration, tries: u32) -> Result<Duration, Refusal>
+        ensures answer { map_ok as_nanos result ≡ ok_unless (fail_refusal tries self.old) (due_again (as_nanos now) tries self.old) }
+        ensures after { self.new ≡ unless_refused (fail_refusal tries self.old) (failed_one (as_nanos now) tries self.old) self.old }
+    {
+        if self.closed {
+            return Err(Refusal::Closed);
+        }
+        if !self.in_work.remove(tries) {
+            return Err(Refusal::NoOpening);
+        }
+        let pause = delay(self.limits.connection_timeout(), tries + 1);
+        let due = now.saturating_add(pause);
+        self.schedule.order(due, (tries + 1).min(99));
+        Ok(due)
+    }
+
+    /// Forgets them all, and orders none from then on.
+    pub(crate) fn close(&mut self)
+        ensures { self.new ≡ emptied self.old }
+    {
+        self.schedule.clear();
+        self.in_work.clear();
+        self.numbered.clear();
+        self.pending = 0;
+        self.closed = true;
+    }
+}

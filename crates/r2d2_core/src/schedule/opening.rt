@@ -1,0 +1,53 @@
+// An opening that was ordered.
+ghost use Rattle.std.specs.Prelude.{◌≡◌, ℕ};
+ghost use Rattle.std.specs.Duration.{as_nanos};
+ghost use Rattle.r2d2_core.specs.Openings.{is_before};
+
+use std::marker::Model;
+use std::time::Duration;
+
+/// When an opening is due, and how often it failed.
+#[derive(Drop)]
+pub(crate) struct Opening {
+    due: Duration,
+    tries: u32,
+}
+
+impl Model for Opening {
+    ghost use Rattle.std.specs.Prelude.{ℕ};
+    ghost use Rattle.std.specs.Duration.{as_nanos};
+    ghost use Rattle.r2d2_core.specs.Openings.{SeenOpening};
+
+    ghost Value = { SeenOpening };
+
+    ghost view = { λ e. record { due = as_nanos e.due; tries = e.tries } };
+}
+
+impl Opening {
+    pub(crate) fn new(due: Duration, tries: u32) -> Opening
+        ensures { result ≡ record { due = as_nanos due; tries = tries } }
+    {
+        Opening { due, tries }
+    }
+
+    pub(crate) fn due(&self) -> Duration
+        ensures { as_nanos result ≡ self.now.due }
+    {
+        self.due
+    }
+
+    pub(crate) fn tries(&self) -> u32
+        ensures { result ≡ self.now.tries }
+    {
+        self.tries
+    }
+
+    #[tactic(auto, unfolding(crate::specs::Openings::is_before))]
+    pub(crate) fn is_before(&self, other: &Opening) -> bool
+        ensures { result ≡ is_before self.now other.now }
+    {
+        let due = self.due.as_nanos();
+        let other_due = other.due.as_nanos();
+        due < other_due || due == other_due && self.tries < other.tries
+    }
+}
