@@ -279,7 +279,7 @@ struct Patient<R> {
     rt: R,
 }
 
-impl<R: PoolRuntime> Patient<R> {
+impl<R: Clock> Patient<R> {
     fn wait(&self) {
         if watched(&self.rt, &self.counts.connects, 2, 500) < 2 {
             self.waited_in_vain.fetch_add(1, Ordering::SeqCst);
