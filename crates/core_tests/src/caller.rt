@@ -1,7 +1,7 @@
 // A user's own code over the core.
 
 use crate::steps::{ms, sized};
-use calling::{discard, lend, open};
+use core_uses::{discard, lend, open};
 use r2d2_core::Core;
 use std::test::Fail;
 

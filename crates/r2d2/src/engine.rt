@@ -193,6 +193,3 @@ pub fn sweep<T, A: Allocator>(
     };
     (ordered, wakes)
 }
-
-#[cfg(test)]
-mod tests;

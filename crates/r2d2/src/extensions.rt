@@ -21,6 +21,15 @@ pub trait Extension {
         ensures { result ≡ kind_of self.now };
 }
 
+/// Nothing: for a manager that keeps nothing beside its connections. It has one kind, under which nobody keeps anything.
+impl Extension for () {
+    type Kind = ();
+
+    ghost kind_of = { λ nothing. nothing };
+
+    fn kind(&self) {}
+}
+
 /// Values that are kept beside a connection, as prepared statements: at most one of each kind. They stay with their connection until
 /// it is closed, and a new connection has none. A value stays under the kind that it named when it was put in.
 #[derive(Drop)]

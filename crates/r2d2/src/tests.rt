@@ -1,41 +1,10 @@
-// What no clause says: that calls succeed where memory is there, printed texts, and the line in a log.
-ghost use Rattle.r2d2.specs.declared.tests.Kind.TheVariants.{OfNumber, OfWord};
-ghost use Rattle.r2d2.specs.declared.tests.Value.TheVariants.{Number, Word};
+// What no clause says, of values that only this crate makes: printed texts of events and errors, and the default bodies.
 
 use super::*;
 use crate::event::{AcquireEvent, CheckinEvent, CheckoutEvent, ReleaseEvent, TimeoutEvent};
-use log::sink::Locked;
-use log::{Level, Logged};
-use std::io;
 use std::sync::atomic::{AtomicU64, Ordering};
-use std::sync::{Arc, Mutex, Wait};
 use std::test::Fail;
 use std::time::Duration;
-
-#[derive(Clone, Copy, Debug, PartialEq, Eq)]
-pub(crate) enum Kind {
-    OfNumber,
-    OfWord,
-}
-
-#[derive(Debug, PartialEq, Drop)]
-pub(crate) enum Value {
-    Number(u32),
-    Word(char),
-}
-
-impl Extension for Value {
-    type Kind = Kind;
-
-    ghost kind_of = { λ v. elim v [ Number _ ↦ OfNumber | Word _ ↦ OfWord ] };
-
-    fn kind(&self) -> Kind {
-        match self {
-            Value::Number(_) => Kind::OfNumber,
-            Value::Word(_) => Kind::OfWord,
-        }
-    }
-}
 
 /// Opens numbers, and always can.
 #[derive(Drop)]
@@ -46,7 +15,7 @@ impl ManageConnection for Numbers {
 
     type Error = &'static str;
 
-    type Extension = Value;
+    type Extension = ();
 
     fn connect(&self) -> Result<u32, &'static str> {
         Ok(7)
@@ -81,96 +50,6 @@ impl HandleEvent for Releases {
     fn handle_release(&self, _event: ReleaseEvent) {
         self.seen.fetch_add(1, Ordering::SeqCst);
     }
-}
-
-type Settings = Builder<Numbers, NopErrorHandler, NopEventHandler, NopConnectionCustomizer>;
-
-/// A writer whose bytes others can read.
-#[derive(Drop)]
-struct Page<R> {
-    text: Arc<Mutex<Vec<u8>>>,
-    rt: R,
-}
-
-impl<R: Wait> io::Write for Page<R> {
-    fn write(&mut self, bytes: &[u8]) -> io::Result<usize> {
-        self.text.lock(&self.rt).extend_from_slice(bytes)?;
-        Ok(bytes.len())
-    }
-
-    fn flush(&mut self) -> io::Result<()> {
-        Ok(())
-    }
-}
-
-#[test]
-fn one_value_of_each_kind(rt: HostRuntime) -> Result<(), Fail> {
-    let mut kept = Extensions::new(rt.alloc());
-    assert!(rt; kept.insert(Value::Number(1)) == Ok(None));
-    assert!(rt; kept.insert(Value::Number(2)) == Ok(Some(Value::Number(1))));
-    assert!(rt; kept.get(&Kind::OfNumber) == Some(&Value::Number(2)));
-    if let Some(value) = kept.get_mut(&Kind::OfNumber) {
-        *value = Value::Word('w');
-    }
-    assert!(rt; kept.get(&Kind::OfNumber) == Some(&Value::Word('w')));
-    assert!(rt; kept.get(&Kind::OfWord) == None);
-    assert!(rt; kept.insert(Value::Word('x')) == Ok(None));
-    assert!(rt; kept.remove(&Kind::OfNumber) == Some(Value::Word('w')));
-    assert!(rt; kept.get(&Kind::OfNumber) == None);
-    assert!(rt; kept.get(&Kind::OfWord) == Some(&Value::Word('x')));
-    kept.clear();
-    assert!(rt; kept.get(&Kind::OfWord) == None);
-    Ok(())
-}
-
-#[test]
-fn settings(rt: HostRuntime) -> Result<(), Fail> {
-    let limits = Settings::new().limits().ok_or("limits")?;
-    assert_eq!(rt; limits.max_size(), 10);
-    assert_eq!(rt; limits.min_idle(), None);
-    assert_eq!(rt; limits.max_lifetime(), Some(Duration::from_secs(1800)));
-    assert_eq!(rt; limits.idle_timeout(), Some(Duration::from_secs(600)));
-    assert_eq!(rt; limits.connection_timeout(), Duration::from_secs(30));
-    assert_eq!(rt; limits.reap_every(), Duration::from_secs(30));
-    assert_eq!(rt; limits.wanted(), 10);
-
-    let above = Settings::default().max_size(4).min_idle(Some(5));
-    assert!(rt; above.limits().is_none());
-    let within = above.min_idle(Some(4)).limits().ok_or("limits")?;
-    assert_eq!(rt; within.wanted(), 4);
-
-    let builder = Settings::new()
-        .max_size(7)
-        .connection_timeout(Duration::from_secs(20))
-        .event_handler(Listener { name: 'v' })
-        .connection_customizer(Listener { name: 'z' });
-    assert_eq!(rt; builder.limits().ok_or("limits")?.max_size(), 7);
-    let shown = format!(in rt.alloc(); "{builder:?}")?;
-    assert_eq!(rt;
-        shown.as_str(),
-        "Builder { max_size: 7, min_idle: None, test_on_check_out: true, max_lifetime: Some(1800s), idle_timeout: Some(600s), connection_timeout: 20s, error_handler: NopErrorHandler, event_handler: Listener { name: 'v' }, connection_customizer: Listener { name: 'z' } }"
-    );
-
-    let config = Config {
-        max_size: 2,
-        min_idle: Some(1),
-        thread_pool: 3,
-        test_on_check_out: false,
-        max_lifetime: None,
-        idle_timeout: None,
-        connection_timeout: Duration::from_millis(250),
-        journal_room: 16,
-        reaper_rate: Duration::from_secs(1),
-        error_handler: NopErrorHandler,
-        event_handler: NopEventHandler,
-        connection_customizer: NopConnectionCustomizer,
-    };
-    let shown = format!(in rt.alloc(); "{config:?}")?;
-    assert_eq!(rt;
-        shown.as_str(),
-        "Config { max_size: 2, min_idle: Some(1), test_on_check_out: false, max_lifetime: None, idle_timeout: None, connection_timeout: 250ms, error_handler: NopErrorHandler, event_handler: NopEventHandler, connection_customizer: NopConnectionCustomizer }"
-    );
-    Ok(())
 }
 
 #[test]
@@ -235,23 +114,5 @@ fn error_texts(rt: HostRuntime) -> Result<(), Fail> {
         shown.as_str(),
         "Error { kind: Timeout, message: Some(\"blammo\") } Error { kind: Memory, message: None }"
     );
-    Ok(())
-}
-
-#[test]
-fn an_error_is_one_line_in_the_log(rt: HostRuntime) -> Result<(), Fail> {
-    let text = Arc::new(rt.alloc(), Mutex::new(Vec::new(rt.alloc())))?;
-    let page = Page {
-        text: Arc::try_clone(&text)?,
-        rt,
-    };
-    let handler = LoggingErrorHandler::new(Logged::new(rt, Level::Error, Locked::new(rt, page)));
-    handler.handle_error("blammo");
-    assert_eq!(rt;
-        text.lock(&rt).as_slice(),
-        b"[ERROR r2d2] blammo\n".as_slice()
-    );
-    let shown = format!(in rt.alloc(); "{handler:?}")?;
-    assert_eq!(rt; shown.as_str(), "LoggingErrorHandler");
     Ok(())
 }

@@ -1,80 +1,168 @@
-// How many connections are kept, and which are closed for their time. Looks beside a reap's own moment go on for up to 500 ms.
+// Which connections are closed for their time. Looks beside a reap's own moment go on for up to 500 ms.
 
 use super::*;
+use crate::event::{AcquireEvent, CheckinEvent, CheckoutEvent, ReleaseEvent, TimeoutEvent};
+use std::sync::Mutex;
+
+/// A connection, which counts its drop.
+struct Line {
+    dropped: Arc<AtomicU64>,
+}
+
+impl Drop for Line {
+    fn drop(self) {
+        let Line { dropped } = self;
+        dropped.fetch_add(1, Ordering::SeqCst);
+    }
+}
+
+/// Opens five lines; each later opening fails.
+#[derive(Drop)]
+struct FiveLines {
+    opened: AtomicU64,
+    dropped: Arc<AtomicU64>,
+}
+
+impl FiveLines {
+    fn new(dropped: &Arc<AtomicU64>) -> Result<FiveLines, AllocError> {
+        Ok(FiveLines {
+            opened: AtomicU64::new(0),
+            dropped: Arc::try_clone(dropped)?,
+        })
+    }
+}
+
+impl ManageConnection for FiveLines {
+    type Connection = Line;
+
+    type Error = &'static str;
+
+    type Extension = ();
+
+    fn connect(&self) -> Result<Line, &'static str> {
+        if self.opened.fetch_add(1, Ordering::SeqCst) >= 5 {
+            return Err("no sixth");
+        }
+        let dropped = Arc::try_clone(&self.dropped).map_err(|_| "memory")?;
+        Ok(Line { dropped })
+    }
+
+    fn is_valid(&self, _line: &mut Line) -> Result<(), &'static str> {
+        Ok(())
+    }
+
+    fn has_broken(&self, _line: &mut Line) -> bool {
+        false
+    }
+}
+
+fn no_drops(alloc: Global) -> Result<Arc<AtomicU64>, AllocError> {
+    Ok(Arc::new(alloc, AtomicU64::new(0))?)
+}
 
 #[test]
 fn test_idle_timeout(rt: HostRuntime) -> Result<(), Fail> {
-    let counts = Counts::new(rt.alloc())?;
-    let manager = Manager::new(&counts, 5, Breaks::Never)?;
+    let dropped = no_drops(rt.alloc())?;
     let pool = Builder::new()
         .max_size(5)
         .idle_timeout(Some(Duration::from_secs(1)))
         .reaper_rate(Duration::from_secs(1))
-        .build(rt, manager)?;
+        .build(rt, FiveLines::new(&dropped)?)?;
     let lent = pool.get()?;
     thread::sleep(&rt, Duration::from_secs(2));
-    assert_eq!(rt; watched(&rt, &counts.dropped, 4, 50), 4);
+    assert_eq!(rt; watched(&rt, &dropped, 4, 50), 4);
     drop(lent);
-    assert_eq!(rt; counts.dropped(), 4);
+    assert_eq!(rt; dropped.load(Ordering::SeqCst), 4);
     Ok(())
 }
 
 #[test]
 fn idle_timeout_partial_use(rt: HostRuntime) -> Result<(), Fail> {
-    let counts = Counts::new(rt.alloc())?;
-    let manager = Manager::new(&counts, 5, Breaks::Never)?;
+    let dropped = no_drops(rt.alloc())?;
     let pool = Builder::new()
         .max_size(5)
         .idle_timeout(Some(Duration::from_secs(1)))
         .reaper_rate(Duration::from_secs(1))
-        .build(rt, manager)?;
+        .build(rt, FiveLines::new(&dropped)?)?;
     for _ in 0..8 {
         thread::sleep(&rt, Duration::from_millis(250));
         drop(pool.get()?);
     }
-    assert_eq!(rt; watched(&rt, &counts.dropped, 4, 50), 4);
+    assert_eq!(rt; watched(&rt, &dropped, 4, 50), 4);
     assert_eq!(rt; pool.state().connections, 1);
     Ok(())
 }
 
 #[test]
 fn test_max_lifetime(rt: HostRuntime) -> Result<(), Fail> {
-    let counts = Counts::new(rt.alloc())?;
-    let manager = Manager::new(&counts, 5, Breaks::Never)?;
+    let dropped = no_drops(rt.alloc())?;
     let pool = Builder::new()
         .max_size(5)
         .max_lifetime(Some(Duration::from_secs(1)))
         .connection_timeout(Duration::from_secs(1))
         .reaper_rate(Duration::from_secs(1))
-        .build(rt, manager)?;
+        .build(rt, FiveLines::new(&dropped)?)?;
     let lent = pool.get()?;
     thread::sleep(&rt, Duration::from_secs(2));
-    assert_eq!(rt; watched(&rt, &counts.dropped, 4, 50), 4);
+    assert_eq!(rt; watched(&rt, &dropped, 4, 50), 4);
     drop(lent);
-    assert_eq!(rt; counts.dropped(), 5);
+    assert_eq!(rt; dropped.load(Ordering::SeqCst), 5);
     thread::sleep(&rt, Duration::from_secs(2));
     let error = pool.get().err().ok_or("a connection")?;
     assert_eq!(rt; error.kind(), crate::ErrorKind::Timeout);
     Ok(())
 }
 
+/// Writes down how old each closed connection is said to be.
+#[derive(Drop)]
+struct Ages<R> {
+    ages: Arc<Mutex<Vec<Duration>>>,
+    rt: R,
+}
+
+impl<R> fmt::Debug for Ages<R> {
+    fn fmt<W: fmt::Write>(&self, f: &mut fmt::Formatter<W>) -> fmt::Result {
+        f.write_str("Ages")
+    }
+}
+
+impl<R: PoolRuntime> HandleEvent for Ages<R> {
+    fn handle_acquire(&self, _event: AcquireEvent) {}
+
+    fn handle_release(&self, event: ReleaseEvent) {
+        // Where memory is refused the age is missing in the list, and the test that reads it fails.
+        self.ages.lock(&self.rt).push(event.age()).ok();
+    }
+
+    fn handle_checkout(&self, _event: CheckoutEvent) {}
+
+    fn handle_timeout(&self, _event: TimeoutEvent) {}
+
+    fn handle_checkin(&self, _event: CheckinEvent) {}
+}
+
 #[test]
-fn min_idle(rt: HostRuntime) -> Result<(), Fail> {
+fn how_old_an_expired_connection_is(rt: HostRuntime) -> Result<(), Fail> {
+    let dropped = no_drops(rt.alloc())?;
+    let ages = Arc::new(rt.alloc(), Mutex::new(Vec::new(rt.alloc())))?;
+    let handler = Ages {
+        ages: Arc::try_clone(&ages)?,
+        rt,
+    };
     let pool = Builder::new()
-        .max_size(5)
-        .min_idle(Some(2))
-        .build(rt, Sevens)?;
-    thread::sleep(&rt, Duration::from_secs(1));
-    let state = pool.state();
-    assert_eq!(rt; (state.idle_connections, state.connections), (2, 2));
-    let first = pool.get()?;
-    let second = pool.get()?;
-    let third = pool.get()?;
-    thread::sleep(&rt, Duration::from_secs(1));
-    let state = pool.state();
-    assert_eq!(rt; (state.idle_connections, state.connections), (2, 5));
-    drop((first, second, third));
-    let state = pool.state();
-    assert_eq!(rt; (state.idle_connections, state.connections), (5, 5));
+        .max_size(2)
+        .min_idle(Some(0))
+        .idle_timeout(Some(Duration::from_millis(500)))
+        .reaper_rate(Duration::from_millis(500))
+        .event_handler(handler)
+        .build(rt, FiveLines::new(&dropped)?)?;
+    // From here on the time since the pool was made is too long for an age.
+    thread::sleep(&rt, Duration::from_secs(2));
+    drop(pool.get()?);
+    assert_eq!(rt; watched(&rt, &dropped, 1, 1000), 1);
+    let ages = ages.lock(&rt);
+    assert_eq!(rt; ages.len(), 1);
+    let age = ages[0].as_millis();
+    assert!(rt; 300 <= age && age < 2000);
     Ok(())
 }

@@ -2,6 +2,7 @@
 // another thread read the pool's state, for which that takes the lock, and waits for it.
 
 use super::*;
+use crate::event::{AcquireEvent, CheckinEvent, CheckoutEvent, ReleaseEvent, TimeoutEvent};
 use std::sync::atomic::AtomicBool;
 
 /// What the pool calls: a bit for each.
@@ -85,19 +86,19 @@ impl<R> fmt::Debug for Prober<R> {
 impl<R: PoolRuntime> ManageConnection for Prober<R> {
     type Connection = Asking<R>;
 
-    type Error = Blammo;
+    type Error = &'static str;
 
-    type Extension = Value;
+    type Extension = ();
 
-    fn connect(&self) -> Result<Asking<R>, Blammo> {
+    fn connect(&self) -> Result<Asking<R>, &'static str> {
         self.probe.ask(Call::Connect);
-        let probe = Arc::try_clone(&self.probe).map_err(|_| Blammo)?;
+        let probe = Arc::try_clone(&self.probe).map_err(|_| "memory")?;
         Ok(Asking { probe })
     }
 
-    fn is_valid(&self, _connection: &mut Asking<R>) -> Result<(), Blammo> {
+    fn is_valid(&self, _connection: &mut Asking<R>) -> Result<(), &'static str> {
         if self.probe.ask(Call::IsValid) {
-            return Err(Blammo);
+            return Err("blammo");
         }
         Ok(())
     }
@@ -108,16 +109,16 @@ impl<R: PoolRuntime> ManageConnection for Prober<R> {
     }
 }
 
-impl<R: PoolRuntime> HandleError<Blammo> for Prober<R> {
-    fn handle_error(&self, _error: Blammo) {
+impl<R: PoolRuntime> HandleError<&'static str> for Prober<R> {
+    fn handle_error(&self, _error: &'static str) {
         self.probe.ask(Call::HandleError);
     }
 }
 
-impl<R: PoolRuntime> CustomizeConnection<Asking<R>, Blammo> for Prober<R> {
-    fn on_acquire(&self, _connection: &mut Asking<R>) -> Result<(), Blammo> {
+impl<R: PoolRuntime> CustomizeConnection<Asking<R>, &'static str> for Prober<R> {
+    fn on_acquire(&self, _connection: &mut Asking<R>) -> Result<(), &'static str> {
         if self.probe.ask(Call::OnAcquire) {
-            return Err(Blammo);
+            return Err("blammo");
         }
         Ok(())
     }

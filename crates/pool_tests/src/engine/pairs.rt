@@ -1,6 +1,6 @@
 // Two books of one story: each call of the engine on the one, and the book's own step on the other.
 
-use crate::engine::{Outcome, Settled, Wakes, give_back, lend, settle, sweep};
+use r2d2::engine::{Outcome, Settled, Wakes, give_back, lend, settle, sweep};
 use r2d2_core::journal::Report;
 use r2d2_core::{Book, Limits};
 use std::alloc::{AllocError, AllocGlobal, Global};

@@ -145,6 +145,3 @@ pub fn replace<
 {
     **lent = connection;
 }
-
-#[cfg(test)]
-mod surface;

@@ -1,6 +1,11 @@
 // The records that a pool keeps.
 
-use super::*;
+use crate::managers::{Breaks, Counts, Manager};
+use r2d2::Builder;
+use r2d2_core::Record;
+use std::alloc::{AllocError, Global};
+use std::test::Fail;
+use std::time::Duration;
 
 // The record at the moment zero: when a step was made, no test knows.
 fn without_moment(record: Record) -> Record {

@@ -1,6 +1,6 @@
 // The pool, and the connections that it lends.
-use super::user_types::{Counts, Kept, Kind, Listener, Numbers, Settings, Silent};
-use crate::{Load, audit, build_checked, can_serve, load_of, replace};
+use crate::user_types::{Counts, Kept, Kind, Listener, Numbers, Settings, Silent};
+use pool_uses::{Load, audit, build_checked, can_serve, load_of, replace};
 use r2d2::{
     Error, ErrorKind, Extensions, NopConnectionCustomizer, NopErrorHandler, NopEventHandler, Pool,
     PoolRuntime, PooledConnection, State,

@@ -1,7 +1,13 @@
 // How connections are opened.
 
-use super::*;
-use std::sync::atomic::AtomicBool;
+use crate::callers::watched;
+use crate::managers::{Blammo, Breaks, Counts, Line, Manager, Sevens, Value};
+use r2d2::{Builder, CustomizeConnection, ManageConnection, PoolRuntime};
+use std::sync::Arc;
+use std::sync::atomic::{AtomicBool, AtomicU64, Ordering};
+use std::test::Fail;
+use std::time::Duration;
+use std::{fmt, thread};
 
 /// Who began an opening, and whether the first one saw the second.
 #[derive(Drop)]
@@ -167,5 +173,26 @@ fn retries_are_put_off_by_half_of_the_timeout_at_most(rt: HostRuntime) -> Result
         .connection_timeout(Duration::from_millis(200))
         .build_unchecked(rt, Manager::new(&counts, 0, Breaks::Never)?)?;
     assert!(rt; watched(&rt, &counts.connects, 10, 500) >= 10);
+    Ok(())
+}
+
+#[test]
+fn min_idle(rt: HostRuntime) -> Result<(), Fail> {
+    let pool = Builder::new()
+        .max_size(5)
+        .min_idle(Some(2))
+        .build(rt, Sevens)?;
+    thread::sleep(&rt, Duration::from_secs(1));
+    let state = pool.state();
+    assert_eq!(rt; (state.idle_connections, state.connections), (2, 2));
+    let first = pool.get()?;
+    let second = pool.get()?;
+    let third = pool.get()?;
+    thread::sleep(&rt, Duration::from_secs(1));
+    let state = pool.state();
+    assert_eq!(rt; (state.idle_connections, state.connections), (2, 5));
+    drop((first, second, third));
+    let state = pool.state();
+    assert_eq!(rt; (state.idle_connections, state.connections), (5, 5));
     Ok(())
 }

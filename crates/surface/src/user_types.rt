@@ -1,6 +1,6 @@
 // What a user brings to a pool, what it is told, and the settings.
-ghost use Rattle.pool_calling.specs.declared.surface.user_types.Kind.TheVariants.{OfNumber, OfWord};
-ghost use Rattle.pool_calling.specs.declared.surface.user_types.Kept.TheVariants.{Number, Word};
+ghost use Rattle.surface.specs.declared.user_types.Kind.TheVariants.{OfNumber, OfWord};
+ghost use Rattle.surface.specs.declared.user_types.Kept.TheVariants.{Number, Word};
 
 use log::sink::Discard;
 use log::{Level, Logged};

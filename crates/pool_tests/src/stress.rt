@@ -1,7 +1,14 @@
 // Many threads over a manager that fails at random: none is served wrongly, nothing is lost, and the journal tells all of it.
 
-use super::*;
-use r2d2_core::Report;
+use crate::callers::{checkouts, watched};
+use crate::managers::{Blammo, Breaks, Counts, Line, Manager, Value};
+use r2d2::{Builder, ManageConnection};
+use r2d2_core::{Record, Report};
+use std::alloc::{AllocError, Global};
+use std::sync::Arc;
+use std::sync::atomic::{AtomicU64, Ordering};
+use std::test::Fail;
+use std::thread;
 
 const MAX_SIZE: u32 = 8;
 

@@ -1,5 +1,5 @@
 // What a pool does to its book.
-use super::user_types::{Kept, Kind, Numbers, Silent};
+use crate::user_types::{Kept, Kind, Numbers, Silent};
 use r2d2::engine::{Outcome, Payload, Settled, Wakes, give_back, lend, open, settle, sweep};
 use r2d2::journal::Book;
 use r2d2::machine::{Limits, Returned, Take};

@@ -1,9 +1,9 @@
 // Each call beside the book's own step on a second book, and what opening calls, of which no clause can speak.
 
-use super::*;
-use crate::tests::Numbers;
-use crate::{CustomizeConnection, NopConnectionCustomizer};
+use crate::managers::{Blammo, Sevens};
 use pairs::{Call, Stage, row};
+use r2d2::engine::{Wakes, open};
+use r2d2::{CustomizeConnection, NopConnectionCustomizer};
 use std::test::Fail;
 
 mod pairs;
@@ -12,8 +12,8 @@ mod pairs;
 #[derive(Debug, Drop)]
 struct Raises;
 
-impl CustomizeConnection<u32, &'static str> for Raises {
-    fn on_acquire(&self, connection: &mut u32) -> Result<(), &'static str> {
+impl CustomizeConnection<u32, Blammo> for Raises {
+    fn on_acquire(&self, connection: &mut u32) -> Result<(), Blammo> {
         *connection = connection.wrapping_add(2);
         Ok(())
     }
@@ -23,9 +23,9 @@ impl CustomizeConnection<u32, &'static str> for Raises {
 #[derive(Debug, Drop)]
 struct TurnsAway;
 
-impl CustomizeConnection<u32, &'static str> for TurnsAway {
-    fn on_acquire(&self, _connection: &mut u32) -> Result<(), &'static str> {
-        Err("turned away")
+impl CustomizeConnection<u32, Blammo> for TurnsAway {
+    fn on_acquire(&self, _connection: &mut u32) -> Result<(), Blammo> {
+        Err(Blammo)
     }
 }
 
@@ -35,9 +35,9 @@ fn wakes(caller: bool, workers: bool) -> Wakes {
 
 #[test]
 fn opens(rt: HostRuntime) -> Result<(), Fail> {
-    assert!(rt; open(&Numbers, &NopConnectionCustomizer) == Ok(7));
-    assert!(rt; open(&Numbers, &Raises) == Ok(9));
-    assert!(rt; open(&Numbers, &TurnsAway) == Err("turned away"));
+    assert!(rt; open(&Sevens, &NopConnectionCustomizer) == Ok(7));
+    assert!(rt; open(&Sevens, &Raises) == Ok(9));
+    assert!(rt; open(&Sevens, &TurnsAway) == Err(Blammo));
     Ok(())
 }
 

@@ -1,6 +1,20 @@
 // In which order a caller's thread calls, what waits for a call, and what does not.
 
-use super::*;
+use crate::callers::{keep, watched};
+use crate::listening::{Listener, Told};
+use crate::managers::{Blammo, Breaks, Counts, Line, Manager, Sevens, Value};
+use r2d2::event::{AcquireEvent, CheckinEvent, CheckoutEvent, ReleaseEvent, TimeoutEvent};
+use r2d2::{
+    Builder, CustomizeConnection, ErrorKind, HandleError, HandleEvent, ManageConnection,
+    PoolRuntime,
+};
+use std::alloc::AllocError;
+use std::rt::Clock;
+use std::sync::atomic::{AtomicU64, Ordering};
+use std::sync::{Arc, Mutex, Wait};
+use std::test::Fail;
+use std::time::{Duration, Instant};
+use std::{fmt, thread};
 
 /// What a caller's thread calls.
 #[derive(Clone, Copy, PartialEq, Debug)]
@@ -215,7 +229,7 @@ fn a_failed_check_does_not_begin_the_wait_anew(rt: HostRuntime) -> Result<(), Fa
     let start = Instant::now(&rt)?;
     let error = pool.get_timeout(second).err().ok_or("a connection")?;
     let waited = start.elapsed(&rt)?.as_millis();
-    assert_eq!(rt; error.kind(), crate::ErrorKind::Timeout);
+    assert_eq!(rt; error.kind(), ErrorKind::Timeout);
     assert!(rt; waited >= 1000 && waited < 2000, "{waited} ms");
     Ok(())
 }

@@ -1,6 +1,14 @@
 // Which events are told, and in which order.
 
-use super::*;
+use crate::callers::keep;
+use crate::listening::{Listener, Told};
+use crate::managers::{Breaks, Counts, Manager, Sevens};
+use r2d2::event::{AcquireEvent, CheckinEvent, CheckoutEvent, ReleaseEvent, TimeoutEvent};
+use r2d2::{Builder, HandleEvent, PoolRuntime, PooledConnection};
+use std::sync::{Arc, Mutex, Wait};
+use std::test::Fail;
+use std::time::Duration;
+use std::{fmt, thread};
 
 #[test]
 fn events(rt: HostRuntime) -> Result<(), Fail> {
@@ -141,34 +149,5 @@ fn how_long_events_say(rt: HostRuntime) -> Result<(), Fail> {
     );
     assert!(rt; matches!(lengths[4], Length::Held(_)) && lengths[4].is_of_this_connection());
     assert!(rt; matches!(lengths[5], Length::Lived(_)) && lengths[5].is_of_this_connection());
-    Ok(())
-}
-
-#[test]
-fn how_old_an_expired_connection_is(rt: HostRuntime) -> Result<(), Fail> {
-    let lengths = Arc::new(rt.alloc(), Mutex::new(Vec::new(rt.alloc())))?;
-    let watch = Watch {
-        lengths: Arc::try_clone(&lengths)?,
-        rt,
-    };
-    let pool = Builder::new()
-        .max_size(2)
-        .min_idle(Some(0))
-        .idle_timeout(Some(Duration::from_millis(500)))
-        .reaper_rate(Duration::from_millis(500))
-        .event_handler(watch)
-        .build(rt, Sevens)?;
-    // From here on the time since the pool was made is too long for an age.
-    thread::sleep(&rt, Duration::from_secs(2));
-    drop(pool.get()?);
-    for _ in 0..1000 {
-        if pool.state().connections == 0 && lengths.lock(&rt).len() == 3 {
-            break;
-        }
-        thread::sleep(&rt, Duration::from_millis(10));
-    }
-    let lengths = lengths.lock(&rt);
-    assert_eq!(rt; lengths.len(), 3);
-    assert!(rt; matches!(lengths[2], Length::Lived(_)) && lengths[2].is_of_this_connection());
     Ok(())
 }

@@ -1,6 +1,13 @@
 // Callers in threads of their own.
 
-use super::*;
+use crate::callers::{checkouts, watched};
+use crate::managers::{Blammo, Breaks, Counts, Manager, Sevens, Value};
+use r2d2::{Builder, ManageConnection, PoolRuntime};
+use std::sync::Arc;
+use std::sync::atomic::{AtomicU64, Ordering};
+use std::test::Fail;
+use std::thread;
+use std::time::Duration;
 
 /// How far two callers came.
 #[derive(Drop)]

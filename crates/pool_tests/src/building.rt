@@ -1,6 +1,12 @@
 // What comes of building, and what a built pool says of itself.
 
-use super::*;
+use crate::callers::watched;
+use crate::managers::{Breaks, Counts, Manager, Sevens};
+use r2d2::{
+    Builder, ErrorKind, NopConnectionCustomizer, NopErrorHandler, NopEventHandler, PlainPool, Pool,
+};
+use std::test::Fail;
+use std::time::Duration;
 
 fn is_send_sync<T: Send + Sync>(_value: &T) {}
 
@@ -59,7 +65,7 @@ fn a_build_short_of_connections_leaves_nothing(rt: HostRuntime) -> Result<(), Fa
         .min_idle(Some(3))
         .connection_timeout(Duration::from_millis(500));
     let error = builder.build(rt, manager).err().ok_or("a pool")?;
-    assert_eq!(rt; error.kind(), crate::ErrorKind::Timeout);
+    assert_eq!(rt; error.kind(), ErrorKind::Timeout);
     assert_eq!(rt; error.message(), Some("blammo"));
     assert_eq!(rt; watched(&rt, &counts.managers_dropped, 1, 1000), 1);
     assert_eq!(rt; counts.dropped(), 2);
@@ -90,7 +96,7 @@ fn getters(rt: HostRuntime) -> Result<(), Fail> {
 #[test]
 fn debug_texts(rt: HostRuntime) -> Result<(), Fail> {
     let alloc = rt.alloc();
-    let pool = Plain::<Sevens, HostRuntime>::builder()
+    let pool = PlainPool::<Sevens, HostRuntime>::builder()
         .max_size(1)
         .build(rt, Sevens)?;
     assert_eq!(rt;

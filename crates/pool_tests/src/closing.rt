@@ -1,6 +1,14 @@
 // What happens to connections and to the manager where a connection is broken, or its pool goes away.
 
-use super::*;
+use crate::callers::watched;
+use crate::listening::{Listener, Told};
+use crate::managers::{Blammo, Breaks, Counts, Manager, Value};
+use r2d2::{Builder, ManageConnection, Pool, PoolRuntime};
+use std::rt::Clock;
+use std::sync::atomic::{AtomicU64, Ordering};
+use std::sync::{Arc, Mutex};
+use std::test::Fail;
+use std::time::Duration;
 
 #[test]
 fn test_drop_on_broken(rt: HostRuntime) -> Result<(), Fail> {

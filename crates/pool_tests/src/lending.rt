@@ -1,6 +1,11 @@
 // How callers come to connections, wait for them, and what stays with a connection.
 
-use super::*;
+use crate::callers::{keep, watched};
+use crate::managers::{Breaks, Counts, Kind, Manager, Sevens, Value};
+use r2d2::{Builder, ErrorKind, PooledConnection};
+use std::test::Fail;
+use std::thread;
+use std::time::{Duration, Instant};
 
 #[test]
 fn test_acquire_release(rt: HostRuntime) -> Result<(), Fail> {
@@ -54,7 +59,7 @@ fn get_timeout(rt: HostRuntime) -> Result<(), Fail> {
     let lent = pool.get_timeout(wait)?;
     let long = thread::spawn(&rt, move || keep(rt, Duration::from_millis(150), lent))?;
     let error = pool.get_timeout(wait).err().ok_or("a connection")?;
-    assert_eq!(rt; error.kind(), crate::ErrorKind::Timeout);
+    assert_eq!(rt; error.kind(), ErrorKind::Timeout);
     short.join(&rt);
     long.join(&rt);
     Ok(())
@@ -72,7 +77,7 @@ fn test_get_global_timeout(rt: HostRuntime) -> Result<(), Fail> {
     let start = Instant::now(&rt)?;
     let error = pool.get().err().ok_or("a connection")?;
     let waited = start.elapsed(&rt)?.as_millis();
-    assert_eq!(rt; error.kind(), crate::ErrorKind::Timeout);
+    assert_eq!(rt; error.kind(), ErrorKind::Timeout);
     assert_eq!(rt; error.message(), None);
     assert!(rt; waited >= 1000 && waited < 2000, "{waited} ms");
     Ok(())

@@ -6,8 +6,8 @@ ghost use Rattle.std.specs.Duration.{as_nanos};
 ghost use Rattle.r2d2_core.specs.Ids.{last_of};
 ghost use Rattle.r2d2_core.specs.Connections.{birth_in};
 ghost use Rattle.r2d2_core.specs.Table.{after_take};
-ghost use Rattle.calling.specs.Counted.{IsCounted, shown_found};
-ghost use Rattle.calling.specs.Calls.{after_open, after_discard};
+ghost use Rattle.core_uses.specs.Counted.{IsCounted, shown_found};
+ghost use Rattle.core_uses.specs.Calls.{after_open, after_discard};
 
 use r2d2_core::{Core, Job, Take};
 use std::time::Duration;

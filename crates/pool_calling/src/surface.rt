@@ -1,5 +1,0 @@
-// Each public name of `r2d2`, called from outside: that it is there, and succeeds on its happy path.
-mod core_calls;
-mod engine_calls;
-mod pool_calls;
-mod user_types;
