@@ -3,7 +3,7 @@ use Rattle.std.proofs.lemmas.List.{drop_all}
 use Rattle.std.specs.Duration.{as_nanos}
 use Rattle.r2d2_core.specs.declared.reuse.Move.{Move}
 use Rattle.r2d2_core.specs.Reuse.{newest_left, newest_list, Picked, other_left, other_list, expired}
-use Rattle.r2d2_core.proofs.Choices.{at_least_left, expired_is_for_old, never_behind}
+use Rattle.r2d2_core.proofs.Reusing.Choices.{at_least_left, expired_is_for_old, never_behind}
 use Rattle.r2d2_core.proofs.reuse.compare.Goals as goal
 
 pub returns-in_err-newest-clause-at_every_threshold : goal.returns-in_err-newest-clause-at_every_threshold

@@ -1,5 +1,5 @@
 use Rattle.std.proofs.Common.{arith, refl}
-use Rattle.r2d2_core.proofs.InOrder.{zero_moment, in_order_start, in_order_tail, in_order_more, in_order_less, in_order_falls, in_order_end}
+use Rattle.r2d2_core.proofs.Reusing.InOrder.{zero_moment, in_order_start, in_order_tail, in_order_more, in_order_less, in_order_falls, in_order_end}
 use Rattle.r2d2_core.proofs.reuse.is_in_order.Goals as goal
 
 pub loop-moment-init : goal.loop-moment-init

@@ -8,8 +8,8 @@ use Rattle.r2d2_core.specs.Picture.{IsSound}
 use Rattle.r2d2_core.specs.History.{Made}
 use Rattle.r2d2_core.specs.Answers.{answers_of, after_all, picture_of}
 use Rattle.r2d2_core.specs.Steps.{seen_answer}
-use Rattle.r2d2_core.proofs.Made.{kept_made, picture_of-made}
-use Rattle.r2d2_core.proofs.Runs.{run_more}
+use Rattle.r2d2_core.proofs.Histories.Made.{kept_made, picture_of-made}
+use Rattle.r2d2_core.proofs.Follows.Runs.{run_more}
 use Rattle.r2d2_core.proofs.run.run.Goals as goal
 
 pub loop-step-init : goal.loop-step-init

@@ -1,7 +1,7 @@
 use Rattle.std.specs.Duration.{as_nanos}
 use Rattle.r2d2_core.specs.Limits.{seen_limits}
 use Rattle.r2d2_core.specs.History.{Made}
-use Rattle.r2d2_core.proofs.Runs.{IsRun}
+use Rattle.r2d2_core.proofs.Follows.Runs.{IsRun}
 use Rattle.r2d2_core.proofs.run.run.Given as goal
 
 -- the core and the answers are those of the steps so far

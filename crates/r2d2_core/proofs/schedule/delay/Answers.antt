@@ -1,6 +1,6 @@
 use Rattle.std.proofs.Common.{arith, rules, ◌≡◌, ◌*◌, ◌^◌, ◌<◌, ◌∙◌}
 use Rattle.std.specs.Duration.{as_nanos}
-use Rattle.r2d2_core.proofs.Delays.{min-doubled_long, doubled_fits, doubled-mod}
+use Rattle.r2d2_core.proofs.Scheduling.Delays.{min-doubled_long, doubled_fits, doubled-mod}
 use Rattle.r2d2_core.proofs.schedule.delay.Goals as goal
 
 pub returns-then-k-ge67 : goal.returns-then-k-ge67

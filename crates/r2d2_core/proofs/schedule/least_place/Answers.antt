@@ -1,7 +1,7 @@
 use Rattle.std.proofs.Common.{arith, ◌≡◌, ℕ, ◌+◌, ◌<◌, length, true, false, get_or, sym, ◌∙◌, List, below_more}
 use Rattle.std.proofs.lemmas.List.{get_or_read}
 use Rattle.r2d2_core.specs.Openings.{SeenOpening, is_before}
-use Rattle.r2d2_core.proofs.Openings.{not_before_itself, not_before_through}
+use Rattle.r2d2_core.proofs.Scheduling.Openings.{not_before_itself, not_before_through}
 use Rattle.r2d2_core.proofs.schedule.least_place.Goals as goal
 use Rattle.r2d2_core.proofs.schedule.least_place.Goals.{then-is_before, else-is_before}
 

@@ -3,7 +3,7 @@ use Rattle.std.specs.Duration.{as_nanos}
 use Rattle.r2d2_core.specs.Recorded.{record_of_admission}
 use Rattle.r2d2_core.specs.Journal.{with_noted}
 use Rattle.r2d2_core.specs.Book.{seen_book}
-use Rattle.r2d2_core.proofs.Books.{recorded_admit}
+use Rattle.r2d2_core.proofs.Recording.Books.{recorded_admit}
 use Rattle.r2d2_core.proofs.journal.Book.admit.Goals as goal
 
 pub invariant_of-self : goal.invariant_of-self

@@ -2,7 +2,7 @@ use Rattle.std.proofs.Common.{◌∙◌, ap}
 use Rattle.r2d2_core.specs.Recorded.{record_of_close}
 use Rattle.r2d2_core.specs.Journal.{with_noted}
 use Rattle.r2d2_core.specs.Book.{seen_book}
-use Rattle.r2d2_core.proofs.Books.{recorded_close}
+use Rattle.r2d2_core.proofs.Recording.Books.{recorded_close}
 use Rattle.r2d2_core.proofs.journal.Book.close.Goals as goal
 
 pub invariant_of-self : goal.invariant_of-self

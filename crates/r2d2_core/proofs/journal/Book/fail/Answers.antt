@@ -1,7 +1,7 @@
 use Rattle.r2d2_core.specs.Book.{seen_book}
 use Rattle.std.proofs.Common.{refl}
 use Rattle.std.specs.Duration.{as_nanos}
-use Rattle.r2d2_core.proofs.Books.{recorded_fail}
+use Rattle.r2d2_core.proofs.Recording.Books.{recorded_fail}
 use Rattle.r2d2_core.proofs.journal.Book.fail.Goals as goal
 
 pub invariant_of-self : goal.invariant_of-self

@@ -4,7 +4,7 @@ use Rattle.r2d2_core.specs.Seen.{seen_gone, map_ok}
 use Rattle.r2d2_core.specs.Recorded.{record_of_check}
 use Rattle.r2d2_core.specs.Journal.{with_noted}
 use Rattle.r2d2_core.specs.Book.{seen_book}
-use Rattle.r2d2_core.proofs.Books.{recorded_check}
+use Rattle.r2d2_core.proofs.Recording.Books.{recorded_check}
 use Rattle.r2d2_core.proofs.journal.Book.fail_check.Goals as goal
 
 pub invariant_of-self : goal.invariant_of-self

@@ -1,6 +1,6 @@
 use Rattle.r2d2_core.specs.Book.{seen_book}
 use Rattle.std.proofs.Common.{refl}
-use Rattle.r2d2_core.proofs.Books.{recorded_number}
+use Rattle.r2d2_core.proofs.Recording.Books.{recorded_number}
 use Rattle.r2d2_core.proofs.journal.Book.number.Goals as goal
 
 pub invariant_of-self : goal.invariant_of-self

@@ -4,7 +4,7 @@ use Rattle.r2d2_core.specs.Seen.{seen_returned, map_ok}
 use Rattle.r2d2_core.specs.Recorded.{record_of_return}
 use Rattle.r2d2_core.specs.Journal.{with_noted}
 use Rattle.r2d2_core.specs.Book.{seen_book}
-use Rattle.r2d2_core.proofs.Books.{recorded_return}
+use Rattle.r2d2_core.proofs.Recording.Books.{recorded_return}
 use Rattle.r2d2_core.proofs.journal.Book.put_back.Goals as goal
 
 pub invariant_of-self : goal.invariant_of-self

@@ -2,7 +2,7 @@ use Rattle.std.proofs.Common.{◌∙◌, subst}
 use Rattle.r2d2_core.specs.Book.{SeenBook, IsReplayed}
 use Rattle.r2d2_core.specs.Reports.{IsReportOf}
 use Rattle.r2d2_core.specs.Picture.{IsSound}
-use Rattle.r2d2_core.proofs.Reporting.{report_replays, report_sound}
+use Rattle.r2d2_core.proofs.Recording.Reporting.{report_replays, report_sound}
 use Rattle.r2d2_core.proofs.journal.Book.report_in.Goals as goal
 
 pub returns-clause-given : goal.returns-clause-given

@@ -4,7 +4,7 @@ use Rattle.r2d2_core.specs.Seen.{seen_take}
 use Rattle.r2d2_core.specs.Recorded.{record_of_take}
 use Rattle.r2d2_core.specs.Journal.{with_noted}
 use Rattle.r2d2_core.specs.Book.{seen_book}
-use Rattle.r2d2_core.proofs.Books.{recorded_take}
+use Rattle.r2d2_core.proofs.Recording.Books.{recorded_take}
 use Rattle.r2d2_core.proofs.journal.Book.take.Goals as goal
 
 pub invariant_of-self : goal.invariant_of-self

@@ -1,7 +1,7 @@
 use Rattle.std.specs.Duration.{as_nanos}
 use Rattle.r2d2_core.specs.Limits.{seen_limits}
 use Rattle.r2d2_core.specs.Book.{seen_book}
-use Rattle.r2d2_core.proofs.Books.{recorded_made}
+use Rattle.r2d2_core.proofs.Recording.Books.{recorded_made}
 use Rattle.r2d2_core.proofs.journal.Book.with_first_id.Goals as goal
 
 pub invariant_of-result : goal.invariant_of-result

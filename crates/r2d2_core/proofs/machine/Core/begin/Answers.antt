@@ -3,8 +3,8 @@ use Rattle.std.proofs.lemmas.Grind.{common_steps}
 use Rattle.std.specs.Duration.{as_nanos}
 use Rattle.r2d2_core.specs.Picture.{IsSound}
 use Rattle.r2d2_core.specs.Table.{after_begin}
-use Rattle.r2d2_core.proofs.Sounds.{sound_begin}
-use Rattle.r2d2_core.proofs.Wholes.{whole, sound_as}
+use Rattle.r2d2_core.proofs.Facts.Sounds.{sound_begin}
+use Rattle.r2d2_core.proofs.Facts.Wholes.{whole, sound_as}
 use Rattle.r2d2_core.proofs.machine.Core.begin.Goals as goal
 
 pub invariant_of-self : goal.invariant_of-self

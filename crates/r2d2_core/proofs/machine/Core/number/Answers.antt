@@ -2,8 +2,8 @@ use Rattle.std.proofs.Common.{rules, arith, subst}
 use Rattle.std.proofs.lemmas.Grind.{common_steps}
 use Rattle.r2d2_core.specs.Picture.{IsSound}
 use Rattle.r2d2_core.specs.Table.{after_number}
-use Rattle.r2d2_core.proofs.Sounds.{sound_number}
-use Rattle.r2d2_core.proofs.Wholes.{whole, sound_as}
+use Rattle.r2d2_core.proofs.Facts.Sounds.{sound_number}
+use Rattle.r2d2_core.proofs.Facts.Wholes.{whole, sound_as}
 use Rattle.r2d2_core.proofs.machine.Core.number.Goals as goal
 
 pub invariant_of-self : goal.invariant_of-self

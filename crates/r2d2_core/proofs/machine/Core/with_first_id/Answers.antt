@@ -3,8 +3,8 @@ use Rattle.std.proofs.lemmas.Grind.{common_steps}
 use Rattle.std.specs.Duration.{as_nanos}
 use Rattle.r2d2_core.specs.Limits.{seen_limits, wanted_of}
 use Rattle.r2d2_core.specs.Table.{first_picture}
-use Rattle.r2d2_core.proofs.Sounds.{sound_first}
-use Rattle.r2d2_core.proofs.Wholes.{whole}
+use Rattle.r2d2_core.proofs.Facts.Sounds.{sound_first}
+use Rattle.r2d2_core.proofs.Facts.Wholes.{whole}
 use Rattle.r2d2_core.proofs.machine.Core.with_first_id.Goals as goal
 
 pub invariant_of-result : goal.invariant_of-result

@@ -3,7 +3,7 @@ use Rattle.std.specs.Duration.{as_nanos}
 use Rattle.std.proofs.lemmas.List.{get_or_default}
 use Rattle.r2d2_core.specs.Limits.{seen_limits}
 use Rattle.r2d2_core.specs.Connections.{is_expired, is_kept}
-use Rattle.r2d2_core.proofs.Sifting.{sifted_closed, sifted_kept, sifted_fits, sifted_all}
+use Rattle.r2d2_core.proofs.Lists.Sifting.{sifted_closed, sifted_kept, sifted_fits, sifted_all}
 use Rattle.std.proofs.lemmas.List.Filters.{length-filter_both}
 use Rattle.r2d2_core.proofs.machine.idle.sift.Goals as goal
 use Rattle.r2d2_core.proofs.machine.idle.sift.Goals.{then-is_expired, else-is_expired}

@@ -3,7 +3,7 @@ use Rattle.std.specs.Duration.{as_nanos}
 use Rattle.r2d2_core.specs.Limits.{seen_limits}
 use Rattle.r2d2_core.specs.Connections.{is_expired, closing}
 use Rattle.r2d2_core.specs.Seen.{seen_released}
-use Rattle.r2d2_core.proofs.Sifting.{Sifted}
+use Rattle.r2d2_core.proofs.Lists.Sifting.{Sifted}
 use Rattle.r2d2_core.proofs.machine.idle.sift.Given as goal
 
 abbrev pub invariant-loop : goal.invariant-loop

@@ -1,6 +1,6 @@
 use Rattle.std.proofs.Common.{arith, ◌≡◌, ◌∙◌, ap, sym, length}
 use Rattle.r2d2_core.specs.Schedule.{SeenSchedule}
-use Rattle.r2d2_core.proofs.Openings.{length-in_order}
+use Rattle.r2d2_core.proofs.Scheduling.Openings.{length-in_order}
 use Rattle.r2d2_core.proofs.schedule.Schedule.len.Goals as goal
 
 pub returns-clause-value : goal.returns-clause-value

@@ -7,8 +7,8 @@ use Rattle.std.proofs.lemmas.List.{get_or_read, nil_from_length}
 use Rattle.r2d2_core.specs.Openings.{SeenOpening, in_order, IsLeast}
 use Rattle.r2d2_core.specs.Schedule.{is_due_before}
 use Rattle.r2d2_core.specs.Jobs.{Wait, Open, first_job, reap_or_wait}
-use Rattle.r2d2_core.proofs.Openings.{in_order-from_least}
-use Rattle.r2d2_core.proofs.Tasks.{opening_is_first, reap_is_first, reap_is_alone, opening_waits, opening_opens, reap_waits, reap_reaps}
+use Rattle.r2d2_core.proofs.Scheduling.Openings.{in_order-from_least}
+use Rattle.r2d2_core.proofs.Scheduling.Jobs.{opening_is_first, reap_is_first, reap_is_alone, opening_waits, opening_opens, reap_waits, reap_reaps}
 use Rattle.r2d2_core.proofs.schedule.Schedule.next.Goals as goal
 use Rattle.r2d2_core.proofs.schedule.Schedule.next.Goals.{then-not-is_empty+else-not-is_reap_before, else-not-is_empty}
 

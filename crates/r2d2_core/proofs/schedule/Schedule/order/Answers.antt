@@ -1,7 +1,7 @@
 use Rattle.std.proofs.Common.{arith, rules, ◌≡◌, ◌∙◌, ◌++◌, ◌∷◌, [], ap, sym, refl, length}
 use Rattle.r2d2_core.specs.Openings.{in_order, with_opening}
 use Rattle.r2d2_core.specs.Schedule.{SeenSchedule}
-use Rattle.r2d2_core.proofs.Openings.{length-in_order, in_order-push}
+use Rattle.r2d2_core.proofs.Scheduling.Openings.{length-in_order, in_order-push}
 use Rattle.r2d2_core.proofs.schedule.Schedule.order.Goals as goal
 
 pub push_reserved-requires : goal.push_reserved-requires

@@ -2,7 +2,7 @@ use Rattle.std.proofs.Common.{arith, ◌≡◌, ℕ, ◌+◌, ◌∙◌, ap, sym
 use Rattle.std.specs.Duration.{as_nanos}
 use Rattle.r2d2_core.specs.Openings.{SeenOpening, with_many}
 use Rattle.r2d2_core.specs.Schedule.{SeenSchedule, joined, with_openings}
-use Rattle.r2d2_core.proofs.Openings.{length-with_many}
+use Rattle.r2d2_core.proofs.Scheduling.Openings.{length-with_many}
 use Rattle.r2d2_core.proofs.schedule.Schedule.order_many.Goals as goal
 
 abbrev due_at : ℕ → SeenOpening

@@ -1,6 +1,6 @@
 use Rattle.std.proofs.Common.{◌≡◌, length, vec_capacity}
 use Rattle.r2d2_core.specs.Connections.{id_of_idle}
-use Rattle.r2d2_core.proofs.Listing.{IsListed}
+use Rattle.r2d2_core.proofs.Recording.Listing.{IsListed}
 use Rattle.r2d2_core.proofs.journal.report.IdList.of_idle.Given as goal
 
 abbrev pub invariant-loop-place : goal.invariant-loop-place

@@ -2,7 +2,7 @@ use Rattle.std.proofs.Common.{arith, ◌∙◌, sym, ap, ◌<◌, length}
 use Rattle.std.specs.Option.{IsSome}
 use Rattle.r2d2_core.specs.Ids.{last_of}
 use Rattle.r2d2_core.specs.Roster.{roster_of}
-use Rattle.r2d2_core.proofs.Ids.{popped_is_last}
+use Rattle.r2d2_core.proofs.Lists.Ids.{popped_is_last}
 use Rattle.r2d2_core.proofs.machine.idle.Idle.take.Goals as goal
 use Rattle.r2d2_core.proofs.machine.idle.Idle.take.Goals.{in-Some, in-None}
 

@@ -2,8 +2,8 @@ use Rattle.std.proofs.Common.{rules, arith, subst}
 use Rattle.std.proofs.lemmas.Grind.{common_steps}
 use Rattle.r2d2_core.specs.Refusals.{unless_refused}
 use Rattle.r2d2_core.specs.OnOrder.{IsAccounted, admit_refusal, admitted_one}
-use Rattle.r2d2_core.proofs.Accounted.{accounted_admitted}
-use Rattle.r2d2_core.proofs.Wholes.{keeping}
+use Rattle.r2d2_core.proofs.Facts.Accounted.{accounted_admitted}
+use Rattle.r2d2_core.proofs.Facts.Wholes.{keeping}
 use Rattle.r2d2_core.proofs.machine.on_order.OnOrder.admit.Goals as goal
 
 pub invariant_of-self : goal.invariant_of-self

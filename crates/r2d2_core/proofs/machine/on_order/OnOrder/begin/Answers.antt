@@ -3,8 +3,8 @@ use Rattle.std.proofs.lemmas.Grind.{common_steps}
 use Rattle.std.specs.Duration.{as_nanos}
 use Rattle.r2d2_core.specs.Jobs.{Open, first_job}
 use Rattle.r2d2_core.specs.OnOrder.{IsAccounted, begun}
-use Rattle.r2d2_core.proofs.Accounted.{accounted_begun, begins_within}
-use Rattle.r2d2_core.proofs.Wholes.{keeping}
+use Rattle.r2d2_core.proofs.Facts.Accounted.{accounted_begun, begins_within}
+use Rattle.r2d2_core.proofs.Facts.Wholes.{keeping}
 use Rattle.r2d2_core.proofs.machine.on_order.OnOrder.begin.Goals as goal
 
 pub invariant_of-self : goal.invariant_of-self

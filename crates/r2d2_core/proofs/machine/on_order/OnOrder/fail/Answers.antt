@@ -3,8 +3,8 @@ use Rattle.std.proofs.lemmas.Grind.{common_steps}
 use Rattle.std.specs.Duration.{as_nanos}
 use Rattle.r2d2_core.specs.Refusals.{unless_refused}
 use Rattle.r2d2_core.specs.OnOrder.{IsAccounted, fail_refusal, failed_one}
-use Rattle.r2d2_core.proofs.Accounted.{accounted_failed}
-use Rattle.r2d2_core.proofs.Wholes.{keeping}
+use Rattle.r2d2_core.proofs.Facts.Accounted.{accounted_failed}
+use Rattle.r2d2_core.proofs.Facts.Wholes.{keeping}
 use Rattle.r2d2_core.proofs.machine.on_order.OnOrder.fail.Goals as goal
 
 pub invariant_of-self-2 : goal.invariant_of-self-2

@@ -1,8 +1,8 @@
 use Rattle.std.proofs.Common.{rules, arith, subst}
 use Rattle.std.proofs.lemmas.Grind.{common_steps}
 use Rattle.r2d2_core.specs.OnOrder.{IsAccounted, after_numbering}
-use Rattle.r2d2_core.proofs.Accounted.{accounted_numbering}
-use Rattle.r2d2_core.proofs.Wholes.{keeping}
+use Rattle.r2d2_core.proofs.Facts.Accounted.{accounted_numbering}
+use Rattle.r2d2_core.proofs.Facts.Wholes.{keeping}
 use Rattle.r2d2_core.proofs.machine.on_order.OnOrder.number.Goals as goal
 
 pub invariant_of-self : goal.invariant_of-self

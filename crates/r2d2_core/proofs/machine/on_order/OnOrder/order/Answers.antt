@@ -2,8 +2,8 @@ use Rattle.std.proofs.Common.{rules, arith, subst}
 use Rattle.std.proofs.lemmas.Grind.{common_steps}
 use Rattle.std.specs.Duration.{as_nanos}
 use Rattle.r2d2_core.specs.OnOrder.{IsAccounted, with_orders}
-use Rattle.r2d2_core.proofs.Accounted.{accounted_orders}
-use Rattle.r2d2_core.proofs.Wholes.{keeping}
+use Rattle.r2d2_core.proofs.Facts.Accounted.{accounted_orders}
+use Rattle.r2d2_core.proofs.Facts.Wholes.{keeping}
 use Rattle.r2d2_core.proofs.machine.on_order.OnOrder.order.Goals as goal
 
 pub invariant_of-self : goal.invariant_of-self

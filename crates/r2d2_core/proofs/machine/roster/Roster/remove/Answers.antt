@@ -1,6 +1,6 @@
 use Rattle.std.proofs.Common.{◌∙◌, sym, ap, Some, refl}
 use Rattle.r2d2_core.specs.Ids.{NoneBelow, IsFirst}
-use Rattle.r2d2_core.proofs.Ids.{found_none, found_first, without_none, without_first}
+use Rattle.r2d2_core.proofs.Lists.Ids.{found_none, found_first, without_none, without_first}
 use Rattle.r2d2_core.proofs.machine.roster.Roster.remove.Goals as goal
 
 pub returns-in-Some-clause-gone : goal.returns-in-Some-clause-gone

@@ -1,0 +1,5 @@
+pub mod Accounted
+pub mod Steady
+pub mod Sounds
+pub mod Wholes
+pub mod Latest

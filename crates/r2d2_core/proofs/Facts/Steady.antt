@@ -1,0 +1,366 @@
+-- What keeps with the changes of a picture that the steps are made of.
+use Rattle.std.proofs.Common.{◌≡◌, ◌⊎◌, ℕ, ◌+◌, ◌-◌, ◌<◌, ◌≤◌, min, max, Bool, true, false, cond, List, [], ◌∷◌, ◌++◌, map, length, Option, Some, refl, ap, arith, inl, inr}
+use Rattle.std.specs.List.{All, filter}
+use Rattle.std.specs.List.Sorted.{IsNonDecreasingBy}
+use Rattle.std.proofs.lemmas.List.{length_push, map-id}
+use Rattle.std.proofs.lemmas.List.Elements.{All-take, All-filter}
+use Rattle.std.proofs.lemmas.List.Filters.{length-filter_both}
+use Rattle.std.proofs.lemmas.List.Kept.{IsNonDecreasingBy-filter}
+use Rattle.std.proofs.lemmas.List.Sorted.{IsNonDecreasingBy-take, IsNonDecreasingBy-push}
+use Rattle.std.proofs.lemmas.Bool.{cases_lt, cases_eq}
+use Rattle.r2d2_core.specs.Limits.{wanted_of}
+use Rattle.r2d2_core.specs.Ids.{same_id, last_of, front, found, without, copies_of}
+use Rattle.r2d2_core.specs.Openings.{SeenOpening}
+use Rattle.r2d2_core.specs.Connections.{SeenIdleConnection, SeenLentConnection, idle_connection, lent_connection, id_of_idle, id_of_lent, since_of, is_expired, is_kept}
+use Rattle.r2d2_core.specs.OnOrder.{IsAccounted, admitted_one, numbered_one}
+use Rattle.r2d2_core.specs.Picture.{Picture, IsSound, ids_in}
+use Rattle.r2d2_core.specs.Table.{at, with_on_order, ordered, top_up_of, topped_up, miss_order_of, lent_out, admitted_at, kept, lost, swept}
+use Rattle.r2d2_core.proofs.Lists.Filters.{copies_of-filter}
+use Rattle.r2d2_core.proofs.Lists.Ids.{copies_of-append, copies_of-append3, copies_of-one, copies_of-other, copies_of-push, copies_of-last, copies_of-without, length-front, length-without, All-without, All-found, All-push, All-last, All-weaker}
+use Rattle.r2d2_core.proofs.Facts.Accounted.{is_not, accounted_orders}
+
+-- HOW MANY ARE ORDERED
+
+top_up_fits : (closed : Bool) (wanted size idle connections pending : ℕ) → connections + pending ≤ size → connections + (pending + cond closed 0 (min (wanted - idle) (size - connections - pending))) ≤ size
+top_up_fits true wanted size idle connections pending le = omega arith
+top_up_fits false wanted size idle connections pending le = omega arith
+
+miss_fits : (closed or_order : Bool) (size connections pending : ℕ) → connections + pending ≤ size → connections + (pending + cond closed 0 (cond or_order (min 1 (size - connections - pending)) 0)) ≤ size
+miss_fits true or_order size connections pending le = omega arith
+miss_fits false true size connections pending le = omega arith
+miss_fits false false size connections pending le = omega arith
+
+-- a closed core orders none
+closed_none : (closed : Bool) (n : ℕ) → closed ≡ true → cond closed 0 n ≡ 0
+closed_none true n e = refl
+closed_none false n e = absurd cc
+
+open_all : (closed : Bool) (n : ℕ) → closed ≡ false → cond closed 0 n ≡ n
+open_all true n e = absurd cc
+open_all false n e = refl
+
+-- REPLENISHED
+
+-- what is wanted is reached, or the room is used up
+abbrev Reaches : ℕ → ℕ → ℕ → ℕ → ℕ → Type 0
+Reaches wanted idle pending connections size = (wanted ≤ idle + pending) ⊎ (connections + pending ≡ size)
+
+after_top_up : (wanted size idle connections pending n : ℕ) → connections + pending ≤ size → n ≡ min (wanted - idle) (size - connections - pending) → Reaches wanted idle (pending + n) connections size
+after_top_up wanted size idle connections pending n le e =
+    elim (cases_lt (idle + (pending + n)) wanted) [ inl h ↦ inr (omega arith) | inr h ↦ inl h ]
+
+with_more_pending : (n wanted idle connections pending size : ℕ) → connections + (pending + n) ≤ size → Reaches wanted idle pending connections size → Reaches wanted idle (pending + n) connections size
+with_more_pending n wanted idle connections pending size fits (inl h) = inl (omega arith)
+with_more_pending n wanted idle connections pending size fits (inr h) = inr (omega arith)
+
+with_one_kept : (wanted pending connections size idle more : ℕ) → more ≡ idle + 1 → Reaches wanted idle pending connections size → Reaches wanted more pending connections size
+with_one_kept wanted pending connections size idle more e (inl h) = inl (omega arith)
+with_one_kept wanted pending connections size idle more e (inr h) = inr h
+
+with_one_admitted : (wanted idle more connections pending size : ℕ) → more ≡ idle + 1 → 0 < pending → Reaches wanted idle pending connections size → Reaches wanted more (pending - 1) (connections + 1) size
+with_one_admitted wanted idle more connections pending size e some (inl h) = inl (omega arith)
+with_one_admitted wanted idle more connections pending size e some (inr h) = inr (omega arith)
+
+none_last : {X : Type 0} (xs : List X) (x : X) → xs ≡ [] → last_of xs ≡ Some x → ⊥
+none_last xs x e is = cc (ap last_of e)
+
+module _ {T : Type 0} where
+  -- all that holds of each picture of a core, but that what is wanted was ordered
+  pub record IsSteady (p : Picture T) : Type 0 where
+    pub apart : (i : ℕ) → copies_of i (ids_in p) ≤ 1
+    pub below_next : (i : ℕ) → p.on_order.next_id ≤ i → copies_of i (ids_in p) ≡ 0
+    pub counted : p.connections ≡ length p.idle + length p.lent
+    pub accounted : IsAccounted p.on_order
+    pub fits : p.connections + p.on_order.pending ≤ p.on_order.limits.max_size
+    pub in_order : IsNonDecreasingBy since_of p.idle
+    pub seen : All (λ c. c.since ≤ p.latest) p.idle
+    pub born : All (λ c. c.birth ≤ c.since) p.idle
+    pub born_lent : All (λ c. c.birth ≤ p.latest) p.lent
+    pub none_once_closed : p.on_order.closed ≡ true → p.idle ≡ []
+
+  pub steady : {p : Picture T} → IsSound p → IsSteady p
+  steady {p} s = record {
+    apart = s.apart;
+    below_next = s.below_next;
+    counted = s.counted;
+    accounted = s.accounted;
+    fits = s.fits;
+    in_order = s.in_order;
+    seen = s.seen;
+    born = s.born;
+    born_lent = s.born_lent;
+    none_once_closed = s.none_once_closed;
+  }
+
+  abbrev pub IsReplenished : Picture T → Type 0
+  IsReplenished p = p.on_order.closed ≡ false → Reaches (wanted_of p.on_order.limits) (length p.idle) p.on_order.pending p.connections p.on_order.limits.max_size
+
+  pub sound : {p : Picture T} → IsSteady p → IsReplenished p → IsSound p
+  sound {p} s r = record {
+    apart = s.apart;
+    below_next = s.below_next;
+    counted = s.counted;
+    accounted = s.accounted;
+    fits = s.fits;
+    replenished = r;
+    in_order = s.in_order;
+    seen = s.seen;
+    born = s.born;
+    born_lent = s.born_lent;
+    none_once_closed = s.none_once_closed;
+  }
+
+  -- ids that stand no more often than before are as far apart
+  pub apart_still : (p q : Picture T) → p.on_order.next_id ≡ q.on_order.next_id → ((i : ℕ) → copies_of i (ids_in q) ≤ copies_of i (ids_in p)) → IsSteady p
+      → ((i : ℕ) → copies_of i (ids_in q) ≤ 1) × ((i : ℕ) → q.on_order.next_id ≤ i → copies_of i (ids_in q) ≡ 0)
+  apart_still p q next le s = (λ i. omega (arith, le i, s.apart i), λ i past. omega (arith, le i, s.below_next i (omega (arith, next, past))))
+
+  -- MOMENTS
+
+  pub steady_at : (t : ℕ) {p : Picture T} → IsSteady p → IsSteady (at t p)
+  steady_at t {p} s = record {
+    apart = s.apart;
+    below_next = s.below_next;
+    counted = s.counted;
+    accounted = s.accounted;
+    fits = s.fits;
+    in_order = s.in_order;
+    seen = All-weaker (λ c. c.since ≤ p.latest) (λ c. c.since ≤ max p.latest t) p.idle (λ c le. omega arith) s.seen;
+    born = s.born;
+    born_lent = All-weaker (λ l. l.birth ≤ p.latest) (λ l. l.birth ≤ max p.latest t) p.lent (λ l le. omega arith) s.born_lent;
+    none_once_closed = s.none_once_closed;
+  }
+
+  pub sound_at : (t : ℕ) {p : Picture T} → IsSound p → IsSound (at t p)
+  sound_at t s = sound (steady_at t (steady s)) s.replenished
+
+  -- ORDERS
+
+  pub steady_orders : (n : ℕ) {p : Picture T} → p.connections + (p.on_order.pending + n) ≤ p.on_order.limits.max_size → (p.on_order.closed ≡ true → n ≡ 0) → IsSteady p → IsSteady (ordered n p)
+  steady_orders n {p} fits none s = record {
+    apart = s.apart;
+    below_next = s.below_next;
+    counted = s.counted;
+    accounted = accounted_orders n p.latest p.on_order (omega (arith, fits)) none s.accounted;
+    fits = fits;
+    in_order = s.in_order;
+    seen = s.seen;
+    born = s.born;
+    born_lent = s.born_lent;
+    none_once_closed = s.none_once_closed;
+  }
+
+  -- after a top-up all is sound
+  pub sound_topped_up : {p : Picture T} → IsSteady p → IsSound (topped_up p)
+  sound_topped_up {p} s =
+      let o = p.on_order in
+      sound
+      (steady_orders (top_up_of p) (top_up_fits o.closed (wanted_of o.limits) o.limits.max_size (length p.idle) p.connections o.pending s.fits) (closed_none o.closed _) s)
+      (λ is_open. after_top_up (wanted_of o.limits) o.limits.max_size (length p.idle) p.connections o.pending (top_up_of p) s.fits (open_all o.closed _ is_open))
+
+  pub sound_missed : (or_order : Bool) {p : Picture T} → IsSound p → IsSound (ordered (miss_order_of or_order p) p)
+  sound_missed or_order {p} s =
+      let o = p.on_order in
+      let fits = miss_fits o.closed or_order o.limits.max_size p.connections o.pending s.fits in
+      sound
+      (steady_orders (miss_order_of or_order p) fits (closed_none o.closed _) (steady s))
+      (λ is_open. with_more_pending (miss_order_of or_order p) (wanted_of o.limits) (length p.idle) p.connections o.pending o.limits.max_size fits (s.replenished is_open))
+
+  -- what is on order changes, but for its counts, its numbers and its limits
+  pub sound_rescheduled : (xs : List SeenOpening) (ws : List ℕ) (r : Option ℕ) {p : Picture T} → IsAccounted (record p.on_order { scheduled = xs; in_work = ws; next_reap = r }) → IsSound p
+      → IsSound (with_on_order (record p.on_order { scheduled = xs; in_work = ws; next_reap = r }) p)
+  sound_rescheduled xs ws r {p} a s = record {
+    apart = s.apart;
+    below_next = s.below_next;
+    counted = s.counted;
+    accounted = a;
+    fits = s.fits;
+    replenished = s.replenished;
+    in_order = s.in_order;
+    seen = s.seen;
+    born = s.born;
+    born_lent = s.born_lent;
+    none_once_closed = s.none_once_closed;
+  }
+
+  -- the facts don't speak of the last error
+  pub sound_told : (e : Option (List ℕ)) {p : Picture T} → IsSound p → IsSound (record p { last_error = e })
+  sound_told e {p} s = record {
+    apart = s.apart;
+    below_next = s.below_next;
+    counted = s.counted;
+    accounted = s.accounted;
+    fits = s.fits;
+    replenished = s.replenished;
+    in_order = s.in_order;
+    seen = s.seen;
+    born = s.born;
+    born_lent = s.born_lent;
+    none_once_closed = s.none_once_closed;
+  }
+
+  -- TAKE
+
+  pub steady_lent_out : (c : SeenIdleConnection T) {p : Picture T} → last_of p.idle ≡ Some c → IsSteady p → IsSteady (lent_out c p)
+  steady_lent_out c {p} is s =
+      let l = lent_connection c.id c.birth in
+      let ids = apart_still p (lent_out c p) refl (λ i. omega (
+        arith,
+        copies_of-append3 i (map id_of_idle p.idle) (map id_of_lent p.lent) p.on_order.numbered,
+        copies_of-append3 i (map id_of_idle (front p.idle)) (map id_of_lent (p.lent ++ l ∷ [])) p.on_order.numbered,
+        copies_of-last id_of_idle i p.idle c is,
+        copies_of-push id_of_lent i p.lent l,
+      )) s in
+      let birth : c.birth ≤ c.since = All-last (λ c. c.birth ≤ c.since) p.idle c s.born is in
+      let since : c.since ≤ p.latest = All-last (λ c. c.since ≤ p.latest) p.idle c s.seen is in
+      record {
+        apart = ids.0;
+        below_next = ids.1;
+        counted = omega (arith, s.counted, length-front p.idle c is, length_push p.lent l);
+        accounted = s.accounted;
+        fits = s.fits;
+        in_order = IsNonDecreasingBy-take since_of (length p.idle - 1) p.idle s.in_order;
+        seen = All-take (λ c. c.since ≤ p.latest) (length p.idle - 1) p.idle s.seen;
+        born = All-take (λ c. c.birth ≤ c.since) (length p.idle - 1) p.idle s.born;
+        born_lent = All-push (λ l. l.birth ≤ p.latest) p.lent l s.born_lent (omega arith);
+        none_once_closed = λ closed. absurd (none_last p.idle c (s.none_once_closed closed) is);
+      }
+
+  -- RETURNS
+
+  -- one that was lent is gone
+  pub steady_lost : (id : ℕ) (l : SeenLentConnection) {p : Picture T} → found id_of_lent id p.lent ≡ Some l → IsSteady p → IsSteady (lost id p)
+  steady_lost id l {p} is s =
+      let ids = apart_still p (lost id p) refl (λ i. omega (
+        arith,
+        copies_of-append3 i (map id_of_idle p.idle) (map id_of_lent p.lent) p.on_order.numbered,
+        copies_of-append3 i (map id_of_idle p.idle) (map id_of_lent (without id_of_lent id p.lent)) p.on_order.numbered,
+        copies_of-without id_of_lent id i p.lent l is,
+      )) s in
+      let less : length (without id_of_lent id p.lent) + 1 ≡ length p.lent = length-without id_of_lent id p.lent l is in
+      record {
+        apart = ids.0;
+        below_next = ids.1;
+        counted = omega (arith, s.counted, less);
+        accounted = s.accounted;
+        fits = omega (arith, s.fits);
+        in_order = s.in_order;
+        seen = s.seen;
+        born = s.born;
+        born_lent = All-without (λ l. l.birth ≤ p.latest) id_of_lent id p.lent s.born_lent;
+        none_once_closed = s.none_once_closed;
+      }
+
+  -- it is idle again
+  pub sound_kept : (id : ℕ) (value : T) (l : SeenLentConnection) {p : Picture T} → found id_of_lent id p.lent ≡ Some l → p.on_order.closed ≡ false → IsSound p → IsSound (kept id l.birth value p)
+  sound_kept id value l {p} is is_open s =
+      let c : SeenIdleConnection T = idle_connection id l.birth p.latest value in
+      let ids = apart_still p (kept id l.birth value p) refl (λ i. omega (
+        arith,
+        copies_of-append3 i (map id_of_idle p.idle) (map id_of_lent p.lent) p.on_order.numbered,
+        copies_of-append3 i (map id_of_idle (p.idle ++ c ∷ [])) (map id_of_lent (without id_of_lent id p.lent)) p.on_order.numbered,
+        copies_of-without id_of_lent id i p.lent l is,
+        copies_of-push id_of_idle i p.idle c,
+      )) (steady s) in
+      let less : length (without id_of_lent id p.lent) + 1 ≡ length p.lent = length-without id_of_lent id p.lent l is in
+      let more : length (p.idle ++ c ∷ []) ≡ length p.idle + 1 = length_push p.idle c in
+      let birth : l.birth ≤ p.latest = All-found (λ l. l.birth ≤ p.latest) id_of_lent id p.lent l s.born_lent is in
+      record {
+        apart = ids.0;
+        below_next = ids.1;
+        counted = omega (arith, s.counted, less, more);
+        accounted = s.accounted;
+        fits = s.fits;
+        replenished = λ still. with_one_kept (wanted_of p.on_order.limits) p.on_order.pending p.connections p.on_order.limits.max_size (length p.idle) (length (p.idle ++ c ∷ [])) more (s.replenished still);
+        in_order = IsNonDecreasingBy-push since_of p.idle c s.in_order (λ d some. s.seen (length p.idle - 1) d (omega arith));
+        seen = All-push (λ c. c.since ≤ p.latest) p.idle c s.seen (omega arith);
+        born = All-push (λ c. c.birth ≤ c.since) p.idle c s.born birth;
+        born_lent = All-without (λ l. l.birth ≤ p.latest) id_of_lent id p.lent s.born_lent;
+        none_once_closed = λ closed. absurd (is_not p.on_order.closed closed is_open);
+      }
+
+  -- NUMBER, ADMIT
+
+  -- the next id is numbered
+  pub sound_numbered : (tries : ℕ) {p : Picture T} → IsAccounted (numbered_one tries p.on_order) → IsSound p → IsSound (with_on_order (numbered_one tries p.on_order) p)
+  sound_numbered tries {p} a s =
+      let next = p.on_order.next_id in
+      let count : (i : ℕ) → copies_of i (ids_in (with_on_order (numbered_one tries p.on_order) p)) ≡ copies_of i (ids_in p) + copies_of i (next ∷ []) = λ i. omega (
+        arith,
+        copies_of-append3 i (map id_of_idle p.idle) (map id_of_lent p.lent) p.on_order.numbered,
+        copies_of-append3 i (map id_of_idle p.idle) (map id_of_lent p.lent) (p.on_order.numbered ++ next ∷ []),
+        copies_of-append i p.on_order.numbered (next ∷ []),
+      ) in
+      record {
+        apart = λ i. elim (cases_eq i next) [
+          | inl e ↦ omega (arith, count i, copies_of-one i next, s.below_next i (omega arith))
+          | inr ne ↦ omega (arith, count i, copies_of-other i next ne, s.apart i)
+        ];
+        below_next = λ i past. omega (arith, count i, copies_of-other i next (λ e. absurd (omega arith)), s.below_next i (omega arith));
+        counted = s.counted;
+        accounted = a;
+        fits = s.fits;
+        replenished = s.replenished;
+        in_order = s.in_order;
+        seen = s.seen;
+        born = s.born;
+        born_lent = s.born_lent;
+        none_once_closed = s.none_once_closed;
+      }
+
+  -- a numbered one is idle
+  pub sound_admitted : (id : ℕ) (value : T) {p : Picture T} → found same_id id p.on_order.numbered ≡ Some id → p.on_order.closed ≡ false → IsAccounted (admitted_one id p.on_order) → IsSound p → IsSound (admitted_at p.latest id value p)
+  sound_admitted id value {p} is is_open a s =
+      let o = p.on_order in
+      let c : SeenIdleConnection T = idle_connection id p.latest p.latest value in
+      let ids = apart_still p (admitted_at p.latest id value p) refl (λ i. omega (
+        arith,
+        copies_of-append3 i (map id_of_idle p.idle) (map id_of_lent p.lent) o.numbered,
+        copies_of-append3 i (map id_of_idle (p.idle ++ c ∷ [])) (map id_of_lent p.lent) (without same_id id o.numbered),
+        ap (copies_of i) (map-id o.numbered),
+        ap (copies_of i) (map-id (without same_id id o.numbered)),
+        copies_of-without same_id id i o.numbered id is,
+        copies_of-push id_of_idle i p.idle c,
+      )) (steady s) in
+      let less : length (without same_id id o.numbered) + 1 ≡ length o.numbered = length-without same_id id o.numbered id is in
+      let some : 0 < o.pending = omega (arith, s.accounted.placed, less) in
+      let more : length (p.idle ++ c ∷ []) ≡ length p.idle + 1 = length_push p.idle c in
+      record {
+        apart = ids.0;
+        below_next = ids.1;
+        counted = omega (arith, s.counted, more);
+        accounted = a;
+        fits = omega (arith, s.fits, some);
+        replenished = λ still. with_one_admitted (wanted_of o.limits) (length p.idle) (length (p.idle ++ c ∷ [])) p.connections o.pending o.limits.max_size more some (s.replenished still);
+        in_order = IsNonDecreasingBy-push since_of p.idle c s.in_order (λ d some. s.seen (length p.idle - 1) d (omega arith));
+        seen = All-push (λ c. c.since ≤ p.latest) p.idle c s.seen (omega arith);
+        born = All-push (λ c. c.birth ≤ c.since) p.idle c s.born (omega arith);
+        born_lent = s.born_lent;
+        none_once_closed = λ closed. absurd (is_not o.closed closed is_open);
+      }
+
+  -- REAP
+
+  pub steady_swept : {p : Picture T} → IsSteady p → IsSteady (swept p)
+  unfolding is_kept is_expired
+  steady_swept {p} s =
+      let goes : SeenIdleConnection T → Bool = is_expired p.on_order.limits p.latest in
+      let stays : SeenIdleConnection T → Bool = is_kept p.on_order.limits p.latest in
+      let ids = apart_still p (swept p) refl (λ i. omega (
+        arith,
+        copies_of-append3 i (map id_of_idle p.idle) (map id_of_lent p.lent) p.on_order.numbered,
+        copies_of-append3 i (map id_of_idle (filter stays p.idle)) (map id_of_lent p.lent) p.on_order.numbered,
+        copies_of-filter stays id_of_idle i p.idle,
+      )) s in
+      record {
+        apart = ids.0;
+        below_next = ids.1;
+        counted = omega (arith, s.counted, length-filter_both goes stays (λ c. refl) p.idle);
+        accounted = s.accounted;
+        fits = omega (arith, s.fits);
+        in_order = IsNonDecreasingBy-filter since_of stays p.idle s.in_order;
+        seen = All-filter stays (λ c. c.since ≤ p.latest) p.idle s.seen;
+        born = All-filter stays (λ c. c.birth ≤ c.since) p.idle s.born;
+        born_lent = s.born_lent;
+        none_once_closed = λ closed. ap (filter stays) (s.none_once_closed closed);
+      }

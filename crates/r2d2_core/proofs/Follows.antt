@@ -1,0 +1,13 @@
+pub mod Take
+pub mod Begin
+pub mod Number
+pub mod Admit
+pub mod Fail
+pub mod Check
+pub mod Return
+pub mod Reap
+pub mod TakeError
+pub mod Close
+pub mod Step
+pub mod Runs
+pub mod Rows

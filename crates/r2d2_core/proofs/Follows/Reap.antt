@@ -1,0 +1,102 @@
+-- A reap as the history sees it: the expired ones go, and what is wanted is ordered again.
+use Rattle.std.proofs.Common.{◌≡◌, ℕ, ◌+◌, ◌-◌, ◌≤◌, max, true, List, [], ◌∷◌, map, length, refl, sym, ◌∙◌, ap, subst, arith}
+use Rattle.std.specs.Prelude.{filter}
+use Rattle.std.specs.Duration.{as_nanos}
+use Rattle.std.specs.declared.time.Duration.{Duration}
+use Rattle.std.proofs.lemmas.List.{length-map}
+use Rattle.r2d2_core.specs.declared.run.Step.TheVariants as step
+use Rattle.r2d2_core.specs.Connections.{SeenIdleConnection, id_of_idle, is_expired, is_kept, closing, closed_of}
+use Rattle.r2d2_core.specs.Picture.{IsSound}
+use Rattle.r2d2_core.specs.Table.{at, ordered, swept, reap_closed, reap_orders, after_reap}
+use Rattle.r2d2_core.specs.Seen.{SeenAnswer, Reaped}
+use Rattle.r2d2_core.specs.History.{History, Then, limits_of, now_of, is_closed, moment_of}
+use Rattle.r2d2_core.specs.Deeds.{Going, deed, deeds_in, idle_of, lent_of, admitted_count, gone_count, connections_of}
+use Rattle.r2d2_core.specs.Pending.{on_order_of}
+use Rattle.r2d2_core.specs.Answers.{orders_of, picture_of}
+use Rattle.r2d2_core.specs.Follows.{IsKept, Follows}
+use Rattle.std.proofs.lemmas.List.Filters.{length-filter_both}
+use Rattle.r2d2_core.proofs.Histories.GoingOnes.{less_gone, going_deeds, idle_of-going, lent_of-going, admitted_are}
+use Rattle.r2d2_core.proofs.Histories.Orders.{IsOrdering, orders_if_closed, orders_of-top_up, picture_of-ordered, kept_ordered}
+use Rattle.r2d2_core.proofs.Histories.Following.{follows_accepted}
+use Rattle.r2d2_core.proofs.Facts.Sounds.{sound_reap}
+
+module _ {T : Type 0} where
+  closings_go : (t : ℕ) (cs : List (SeenIdleConnection T)) → map (λ c. deed {T = T} c.id t Going) (map (closing t) cs) ≡ going_deeds id_of_idle t cs
+  unfolding closing
+  closings_go t [] = refl
+  closings_go t (c ∷ cs) = ap (λ l. deed c.id t Going ∷ l) (closings_go t cs)
+
+  -- the moment of a reap, raised to the latest
+  abbrev reaped_at : History T → Duration → ℕ
+  reaped_at h now = max (now_of h) (as_nanos now)
+
+  abbrev expired_of : History T → Duration → List (SeenIdleConnection T)
+  expired_of h now = filter (is_expired (limits_of h) (reaped_at h now)) (idle_of h)
+
+  abbrev reaped_by : History T → Duration → ℕ → SeenAnswer T
+  reaped_by h now n = Reaped (closed_of (limits_of h) (reaped_at h now) (idle_of h)) n
+
+  expired_go : (h : History T) (now : Duration) (n : ℕ) → deeds_in (moment_of h (step.Reap now)) (step.Reap now) (reaped_by h now n) ≡ going_deeds id_of_idle (reaped_at h now) (expired_of h now)
+  expired_go h now n = closings_go (reaped_at h now) (expired_of h now)
+
+  pub idle_of-reap : (h : History T) (now : Duration) (n : ℕ) → IsKept h → idle_of (Then h (step.Reap now) (reaped_by h now n)) ≡ filter (is_kept (limits_of h) (reaped_at h now)) (idle_of h)
+  unfolding is_expired is_kept
+  idle_of-reap h now n kept = idle_of-going h (step.Reap now) (reaped_by h now n) (reaped_at h now) (is_expired (limits_of h) (reaped_at h now)) (expired_go h now n) (λ i. refl) kept.sound
+
+  pub lent_of-reap : (h : History T) (now : Duration) (n : ℕ) → IsKept h → lent_of (Then h (step.Reap now) (reaped_by h now n)) ≡ lent_of h
+  lent_of-reap h now n kept = lent_of-going h (step.Reap now) (reaped_by h now n) (reaped_at h now) (is_expired (limits_of h) (reaped_at h now)) (expired_go h now n) (λ i. refl) kept.sound
+
+  length-closed_of : (h : History T) (now : Duration) → length (closed_of (limits_of h) (reaped_at h now) (idle_of h)) ≡ length (expired_of h now)
+  length-closed_of h now = length-map (expired_of h now) (closing (reaped_at h now))
+
+  pub connections_of-reap : (h : History T) (now : Duration) (n : ℕ) → connections_of (Then h (step.Reap now) (reaped_by h now n)) ≡ connections_of h - length (expired_of h now)
+  unfolding connections_of
+  connections_of-reap h now n = less_gone (admitted_count h) (gone_count h) _ (length (expired_of h now)) (length-closed_of h now)
+
+  -- the expired ones were admitted
+  gone_of-reap : (h : History T) (now : Duration) → IsKept h → gone_count h + length (closed_of (limits_of h) (reaped_at h now) (idle_of h)) ≤ admitted_count h
+  unfolding is_expired is_kept
+  gone_of-reap h now kept =
+      omega (arith, admitted_are h kept, length-closed_of h now, length-filter_both (is_expired (limits_of h) (reaped_at h now)) (is_kept (limits_of h) (reaped_at h now)) (λ c. refl) (idle_of h))
+
+  -- what a reap orders
+  orders_of-reap : (h : History T) (now : Duration) → IsKept h → orders_of h (step.Reap now) ≡ reap_orders (as_nanos now) (picture_of h)
+  unfolding picture_of on_order_of
+  orders_of-reap h now kept =
+      orders_of-top_up h (step.Reap now) (length (filter (is_kept (limits_of h) (reaped_at h now)) (idle_of h))) (connections_of h - length (expired_of h now))
+      refl (ap length (idle_of-reap h now 0 kept)) (connections_of-reap h now 0)
+
+  ordering_reap : (h : History T) (now : Duration) (n : ℕ) → IsOrdering h (step.Reap now) (reaped_by h now n)
+  ordering_reap h now n = record {
+    closed = refl;
+    scheduled = refl;
+    begun = λ k. refl;
+    ended = λ k. refl;
+    ids = refl;
+    admitted = λ i. refl;
+    count = refl;
+    reaps = refl;
+  }
+
+  -- the picture after a reap
+  picture_of-reap : (h : History T) (now : Duration) (n : ℕ) → IsKept h → n ≡ reap_orders (as_nanos now) (picture_of h) → (is_closed h ≡ true → n ≡ 0)
+      → picture_of (Then h (step.Reap now) (reaped_by h now n)) ≡ after_reap (as_nanos now) (picture_of h)
+  unfolding picture_of on_order_of
+  picture_of-reap h now n kept orders none =
+      let p = swept (at (as_nanos now) (picture_of h)) in
+      picture_of-ordered h (step.Reap now) (reaped_by h now n) p n (ordering_reap h now n) kept refl none
+      refl (idle_of-reap h now n kept) (lent_of-reap h now n kept) refl (connections_of-reap h now n) refl
+      ∙ ap (λ k. ordered k p) orders
+
+  pub follows_reap : (h : History T) (now : Duration) → IsKept h
+      → Follows h (step.Reap now) (Reaped (reap_closed (as_nanos now) (picture_of h)) (reap_orders (as_nanos now) (picture_of h))) (after_reap (as_nanos now) (picture_of h))
+  unfolding picture_of on_order_of
+  follows_reap h now kept =
+      let s = step.Reap now in
+      let n = orders_of h s in
+      let orders : n ≡ reap_orders (as_nanos now) (picture_of h) = orders_of-reap h now kept in
+      let picture : picture_of (Then h s (reaped_by h now n)) ≡ after_reap (as_nanos now) (picture_of h) = picture_of-reap h now n kept orders (orders_if_closed h s) in
+      follows_accepted h s (Reaped (reap_closed (as_nanos now) (picture_of h)) (reap_orders (as_nanos now) (picture_of h))) (after_reap (as_nanos now) (picture_of h)) refl
+      (ap (λ k. reaped_by h now k) (sym orders))
+      (sym picture)
+      (kept_ordered h s (reaped_by h now n) (ordering_reap h now n) kept (subst IsSound (sym picture) (sound_reap (as_nanos now) kept.sound)) (gone_of-reap h now kept))

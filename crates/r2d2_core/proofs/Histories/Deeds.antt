@@ -1,0 +1,85 @@
+-- What one more deed does to the latest deeds, and so to what is idle and lent.
+use Rattle.std.proofs.Common.{◌≡◌, ℕ, Bool, true, false, cond, List, [], ◌∷◌, ◌++◌, Option, Some, None, refl, ◌∙◌, ap}
+use Rattle.std.specs.Prelude.{filter, filter_map}
+use Rattle.std.specs.List.{cons_option}
+use Rattle.std.specs.Option.{MatchOption}
+use Rattle.std.proofs.lemmas.List.{append-nil}
+use Rattle.std.proofs.lemmas.List.Elements.{filter_map-append}
+use Rattle.r2d2_core.specs.declared.run.Step.{Step}
+use Rattle.r2d2_core.specs.Ids.{latest}
+use Rattle.r2d2_core.specs.History.{History, Then, moment_of}
+use Rattle.r2d2_core.specs.Deeds.{Deed, What, Admission, Taking_out, Keeping, Going, deeds_of, deeds_in, id_of_deed, birth_of, admits, as_idle, as_lent, idle_of, lent_of}
+use Rattle.r2d2_core.specs.Seen.{SeenAnswer}
+use Rattle.r2d2_core.proofs.Lists.Filters.{filter_true}
+use Rattle.r2d2_core.proofs.Facts.Latest.{is_other, latest-append}
+
+keeps_step : {X Y : Type 0} (b : Bool) (o : Option Y) (q : Y → Bool) (f : X → Option Y) (x : X) (xs : List X) (ys zs : List Y)
+    → f x ≡ o → MatchOption o (Unit {0}) (λ y. q y ≡ b) → filter_map f xs ≡ filter q ys
+    → filter_map f (cond b (x ∷ xs) xs) ≡ filter q (cons_option o ys)
+keeps_step true None q f x xs ys zs fx e ih = rw fx ih
+keeps_step false None q f x xs ys zs fx e ih = ih
+keeps_step true (Some y) q f x xs ys zs fx e ih = rw (fx, e) (ap (λ l. y ∷ l) ih)
+keeps_step false (Some y) q f x xs ys zs fx e ih = rw e ih
+
+-- a filter before or after
+pub filter_map-filter : {X Y : Type 0} (f : X → Option Y) (p : X → Bool) (q : Y → Bool) → ((x : X) → MatchOption (f x) (Unit {0}) (λ y. q y ≡ p x))
+    → (xs : List X) → filter_map f (filter p xs) ≡ filter q (filter_map f xs)
+filter_map-filter f p q h [] = refl
+filter_map-filter f p q h (x ∷ xs) = keeps_step (p x) (f x) q f x (filter p xs) (filter_map f xs) [] refl (h x) (filter_map-filter f p q h xs)
+
+-- a test of ids sees what is shown as it sees the deed
+pub idle_keeps : {T : Type 0} (q : ℕ → Bool) (birth i at : ℕ) (w : What T) → MatchOption (as_idle birth (record { id = i; at = at; what = w })) (Unit {0}) (λ c. q c.id ≡ q i)
+idle_keeps q birth i at (Admission v) = refl
+idle_keeps q birth i at (Keeping v) = refl
+idle_keeps q birth i at Taking_out = tt
+idle_keeps q birth i at Going = tt
+
+pub lent_keeps : {T : Type 0} (q : ℕ → Bool) (birth i at : ℕ) (w : What T) → MatchOption (as_lent birth (record { id = i; at = at; what = w })) (Unit {0}) (λ c. q c.id ≡ q i)
+lent_keeps q birth i at (Admission v) = tt
+lent_keeps q birth i at (Keeping v) = tt
+lent_keeps q birth i at Taking_out = refl
+lent_keeps q birth i at Going = tt
+
+births_step : {X Y : Type 0} (b : Bool) (f g : X → Option Y) (x : X) (xs : List X) → (b ≡ true → f x ≡ g x) → filter_map f xs ≡ filter_map g xs → filter_map f (cond b (x ∷ xs) xs) ≡ filter_map g (cond b (x ∷ xs) xs)
+births_step true f g x xs e ih = rw (e refl, ih) refl
+births_step false f g x xs e ih = ih
+
+-- two ways to show that agree on what passes
+pub filter_map-agree : {X Y : Type 0} (p : X → Bool) (f g : X → Option Y) → ((x : X) → p x ≡ true → f x ≡ g x) → (xs : List X) → filter_map f (filter p xs) ≡ filter_map g (filter p xs)
+filter_map-agree p f g e [] = refl
+filter_map-agree p f g e (x ∷ xs) = births_step (p x) f g x (filter p xs) (e x) (filter_map-agree p f g e xs)
+
+-- what is idle after a step: what was, but for the ids of its deeds, and what its deeds leave
+pub idle_of-then : {T : Type 0} (h : History T) (s : Step T) (r : SeenAnswer T) (es : List (Deed T)) → deeds_in (moment_of h s) s r ≡ es
+    → ((i : ℕ) → is_other id_of_deed es i ≡ true → admits s i ≡ false)
+    → idle_of (Then h s r) ≡ filter (λ c. is_other id_of_deed es c.id) (idle_of h) ++ filter_map (λ d. as_idle (birth_of (Then h s r) d.id) d) (latest id_of_deed es)
+unfolding idle_of
+idle_of-then h s r es e new =
+    let now = λ (d : Deed _). as_idle (birth_of (Then h s r) d.id) d in
+    ap (λ ds. filter_map now (latest id_of_deed (deeds_of h ++ ds))) e
+    ∙ (ap (filter_map now) (latest-append id_of_deed (deeds_of h) es)
+    ∙ (filter_map-append now (filter (λ d. is_other id_of_deed es d.id) (latest id_of_deed (deeds_of h))) (latest id_of_deed es)
+    ∙ ap (λ l. l ++ filter_map now (latest id_of_deed es))
+    (filter_map-agree (λ d. is_other id_of_deed es d.id) now (λ d. as_idle (birth_of h d.id) d) (λ d other. ap (λ b. as_idle (cond b (moment_of h s) (birth_of h d.id)) d) (new d.id other)) (latest id_of_deed (deeds_of h))
+    ∙ filter_map-filter (λ d. as_idle (birth_of h d.id) d) (λ d. is_other id_of_deed es d.id) (λ c. is_other id_of_deed es c.id) (λ d. idle_keeps (is_other id_of_deed es) (birth_of h d.id) d.id d.at d.what) (latest id_of_deed (deeds_of h)))))
+
+-- the same of what is lent
+pub lent_of-then : {T : Type 0} (h : History T) (s : Step T) (r : SeenAnswer T) (es : List (Deed T)) → deeds_in (moment_of h s) s r ≡ es
+    → ((i : ℕ) → is_other id_of_deed es i ≡ true → admits s i ≡ false)
+    → lent_of (Then h s r) ≡ filter (λ c. is_other id_of_deed es c.id) (lent_of h) ++ filter_map (λ d. as_lent (birth_of (Then h s r) d.id) d) (latest id_of_deed es)
+unfolding lent_of
+lent_of-then h s r es e new =
+    let now = λ (d : Deed _). as_lent (birth_of (Then h s r) d.id) d in
+    ap (λ ds. filter_map now (latest id_of_deed (deeds_of h ++ ds))) e
+    ∙ (ap (filter_map now) (latest-append id_of_deed (deeds_of h) es)
+    ∙ (filter_map-append now (filter (λ d. is_other id_of_deed es d.id) (latest id_of_deed (deeds_of h))) (latest id_of_deed es)
+    ∙ ap (λ l. l ++ filter_map now (latest id_of_deed es))
+    (filter_map-agree (λ d. is_other id_of_deed es d.id) now (λ d. as_lent (birth_of h d.id) d) (λ d other. ap (λ b. as_lent (cond b (moment_of h s) (birth_of h d.id)) d) (new d.id other)) (latest id_of_deed (deeds_of h))
+    ∙ filter_map-filter (λ d. as_lent (birth_of h d.id) d) (λ d. is_other id_of_deed es d.id) (λ c. is_other id_of_deed es c.id) (λ d. lent_keeps (is_other id_of_deed es) (birth_of h d.id) d.id d.at d.what) (latest id_of_deed (deeds_of h)))))
+
+-- a step with no deeds leaves what is idle and lent
+pub idle_of-none : {T : Type 0} (h : History T) (s : Step T) (r : SeenAnswer T) → deeds_in (moment_of h s) s r ≡ [] → ((i : ℕ) → admits s i ≡ false) → idle_of (Then h s r) ≡ idle_of h
+idle_of-none h s r e a = idle_of-then h s r [] e (λ i other. a i) ∙ (append-nil _ ∙ filter_true (idle_of h))
+
+pub lent_of-none : {T : Type 0} (h : History T) (s : Step T) (r : SeenAnswer T) → deeds_in (moment_of h s) s r ≡ [] → ((i : ℕ) → admits s i ≡ false) → lent_of (Then h s r) ≡ lent_of h
+lent_of-none h s r e a = lent_of-then h s r [] e (λ i other. a i) ∙ (append-nil _ ∙ filter_true (lent_of h))

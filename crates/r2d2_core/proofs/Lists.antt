@@ -1,0 +1,4 @@
+pub mod Ids
+pub mod Filters
+pub mod Counting
+pub mod Sifting
