@@ -8,6 +8,8 @@ mod callers;
 #[cfg(test)]
 mod closing;
 #[cfg(test)]
+mod closing_amid;
+#[cfg(test)]
 mod engine;
 #[cfg(test)]
 mod extensions;

@@ -131,6 +131,8 @@ impl<H: fmt::Debug, V: fmt::Debug, Z: fmt::Debug> fmt::Debug for Config<H, V, Z>
 #[derive(Drop)]
 pub struct Builder<M, H = NopErrorHandler, V = NopEventHandler, Z = NopConnectionCustomizer> {
     config: Config<H, V, Z>,
+    /// The id of the first connection.
+    first_id: u64,
     manager: PhantomData<M>,
 }
 
@@ -179,6 +181,7 @@ impl<M: ManageConnection> Default for Builder<M> {
                 event_handler: NopEventHandler,
                 connection_customizer: NopConnectionCustomizer,
             },
+            first_id: 0,
             manager: PhantomData,
         }
     }
@@ -275,14 +278,27 @@ impl<
         self
     }
 
+    /// The id of the first connection that the pool opens. The default is 0. It is for tests.
+    pub(crate) fn first_id(mut self, first_id: u64) -> Self
+        ensures { result ≡ self }
+    {
+        self.first_id = first_id;
+        self
+    }
+
     /// What is told of each error of the manager and of the customizer. The default is `NopErrorHandler`; `LoggingErrorHandler`
     /// writes to a log.
     pub fn error_handler<G: HandleError<M::Error>>(self, handler: G) -> Builder<M, G, V, Z>
         ensures { result ≡ with_error_handler handler self }
     {
-        let Builder { config, manager } = self;
+        let Builder {
+            config,
+            first_id,
+            manager,
+        } = self;
         Builder {
             config: config.with_error_handler(handler),
+            first_id,
             manager,
         }
     }
@@ -291,9 +307,14 @@ impl<
     pub fn event_handler<W: HandleEvent + 'static>(self, handler: W) -> Builder<M, H, W, Z>
         ensures { result ≡ with_event_handler handler self }
     {
-        let Builder { config, manager } = self;
+        let Builder {
+            config,
+            first_id,
+            manager,
+        } = self;
         Builder {
             config: config.with_event_handler(handler),
+            first_id,
             manager,
         }
     }
@@ -305,19 +326,28 @@ impl<
     ) -> Builder<M, H, V, Y>
         ensures { result ≡ with_customizer customizer self }
     {
-        let Builder { config, manager } = self;
+        let Builder {
+            config,
+            first_id,
+            manager,
+        } = self;
         Builder {
             config: config.with_customizer(customizer),
+            first_id,
             manager,
         }
     }
 
-    /// The settings alone.
-    pub(crate) fn into_config(self) -> Config<H, V, Z>
-        ensures { result ≡ self }
+    /// The settings alone, and the id of the first connection.
+    pub(crate) fn into_parts(self) -> (Config<H, V, Z>, u64)
+        ensures { result.0 ≡ self }
     {
-        let Builder { config, .. } = self;
-        config
+        let Builder {
+            config,
+            first_id,
+            ..
+        } = self;
+        (config, first_id)
     }
 
     /// The limits that building would use; None exactly where `min_idle` is above `max_size`. It is the test to make before a pool is

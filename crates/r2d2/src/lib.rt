@@ -6,6 +6,7 @@ ghost use Rattle.std.specs.Prelude.{◌≡◌};
 
 use log::{Log, error as log_error};
 use std::fmt;
+use std::marker::Model;
 
 mod config;
 pub mod engine;
@@ -67,10 +68,17 @@ pub struct LoggingErrorHandler<L> {
     log: L,
 }
 
+// Contracts see the handler as its log.
+impl<L> Model for LoggingErrorHandler<L> {
+    ghost Value = { L };
+
+    ghost view = { λ handler. handler.log };
+}
+
 impl<L> LoggingErrorHandler<L> {
     /// A handler that writes to this log.
     pub fn new(log: L) -> LoggingErrorHandler<L>
-        ensures { result.log ≡ log }
+        ensures { result ≡ log }
     {
         LoggingErrorHandler { log }
     }

@@ -55,13 +55,18 @@ impl<
         let Some(limits) = self.limits() else {
             unreachable!()
         };
-        let config = self.into_config();
+        let (config, first_id) = self.into_parts();
         let lists = reap_lists(rt.alloc(), config.thread_pool, limits.max_size()).map_err(
             |_| Error::memory(),
         )?;
-        let book = Book::new(rt.alloc(), limits, Duration::ZERO, config.journal_room).map_err(
-            |_| Error::memory(),
-        )?;
+        let book = Book::with_first_id(
+            rt.alloc(),
+            limits,
+            Duration::ZERO,
+            first_id,
+            config.journal_room,
+        )
+        .map_err(|_| Error::memory())?;
         let closer = share(rt, Plain { book }, config, manager).map_err(|_| Error::memory())?;
         start_workers(&closer, lists)?;
         Ok(AnyPool { closer })

@@ -35,19 +35,19 @@ impl FiveLines {
 impl ManageConnection for FiveLines {
     type Connection = Line;
 
-    type Error = &'static str;
+    type Error = Blammo;
 
     type Extension = ();
 
-    fn connect(&self) -> Result<Line, &'static str> {
+    fn connect(&self) -> Result<Line, Blammo> {
         if self.opened.fetch_add(1, Ordering::SeqCst) >= 5 {
-            return Err("no sixth");
+            return Err(Blammo);
         }
-        let dropped = Arc::try_clone(&self.dropped).map_err(|_| "memory")?;
+        let dropped = Arc::try_clone(&self.dropped).map_err(|_| Blammo)?;
         Ok(Line { dropped })
     }
 
-    fn is_valid(&self, _line: &mut Line) -> Result<(), &'static str> {
+    fn is_valid(&self, _line: &mut Line) -> Result<(), Blammo> {
         Ok(())
     }
 
