@@ -6,6 +6,8 @@ mod caller;
 #[cfg(test)]
 mod closing;
 #[cfg(test)]
+mod drafts;
+#[cfg(test)]
 mod errors;
 #[cfg(test)]
 mod extremes;
@@ -24,6 +26,10 @@ mod opening;
 #[cfg(test)]
 mod ordering;
 #[cfg(test)]
+mod plain;
+#[cfg(test)]
+mod random;
+#[cfg(test)]
 mod reaping;
 #[cfg(test)]
 mod refusing;
@@ -33,6 +39,8 @@ mod replays;
 mod reuse;
 #[cfg(test)]
 mod rows;
+#[cfg(test)]
+mod said;
 #[cfg(test)]
 mod schedule;
 #[cfg(test)]

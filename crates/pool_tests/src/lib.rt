@@ -14,6 +14,8 @@ mod engine;
 #[cfg(test)]
 mod extensions;
 #[cfg(test)]
+mod extremes;
+#[cfg(test)]
 mod journal;
 #[cfg(test)]
 mod lending;

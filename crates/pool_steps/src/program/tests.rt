@@ -9,6 +9,7 @@ use std::test::Fail;
 
 mod lines;
 mod stories;
+mod strangers;
 mod streams;
 
 // Serves an input to a writer, through a buffer as the program does.

@@ -26,21 +26,24 @@ impl ManageConnection for Nothings {
     }
 }
 
-fn with_one_id() -> Builder<Nothings> {
-    Builder::new()
-        .first_id(u64::MAX - 1)
-        .max_size(2)
-        .connection_timeout(Duration::from_millis(500))
-}
-
 #[test]
 fn ids_used_up(rt: HostRuntime) -> Result<(), Fail> {
-    let error = with_one_id().build(rt, Nothings).err().ok_or("a pool")?;
+    let timeout = Duration::from_millis(500);
+    let pool = Builder::new()
+        .first_id(u64::MAX - 1)
+        .max_size(2)
+        .connection_timeout(timeout)
+        .build(rt, Nothings);
+    let error = pool.err().ok_or("a pool")?;
     assert_eq!(rt;
         error.to_string(rt.alloc())?.as_str(),
         "timed out waiting for connection"
     );
-    let pool = with_one_id().build_unchecked(rt, Nothings)?;
+    let pool = Builder::new()
+        .first_id(u64::MAX - 1)
+        .max_size(2)
+        .connection_timeout(timeout)
+        .build_unchecked(rt, Nothings)?;
     let lent = pool.get()?;
     assert_eq!(rt; lent.lent.id, 18_446_744_073_709_551_614);
     assert_eq!(rt; pool.state().connections, 1);
