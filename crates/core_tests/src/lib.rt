@@ -37,3 +37,5 @@ mod rows;
 mod schedule;
 #[cfg(test)]
 mod steps;
+#[cfg(test)]
+mod turning;
