@@ -45,3 +45,5 @@ mod said;
 mod schedule;
 #[cfg(test)]
 mod steps;
+#[cfg(test)]
+mod turning;

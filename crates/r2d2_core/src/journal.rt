@@ -278,7 +278,7 @@ impl<T, A: Allocator> Book<T, A> {
         ensures noted { self.new.journal ≡ with_noted (record_of_reap (max self.old.picture.latest (as_nanos now)) (length out.new.items) result) self.old.journal }
     {
         let at = later(self.machine.latest(), now);
-        let ordered = self.machine.reap(now, out);
+        let ordered = self.machine.reap_uncounted(now, out);
         self.journal.note(Record::of_reap(at, out.len(), ordered));
         ordered
     }

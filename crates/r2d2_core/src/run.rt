@@ -84,7 +84,7 @@ pub enum Answer<T, A: Allocator = Global> {
 
 // The machine's own call for a step. What a reap's list takes of memory is taken before the call.
 macro_rules! answer_by {
-    ($machine:expr, $alloc:expr, $step:expr) => {
+    ($machine:expr, $reap:ident, $alloc:expr, $step:expr) => {
         match $step {
             Step::Take { now, or_order } => Ok(Answer::Take($machine.take(now, or_order))),
             Step::Begin { now } => Ok(Answer::Begin($machine.begin(now))),
@@ -103,7 +103,7 @@ macro_rules! answer_by {
             Step::Reap { now } => {
                 let room = $machine.limits().max_size() as usize;
                 let mut released = Vec::with_capacity($alloc, room)?;
-                let ordered = $machine.reap(now, &mut released);
+                let ordered = $machine.$reap(now, &mut released);
                 Ok(Answer::Reap { released, ordered })
             }
             Step::TakeError => Ok(Answer::TakeError($machine.take_error())),
@@ -127,7 +127,7 @@ impl<T, A: Allocator> Core<T, A> {
         ensures only_reaps { IfErr result (λ _. is_reap step ≡ true) }
         ensures sound { IsSound self.new }
     {
-        answer_by!(self, alloc, step)
+        answer_by!(self, reap_uncounted, alloc, step)
     }
 }
 
@@ -145,7 +145,7 @@ impl<T, A: Allocator> Book<T, A> {
         ensures only_reaps { IfErr result (λ _. is_reap step ≡ true) }
         ensures sound { IsSound self.new.picture }
     {
-        answer_by!(self, alloc, step)
+        answer_by!(self, reap, alloc, step)
     }
 }
 
