@@ -116,6 +116,7 @@ impl<T, A: Allocator> Core<T, A> {
         self.on_order.pending()
     }
 
+    /// Whether `close` was called.
     pub fn is_closed(&self) -> bool
         ensures value { result ≡ self.now.on_order.closed }
         ensures sound { IsSound self.now }
