@@ -154,14 +154,13 @@ impl<T, A: Allocator> Core<T, A> {
 
 impl<T, A: Allocator> Book<T, A> {
     ghost use Rattle.r2d2_core.specs.Picture.{IsSound};
-    ghost use Rattle.r2d2_core.specs.Journal.{with_noted};
-    ghost use Rattle.r2d2_core.specs.Steps.{seen_answer, step_answer, after_step, record_of_step, is_reap};
+    ghost use Rattle.r2d2_core.specs.Steps.{seen_answer, step_answer, after_step, noted_step, is_reap};
 
     /// As `Core::answer`. A step is noted where the call of its kind notes it.
     pub fn answer(&mut self, alloc: Global, step: Step<T>) -> Result<Answer<T, A>, AllocError>
         ensures answer { IfOk result (λ a. seen_answer a ≡ step_answer step self.old.picture) }
         ensures after { OnOk result (self.new.picture ≡ after_step step self.old.picture) }
-        ensures noted { OnOk result (self.new.journal ≡ with_noted (record_of_step step self.old.picture) self.old.journal) }
+        ensures noted { OnOk result (self.new.journal ≡ noted_step step self.old) }
         ensures unchanged { IfErr result (λ _. self.new ≡ self.old) }
         ensures only_reaps { IfErr result (λ _. is_reap step ≡ true) }
         ensures sound { IsSound self.new.picture }
