@@ -337,8 +337,9 @@ impl<T, A: Allocator> Core<T, A> {
     /// Closes the idle connections that are idle too long or too old: they stand in the caller's list then, oldest first. The
     /// others keep their order. It tops up, also where it closed none, and answers how many openings it ordered.
     ///
-    /// A step is one look at an idle connection, or one move of it. At most two are taken for each idle connection. Where
-    /// `max_lifetime` is not set it is at most one more than two for each that is closed, and none where `idle_timeout` is not set either.
+    /// `out` is to be empty, with room for `max_size`. `steps` counts each look at an idle connection and each move of one: at most
+    /// two for each there is. Where `max_lifetime` is not set, at most one more than two for each that is closed; and none where
+    /// `idle_timeout` is not set either.
     pub fn reap<L: Ledger>(
         &mut self,
         now: Duration,

@@ -108,8 +108,8 @@ impl<T, A: Allocator> Idle<T, A> {
         }
     }
 
-    /// Moves the expired ones into a list, oldest first. Looks and moves are counted: where the idle time alone is limited, it stops at
-    /// the first that is kept; where neither is, it looks at none.
+    /// Moves the expired ones into a list, oldest first. Looks and moves are counted: where the idle time alone is limited, it stops
+    /// at the first that is kept; where neither is, it looks at none.
     pub(crate) fn reap<L: Ledger>(
         &mut self,
         limits: &Limits,
