@@ -21,7 +21,7 @@ pub use error::{Error, ErrorKind};
 pub use event::{HandleEvent, NopEventHandler};
 pub use extensions::{Extension, Extensions};
 pub use pool::{PlainPool, Pool, PoolRuntime, PooledConnection, State};
-pub use r2d2_core::{journal, machine, reuse, run, schedule};
+pub use r2d2_core::{journal, machine, reuse, run, schedule, steps};
 
 /// Opens connections and checks them. Nothing is asked of what it answers, nor of how long it takes: it is called while no lock
 /// of the pool is held.

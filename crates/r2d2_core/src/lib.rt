@@ -7,8 +7,10 @@ pub mod machine;
 pub mod reuse;
 pub mod run;
 pub mod schedule;
+pub mod steps;
 
 pub use journal::{Book, IdList, Record, RecordList, Report};
 pub use machine::{Core, Gone, Leftover, Refusal, Released, Returned, Take};
 pub use run::{Answer, Step};
 pub use schedule::{Job, Limits, Schedule};
+pub use steps::Steps;
