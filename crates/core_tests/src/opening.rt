@@ -78,6 +78,28 @@ fn hands_out_the_least_tries_of_one_moment_first(rt: HostRuntime) -> Result<(), 
         "empty ordered 1; empty ordered 1; open 0; retry 400; empty ordered 1; open 0; open 0; open 1; retry 800; retry 800; \
          retry 900; refused NoOpening; wait 800; state 0 0 3",
     )?;
+    row(
+        &rt,
+        0,
+        limits(3, None, None, None, 400, 30_000),
+        [
+            begin(0),
+            begin(0),
+            begin(0),
+            fail(0, 0),
+            begin(200),
+            fail(200, 1),
+            fail(200, 0),
+            fail(200, 0),
+            begin(399),
+            begin(400),
+            begin(400),
+            begin(400),
+            begin(400),
+        ],
+        "open 0; open 0; open 0; retry 200; open 1; retry 400; retry 400; retry 400; wait 400; open 1; open 1; open 2; nothing; \
+         state 0 0 3",
+    )?;
     Ok(())
 }
 

@@ -3,3 +3,4 @@ pub mod Steady
 pub mod Sounds
 pub mod Wholes
 pub mod Latest
+pub mod Apart

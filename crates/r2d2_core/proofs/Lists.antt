@@ -1,3 +1,4 @@
+pub mod Apart
 pub mod Ids
 pub mod Filters
 pub mod Counting

@@ -40,8 +40,7 @@ copies_of i (x ∷ xs) = (if x == i then 1 else 0) + copies_of i xs
 abbrev pub NoneBelow : {X : Type 0} → (X → ℕ) → ℕ → List X → ℕ → Type 0
 NoneBelow {X} id_of i xs n = (k : ℕ) (d : X) → k < n → id_of (slice_index_or xs k d) ≢ i
 
--- the first with the id stands at p
-pub record IsFirst {X : Type 0} (id_of : X → ℕ) (i : ℕ) (xs : List X) (p : ℕ) : Type 0 where
+-- one with the id stands at p
+pub record StandsAt {X : Type 0} (id_of : X → ℕ) (i : ℕ) (xs : List X) (p : ℕ) : Type 0 where
   pub within : p < length xs
   pub here : (d : X) → id_of (slice_index_or xs p d) ≡ i
-  pub none_before : NoneBelow id_of i xs p

@@ -2,7 +2,9 @@ pub mod Limits
 pub mod Ids
 pub mod Openings
 pub mod Jobs
+pub mod Heap
 pub mod Schedule
+pub mod ScheduleParts
 pub mod Roster
 pub mod Connections
 pub mod Refusals

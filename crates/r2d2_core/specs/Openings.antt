@@ -1,5 +1,5 @@
 -- Openings that are ordered and not begun, the least first; and how many are in work.
-use Rattle.std.specs.Prelude.{◌≡◌, ℕ, zero, suc, ◌+◌, ◌-◌, ◌<◌, Bool, false, ◌&&◌, ◌||◌, ◌==◌, nat_lt, if◌then◌else◌, List, [], ◌∷◌, length, slice_index, slice_index_or, slice_set}
+use Rattle.std.specs.Prelude.{ℕ, zero, suc, ◌+◌, ◌-◌, Bool, ◌&&◌, ◌||◌, ◌==◌, nat_lt, if◌then◌else◌, List, [], ◌∷◌, slice_index, slice_set}
 
 -- when an opening is due, in nanoseconds, and how often it failed
 pub record SeenOpening : Type 0 where
@@ -27,11 +27,6 @@ with_many (suc n) x xs = with_opening x (with_many n x xs)
 abbrev pub in_order : List SeenOpening → List SeenOpening
 in_order [] = []
 in_order (x ∷ xs) = with_opening x (in_order xs)
-
--- the opening at i is a least one of xs
-pub record IsLeast (xs : List SeenOpening) (i : ℕ) : Type 0 where
-  pub within : i < length xs
-  pub least : (k : ℕ) (d : SeenOpening) → k < length xs → is_before (slice_index_or xs k d) (slice_index_or xs i d) ≡ false
 
 -- one more in work that failed k times, where counts says how many there are for each number of tries
 abbrev pub one_more : ℕ → List ℕ → List ℕ

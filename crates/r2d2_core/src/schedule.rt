@@ -1,17 +1,20 @@
 // When openings and reaps are due.
-ghost use Rattle.std.specs.Prelude.{◌≡◌, ℕ, ◌+◌, ◌*◌, ◌/◌, ◌^◌, ◌<◌, ◌≤◌, min, length, IfOk};
+ghost use Rattle.std.specs.Prelude.{◌≡◌, ℕ, ◌+◌, ◌*◌, ◌/◌, ◌^◌, ◌<◌, ◌≤◌, min, length, vec_len, IfOk};
 ghost use Rattle.std.specs.Duration.{as_nanos};
-ghost use Rattle.r2d2_core.specs.Openings.{IsLeast};
 ghost use Rattle.r2d2_core.specs.Schedule.{is_due_before};
 
+use crate::steps::Steps;
 pub use limits::Limits;
 use opening::Opening;
 use std::alloc::{AllocError, Allocator, Global};
 use std::marker::Model;
+use std::sync::ledger::Ledger;
 use std::time::Duration;
 
+mod heap;
 pub(crate) mod limits;
 mod opening;
+mod uncounted;
 
 /// What a worker is to do now.
 #[derive(Clone, Copy, PartialEq, Eq, Debug)]
@@ -30,33 +33,27 @@ pub enum Job {
 
 /// Openings by the moment at which they are due, and the next reap.
 ///
-/// All memory is taken at the making; no other call takes any.
+/// All memory is taken at the making; no other call takes any. A step of a call that counts them is one comparison of two openings.
 #[derive(Drop)]
 pub struct Schedule<A: Allocator = Global> {
     max_size: u32,
     reap_every: Duration,
+    // As many as there is room for. The first `held` are a heap; the others mean nothing.
     entries: Vec<Opening, A>,
+    held: u32,
     next_reap: Option<Duration>,
 }
 
 impl<A: Allocator> Model for Schedule<A> {
-    ghost use Rattle.std.specs.Prelude.{◌<◌, ◌≤◌, ◌^◌, vec_len};
-    ghost use Rattle.std.specs.Vec.{vec_capacity};
-    ghost use Rattle.std.specs.Option.{option_map};
-    ghost use Rattle.std.specs.Duration.{as_nanos};
-    ghost use Rattle.r2d2_core.specs.Openings.{in_order};
     ghost use Rattle.r2d2_core.specs.Schedule.{SeenSchedule};
 
     ghost Value = { SeenSchedule };
 
-    ghost view = { λ s. record {
-      max_size = s.max_size;
-      reap_every = as_nanos s.reap_every;
-      openings = in_order s.entries.items;
-      next_reap = option_map as_nanos s.next_reap;
-    } };
+    ghost use Rattle.r2d2_core.specs.ScheduleParts.{seen_schedule, IsHolding};
 
-    ghost invariant = { λ s. (vec_len s.entries ≤ s.max_size) × (s.max_size ≤ vec_capacity s.entries) × (s.max_size < 2 ^ 32) };
+    ghost view = { seen_schedule };
+
+    ghost invariant = { IsHolding };
 }
 
 impl<A: Allocator> Schedule<A> {
@@ -64,6 +61,7 @@ impl<A: Allocator> Schedule<A> {
     ghost use Rattle.r2d2_core.specs.Openings.{opening, with_many};
     ghost use Rattle.r2d2_core.specs.Schedule.{first_schedule, joined, cleared, with_openings, after_job};
     ghost use Rattle.r2d2_core.specs.Jobs.{seen_job, first_job};
+    ghost use Rattle.r2d2_core.specs.Heap.{binary_digits, steps_of_job};
 
     /// No openings, room for `max_size` of them, and the first reap, where an age or an idle time is limited: `reap_every` after `now`. The
     /// error comes only where memory is refused.
@@ -72,7 +70,7 @@ impl<A: Allocator> Schedule<A> {
     {
         let max_size = limits.max_size();
         let reap_every = limits.reap_every();
-        let entries = Vec::with_capacity(alloc, max_size as usize)?;
+        let entries = filled(alloc, max_size)?;
         let next_reap = if limits.max_lifetime().is_some() || limits.idle_timeout().is_some() {
             Some(now.saturating_add(reap_every))
         } else {
@@ -82,6 +80,7 @@ impl<A: Allocator> Schedule<A> {
             max_size,
             reap_every,
             entries,
+            held: 0,
             next_reap,
         })
     }
@@ -91,44 +90,50 @@ impl<A: Allocator> Schedule<A> {
         ensures value { result ≡ length self.now.openings }
         ensures within { result ≤ self.now.max_size }
     {
-        self.entries.len() as u32
+        self.held
     }
 
-    /// Adds an opening that is due at `due` and failed `tries` times. There is room while `len` is below `max_size`.
-    pub fn order(&mut self, due: Duration, tries: u32)
+    /// Adds an opening that is due at `due` and failed `tries` times. There is room while `len` is below `max_size`. It takes at most as many
+    /// steps as the number of openings that are held then has binary digits.
+    pub fn order<L: Ledger>(&mut self, due: Duration, tries: u32, steps: &mut Steps<L>)
         requires { length self.old.openings < self.old.max_size }
-        ensures { self.new ≡ joined (opening (as_nanos due) tries) self.old }
+        ensures after { self.new ≡ joined (opening (as_nanos due) tries) self.old }
+        ensures cost { steps.new ≤ steps.old + binary_digits (length self.new.openings) }
     {
-        self.entries.push_reserved(Opening::new(due, tries));
+        let opening = Opening::new(due, tries);
+        heap::add(&mut self.entries, self.held as usize, opening, steps);
+        self.held += 1;
     }
 
-    /// Adds so many openings that never failed.
-    pub(crate) fn order_many(&mut self, count: u32, due: Duration)
+    /// Adds so many openings that never failed, each at the cost of an `order`.
+    pub(crate) fn order_many<L: Ledger>(&mut self, count: u32, due: Duration, steps: &mut Steps<L>)
         requires { length self.old.openings + count ≤ self.old.max_size }
-        ensures { self.new ≡ with_openings (with_many count (opening (as_nanos due) 0) self.old.openings) self.old }
+        ensures after { self.new ≡ with_openings (with_many count (opening (as_nanos due) 0) self.old.openings) self.old }
+        ensures cost { steps.new ≤ steps.old + count * binary_digits (length self.new.openings) }
     {
         for _ in 0..count {
-            self.order(due, 0);
+            self.order(due, 0, steps);
         }
     }
 
     /// What is to be done at the moment `now`, and taken out then: the opening that is due first, by its tries among equals, or the next reap if
-    /// that is due before it. What is not due yet stays: then the answer is to wait for it.
-    pub fn next(&mut self, now: Duration) -> Job
+    /// that is due before it. What is not due yet stays: then the answer is to wait for it. Where an opening is handed out it takes at most
+    /// twice as many steps as the number of openings that were held has binary digits, else none.
+    pub fn next<L: Ledger>(&mut self, now: Duration, steps: &mut Steps<L>) -> Job
         ensures answer { seen_job result ≡ first_job (as_nanos now) self.old.openings self.old.next_reap }
         ensures after { self.new ≡ after_job (seen_job result) self.old }
+        ensures cost { steps.new ≤ steps.old + steps_of_job (seen_job result) (length self.old.openings) }
     {
-        if !self.entries.is_empty() {
-            let place = least_place(&self.entries);
-            let due = self.entries[place].due();
+        if self.held > 0 {
+            let due = self.entries[0].due();
             if !is_reap_before(self.next_reap, due) {
                 if now.as_nanos() < due.as_nanos() {
                     return Job::Wait(due);
                 }
-                let least = self.entries.swap_remove(place);
-                return Job::Open {
-                    tries: least.tries(),
-                };
+                let tries = self.entries[0].tries();
+                heap::remove_least(&mut self.entries, self.held as usize, steps);
+                self.held -= 1;
+                return Job::Open { tries };
             }
         }
         match self.next_reap {
@@ -147,23 +152,20 @@ impl<A: Allocator> Schedule<A> {
     pub fn clear(&mut self)
         ensures { self.new ≡ cleared self.old }
     {
-        self.entries.clear();
+        self.held = 0;
         self.next_reap = None;
     }
 }
 
-// The place of a least opening.
-fn least_place(entries: &[Opening]) -> usize
-    requires { 0 < length entries.now }
-    ensures { IsLeast entries.now result }
+// So many openings, whatever they are.
+fn filled<A: Allocator>(alloc: A, count: u32) -> Result<Vec<Opening, A>, AllocError>
+    ensures { IfOk result (λ entries. vec_len entries ≡ count) }
 {
-    let mut place = 0;
-    for i in 1..entries.len() {
-        if entries[i].is_before(&entries[place]) {
-            place = i;
-        }
+    let mut entries = Vec::with_capacity(alloc, count as usize)?;
+    for _ in 0..count {
+        entries.push_reserved(Opening::new(Duration::ZERO, 0));
     }
-    place
+    Ok(entries)
 }
 
 /// The `k`-th delay in a row of one opening: 200 ms doubled `k` times, or half of `connection_timeout` if that is less.

@@ -1,10 +1,15 @@
 // The core, under the pool's own name.
+ghost use Rattle.std.specs.Prelude.{◌≡◌, ◌<◌, length};
+
 use r2d2::journal::{Book, IdList, Record, RecordList, Report};
 use r2d2::machine::{Core, Gone, Leftover, Limits, Refusal, Released, Returned, Take};
 use r2d2::reuse::{Comparison, Move, compare, is_in_order};
 use r2d2::run::{Answer, Step, run};
 use r2d2::schedule::{Job, Schedule, delay};
+use r2d2::steps::Steps;
 use std::alloc::Global;
+use std::marker::Brand;
+use std::sync::ledger::{Blank, Ledger};
 use std::test::Fail;
 use std::time::Duration;
 
@@ -23,6 +28,18 @@ fn limits() -> Option<Limits> {
     )
 }
 
+// An opening is ordered and handed out, and the steps of both are counted.
+fn opens_in<L: Ledger>(schedule: &mut Schedule, blank: Blank) -> Job
+    requires name { blank.name ≡ L.name }
+    requires parts { blank.parts ≡ L.parts }
+    requires some { 0 < L.parts }
+    requires room { length schedule.old.openings < schedule.old.max_size }
+{
+    let mut steps: Steps<L> = Steps::new(blank);
+    schedule.order(seconds(1), 3, &mut steps);
+    schedule.next(seconds(1), &mut steps)
+}
+
 #[test]
 fn schedules(rt: HostRuntime) -> Result<(), Fail> {
     let limits = limits().ok_or("limits")?;
@@ -36,13 +53,22 @@ fn schedules(rt: HostRuntime) -> Result<(), Fail> {
     assert_eq!(rt; limits.reap_every(), seconds(2));
     let mut schedule = Schedule::new(rt.alloc(), limits, Duration::ZERO)?;
     if schedule.len() < limits.max_size() {
-        schedule.order(seconds(1), 3);
+        assert_eq!(rt;
+            opens_in::<Brand>(&mut schedule, Blank::new(1)),
+            Job::Open { tries: 3 }
+        );
     }
-    assert_eq!(rt; schedule.next(Duration::ZERO), Job::Wait(seconds(1)));
-    assert_eq!(rt; schedule.next(seconds(1)), Job::Open { tries: 3 });
-    assert_eq!(rt; schedule.next(seconds(2)), Job::Reap);
+    if schedule.len() < limits.max_size() {
+        schedule.order_uncounted(seconds(1), 4);
+    }
+    assert_eq!(rt;
+        schedule.next_uncounted(Duration::ZERO),
+        Job::Wait(seconds(1))
+    );
+    assert_eq!(rt; schedule.next_uncounted(seconds(1)), Job::Open { tries: 4 });
+    assert_eq!(rt; schedule.next_uncounted(seconds(2)), Job::Reap);
     schedule.clear();
-    assert_eq!(rt; schedule.next(seconds(9)), Job::Nothing);
+    assert_eq!(rt; schedule.next_uncounted(seconds(9)), Job::Nothing);
     assert_eq!(rt; delay(seconds(1), 1), Duration::from_millis(400));
     Ok(())
 }

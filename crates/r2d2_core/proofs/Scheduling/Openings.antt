@@ -1,13 +1,12 @@
 -- Openings in order: which list has the same openings, and which opening is first.
 use Rattle.std.proofs.Common.{◌≡◌, ℕ, ◌+◌, ◌<◌, List, [], ◌∷◌, ◌++◌, length, true, false, refl, sym, ap, ◌∙◌, inl, inr, arith, get_or, set, suc, zero}
 use Rattle.std.proofs.Common.{cond, length-set, get_or-set_same, get_or-set_other}
-use Rattle.std.specs.List.{swap, swap_remove, All}
+use Rattle.std.specs.List.{swap, All}
 use Rattle.std.specs.List.Sorted.{IsPermutation}
-use Rattle.std.proofs.lemmas.List.Sorted.{IsPermutation-keeps, IsPermutation-swap_remove, All-permutation}
-use Rattle.std.proofs.lemmas.List.{get_or_read}
+use Rattle.std.proofs.lemmas.List.Sorted.{IsPermutation-keeps, All-permutation}
 use Rattle.std.proofs.lemmas.Bool.{cases_Bool, cases_eq, cond-true, cond-false}
 use Rattle.std.proofs.lemmas.Bool.Decides.{nat_tests}
-use Rattle.r2d2_core.specs.Openings.{SeenOpening, is_before, with_opening, in_order, with_many, IsLeast}
+use Rattle.r2d2_core.specs.Openings.{SeenOpening, is_before, with_opening, in_order, with_many}
 
 abbrev opening : ℕ → ℕ → SeenOpening
 opening d t = record { due = d; tries = t }
@@ -186,11 +185,9 @@ pub not_before_through : (y p x : SeenOpening) → is_before y p ≡ false → i
 unfolding is_before
 not_before_through y p x q r = grind (arith, nat_tests)
 
--- the opening at a least place goes first
-pub in_order-from_least : (xs : List SeenOpening) (i : ℕ) (x : SeenOpening) → IsLeast xs i → x ≡ get_or xs i x → in_order xs ≡ x ∷ in_order (swap_remove xs i x)
-in_order-from_least xs i x least read =
-    in_order-least xs (swap_remove xs i x) x (IsPermutation-swap_remove xs i x least.within read)
-    (λ k d h. rw (get_or_read xs i x least.within read d) (least.least k d h))
+pub not_before_trans : (x y z : SeenOpening) → is_before x y ≡ false → is_before y z ≡ false → is_before x z ≡ false
+unfolding is_before
+not_before_trans x y z p q = grind (arith, nat_tests)
 
 pub length-with_many : (n : ℕ) (x : SeenOpening) (xs : List SeenOpening) → length (with_many n x xs) ≡ length xs + n
 length-with_many zero x xs = omega arith

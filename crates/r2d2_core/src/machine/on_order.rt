@@ -1,5 +1,6 @@
 // The openings that are ordered and not admitted.
 ghost use Rattle.std.specs.Prelude.{◌≡◌, ◌+◌, ◌≤◌, IfOk, OnOk, true};
+ghost use Rattle.r2d2_core.specs.Ids.{copies_of};
 ghost use Rattle.std.specs.Duration.{as_nanos};
 
 use super::answers::Refusal;
@@ -57,7 +58,7 @@ impl<A: Allocator> OnOrder<A> {
         let numbered = Roster::new(alloc, limits.max_size() as usize)?;
         let mut schedule = Schedule::new(alloc, limits, now)?;
         let pending = limits.wanted();
-        schedule.order_many(pending, now);
+        schedule.order_many_uncounted(pending, now);
         Ok(OnOrder {
             limits,
             schedule,
@@ -133,7 +134,7 @@ impl<A: Allocator> OnOrder<A> {
         requires still_open { self.old.closed ≡ true → count ≡ 0 }
         ensures { self.new ≡ with_orders count (as_nanos due) self.old }
     {
-        self.schedule.order_many(count, due);
+        self.schedule.order_many_uncounted(count, due);
         self.pending += count;
     }
 
@@ -145,7 +146,7 @@ impl<A: Allocator> OnOrder<A> {
         if self.closed {
             return Job::Closed;
         }
-        let job = self.schedule.next(now);
+        let job = self.schedule.next_uncounted(now);
         if let Job::Open { tries } = job {
             self.in_work.add(tries);
         }
@@ -175,6 +176,7 @@ impl<A: Allocator> OnOrder<A> {
 
     /// Takes out a numbered one, which is pending no more.
     pub(crate) fn admit(&mut self, id: u64) -> Result<(), Refusal>
+        requires { copies_of id self.old.numbered ≤ 1 }
         ensures answer { result ≡ ok_unless (admit_refusal id self.old) tt }
         ensures after { self.new ≡ unless_refused (admit_refusal id self.old) (admitted_one id self.old) self.old }
         ensures less { OnOk result (self.new.pending + 1 ≡ self.old.pending) }
@@ -204,7 +206,7 @@ impl<A: Allocator> OnOrder<A> {
         }
         let pause = delay(self.limits.connection_timeout(), tries + 1);
         let due = now.saturating_add(pause);
-        self.schedule.order(due, (tries + 1).min(99));
+        self.schedule.order_uncounted(due, (tries + 1).min(99));
         Ok(due)
     }
 

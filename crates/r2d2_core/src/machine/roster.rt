@@ -1,6 +1,6 @@
 // A list of things with ids, which has its room from the start.
-ghost use Rattle.std.specs.Prelude.{◌≡◌, ℕ, ◌+◌, ◌<◌, ◌++◌, ◌∷◌, [], length, IfOk, IfNone, IsSome, MatchOption, option_map, slice_get};
-ghost use Rattle.r2d2_core.specs.Ids.{found, without, NoneBelow, IsFirst};
+ghost use Rattle.std.specs.Prelude.{◌≡◌, ℕ, ◌+◌, ◌<◌, ◌≤◌, ◌++◌, ◌∷◌, [], length, map, IfOk, IfNone, IsSome, MatchOption, option_map, slice_get};
+ghost use Rattle.r2d2_core.specs.Ids.{found, without, copies_of, NoneBelow, StandsAt};
 ghost use Rattle.r2d2_core.specs.Roster.{roster};
 
 use std::alloc::{AllocError, Allocator, Global};
@@ -68,8 +68,9 @@ impl<X: HasId, A: Allocator> Roster<X, A> {
         self.list.push_reserved(x);
     }
 
-    /// The first with the id, which leaves the list; None where there is none.
+    /// The one with the id, which leaves the list; None where there is none. The others keep their order.
     pub(crate) fn remove(&mut self, id: u64) -> Option<X>
+        requires { copies_of id (map X.id_of self.old.items) ≤ 1 }
         ensures gone { result ≡ found X.id_of id self.old.items }
         ensures rest { self.new ≡ roster (without X.id_of id self.old.items) self.old.room }
         ensures same { IfNone result (self.new ≡ self.old) }
@@ -88,12 +89,14 @@ impl<X: HasId, A: Allocator> Roster<X, A> {
     }
 }
 
-// Where the one with an id stands first.
+// Where one with an id stands. The last ones are looked at first: what came last mostly leaves first.
 fn place_of<X: HasId>(list: &[X], id: u64) -> Option<usize>
-    ensures { MatchOption result (NoneBelow X.id_of id list.now (length list.now)) (λ p. IsFirst X.id_of id list.now p) }
+    ensures { MatchOption result (NoneBelow X.id_of id list.now (length list.now)) (λ p. StandsAt X.id_of id list.now p) }
 {
-    for (place, x) in list.iter().enumerate() {
-        if x.id() == id {
+    let mut place = list.len();
+    'back: while place > 0 {
+        place -= 1;
+        if list[place].id() == id {
             return Some(place);
         }
     }

@@ -1,9 +1,11 @@
 // An opening that was ordered.
-ghost use Rattle.std.specs.Prelude.{◌≡◌, ℕ};
+ghost use Rattle.std.specs.Prelude.{◌≡◌, ℕ, ◌+◌};
 ghost use Rattle.std.specs.Duration.{as_nanos};
 ghost use Rattle.r2d2_core.specs.Openings.{is_before};
 
+use crate::steps::Steps;
 use std::marker::Model;
+use std::sync::ledger::Ledger;
 use std::time::Duration;
 
 /// When an opening is due, and how often it failed.
@@ -42,10 +44,13 @@ impl Opening {
         self.tries
     }
 
+    /// Whether this one comes first: the only way to compare two, and one step.
     #[tactic(auto, unfolding(crate::specs::Openings::is_before))]
-    pub(crate) fn is_before(&self, other: &Opening) -> bool
-        ensures { result ≡ is_before self.now other.now }
+    pub(crate) fn is_before<L: Ledger>(&self, other: &Opening, steps: &mut Steps<L>) -> bool
+        ensures value { result ≡ is_before self.now other.now }
+        ensures cost { steps.new ≡ steps.old + 1 }
     {
+        steps.tick();
         let due = self.due.as_nanos();
         let other_due = other.due.as_nanos();
         due < other_due || due == other_due && self.tries < other.tries

@@ -1,5 +1,12 @@
-use Rattle.r2d2_core.specs.Ids.{NoneBelow}
+use Rattle.std.proofs.Common.{◌≤◌, length}
+use Rattle.r2d2_core.proofs.Lists.Apart.{NoneFrom}
 use Rattle.r2d2_core.proofs.machine.roster.place_of.Given as goal
 
-abbrev pub invariant-loop-place : goal.invariant-loop-place
-invariant-loop-place g l = NoneBelow g.X.HasId.id_of l.id l.list l.place
+abbrev pub invariant-back : goal.invariant-back
+invariant-back g l = record {
+  within : l.place ≤ length l.list;
+  none_after : NoneFrom g.X.HasId.id_of l.id l.list l.place;
+}
+
+abbrev pub decreases-back : goal.decreases-back
+decreases-back g l = l.place
