@@ -9,7 +9,7 @@ use std::test::Fail;
 use std::time::Duration;
 
 // Takes the steps by a book.
-fn take_all<A: Allocator>(
+pub(crate) fn take_all<A: Allocator>(
     alloc: Global,
     book: &mut Book<u64, A>,
     steps: Vec<Step<u64>>,

@@ -7,6 +7,8 @@ mod caller;
 #[cfg(test)]
 mod closing;
 #[cfg(test)]
+mod drafts;
+#[cfg(test)]
 mod extremes;
 #[cfg(test)]
 mod journal;
@@ -15,14 +17,22 @@ mod limits;
 mod machine;
 #[cfg(test)]
 mod memory;
+#[cfg(test)]
+mod plain;
+#[cfg(test)]
+mod random;
 mod replays;
 #[cfg(test)]
 mod reuse;
 mod rows;
 #[cfg(test)]
+mod said;
+#[cfg(test)]
 mod schedule;
 #[cfg(test)]
 mod steps;
+#[cfg(test)]
+mod turning;
 
 use std::process::ExitCode;
 use std::rt::Files;

@@ -1,7 +1,7 @@
 //! A first program with the pool: SQL databases in memory, lent one at a time.
 #![tactic(auto)]
 
-use r2d2::{Builder, Extension, ManageConnection};
+use r2d2::{Builder, ManageConnection};
 use sqlite::{Connection, Error, MemStore, params};
 use std::alloc::Global;
 use std::time::Duration;
@@ -17,7 +17,7 @@ impl ManageConnection for Databases {
 
     type Error = Error;
 
-    type Extension = Nothing;
+    type Extension = ();
 
     fn connect(&self) -> Result<Connection<MemStore>, Error> {
         let mut database = Connection::open_in_memory(self.alloc)?;
@@ -33,18 +33,6 @@ impl ManageConnection for Databases {
     fn has_broken(&self, _database: &mut Connection<MemStore>) -> bool {
         false
     }
-}
-
-/// Nothing is kept beside a connection.
-#[derive(Clone, Copy)]
-struct Nothing;
-
-impl Extension for Nothing {
-    type Kind = ();
-
-    ghost kind_of = { λ _. tt };
-
-    fn kind(&self) {}
 }
 
 fn main(rt: HostRuntime) -> Result<(), anyhow::Error> {

@@ -2,7 +2,7 @@
 use crate::pools::open_pool;
 use crate::scenario::Case;
 use r2d2::PoolRuntime;
-use std::sync::Mutex;
+use std::sync::{Arc, Mutex};
 use std::time::{Duration, Instant};
 
 /// Reads the clock.
@@ -59,4 +59,40 @@ pub fn try_get_miss<R: PoolRuntime>(rt: R, case: Case) -> Result<Duration, anyho
     let time = start.elapsed(&rt)?;
     drop(lent);
     Ok(time)
+}
+
+/// What the rules ask of a `get` and a return, with no pool: a shared pointer cloned and dropped, five readings of the clock, and the lock
+/// taken twice, with one of the readings under it each time.
+pub fn floor<R: PoolRuntime>(rt: R, case: Case) -> Result<Duration, anyhow::Error> {
+    let latest = Arc::new(rt.alloc(), Mutex::new(Duration::ZERO))?;
+    let start = Instant::now(&rt)?;
+    for _ in 0..case.operations {
+        floor_round(rt, &latest, start)?;
+    }
+    Ok(start.elapsed(&rt)?)
+}
+
+/// One round of `floor`.
+pub fn floor_round<R: PoolRuntime>(
+    rt: R,
+    latest: &Arc<Mutex<Duration>>,
+    start: Instant,
+) -> Result<(), anyhow::Error> {
+    start.elapsed(&rt)?;
+    let holder = Arc::try_clone(latest)?;
+    step(rt, &holder, start)?;
+    start.elapsed(&rt)?;
+    start.elapsed(&rt)?;
+    step(rt, &holder, start)
+}
+
+// Takes the lock, and reads the clock under it.
+fn step<R: PoolRuntime>(
+    rt: R,
+    latest: &Mutex<Duration>,
+    start: Instant,
+) -> Result<(), anyhow::Error> {
+    let mut latest = latest.lock(&rt);
+    *latest = start.elapsed(&rt)?;
+    Ok(())
 }

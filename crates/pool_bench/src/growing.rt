@@ -1,11 +1,13 @@
 // What grows with the size of a pool, or with the number of lent connections.
 ghost use Rattle.std.specs.Prelude.{◌<◌};
 
-use crate::pools::{Nothings, PlainPool, open_pool};
+use crate::pools::{Nothings, open_pool};
 use crate::scenario::Case;
 use r2d2::{
-    NopConnectionCustomizer, NopErrorHandler, NopEventHandler, PoolRuntime, PooledConnection,
+    NopConnectionCustomizer, NopErrorHandler, NopEventHandler, PlainPool, PoolRuntime,
+    PooledConnection,
 };
+use std::collections::VecDeque;
 use std::time::{Duration, Instant};
 
 /// How many connections are taken and given back, beside those that stay lent.
@@ -14,7 +16,7 @@ pub const BATCH: u32 = 10;
 /// Batches of one run.
 pub const BATCHES: u32 = 50;
 
-type Lent<R> = Vec<
+type Lent<R> = VecDeque<
     PooledConnection<Nothings, NopErrorHandler, NopEventHandler, NopConnectionCustomizer, R>,
 >;
 
@@ -29,22 +31,39 @@ pub fn build<R: PoolRuntime>(rt: R, case: Case) -> Result<Duration, anyhow::Erro
 
 /// `get`, while all but a batch of the connections are lent.
 pub fn lent_get<R: PoolRuntime>(rt: R, case: Case) -> Result<Duration, anyhow::Error> {
-    let (gets, _) = batches(rt, case.max_size)?;
+    let (gets, _) = batches(rt, case.max_size, Which::Newest)?;
     Ok(gets)
 }
 
 /// The return of the connection that was lent last, while all but a batch are lent.
 pub fn lent_drop<R: PoolRuntime>(rt: R, case: Case) -> Result<Duration, anyhow::Error> {
-    let (_, drops) = batches(rt, case.max_size)?;
+    let (_, drops) = batches(rt, case.max_size, Which::Newest)?;
     Ok(drops)
 }
 
+/// The return of the connection that was lent first, while all but a batch are lent.
+pub fn lent_drop_oldest<R: PoolRuntime>(rt: R, case: Case) -> Result<Duration, anyhow::Error> {
+    let (_, drops) = batches(rt, case.max_size, Which::Oldest)?;
+    Ok(drops)
+}
+
+/// Which lent connection is given back.
+#[derive(Clone, Copy)]
+enum Which {
+    Newest,
+    Oldest,
+}
+
 // The times of all takings and of all returns.
-fn batches<R: PoolRuntime>(rt: R, max_size: u32) -> Result<(Duration, Duration), anyhow::Error>
+fn batches<R: PoolRuntime>(
+    rt: R,
+    max_size: u32,
+    which: Which,
+) -> Result<(Duration, Duration), anyhow::Error>
     requires { 0 < max_size }
 {
     let pool = open_pool(rt, max_size, false)?;
-    let mut lent = Vec::with_capacity(rt.alloc(), max_size as usize)?;
+    let mut lent = VecDeque::with_capacity(rt.alloc(), max_size as usize)?;
     take(&pool, &mut lent, max_size.saturating_sub(BATCH))?;
     let mut gets = Duration::ZERO;
     let mut drops = Duration::ZERO;
@@ -53,7 +72,7 @@ fn batches<R: PoolRuntime>(rt: R, max_size: u32) -> Result<(Duration, Duration),
         take(&pool, &mut lent, BATCH)?;
         gets = gets.saturating_add(start.elapsed(&rt)?);
         let start = Instant::now(&rt)?;
-        give_back(&mut lent, BATCH);
+        give_back(&mut lent, BATCH, which);
         drops = drops.saturating_add(start.elapsed(&rt)?);
     }
     Ok((gets, drops))
@@ -61,19 +80,22 @@ fn batches<R: PoolRuntime>(rt: R, max_size: u32) -> Result<(Duration, Duration),
 
 // Takes so many connections.
 fn take<R: PoolRuntime>(
-    pool: &PlainPool<R>,
+    pool: &PlainPool<Nothings, R>,
     lent: &mut Lent<R>,
     count: u32,
 ) -> Result<(), anyhow::Error> {
     for _ in 0..count {
-        lent.push(pool.get()?)?;
+        lent.push_back(pool.get()?)?;
     }
     Ok(())
 }
 
-// Gives so many back, the last one first.
-fn give_back<R: PoolRuntime>(lent: &mut Lent<R>, count: u32) {
+// Gives so many back, one by one.
+fn give_back<R: PoolRuntime>(lent: &mut Lent<R>, count: u32, which: Which) {
     for _ in 0..count {
-        drop(lent.pop());
+        match which {
+            Which::Newest => drop(lent.pop_back()),
+            Which::Oldest => drop(lent.pop_front()),
+        }
     }
 }

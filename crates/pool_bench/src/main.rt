@@ -10,7 +10,7 @@ mod growing;
 mod pools;
 mod scenario;
 
-use contended::is_served;
+use contended::{goes_round, is_served};
 use growing::{BATCH, BATCHES};
 use r2d2::PoolRuntime;
 use scenario::{Case, Scenario};
@@ -29,6 +29,9 @@ fn main(rt: HostRuntime) -> Result<(), anyhow::Error> {
     contended::measure(rt, |pool, calls| {
         Ok(thread::spawn(&rt, move || is_served(pool, calls))?)
     })?;
+    contended::measure_floor(rt, |latest, calls| {
+        Ok(thread::spawn(&rt, move || goes_round(rt, latest, calls))?)
+    })?;
     measure_growing(rt)
 }
 
@@ -46,6 +49,7 @@ fn one_thread(max_size: u32, operations: u32) -> Case
 fn measure_alone<R: PoolRuntime + Print>(rt: R) -> Result<(), anyhow::Error> {
     Scenario::Clock.measure(rt, one_thread(1, CALLS))?;
     Scenario::Lock.measure(rt, one_thread(1, CALLS))?;
+    Scenario::Floor.measure(rt, one_thread(1, CALLS))?;
     Scenario::GetDrop.measure(rt, one_thread(10, CALLS))?;
     Scenario::GetDropCheck.measure(rt, one_thread(10, CALLS))?;
     Scenario::TryGetHit.measure(rt, one_thread(10, CALLS))?;
@@ -60,6 +64,7 @@ fn measure_growing<R: PoolRuntime + Print>(rt: R) -> Result<(), anyhow::Error> {
         let case = one_thread(lent + BATCH, BATCH * BATCHES);
         Scenario::LentGet.measure(rt, case)?;
         Scenario::LentDrop.measure(rt, case)?;
+        Scenario::LentDropOldest.measure(rt, case)?;
     }
     Ok(())
 }

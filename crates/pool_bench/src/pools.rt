@@ -1,10 +1,7 @@
 // Pools of connections that cost nothing.
 ghost use Rattle.std.specs.Prelude.{◌≡◌, ◌<◌, IfOk};
 
-use r2d2::{
-    Builder, Error, Extension, ManageConnection, NopConnectionCustomizer, NopErrorHandler,
-    NopEventHandler, Pool, PoolRuntime,
-};
+use r2d2::{Builder, Error, ManageConnection, PlainPool, PoolRuntime};
 use std::alloc::AllocError;
 
 /// Opens connections that are nothing at all.
@@ -16,7 +13,7 @@ impl ManageConnection for Nothings {
 
     type Error = AllocError;
 
-    type Extension = NoExtension;
+    type Extension = ();
 
     fn connect(&self) -> Result<(), AllocError> {
         Ok(())
@@ -31,33 +28,12 @@ impl ManageConnection for Nothings {
     }
 }
 
-/// Nothing is kept beside a connection.
-#[derive(Clone, Copy)]
-pub struct NoExtension;
-
-impl Extension for NoExtension {
-    type Kind = ();
-
-    ghost kind_of = { λ _. tt };
-
-    fn kind(&self) {}
-}
-
-/// A pool with no handlers.
-pub type PlainPool<R> = Pool<
-    Nothings,
-    NopErrorHandler,
-    NopEventHandler,
-    NopConnectionCustomizer,
-    R,
->;
-
 /// A pool of so many connections, all of them open.
 pub fn open_pool<R: PoolRuntime>(
     rt: R,
     max_size: u32,
     test_on_check_out: bool,
-) -> Result<PlainPool<R>, Error>
+) -> Result<PlainPool<Nothings, R>, Error>
     requires { 0 < max_size }
     ensures size { IfOk result (λ pool. pool.max_size ≡ max_size) }
     ensures check { IfOk result (λ pool. pool.test_on_check_out ≡ test_on_check_out) }

@@ -50,6 +50,7 @@ impl Case {
 pub enum Scenario {
     Clock,
     Lock,
+    Floor,
     GetDrop,
     GetDropCheck,
     TryGetHit,
@@ -57,6 +58,7 @@ pub enum Scenario {
     Build,
     LentGet,
     LentDrop,
+    LentDropOldest,
 }
 
 impl Scenario {
@@ -65,6 +67,7 @@ impl Scenario {
         match self {
             Scenario::Clock => "clock",
             Scenario::Lock => "lock",
+            Scenario::Floor => "floor",
             Scenario::GetDrop => "get_drop",
             Scenario::GetDropCheck => "get_drop_check",
             Scenario::TryGetHit => "try_get_hit",
@@ -72,6 +75,7 @@ impl Scenario {
             Scenario::Build => "build",
             Scenario::LentGet => "lent_get",
             Scenario::LentDrop => "lent_drop",
+            Scenario::LentDropOldest => "lent_drop_oldest",
         }
     }
 
@@ -80,6 +84,7 @@ impl Scenario {
         match self {
             Scenario::Clock => alone::clock(rt, case),
             Scenario::Lock => alone::lock(rt, case),
+            Scenario::Floor => alone::floor(rt, case),
             Scenario::GetDrop => alone::get_drop(rt, case, false),
             Scenario::GetDropCheck => alone::get_drop(rt, case, true),
             Scenario::TryGetHit => alone::try_get_hit(rt, case),
@@ -87,6 +92,7 @@ impl Scenario {
             Scenario::Build => growing::build(rt, case),
             Scenario::LentGet => growing::lent_get(rt, case),
             Scenario::LentDrop => growing::lent_drop(rt, case),
+            Scenario::LentDropOldest => growing::lent_drop_oldest(rt, case),
         }
     }
 

@@ -47,7 +47,7 @@ fn workers_end_after_the_last_drop(rt: HostRuntime) -> Result<(), Fail> {
 }
 
 #[test]
-fn a_lent_connection_outlives_its_pool(rt: HostRuntime) -> Result<(), Fail> {
+fn close_by_return(rt: HostRuntime) -> Result<(), Fail> {
     let counts = Counts::new(rt.alloc())?;
     let told = Arc::new(rt.alloc(), Mutex::new(Vec::new(rt.alloc())))?;
     let pool = Builder::new()

@@ -8,9 +8,13 @@ mod callers;
 #[cfg(test)]
 mod closing;
 #[cfg(test)]
+mod closing_amid;
+#[cfg(test)]
 mod engine;
 #[cfg(test)]
 mod extensions;
+#[cfg(test)]
+mod extremes;
 #[cfg(test)]
 mod journal;
 #[cfg(test)]

@@ -88,6 +88,10 @@ impl Counts {
     pub(crate) fn dropped(&self) -> u64 {
         self.dropped.load(Ordering::SeqCst)
     }
+
+    pub(crate) fn managers_dropped(&self) -> u64 {
+        self.managers_dropped.load(Ordering::SeqCst)
+    }
 }
 
 /// A connection, which counts its drop.

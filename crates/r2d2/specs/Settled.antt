@@ -1,12 +1,14 @@
 -- What becomes of a worker's opening and of a caller's check, each told to the book as one outcome: one step of the book for each.
-use Rattle.std.specs.Prelude.{ℕ, max, true, false, Option, Some, None, Result, Ok, Err}
+use Rattle.std.specs.Prelude.{ℕ, true, false, Option, Some, None, Result, Ok, Err}
 use Rattle.std.specs.Duration.{as_nanos}
 use Rattle.r2d2_core.specs.declared.machine.answers.Refusal.{Refusal}
 use Rattle.r2d2_core.specs.Seen.{SeenGone, seen_gone}
 use Rattle.r2d2_core.specs.Picture.{Picture}
 use Rattle.r2d2_core.specs.Table.{admit_answer, after_admit, fail_answer, after_fail, check_answer, after_check}
 use Rattle.r2d2_core.specs.Records.{SeenRecord}
-use Rattle.r2d2_core.specs.Recorded.{record_of_admission, record_of_check}
+use Rattle.r2d2_core.specs.Journal.{SeenJournal}
+use Rattle.r2d2_core.specs.Book.{SeenBook}
+use Rattle.r2d2_core.specs.Noted.{noted_admission, noted_check}
 use Rattle.r2d2.specs.declared.engine.Wakes.{Wakes}
 use Rattle.r2d2.specs.declared.engine.Outcome.{Outcome}
 use Rattle.r2d2.specs.declared.engine.Outcome.TheVariants as outcome
@@ -57,11 +59,11 @@ module _ {T : Type 0} where
   after_settle t (outcome.Failed tries text) p = after_fail t tries text p
   after_settle t (outcome.Unsound id text) p = after_check t id text p
 
-  -- which record it makes
-  abbrev pub record_of_settle : ℕ → Outcome T → Picture T → Option SeenRecord
-  record_of_settle t (outcome.Opened id value) p = record_of_admission (max p.latest t) id (admit_answer id value p)
-  record_of_settle t (outcome.Failed tries text) p = None
-  record_of_settle t (outcome.Unsound id text) p = record_of_check (max p.latest t) id (check_answer t id p)
+  -- and what the book notes of it: its journal after it
+  abbrev pub noted_settle : ℕ → Outcome T → SeenBook T → SeenJournal SeenRecord
+  noted_settle t (outcome.Opened id value) b = noted_admission t id (admit_answer id value b.picture) b
+  noted_settle t (outcome.Failed tries text) b = b.journal
+  noted_settle t (outcome.Unsound id text) b = noted_check t id (check_answer t id b.picture) b
 
   -- whom to wake: after an admission, a caller; after a failed opening, the workers, since it is due again; after a failed check, a
   -- caller, and the workers where it ordered; after a refusal, nobody

@@ -24,9 +24,9 @@ pub struct Config<H, V, Z> {
     pub thread_pool: usize,
     /// Whether a connection is checked before it is lent.
     pub test_on_check_out: bool,
-    /// The age at which a connection is closed, if any.
+    /// The age at which a connection is closed; None for never.
     pub max_lifetime: Option<Duration>,
-    /// The idle time at which a connection is closed, if any.
+    /// The idle time at which a connection is closed; None for never.
     pub idle_timeout: Option<Duration>,
     /// How long a caller waits for a connection.
     pub connection_timeout: Duration,
@@ -127,10 +127,16 @@ impl<H: fmt::Debug, V: fmt::Debug, Z: fmt::Debug> fmt::Debug for Config<H, V, Z>
     }
 }
 
-/// Gathers the settings of a pool. `H` handles errors, `V` events, and `Z` changes connections as they come and go.
+/// Gathers the settings of a pool, and builds it. Begin with `Builder::new()`.
+///
+/// `H` handles errors, `V` events, and `Z` changes connections as they come and go. A setting that may not be zero
+/// asks for that as a condition, which the checker proves of each call: a literal shows it by itself, and a number
+/// that comes from outside has to be tested before. Each setting says how.
 #[derive(Drop)]
 pub struct Builder<M, H = NopErrorHandler, V = NopEventHandler, Z = NopConnectionCustomizer> {
     config: Config<H, V, Z>,
+    /// The id of the first connection.
+    first_id: u64,
     manager: PhantomData<M>,
 }
 
@@ -179,6 +185,7 @@ impl<M: ManageConnection> Default for Builder<M> {
                 event_handler: NopEventHandler,
                 connection_customizer: NopConnectionCustomizer,
             },
+            first_id: 0,
             manager: PhantomData,
         }
     }
@@ -192,8 +199,10 @@ impl<
 > Builder<M, H, V, Z> {
     ghost use Rattle.r2d2.specs.Settings.{limits_in, with_error_handler, with_event_handler, with_customizer};
 
-    /// How many connections there are at most, idle and lent ones together, with those that are being opened. The default is 10.
-    /// It has to be positive. A pool takes the memory for that many when it is built.
+    /// How many connections there are at most: idle ones, lent ones and those that are being opened together. The
+    /// default is 10. A pool takes the memory for that many when it is built.
+    ///
+    /// It may not be 0. The test for a number from outside: `max_size > 0`.
     pub fn max_size(mut self, max_size: u32) -> Self
         requires { 0 < max_size }
         ensures { result ≡ record self { max_size = max_size } }
@@ -202,8 +211,11 @@ impl<
         self
     }
 
-    /// How many connections the pool tries to keep idle, as far as `max_size` leaves room for them. The default is None, which
-    /// stands for `max_size`. When the pool is built it has to be at most `max_size`: `limits` tells.
+    /// How many connections the pool tries to keep idle, as far as `max_size` leaves room for them. The default is
+    /// None, which stands for `max_size`. With `Some(0)` none is kept ready: `build` opens none and does not wait,
+    /// and a caller who finds none idle orders one and waits for it.
+    ///
+    /// It may not be above `max_size` when the pool is built. The test: `limits().is_some()` on the finished builder.
     pub fn min_idle(mut self, min_idle: Option<u32>) -> Self
         ensures { result ≡ record self { min_idle = min_idle } }
     {
@@ -211,7 +223,9 @@ impl<
         self
     }
 
-    /// How many threads of the pool's own open connections and close expired ones. The default is 3. It has to be positive.
+    /// How many threads of the pool's own open connections and close expired ones. The default is 3.
+    ///
+    /// It may not be 0. The test for a number from outside: `workers > 0`.
     pub fn thread_pool(mut self, workers: usize) -> Self
         requires { 0 < workers }
         ensures { result ≡ record self { thread_pool = workers } }
@@ -220,7 +234,8 @@ impl<
         self
     }
 
-    /// Whether a connection is checked by `ManageConnection::is_valid` before it is lent. The default is true.
+    /// Whether a connection is checked by `ManageConnection::is_valid` each time before it is lent. The default is
+    /// true.
     pub fn test_on_check_out(mut self, test_on_check_out: bool) -> Self
         ensures { result ≡ record self { test_on_check_out = test_on_check_out } }
     {
@@ -228,8 +243,13 @@ impl<
         self
     }
 
-    /// The age at which a connection is closed: an idle one at the next look for expired ones, a lent one when it comes back. None
-    /// means never. The default is 30 minutes. It may not be a length of zero.
+    /// The age at which a connection is closed; None for never. The default is 30 minutes.
+    ///
+    /// It is enforced when a lent connection comes back, and for an idle one at the next look for expired ones: there
+    /// is one every 30 seconds, so an idle connection stays at most 30 seconds beyond, and longer only while every
+    /// worker is busy. Until then it can still be lent.
+    ///
+    /// It may not be a length of zero. The test for one from outside: None, or `age.as_nanos() > 0`.
     pub fn max_lifetime(mut self, max_lifetime: Option<Duration>) -> Self
         requires { ForSome max_lifetime (λ d. 0 < as_nanos d) }
         ensures { result ≡ record self { max_lifetime = max_lifetime } }
@@ -238,8 +258,14 @@ impl<
         self
     }
 
-    /// How long a connection may be idle: the next look for expired ones closes it then. None means for ever. The default is
-    /// 10 minutes. It may not be a length of zero.
+    /// How long a connection may be idle before it is closed; None for as long as it likes. The default is 10
+    /// minutes.
+    ///
+    /// It is enforced at the next look for expired ones: there is one every 30 seconds, so an idle connection stays
+    /// at most 30 seconds beyond, and longer only while every worker is busy. Until then it can still be lent, and
+    /// its idle time starts anew when it comes back.
+    ///
+    /// It may not be a length of zero. The test for one from outside: None, or `length.as_nanos() > 0`.
     pub fn idle_timeout(mut self, idle_timeout: Option<Duration>) -> Self
         requires { ForSome idle_timeout (λ d. 0 < as_nanos d) }
         ensures { result ≡ record self { idle_timeout = idle_timeout } }
@@ -248,8 +274,12 @@ impl<
         self
     }
 
-    /// How long a caller waits for a connection before it is answered a timeout. An opening that fails again and again is put off by
-    /// at most half of it. The default is 30 seconds. It has to be positive.
+    /// How long `get` waits for a connection before it answers a timeout. The default is 30 seconds.
+    ///
+    /// It bounds two more things: `build` waits as long at most for the first connections, and an opening that failed
+    /// is tried again after half of it at the latest.
+    ///
+    /// It may not be a length of zero. The test for one from outside: `length.as_nanos() > 0`.
     pub fn connection_timeout(mut self, connection_timeout: Duration) -> Self
         requires { 0 < as_nanos connection_timeout }
         ensures { result ≡ record self { connection_timeout = connection_timeout } }
@@ -258,7 +288,9 @@ impl<
         self
     }
 
-    /// How many records of what happened the pool keeps, the latest ones. The default is 0: none.
+    /// How many records of what happened the pool keeps for `Pool::journal`, the latest ones. The default is 0: none.
+    /// The memory is taken when the pool is built, 40 bytes for each record, and building is refused where there is
+    /// not as much.
     pub fn journal_room(mut self, records: usize) -> Self
         ensures { result ≡ record self { journal_room = records } }
     {
@@ -266,7 +298,8 @@ impl<
         self
     }
 
-    /// The time from one look for expired connections to the next. The default is 30 seconds. It has to be positive. It is for tests.
+    /// The time from one look for expired connections to the next. The default is 30 seconds. It has to be positive.
+    /// It is for tests.
     pub(crate) fn reaper_rate(mut self, reaper_rate: Duration) -> Self
         requires { 0 < as_nanos reaper_rate }
         ensures { result ≡ record self { reaper_rate = reaper_rate } }
@@ -275,53 +308,81 @@ impl<
         self
     }
 
-    /// What is told of each error of the manager and of the customizer. The default is `NopErrorHandler`; `LoggingErrorHandler`
-    /// writes to a log.
+    /// The id of the first connection that the pool opens. The default is 0. It is for tests.
+    pub(crate) fn first_id(mut self, first_id: u64) -> Self
+        ensures { result ≡ self }
+    {
+        self.first_id = first_id;
+        self
+    }
+
+    /// What is told of each error of the manager and of the customizer. The default, `NopErrorHandler`, drops each in
+    /// silence, so that only a caller's timeout tells why no connection opens. `LoggingErrorHandler` writes each to a
+    /// log.
     pub fn error_handler<G: HandleError<M::Error>>(self, handler: G) -> Builder<M, G, V, Z>
         ensures { result ≡ with_error_handler handler self }
     {
-        let Builder { config, manager } = self;
+        let Builder {
+            config,
+            first_id,
+            manager,
+        } = self;
         Builder {
             config: config.with_error_handler(handler),
+            first_id,
             manager,
         }
     }
 
-    /// What is told of each event. The default is `NopEventHandler`.
+    /// What is told of each event. The default, `NopEventHandler`, ignores them.
     pub fn event_handler<W: HandleEvent + 'static>(self, handler: W) -> Builder<M, H, W, Z>
         ensures { result ≡ with_event_handler handler self }
     {
-        let Builder { config, manager } = self;
+        let Builder {
+            config,
+            first_id,
+            manager,
+        } = self;
         Builder {
             config: config.with_event_handler(handler),
+            first_id,
             manager,
         }
     }
 
-    /// What changes connections as they come and go. The default is `NopConnectionCustomizer`.
+    /// What changes connections as they come and go. The default, `NopConnectionCustomizer`, leaves them as they are.
     pub fn connection_customizer<Y: CustomizeConnection<M::Connection, M::Error>>(
         self,
         customizer: Y,
     ) -> Builder<M, H, V, Y>
         ensures { result ≡ with_customizer customizer self }
     {
-        let Builder { config, manager } = self;
+        let Builder {
+            config,
+            first_id,
+            manager,
+        } = self;
         Builder {
             config: config.with_customizer(customizer),
+            first_id,
             manager,
         }
     }
 
-    /// The settings alone.
-    pub(crate) fn into_config(self) -> Config<H, V, Z>
-        ensures { result ≡ self }
+    /// The settings alone, and the id of the first connection.
+    pub(crate) fn into_parts(self) -> (Config<H, V, Z>, u64)
+        ensures { result.0 ≡ self }
     {
-        let Builder { config, .. } = self;
-        config
+        let Builder {
+            config,
+            first_id,
+            ..
+        } = self;
+        (config, first_id)
     }
 
-    /// The limits that building would use; None exactly where `min_idle` is above `max_size`. It is the test to make before a pool is
-    /// built from settings that come from outside.
+    /// The limits that building would use; None exactly where `min_idle` is above `max_size`. It is the last test to
+    /// make before a pool is built from settings that come from outside.
     pub fn limits(&self) -> Option<Limits>
         ensures legal { IsSome result ↔ ForSome self.now.min_idle (λ n. n ≤ self.now.max_size) }
         ensures given { IfSome result (λ limits. seen_limits limits ≡ limits_in self.now) }

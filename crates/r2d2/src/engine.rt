@@ -1,14 +1,13 @@
 //! What the pool does to its book while it holds the lock: one function for each thing, which says whom to wake when the lock is
 //! free again. Beside it `Payload`, which a pool's book keeps, and `open`, which needs no book and no lock.
-ghost use Rattle.std.specs.Prelude.{◌≡◌, ◌≤◌, max, map, length, vec_len, vec_capacity};
+ghost use Rattle.std.specs.Prelude.{◌≡◌, ◌≤◌, map, length, vec_len, vec_capacity};
 ghost use Rattle.std.specs.Duration.{as_nanos};
 ghost use Rattle.r2d2_core.specs.Seen.{seen_take, seen_returned, seen_released, map_ok};
 ghost use Rattle.r2d2_core.specs.Table.{take_answer, after_take, return_answer, after_return, reap_closed, reap_orders, after_reap};
 ghost use Rattle.r2d2_core.specs.Picture.{IsSound};
-ghost use Rattle.r2d2_core.specs.Recorded.{record_of_take, record_of_return, record_of_reap};
-ghost use Rattle.r2d2_core.specs.Journal.{with_noted};
+ghost use Rattle.r2d2_core.specs.Noted.{noted_take, noted_return, noted_reap};
 ghost use Rattle.r2d2.specs.Wakes.{wakes_of_take, wakes_of_return, wakes_of_reap};
-ghost use Rattle.r2d2.specs.Settled.{seen_settled, settle_answer, after_settle, record_of_settle, wakes_of_settled};
+ghost use Rattle.r2d2.specs.Settled.{seen_settled, settle_answer, after_settle, noted_settle, wakes_of_settled};
 
 pub use crate::payload::{Payload, open};
 use r2d2_core::{Book, Gone, Refusal, Released, Returned, Take};
@@ -107,7 +106,7 @@ pub fn lend<T, A: Allocator>(
     ensures wakes { result.1 ≡ wakes_of_take (seen_take result.0) }
     ensures after { book.new.picture ≡ after_take (as_nanos now) or_order book.old.picture }
     ensures sound { IsSound book.new.picture }
-    ensures noted { book.new.journal ≡ with_noted (record_of_take (max book.old.picture.latest (as_nanos now)) (seen_take result.0)) book.old.journal }
+    ensures noted { book.new.journal ≡ noted_take (as_nanos now) (seen_take result.0) book.old }
 {
     let taken = book.take(now, or_order);
     let wakes = match &taken {
@@ -128,7 +127,7 @@ pub fn give_back<T, A: Allocator>(
     ensures wakes { result.1 ≡ wakes_of_return (map_ok seen_returned result.0) }
     ensures after { book.new.picture ≡ after_return (as_nanos now) id value broken book.old.picture }
     ensures sound { IsSound book.new.picture }
-    ensures noted { book.new.journal ≡ with_noted (record_of_return (max book.old.picture.latest (as_nanos now)) id (map_ok seen_returned result.0)) book.old.journal }
+    ensures noted { book.new.journal ≡ noted_return (as_nanos now) id (map_ok seen_returned result.0) book.old }
 {
     let returned = book.put_back(now, id, value, broken);
     let wakes = match &returned {
@@ -150,7 +149,7 @@ pub fn settle<T, A: Allocator>(
     ensures wakes { result.1 ≡ wakes_of_settled (seen_settled result.0) }
     ensures after { book.new.picture ≡ after_settle (as_nanos now) outcome book.old.picture }
     ensures sound { IsSound book.new.picture }
-    ensures noted { book.new.journal ≡ with_noted (record_of_settle (as_nanos now) outcome book.old.picture) book.old.journal }
+    ensures noted { book.new.journal ≡ noted_settle (as_nanos now) outcome book.old }
 {
     let settled = match outcome {
         Outcome::Opened { id, value } => match book.admit(now, id, value) {
@@ -184,7 +183,7 @@ pub fn sweep<T, A: Allocator>(
     ensures wakes { result.1 ≡ wakes_of_reap (length out.new.items) result.0 }
     ensures after { book.new.picture ≡ after_reap (as_nanos now) book.old.picture }
     ensures sound { IsSound book.new.picture }
-    ensures noted { book.new.journal ≡ with_noted (record_of_reap (max book.old.picture.latest (as_nanos now)) (length out.new.items) result.0) book.old.journal }
+    ensures noted { book.new.journal ≡ noted_reap (as_nanos now) (length out.new.items) result.0 book.old }
 {
     let ordered = book.reap(now, out);
     let wakes = Wakes {

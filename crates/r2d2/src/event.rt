@@ -6,7 +6,8 @@ use std::fmt;
 use std::marker::Model;
 use std::time::Duration;
 
-/// Is told of each event, by the thread on which it happened, while no lock of the pool is held. Each default body does nothing.
+/// Is told of each event, on the thread where it happened, while no lock of the pool is held. Each method does
+/// nothing unless you write it. A handler that has a parameter, as the runtime, has to have all five.
 pub trait HandleEvent: fmt::Debug + Sync + Send + Drop {
     /// A connection was opened and has its id.
     fn handle_acquire(&self, _event: AcquireEvent) {}
@@ -17,7 +18,7 @@ pub trait HandleEvent: fmt::Debug + Sync + Send + Drop {
     /// A connection was lent.
     fn handle_checkout(&self, _event: CheckoutEvent) {}
 
-    /// A caller waited in vain.
+    /// A caller waited for a connection in vain.
     fn handle_timeout(&self, _event: TimeoutEvent) {}
 
     /// A lent connection came back.

@@ -8,12 +8,14 @@ use std::alloc::Global;
 use std::marker::Model;
 use std::mem;
 
-/// A value that names the kind under which it is kept. Mostly it is an enum, with a case for each kind.
+/// A value that names the kind under which it is kept. Mostly it is an enum, with a case for each kind; it is `()`
+/// where nothing is kept.
 pub trait Extension {
     /// The kinds. There is at most one value for each.
     type Kind: Eq + Drop + 'static;
 
-    // The kind of a value, as contracts name it.
+    /// The kind of a value, as contracts name it: the same as `kind`, in the language of contracts. For an enum it
+    /// lists the cases, as `ghost kind_of = { λ v. elim v [ Number _ ↦ OfNumber | Word _ ↦ OfWord ] };` does.
     ghost kind_of: { Self → Self.Kind };
 
     /// The kind of this value.
@@ -21,7 +23,8 @@ pub trait Extension {
         ensures { result ≡ kind_of self.now };
 }
 
-/// Nothing: for a manager that keeps nothing beside its connections. It has one kind, under which nobody keeps anything.
+/// Nothing: for a manager that keeps nothing beside its connections. It has one kind, under which nobody keeps
+/// anything.
 impl Extension for () {
     type Kind = ();
 
@@ -30,8 +33,9 @@ impl Extension for () {
     fn kind(&self) {}
 }
 
-/// Values that are kept beside a connection, as prepared statements: at most one of each kind. They stay with their connection until
-/// it is closed, and a new connection has none. A value stays under the kind that it named when it was put in.
+/// Values that are kept beside a connection, such as prepared statements: at most one of each kind. They stay with
+/// their connection until it is closed, and a new connection has none. A value stays under the kind that it named
+/// when it was put in.
 #[derive(Drop)]
 pub struct Extensions<X: Extension> {
     entries: Vec<(X::Kind, X)>,
@@ -60,8 +64,8 @@ impl<X: Extension> Extensions<X> {
         }
     }
 
-    /// Puts the value under the kind that it names, and answers the value that was there. Where memory is refused nothing changes and
-    /// the value comes back; that can happen only under a kind that was not there.
+    /// Puts the value under the kind that it names, and answers the value that was there. If memory is refused,
+    /// nothing changes and the value comes back; that can happen only for a kind that had none.
     #[tactic(auto, using(crate::proofs::Places::distinct_set, crate::proofs::Places::distinct_pushed))]
     pub fn insert(&mut self, value: X) -> Result<Option<X>, X>
         ensures replaced { IfOk result (λ replaced. replaced ≡ lookup (X.Kind.eq (X.kind_of value)) self.old) }

@@ -35,21 +35,25 @@ mod returning;
 mod state;
 mod waiting;
 
-/// What a pool needs of the runtime that it is made with, and keeps.
+/// What a pool needs of the runtime that it is made with, and keeps: a clock, threads, waiting and memory. The
+/// runtime that `main` is given is one; nobody has to implement it.
 pub trait PoolRuntime: Clock + Threads + Wait + AllocGlobal + Copy + Send + Sync + 'static {}
 
 impl<R: Clock + Threads + Wait + AllocGlobal + Copy + Send + Sync + 'static> PoolRuntime for R {}
 
-/// A pool of connections. Its threads open connections and close those that are expired; its callers are lent the newest idle one.
+/// A pool of connections. Its own threads open connections and close those that are expired; `get` lends the newest
+/// idle one. It is made by a `Builder`, and shared with another thread by `try_clone`.
 ///
-/// `M` opens connections, `H` handles errors, `V` events, `Z` changes connections as they come and go, and `R` is the runtime. The pool closes
-/// when the last value over its state, a `Pool` or a lent connection, is dropped.
+/// `M` opens connections, `H` handles errors, `V` events, `Z` changes connections as they come and go, and `R` is the
+/// runtime; a `PlainPool<M, R>` is one without handlers. The pool closes when the last `Pool` over its state and the
+/// last lent connection are dropped.
 pub type Pool<M, H, V, Z, R> = AnyPool<Plain<M>, M, Config<H, V, Z>, R>;
 
-/// A connection that a pool lent. It goes back to the pool when it is dropped, and keeps the pool's state alive until then.
+/// A connection that a pool lent: it derefs to yours. It goes back to the pool when it is dropped, and keeps the pool
+/// alive until then.
 pub type PooledConnection<M, H, V, Z, R> = AnyConnection<Plain<M>, M, Config<H, V, Z>, R>;
 
-/// A pool whose handlers and customizer do nothing.
+/// A pool whose handlers and customizer do nothing: what `Builder::new()` builds, unless one of them is set.
 pub type PlainPool<M, R> = Pool<M, NopErrorHandler, NopEventHandler, NopConnectionCustomizer, R>;
 
 /// A pool of connections, whatever its lock guards.
@@ -75,14 +79,15 @@ impl<B: Keeps<M>, M: ManageConnection, K: Hooks<M>, R: PoolRuntime> AnyPool<B, M
         &self.closer.shared
     }
 
-    /// The counts at this moment.
+    /// How many connections there are at this moment, and how many of them are idle.
     pub fn state(&self) -> State
         ensures { result.idle_connections ≤ result.connections }
     {
         self.shared().state()
     }
 
-    /// What happened last, as far as the setting `journal_room` reaches, and what there is now. The error is memory; nothing has changed then.
+    /// What happened last, as far back as the setting `journal_room` reaches, and what there is now. The error is
+    /// lack of memory; then nothing has changed.
     pub fn journal(&self) -> Result<Report, Error>
         ensures replays { IfOk result (λ report. report.lost ≡ 0 → DoesReplay report) }
         ensures sound { IfOk result HasSoundCounts }
@@ -91,7 +96,7 @@ impl<B: Keeps<M>, M: ManageConnection, K: Hooks<M>, R: PoolRuntime> AnyPool<B, M
         self.shared().report().map_err(|_| Error::memory())
     }
 
-    /// Another pool over the same state. The error is memory.
+    /// Another pool over the same connections, for another thread. The error is lack of memory.
     pub fn try_clone(&self) -> Result<AnyPool<B, M, K, R>, Error>
         ensures settings { IfOk result (λ pool. pool ≡ self.now) }
         ensures refused { IfErr result IsOfMemory }
@@ -131,14 +136,14 @@ impl<
         self.shared().hooks.test_on_check_out
     }
 
-    /// The age at which a connection is closed, if any.
+    /// The age at which a connection is closed; None for never.
     pub fn max_lifetime(&self) -> Option<Duration>
         ensures { result ≡ self.now.max_lifetime }
     {
         self.shared().hooks.max_lifetime
     }
 
-    /// The idle time at which a connection is closed, if any.
+    /// The idle time at which a connection is closed; None for never.
     pub fn idle_timeout(&self) -> Option<Duration>
         ensures { result ≡ self.now.idle_timeout }
     {
@@ -163,14 +168,16 @@ impl<
     ghost use Rattle.r2d2.specs.Failures.{IsOfMemory, IsOfMemoryOrTime};
     ghost use Rattle.r2d2.specs.Settings.{AreDefaults};
 
-    /// A builder with the default of each setting: the same as `Builder::new`.
+    /// A builder with the default of each setting. `Builder::new()` is the same, and shorter: here the pool's types
+    /// have to be written out.
     pub fn builder() -> Builder<M>
         ensures { AreDefaults result }
     {
         Builder::new()
     }
 
-    /// Lends a connection, and waits for one as long as the setting `connection_timeout` says: see `get_timeout`.
+    /// Lends the newest idle connection, and waits for one as long as the setting `connection_timeout` says. See
+    /// `get_timeout`.
     pub fn get(&self) -> Result<PooledConnection<M, H, V, Z, R>, Error>
         ensures settings { IfOk result (λ lent. lent.settings ≡ self.now) }
         ensures refused { IfErr result IsOfMemoryOrTime }
@@ -178,11 +185,13 @@ impl<
         self.get_timeout(self.connection_timeout())
     }
 
-    /// Lends the newest idle connection, and waits at most about so long until there is one.
+    /// Lends the newest idle connection, and waits about as long as `timeout` if there is none.
     ///
-    /// Where the setting `test_on_check_out` is on, the connection is checked before; one that fails is closed, and another is looked for. The error
-    /// is a timeout, with the latest error of an opening or a check, if there was one; or memory, where a shared pointer can't be cloned: then nothing
-    /// has changed.
+    /// If the setting `test_on_check_out` is on, the connection is checked first; one that fails is closed, and
+    /// another is looked for.
+    ///
+    /// The error is a timeout, with the text of the latest error of an opening or a check if there was one; or lack
+    /// of memory for a shared pointer, and then nothing has changed.
     pub fn get_timeout(&self, timeout: Duration) -> Result<PooledConnection<M, H, V, Z, R>, Error>
         ensures settings { IfOk result (λ lent. lent.settings ≡ self.now) }
         ensures refused { IfErr result IsOfMemoryOrTime }
@@ -190,8 +199,9 @@ impl<
         self.lend_within(timeout, &mut ())
     }
 
-    /// Lends the newest idle connection; None where none is idle. It never waits for one, and orders none. Connections are checked and the error is memory as with
-    /// `get_timeout`.
+    /// Lends the newest idle connection; None if there is none. It does not wait for one, and orders none.
+    /// Connections are checked as by `get_timeout`. The error is lack of memory for a shared pointer, and then
+    /// nothing has changed.
     pub fn try_get(&self) -> Result<Option<PooledConnection<M, H, V, Z, R>>, Error>
         ensures settings { IfOk result (λ found. IfSome found (λ lent. lent.settings ≡ self.now)) }
         ensures refused { IfErr result IsOfMemory }

@@ -1,4 +1,5 @@
 pub mod Ids
 pub mod Filters
 pub mod Counting
-pub mod Sifting
+pub mod Turning
+pub mod Expiring

@@ -3,6 +3,7 @@ pub mod Takes
 pub mod Returns
 pub mod Reaps
 pub mod Replaying
+pub mod Moments
 pub mod Books
 pub mod Listing
 pub mod Reporting

@@ -3,7 +3,7 @@ use Rattle.std.specs.Prelude.{ℕ, ◌+◌, ◌≤◌, ◌<◌, ◌≡◌, true,
 use Rattle.r2d2_core.specs.Limits.{SeenLimits}
 use Rattle.r2d2_core.specs.Ids.{copies_of}
 use Rattle.r2d2_core.specs.Connections.{SeenIdleConnection, idle_connection}
-use Rattle.r2d2_core.specs.Picture.{Picture}
+use Rattle.r2d2_core.specs.Picture.{Picture, IsSound}
 use Rattle.r2d2_core.specs.Records.{SeenRecord}
 use Rattle.r2d2_core.specs.Replay.{Idle, Standing, first_standing, all_deeds, admissions, departures, all_ordered, closed_by, moment_by, is_known, replay_of, is_legal}
 use Rattle.r2d2_core.specs.Journal.{SeenJournal}
@@ -49,6 +49,16 @@ module _ {T : Type 0} where
   abbrev pub IsReplayed : SeenBook T → Type 0
   IsReplayed a = a.journal.lost ≡ 0 → ReplayTo (limits_in a) (first_standing (limits_in a) 0) (reverse a.journal.records) a.picture
 
-  -- what the type of a book keeps
+  -- what holds of each book
+  pub record HasFacts (a : SeenBook T) : Type 0 where
+    pub sound : IsSound a.picture
+    pub replayed : IsReplayed a
+
+  -- so are they, and so they will be with the next record
   abbrev pub IsRecorded : SeenBook T → Type 0
   IsRecorded a = a.journal.lost ≡ 0 → KeepReplaying (limits_in a) (first_standing (limits_in a) 0) (reverse a.journal.records) a.picture
+
+  -- what the type of a book keeps
+  pub record IsFaithful (a : SeenBook T) : Type 0 where
+    pub sound : IsSound a.picture
+    pub recorded : IsRecorded a

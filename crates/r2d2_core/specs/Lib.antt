@@ -23,5 +23,6 @@ pub mod Replay
 pub mod Recorded
 pub mod Journal
 pub mod Book
+pub mod Noted
 pub mod Steps
 pub mod Reports

@@ -1,5 +1,5 @@
--- A step of any kind: what it answers, what it makes of the picture, and which record it makes. Each line is that of the step's own call.
-use Rattle.std.specs.Prelude.{max, Bool, true, false, length, map, Option, None, option_map, string_bytes}
+-- A step of any kind: what it answers, what it makes of the picture, and what a book notes of it. Each line is that of the step's own call.
+use Rattle.std.specs.Prelude.{Bool, true, false, length, map, option_map, string_bytes}
 use Rattle.std.specs.Duration.{as_nanos}
 use Rattle.r2d2_core.specs.declared.run.Step.{Step}
 use Rattle.r2d2_core.specs.declared.run.Step.TheVariants as step
@@ -10,7 +10,9 @@ use Rattle.r2d2_core.specs.Picture.{Picture}
 use Rattle.r2d2_core.specs.Seen.{SeenAnswer, Taken, Begun, Numbered, Admitted, Failed, CheckFailed, CameBack, Reaped, Told, Left, seen_take, seen_returned, seen_gone, seen_released, map_ok}
 use Rattle.r2d2_core.specs.Table.{take_answer, after_take, begin_answer, after_begin, number_answer, after_number, admit_answer, after_admit, fail_answer, after_fail, return_answer, after_return, check_answer, after_check, reap_closed, reap_orders, after_reap, after_take_error, close_answer, after_close}
 use Rattle.r2d2_core.specs.Records.{SeenRecord}
-use Rattle.r2d2_core.specs.Recorded.{record_of_take, record_of_admission, record_of_return, record_of_check, record_of_reap, record_of_close}
+use Rattle.r2d2_core.specs.Journal.{SeenJournal}
+use Rattle.r2d2_core.specs.Book.{SeenBook}
+use Rattle.r2d2_core.specs.Noted.{noted_take, noted_admission, noted_return, noted_check, noted_reap, noted_close}
 
 -- what a caller sees of an answer
 abbrev pub seen_answer : {T A : Type 0} → Answer T A → SeenAnswer T
@@ -52,15 +54,17 @@ module _ {T : Type 0} where
   after_step step.TakeError p = after_take_error p
   after_step step.Close p = after_close p
 
-  -- the record that it makes, if it makes one
-  abbrev pub record_of_step : Step T → Picture T → Option SeenRecord
-  record_of_step (step.Take now or_order) p = record_of_take (max p.latest (as_nanos now)) (take_answer or_order p)
-  record_of_step (step.Admit now id value) p = record_of_admission (max p.latest (as_nanos now)) id (admit_answer id value p)
-  record_of_step (step.FailCheck now id text) p = record_of_check (max p.latest (as_nanos now)) id (check_answer (as_nanos now) id p)
-  record_of_step (step.PutBack now id value broken) p = record_of_return (max p.latest (as_nanos now)) id (return_answer (as_nanos now) id value broken p)
-  record_of_step (step.Reap now) p = record_of_reap (max p.latest (as_nanos now)) (length (reap_closed (as_nanos now) p)) (reap_orders (as_nanos now) p)
-  record_of_step step.Close p = record_of_close p.latest p.on_order.closed
-  record_of_step _ p = None
+  -- what a book notes of it: its journal after it
+  abbrev pub noted_step : Step T → SeenBook T → SeenJournal SeenRecord
+  noted_step (step.Take now or_order) b = noted_take (as_nanos now) (take_answer or_order b.picture) b
+  noted_step (step.Admit now id value) b = noted_admission (as_nanos now) id (admit_answer id value b.picture) b
+  noted_step (step.FailCheck now id text) b = noted_check (as_nanos now) id (check_answer (as_nanos now) id b.picture) b
+  noted_step (step.PutBack now id value broken) b =
+      noted_return (as_nanos now) id (return_answer (as_nanos now) id value broken b.picture) b
+  noted_step (step.Reap now) b =
+      noted_reap (as_nanos now) (length (reap_closed (as_nanos now) b.picture)) (reap_orders (as_nanos now) b.picture) b
+  noted_step step.Close b = noted_close b
+  noted_step _ b = b.journal
 
   abbrev pub is_reap : Step T → Bool
   is_reap (step.Reap now) = true

@@ -1,8 +1,8 @@
 // A journal beside a machine: what each step did.
-ghost use Rattle.std.specs.Prelude.{◌≡◌, ◌≤◌, [], max, map, length, option_map, string_bytes, vec_len, vec_capacity, IfOk};
+ghost use Rattle.std.specs.Prelude.{◌≡◌, ◌≤◌, [], map, length, option_map, string_bytes, vec_len, vec_capacity, IfOk};
 ghost use Rattle.std.specs.Duration.{as_nanos};
 
-use crate::machine::{Core, Gone, Leftover, Refusal, Released, Returned, Take, later};
+use crate::machine::{Core, Gone, Leftover, Refusal, Released, Returned, Take};
 use crate::schedule::{Job, Limits};
 use bounded::Journal;
 pub use record::Record;
@@ -26,21 +26,20 @@ pub struct Book<T, A: Allocator = Global> {
 }
 
 impl<T, A: Allocator> Model for Book<T, A> {
-    ghost use Rattle.r2d2_core.specs.Book.{SeenBook, seen_book, IsRecorded};
+    ghost use Rattle.r2d2_core.specs.Book.{SeenBook, seen_book, IsFaithful};
 
     ghost Value = { SeenBook T };
 
     ghost view = { λ b. seen_book b.machine b.journal };
 
-    ghost invariant = { λ b. IsRecorded (seen_book b.machine b.journal) };
+    ghost invariant = { λ b. IsFaithful (seen_book b.machine b.journal) };
 }
 
 impl<T, A: Allocator> Book<T, A> {
     ghost use Rattle.r2d2_core.specs.Limits.{seen_limits};
-    ghost use Rattle.r2d2_core.specs.Picture.{IsSound};
     ghost use Rattle.r2d2_core.specs.Table.{first_picture};
     ghost use Rattle.r2d2_core.specs.Journal.{seen_journal};
-    ghost use Rattle.r2d2_core.specs.Book.{seen_book, IsReplayed};
+    ghost use Rattle.r2d2_core.specs.Book.{seen_book, HasFacts};
     ghost use Rattle.r2d2_core.specs.Reports.{IsReportOf, DoesReplay, HasSoundCounts};
 
     /// A book of a core whose ids are counted from 0, made at the moment `now`, that keeps the newest records, `room` of them at
@@ -84,8 +83,7 @@ impl<T, A: Allocator> Book<T, A> {
     /// How many connections there are, idle and lent.
     pub fn connections(&self) -> u32
         ensures value { result ≡ self.now.picture.connections }
-        ensures sound { IsSound self.now.picture }
-        ensures replayed { IsReplayed self.now }
+        ensures facts { HasFacts self.now }
     {
         self.machine.connections()
     }
@@ -93,8 +91,7 @@ impl<T, A: Allocator> Book<T, A> {
     /// How many connections are idle.
     pub fn idle(&self) -> u32
         ensures value { result ≡ length self.now.picture.idle }
-        ensures sound { IsSound self.now.picture }
-        ensures replayed { IsReplayed self.now }
+        ensures facts { HasFacts self.now }
     {
         self.machine.idle()
     }
@@ -102,16 +99,14 @@ impl<T, A: Allocator> Book<T, A> {
     /// How many openings are ordered and not admitted.
     pub fn pending(&self) -> u32
         ensures value { result ≡ self.now.picture.on_order.pending }
-        ensures sound { IsSound self.now.picture }
-        ensures replayed { IsReplayed self.now }
+        ensures facts { HasFacts self.now }
     {
         self.machine.pending()
     }
 
     pub fn is_closed(&self) -> bool
         ensures value { result ≡ self.now.picture.on_order.closed }
-        ensures sound { IsSound self.now.picture }
-        ensures replayed { IsReplayed self.now }
+        ensures facts { HasFacts self.now }
     {
         self.machine.is_closed()
     }
@@ -119,8 +114,7 @@ impl<T, A: Allocator> Book<T, A> {
     /// The limits that the book was made with.
     pub fn limits(&self) -> Limits
         ensures value { seen_limits result ≡ self.now.picture.on_order.limits }
-        ensures sound { IsSound self.now.picture }
-        ensures replayed { IsReplayed self.now }
+        ensures facts { HasFacts self.now }
     {
         self.machine.limits()
     }
@@ -166,18 +160,17 @@ impl<T, A: Allocator> Book<T, A> {
     ghost use Rattle.r2d2_core.specs.Jobs.{seen_job};
     ghost use Rattle.r2d2_core.specs.Picture.{IsSound};
     ghost use Rattle.r2d2_core.specs.Table.{take_answer, after_take, begin_answer, after_begin, number_answer, after_number, admit_answer, after_admit, fail_answer, after_fail, return_answer, after_return, check_answer, after_check, reap_closed, reap_orders, after_reap, after_take_error, close_answer, after_close};
-    ghost use Rattle.r2d2_core.specs.Recorded.{record_of_take, record_of_admission, record_of_return, record_of_check, record_of_reap, record_of_close};
-    ghost use Rattle.r2d2_core.specs.Journal.{with_noted};
+    ghost use Rattle.r2d2_core.specs.Noted.{noted_take, noted_admission, noted_return, noted_check, noted_reap, noted_close};
 
     /// As `Core::take`. A take that found is noted, and one that ordered.
     pub fn take(&mut self, now: Duration, or_order: bool) -> Take<T>
         ensures answer { seen_take result ≡ take_answer or_order self.old.picture }
         ensures after { self.new.picture ≡ after_take (as_nanos now) or_order self.old.picture }
         ensures sound { IsSound self.new.picture }
-        ensures noted { self.new.journal ≡ with_noted (record_of_take (max self.old.picture.latest (as_nanos now)) (seen_take result)) self.old.journal }
+        ensures noted { self.new.journal ≡ noted_take (as_nanos now) (seen_take result) self.old }
     {
-        let at = later(self.machine.latest(), now);
         let taken = self.machine.take(now, or_order);
+        let at = self.machine.latest();
         self.journal.note(Record::of_take(at, &taken));
         taken
     }
@@ -207,10 +200,10 @@ impl<T, A: Allocator> Book<T, A> {
         ensures answer { result ≡ admit_answer id value self.old.picture }
         ensures after { self.new.picture ≡ after_admit (as_nanos now) id value self.old.picture }
         ensures sound { IsSound self.new.picture }
-        ensures noted { self.new.journal ≡ with_noted (record_of_admission (max self.old.picture.latest (as_nanos now)) id result) self.old.journal }
+        ensures noted { self.new.journal ≡ noted_admission (as_nanos now) id result self.old }
     {
-        let at = later(self.machine.latest(), now);
         let answer = self.machine.admit(now, id, value);
+        let at = self.machine.latest();
         self.journal.note(Record::of_admission(at, id, &answer));
         answer
     }
@@ -240,10 +233,10 @@ impl<T, A: Allocator> Book<T, A> {
         ensures answer { map_ok seen_gone result ≡ check_answer (as_nanos now) id self.old.picture }
         ensures after { self.new.picture ≡ after_check (as_nanos now) id text self.old.picture }
         ensures sound { IsSound self.new.picture }
-        ensures noted { self.new.journal ≡ with_noted (record_of_check (max self.old.picture.latest (as_nanos now)) id (map_ok seen_gone result)) self.old.journal }
+        ensures noted { self.new.journal ≡ noted_check (as_nanos now) id (map_ok seen_gone result) self.old }
     {
-        let at = later(self.machine.latest(), now);
         let answer = self.machine.fail_check(now, id, text);
+        let at = self.machine.latest();
         self.journal.note(Record::of_check(at, id, &answer));
         answer
     }
@@ -259,10 +252,10 @@ impl<T, A: Allocator> Book<T, A> {
         ensures answer { map_ok seen_returned result ≡ return_answer (as_nanos now) id value broken self.old.picture }
         ensures after { self.new.picture ≡ after_return (as_nanos now) id value broken self.old.picture }
         ensures sound { IsSound self.new.picture }
-        ensures noted { self.new.journal ≡ with_noted (record_of_return (max self.old.picture.latest (as_nanos now)) id (map_ok seen_returned result)) self.old.journal }
+        ensures noted { self.new.journal ≡ noted_return (as_nanos now) id (map_ok seen_returned result) self.old }
     {
-        let at = later(self.machine.latest(), now);
         let answer = self.machine.put_back(now, id, value, broken);
+        let at = self.machine.latest();
         self.journal.note(Record::of_return(at, id, &answer));
         answer
     }
@@ -275,10 +268,10 @@ impl<T, A: Allocator> Book<T, A> {
         ensures answer { result ≡ reap_orders (as_nanos now) self.old.picture }
         ensures after { self.new.picture ≡ after_reap (as_nanos now) self.old.picture }
         ensures sound { IsSound self.new.picture }
-        ensures noted { self.new.journal ≡ with_noted (record_of_reap (max self.old.picture.latest (as_nanos now)) (length out.new.items) result) self.old.journal }
+        ensures noted { self.new.journal ≡ noted_reap (as_nanos now) (length out.new.items) result self.old }
     {
-        let at = later(self.machine.latest(), now);
-        let ordered = self.machine.reap(now, out);
+        let ordered = self.machine.reap_uncounted(now, out);
+        let at = self.machine.latest();
         self.journal.note(Record::of_reap(at, out.len(), ordered));
         ordered
     }
@@ -298,7 +291,7 @@ impl<T, A: Allocator> Book<T, A> {
         ensures answer { result ≡ close_answer self.old.picture }
         ensures after { self.new.picture ≡ after_close self.old.picture }
         ensures sound { IsSound self.new.picture }
-        ensures noted { self.new.journal ≡ with_noted (record_of_close self.old.picture.latest self.old.picture.on_order.closed) self.old.journal }
+        ensures noted { self.new.journal ≡ noted_close self.old }
     {
         let made = Record::of_close(self.machine.latest(), self.machine.is_closed());
         self.journal.note(made);

@@ -1,9 +1,10 @@
 // The machine of a pool: what each step does, in place.
-ghost use Rattle.std.specs.Prelude.{◌≡◌, ◌≤◌, max, map, length, option_map, slice_get, string_bytes, vec_len, vec_capacity, IfOk};
+ghost use Rattle.std.specs.Prelude.{◌≡◌, ◌+◌, ◌*◌, ◌<◌, ◌≤◌, None, max, map, length, option_map, slice_get, string_bytes, vec_len, vec_capacity, IfOk};
 ghost use Rattle.std.specs.Duration.{as_nanos};
 
 use crate::schedule::Job;
 pub use crate::schedule::Limits;
+use crate::steps::Steps;
 pub use answers::{Gone, Refusal, Released, Returned, Take};
 use idle::{Idle, IdleConnection, reached};
 pub use leftover::Leftover;
@@ -11,7 +12,8 @@ use lent::LentConnection;
 use on_order::OnOrder;
 use roster::Roster;
 use std::alloc::{AllocError, Allocator, Global};
-use std::marker::Model;
+use std::marker::{Brand, Model};
+use std::sync::ledger::{Blank, Ledger};
 use std::time::Duration;
 
 pub(crate) mod answers;
@@ -114,6 +116,7 @@ impl<T, A: Allocator> Core<T, A> {
         self.on_order.pending()
     }
 
+    /// Whether `close` was called.
     pub fn is_closed(&self) -> bool
         ensures value { result ≡ self.now.on_order.closed }
         ensures sound { IsSound self.now }
@@ -333,7 +336,34 @@ impl<T, A: Allocator> Core<T, A> {
 
     /// Closes the idle connections that are idle too long or too old: they stand in the caller's list then, oldest first. The
     /// others keep their order. It tops up, also where it closed none, and answers how many openings it ordered.
-    pub fn reap(&mut self, now: Duration, out: &mut Vec<Released<T>>) -> u32
+    ///
+    /// A step is one look at an idle connection, or one move of it. At most two are taken for each idle connection. Where
+    /// `max_lifetime` is not set it is at most one more than two for each that is closed, and none where `idle_timeout` is not set either.
+    pub fn reap<L: Ledger>(
+        &mut self,
+        now: Duration,
+        out: &mut Vec<Released<T>>,
+        steps: &mut Steps<L>,
+    ) -> u32
+        requires empty { vec_len out.old ≡ 0 }
+        requires room { self.old.on_order.limits.max_size ≤ vec_capacity out.old }
+        ensures released { map seen_released out.new.items ≡ reap_closed (as_nanos now) self.old }
+        ensures answer { result ≡ reap_orders (as_nanos now) self.old }
+        ensures after { self.new ≡ after_reap (as_nanos now) self.old }
+        ensures sound { IsSound self.new }
+        ensures two_for_each { steps.new ≤ steps.old + 2 * length self.old.idle }
+        ensures two_for_each_closed { self.old.on_order.limits.max_lifetime ≡ None → steps.new ≤ steps.old + (2 * length out.new.items + 1) }
+        ensures none_without_limits { self.old.on_order.limits.max_lifetime ≡ None → self.old.on_order.limits.idle_timeout ≡ None → steps.new ≡ steps.old }
+    {
+        self.latest = later(self.latest, now);
+        self.idle
+            .reap(&self.on_order.limits(), self.latest, out, steps);
+        self.on_order
+            .top_up(self.idle.len(), self.lent.len(), self.latest)
+    }
+
+    /// The same, for a caller that counts no steps.
+    pub fn reap_uncounted(&mut self, now: Duration, out: &mut Vec<Released<T>>) -> u32
         requires empty { vec_len out.old ≡ 0 }
         requires room { self.old.on_order.limits.max_size ≤ vec_capacity out.old }
         ensures released { map seen_released out.new.items ≡ reap_closed (as_nanos now) self.old }
@@ -341,10 +371,28 @@ impl<T, A: Allocator> Core<T, A> {
         ensures after { self.new ≡ after_reap (as_nanos now) self.old }
         ensures sound { IsSound self.new }
     {
-        self.latest = later(self.latest, now);
-        self.idle.reap(&self.on_order.limits(), self.latest, out);
-        self.on_order
-            .top_up(self.idle.len(), self.lent.len(), self.latest)
+        self.reap_from::<Brand>(now, out, Blank::new(1))
+    }
+
+    // A reap with a count of its own, in the ledger that the blank stands for.
+    fn reap_from<L: Ledger>(
+        &mut self,
+        now: Duration,
+        out: &mut Vec<Released<T>>,
+        blank: Blank,
+    ) -> u32
+        requires name { blank.name ≡ L.name }
+        requires parts { blank.parts ≡ L.parts }
+        requires some { 0 < L.parts }
+        requires empty { vec_len out.old ≡ 0 }
+        requires room { self.old.on_order.limits.max_size ≤ vec_capacity out.old }
+        ensures released { map seen_released out.new.items ≡ reap_closed (as_nanos now) self.old }
+        ensures answer { result ≡ reap_orders (as_nanos now) self.old }
+        ensures after { self.new ≡ after_reap (as_nanos now) self.old }
+        ensures sound { IsSound self.new }
+    {
+        let mut steps: Steps<L> = Steps::new(blank);
+        self.reap(now, out, &mut steps)
     }
 
     /// The latest text recorded since the last admission, if it was not told yet: each is told once.

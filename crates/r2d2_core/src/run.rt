@@ -13,78 +13,99 @@ use crate::schedule::Job;
 use std::alloc::{AllocError, Allocator, Global};
 use std::time::Duration;
 
-/// One call of the core. Each moment `now` is a `Duration` since the pool was made.
+/// One call of the core, as a value. Each moment `now` is a `Duration` since the pool was made.
 #[derive(Clone, Drop)]
 pub enum Step<T> {
-    /// A caller wants a connection; where none is idle, `or_order` asks for an opening.
+    /// `Core::take`: a caller wants a connection.
     Take {
         now: Duration,
+        /// Whether an opening is ordered where none is idle.
         or_order: bool,
     },
-    /// A worker asks what to do.
+    /// `Core::begin`: a worker asks what to do.
     Begin {
         now: Duration,
     },
-    /// A worker opened a connection, which had failed `tries` times, and wants its id.
+    /// `Core::number`: a worker opened a connection, and wants its id.
     Number {
+        /// How often opening it had failed, as `begin` said.
         tries: u32,
     },
-    /// The connection with the id joins the idle ones.
+    /// `Core::admit`: the connection joins the idle ones.
     Admit {
         now: Duration,
+        /// The id that `number` gave.
         id: u64,
         value: T,
     },
-    /// A worker could not open a connection.
+    /// `Core::fail`: a worker could not open a connection.
     Fail {
         now: Duration,
+        /// How often opening it had failed before, as `begin` said.
         tries: u32,
+        /// Why, for the caller who waits in vain.
         text: Option<String>,
     },
-    /// The check of a lent connection failed.
+    /// `Core::fail_check`: the check of a lent connection failed.
     FailCheck {
         now: Duration,
+        /// The id of the lent connection.
         id: u64,
+        /// Why, for the caller who waits in vain.
         text: Option<String>,
     },
-    /// A lent connection comes back.
+    /// `Core::put_back`: a lent connection comes back.
     PutBack {
         now: Duration,
+        /// The id of the lent connection.
         id: u64,
         value: T,
+        /// Whether its user says that it is broken.
         broken: bool,
     },
-    /// The idle connections that are expired are to be closed.
+    /// `Core::reap`: the idle connections that are expired are to be closed.
     Reap {
         now: Duration,
     },
-    /// The latest text of a failure is wanted.
+    /// `Core::take_error`: the latest text of a failure is wanted.
     TakeError,
-    /// The pool is no longer used.
+    /// `Core::close`: the pool is no longer used.
     Close,
 }
 
-/// What a step answered.
+/// What a step answered: the variant has the name of the step's.
 #[derive(Drop)]
 pub enum Answer<T, A: Allocator = Global> {
+    /// The newest idle connection, or none; and how many openings were ordered.
     Take(Take<T>),
+    /// What the worker is to do.
     Begin(Job),
+    /// The connection's id.
     Number(Result<u64, Refusal>),
+    /// Nothing; or why it was refused, with the value that was to be admitted.
     Admit(Result<(), (Refusal, T)>),
+    /// The moment at which the opening is due again.
     Fail(Result<Duration, Refusal>),
+    /// How old the connection was, and how many openings were ordered.
     FailCheck(Result<Gone, Refusal>),
+    /// Whether it was kept; or why it was refused, with the value that was to be put back.
     PutBack(Result<Returned<T>, (Refusal, T)>),
+    /// The idle connections that were expired, now to be closed.
     Reap {
+        /// Those connections, the one that was idle longest first.
         released: Vec<Released<T>>,
+        /// How many openings were ordered.
         ordered: u32,
     },
+    /// The latest text of a failure, where there is one.
     TakeError(Option<String>),
+    /// The values of the connections that were idle, the one that was idle longest first.
     Close(Leftover<T, A>),
 }
 
 // The machine's own call for a step. What a reap's list takes of memory is taken before the call.
 macro_rules! answer_by {
-    ($machine:expr, $alloc:expr, $step:expr) => {
+    ($machine:expr, $reap:ident, $alloc:expr, $step:expr) => {
         match $step {
             Step::Take { now, or_order } => Ok(Answer::Take($machine.take(now, or_order))),
             Step::Begin { now } => Ok(Answer::Begin($machine.begin(now))),
@@ -103,7 +124,7 @@ macro_rules! answer_by {
             Step::Reap { now } => {
                 let room = $machine.limits().max_size() as usize;
                 let mut released = Vec::with_capacity($alloc, room)?;
-                let ordered = $machine.reap(now, &mut released);
+                let ordered = $machine.$reap(now, &mut released);
                 Ok(Answer::Reap { released, ordered })
             }
             Step::TakeError => Ok(Answer::TakeError($machine.take_error())),
@@ -127,25 +148,24 @@ impl<T, A: Allocator> Core<T, A> {
         ensures only_reaps { IfErr result (λ _. is_reap step ≡ true) }
         ensures sound { IsSound self.new }
     {
-        answer_by!(self, alloc, step)
+        answer_by!(self, reap_uncounted, alloc, step)
     }
 }
 
 impl<T, A: Allocator> Book<T, A> {
     ghost use Rattle.r2d2_core.specs.Picture.{IsSound};
-    ghost use Rattle.r2d2_core.specs.Journal.{with_noted};
-    ghost use Rattle.r2d2_core.specs.Steps.{seen_answer, step_answer, after_step, record_of_step, is_reap};
+    ghost use Rattle.r2d2_core.specs.Steps.{seen_answer, step_answer, after_step, noted_step, is_reap};
 
     /// As `Core::answer`. A step is noted where the call of its kind notes it.
     pub fn answer(&mut self, alloc: Global, step: Step<T>) -> Result<Answer<T, A>, AllocError>
         ensures answer { IfOk result (λ a. seen_answer a ≡ step_answer step self.old.picture) }
         ensures after { OnOk result (self.new.picture ≡ after_step step self.old.picture) }
-        ensures noted { OnOk result (self.new.journal ≡ with_noted (record_of_step step self.old.picture) self.old.journal) }
+        ensures noted { OnOk result (self.new.journal ≡ noted_step step self.old) }
         ensures unchanged { IfErr result (λ _. self.new ≡ self.old) }
         ensures only_reaps { IfErr result (λ _. is_reap step ≡ true) }
         ensures sound { IsSound self.new.picture }
     {
-        answer_by!(self, alloc, step)
+        answer_by!(self, reap, alloc, step)
     }
 }
 

@@ -97,7 +97,7 @@ fn steps(rt: HostRuntime) -> Result<(), Fail> {
         rt.alloc(),
         core.limits().max_size() as usize,
     )?;
-    assert_eq!(rt; core.reap(seconds(8), &mut released), 1);
+    assert_eq!(rt; core.reap_uncounted(seconds(8), &mut released), 1);
     assert_eq!(rt; released.len(), 1);
     let left: Leftover<u32> = core.close();
     assert_eq!(rt; left.count(), 0);

@@ -8,6 +8,7 @@ use std::str;
 use std::test::Fail;
 
 mod lines;
+mod strangers;
 mod streams;
 
 // Serves an input to a writer, through a buffer as the program does.

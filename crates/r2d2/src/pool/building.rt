@@ -25,10 +25,11 @@ impl<
     V: HandleEvent + 'static,
     Z: CustomizeConnection<M::Connection, M::Error>,
 > Builder<M, H, V, Z> {
-    /// Makes a pool, and waits until as many connections as are wanted idle were opened.
+    /// Makes a pool, and waits until as many connections are open as are wanted idle.
     ///
-    /// The settings have to be legal: `limits` tells. The error is a timeout where fewer were opened within `connection_timeout`, with
-    /// the latest error of an opening, if there was one; and else that of `build_unchecked`. The pool is closed then.
+    /// `min_idle` may not be above `max_size`: `limits` is the test. The error is a timeout if fewer were opened within
+    /// `connection_timeout`, with the text of the latest error of an opening if there was one; otherwise it is that of
+    /// `build_unchecked`. After an error the pool is closed.
     pub fn build<R: PoolRuntime>(self, rt: R, manager: M) -> Result<Pool<M, H, V, Z, R>, Error>
         requires { ForSome self.min_idle (λ n. n ≤ self.max_size) }
         ensures settings { IfOk result (λ pool. pool ≡ self) }
@@ -38,11 +39,12 @@ impl<
         Ok(pool)
     }
 
-    /// Makes a pool, and starts its workers, which open connections from now on.
+    /// Makes a pool, and starts its workers, which open connections from now on. It does not wait for them.
     ///
-    /// The settings have to be legal: `limits` tells. Here a pool takes the memory for `max_size` connections and their records; where
-    /// that is refused the error says so, and likewise where a worker's thread can't be started. The workers that were started end then, and the
-    /// manager and the handlers are dropped, at the latest with the last of them.
+    /// `min_idle` may not be above `max_size`: `limits` is the test. The error is lack of memory, for here the memory
+    /// for `max_size` connections and the journal is taken; or a worker's thread that could not be started. After an
+    /// error the workers that were started end, and the manager and the handlers are dropped, at the latest with the
+    /// last of them.
     pub fn build_unchecked<R: PoolRuntime>(
         self,
         rt: R,
@@ -55,13 +57,18 @@ impl<
         let Some(limits) = self.limits() else {
             unreachable!()
         };
-        let config = self.into_config();
+        let (config, first_id) = self.into_parts();
         let lists = reap_lists(rt.alloc(), config.thread_pool, limits.max_size()).map_err(
             |_| Error::memory(),
         )?;
-        let book = Book::new(rt.alloc(), limits, Duration::ZERO, config.journal_room).map_err(
-            |_| Error::memory(),
-        )?;
+        let book = Book::with_first_id(
+            rt.alloc(),
+            limits,
+            Duration::ZERO,
+            first_id,
+            config.journal_room,
+        )
+        .map_err(|_| Error::memory())?;
         let closer = share(rt, Plain { book }, config, manager).map_err(|_| Error::memory())?;
         start_workers(&closer, lists)?;
         Ok(AnyPool { closer })

@@ -57,7 +57,8 @@ impl<B: Keeps<M>, M: ManageConnection, K: Hooks<M>, R: PoolRuntime> AnyConnectio
     ghost use Rattle.r2d2.specs.contracts.extensions.Extensions.{the_row as extensions_row};
     ghost use Rattle.r2d2.specs.contracts.pool.lent.AnyConnection.{the_row};
 
-    /// What is kept beside the connection: it stays with it over its returns, until it is closed.
+    /// What is kept beside the connection. It stays with the connection from one caller to the next, until it is
+    /// closed.
     pub fn extensions(this: &Self) -> &Extensions<M::Extension>
         ensures { result.now ≡ this.now.extensions }
     {

@@ -8,7 +8,18 @@ use std::test::Fail;
 use std::thread;
 
 mod expiring;
+mod ids;
 mod unlocked;
+
+/// The error of each manager.
+#[derive(Clone, Copy, Debug)]
+struct Blammo;
+
+impl fmt::Display for Blammo {
+    fn fmt<W: fmt::Write>(&self, f: &mut fmt::Formatter<W>) -> fmt::Result {
+        f.write_str("blammo")
+    }
+}
 
 /// Looks at a count until it has reached what is awaited, so many times at most, 10 ms apart. It answers what it saw last.
 fn watched<R: Clock>(rt: &R, count: &AtomicU64, awaited: u64, looks: u32) -> u64 {

@@ -1,8 +1,9 @@
 -- Lists of things with ids.
 use Rattle.std.proofs.Common.{◌≡◌, ℕ, zero, suc, ◌+◌, ◌-◌, ◌<◌, ◌≤◌, Bool, true, false, cond, List, [], ◌∷◌, ◌++◌, map, length, take, get_or, Option, Some, None, refl, sym, ◌∙◌, ap, subst, arith}
 use Rattle.std.specs.Prelude.{◌==◌}
-use Rattle.std.specs.List.{remove, All}
-use Rattle.std.specs.Option.{option_to_list, IsSome, is_some}
+use Rattle.std.specs.List.{remove, slice_get, All}
+use Rattle.std.specs.Option.{is_some}
+use Rattle.circular_buffer.specs.Buffer.{last_item}
 use Rattle.std.proofs.lemmas.List.{take_at, length_push, map-append}
 use Rattle.std.proofs.lemmas.Bool.{eq-eqb, ne_eqb, eqb-true, cond-true, cond-false}
 use Rattle.std.proofs.lemmas.List.Elements.{All-append}
@@ -41,10 +42,13 @@ module _ {X : Type 0} where
   without_first id_of i (x ∷ xs) zero lt here none = cond-true _ _ _ (eq-eqb (id_of x) i (here x))
   without_first id_of i (x ∷ xs) (suc p) lt here none = cond-false _ _ _ (none_head id_of i x xs p none) ∙ ap (λ l. x ∷ l) (without_first id_of i xs p (omega arith) here (none_tail id_of i x xs p none))
 
-  pub popped_is_last : (xs rest : List X) (o : Option X) → xs ≡ rest ++ option_to_list o → (0 < length xs → IsSome o) → o ≡ last_of xs
-  popped_is_last [] rest None e some = refl
-  popped_is_last (x ∷ xs) rest None e some = absurd (cc (some (omega arith)))
-  popped_is_last xs rest (Some o) e some = sym (ap last_of e ∙ last_of-push rest o)
+  -- what a pop of the back of a ring gives
+  pub last_item-last_of : (xs : List X) → last_item xs ≡ last_of xs
+  last_item-last_of [] = refl
+  last_item-last_of (x ∷ []) = refl
+  last_item-last_of (x ∷ y ∷ ys) =
+      let n : suc (suc (length ys)) - 1 ≡ suc (suc (length ys) - 1) = omega arith in
+      ap (λ n. slice_get (x ∷ y ∷ ys) n) n ∙ last_item-last_of (y ∷ ys)
 
   pub last_is : (xs : List X) (c : X) → last_of xs ≡ Some c → xs ≡ front xs ++ c ∷ []
   last_is [] c e = absurd cc

@@ -14,8 +14,9 @@ use std::marker::Model;
 /// Where `lost` is 0 these are all records since the making: they replay to the ids and counts that stand beside them.
 #[derive(Drop)]
 pub struct Report<A: Allocator = Global> {
+    /// The limits that the book was made with.
     pub limits: Limits,
-    /// The oldest first.
+    /// The newest records, as many as there was room for, the oldest of them first.
     pub records: RecordList<A>,
     /// How many records were dropped, since there was no room for them; it stops at `u64::MAX`.
     pub lost: u64,
@@ -23,8 +24,11 @@ pub struct Report<A: Allocator = Global> {
     pub idle: IdList<A>,
     /// The ids of the lent connections, in the order of their takes.
     pub lent: IdList<A>,
+    /// How many connections there are, idle and lent ones together.
     pub connections: u32,
+    /// How many openings are ordered and not yet admitted.
     pub pending: u32,
+    /// Whether the book is closed.
     pub closed: bool,
 }
 
@@ -51,6 +55,7 @@ impl<A: Allocator> RecordList<A> {
         RecordList { records: list }
     }
 
+    /// The records, the oldest first.
     pub fn as_slice(&self) -> &[Record]
         ensures { map seen_record result.now ≡ self.now }
     {
@@ -87,6 +92,7 @@ impl<A: Allocator> IdList<A> {
         IdList { ids: list }
     }
 
+    /// The ids, in the order of the list.
     pub fn as_slice(&self) -> &[u64]
         ensures { result.now ≡ self.now }
     {

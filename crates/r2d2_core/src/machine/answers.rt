@@ -22,9 +22,11 @@ pub enum Refusal {
 pub enum Take<T> {
     /// The newest idle connection.
     Found {
+        /// The connection's id: give it back under this one.
         id: u64,
         /// The moment of its admission.
         birth: Duration,
+        /// What its owner keeps of it.
         value: T,
         /// How many openings were ordered.
         ordered: u32,
@@ -52,6 +54,7 @@ pub enum Returned<T> {
     Kept,
     /// It is the caller's to close.
     Closed {
+        /// What its owner keeps of it.
         value: T,
         /// How long ago it was admitted.
         age: Duration,
@@ -63,8 +66,10 @@ pub enum Returned<T> {
 /// A connection that a reap closed.
 #[derive(Drop, Debug)]
 pub struct Released<T> {
+    /// Its id, which is not given again.
     pub id: u64,
     /// How long ago it was admitted.
     pub age: Duration,
+    /// What its owner keeps of it: close it.
     pub value: T,
 }

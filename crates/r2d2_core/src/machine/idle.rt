@@ -1,18 +1,27 @@
 // The connections that are idle.
-ghost use Rattle.std.specs.Prelude.{◌≡◌, ◌+◌, ◌≤◌, ◌<◌, ◌++◌, ◌∷◌, [], length, map, filter, IfOk, IfNone, IfSome, vec_capacity, vec_len, option_map, slice_get};
+ghost use Rattle.std.specs.Prelude.{◌≡◌, ◌+◌, ◌*◌, ◌≤◌, ◌<◌, ◌++◌, ◌∷◌, [], None, length, map, filter, IfOk, IfNone, vec_capacity, vec_len, option_map, slice_get};
 ghost use Rattle.std.specs.Duration.{as_nanos};
+ghost use Rattle.std.specs.List.Sorted.{IsNonDecreasingBy};
+ghost use Rattle.circular_buffer.specs.Buffer.{buffer};
 ghost use Rattle.r2d2_core.specs.Limits.{seen_limits, has_reached};
 ghost use Rattle.r2d2_core.specs.Ids.{last_of, front};
-ghost use Rattle.r2d2_core.specs.Connections.{id_of_idle, is_expired, is_kept, closing, closed_of, pair_of};
+ghost use Rattle.r2d2_core.specs.Connections.{id_of_idle, since_of, is_expired, is_kept, closed_of, pair_of};
 ghost use Rattle.r2d2_core.specs.Roster.{roster};
 ghost use Rattle.r2d2_core.specs.Seen.{seen_released};
 
 use super::answers::Released;
 use super::leftover::Leftover;
 use crate::schedule::Limits;
+use crate::steps::Steps;
+use circular_buffer::HeapCircularBuffer;
+use reaping::{reap_each, reap_front};
 use std::alloc::{AllocError, Allocator, Global};
 use std::marker::Model;
+use std::sync::ledger::Ledger;
 use std::time::Duration;
+
+mod counted;
+mod reaping;
 
 /// A connection that is idle.
 #[derive(Drop)]
@@ -32,10 +41,10 @@ impl<T> Model for IdleConnection<T> {
     ghost view = { λ e. idle_connection e.id (as_nanos e.birth) (as_nanos e.since) e.value };
 }
 
-/// A stack of connections with the newest on top, until it is closed.
+/// The connections in a ring, the newest at its back, until it is closed.
 #[derive(Drop)]
 pub(crate) struct Idle<T, A: Allocator = Global> {
-    stack: Option<Vec<IdleConnection<T>, A>>,
+    ring: Option<HeapCircularBuffer<IdleConnection<T>, A>>,
 }
 
 impl<T, A: Allocator> Model for Idle<T, A> {
@@ -44,7 +53,7 @@ impl<T, A: Allocator> Model for Idle<T, A> {
 
     ghost Value = { SeenRoster (SeenIdleConnection T) };
 
-    ghost view = { λ a. roster_of a.stack };
+    ghost view = { λ a. roster_of a.ring };
 }
 
 impl<T, A: Allocator> Idle<T, A> {
@@ -53,15 +62,15 @@ impl<T, A: Allocator> Idle<T, A> {
         T: Drop,
         ensures { IfOk result (λ idle. idle ≡ roster [] room) }
     {
-        let stack = Vec::with_capacity(alloc, room)?;
-        Ok(Idle { stack: Some(stack) })
+        let ring = HeapCircularBuffer::with_capacity(alloc, room)?;
+        Ok(Idle { ring: Some(ring) })
     }
 
     pub(crate) fn len(&self) -> usize
         ensures { result ≡ length self.now.items }
     {
-        match &self.stack {
-            Some(stack) => stack.len(),
+        match &self.ring {
+            Some(ring) => ring.len(),
             None => 0,
         }
     }
@@ -70,8 +79,8 @@ impl<T, A: Allocator> Idle<T, A> {
     pub(crate) fn id_at(&self, place: u32) -> Option<u64>
         ensures { result ≡ option_map id_of_idle (slice_get self.now.items place) }
     {
-        match &self.stack {
-            Some(stack) => stack.get(place as usize).map(|entry| entry.id),
+        match &self.ring {
+            Some(ring) => ring.get(place as usize).map(|entry| entry.id),
             None => None,
         }
     }
@@ -82,8 +91,8 @@ impl<T, A: Allocator> Idle<T, A> {
         ensures rest { self.new ≡ roster (front self.old.items) self.old.room }
         ensures same { IfNone result (self.new ≡ self.old) }
     {
-        match &mut self.stack {
-            Some(stack) => stack.pop(),
+        match &mut self.ring {
+            Some(ring) => ring.pop_back(),
             None => None,
         }
     }
@@ -93,23 +102,38 @@ impl<T, A: Allocator> Idle<T, A> {
         requires { length self.old.items < self.old.room }
         ensures { self.new ≡ roster (self.old.items ++ entry ∷ []) self.old.room }
     {
-        match &mut self.stack {
-            Some(stack) => stack.push_reserved(entry),
+        match &mut self.ring {
+            Some(ring) => push_back(ring, entry),
             None => unreachable!(),
         }
     }
 
-    /// Moves the expired ones into a list, oldest first.
-    pub(crate) fn reap(&mut self, limits: &Limits, now: Duration, out: &mut Vec<Released<T>>)
+    /// Moves the expired ones into a list, oldest first. Looks and moves are counted: where the idle time alone is limited, it stops at
+    /// the first that is kept; where neither is, it looks at none.
+    pub(crate) fn reap<L: Ledger>(
+        &mut self,
+        limits: &Limits,
+        now: Duration,
+        out: &mut Vec<Released<T>>,
+        steps: &mut Steps<L>,
+    )
+        requires in_order { IsNonDecreasingBy since_of self.old.items }
         requires empty { vec_len out.old ≡ 0 }
         requires room { length self.old.items ≤ vec_capacity out.old }
         ensures released { map seen_released out.new.items ≡ closed_of (seen_limits limits.now) (as_nanos now) self.old.items }
         ensures kept { self.new ≡ roster (filter (is_kept (seen_limits limits.now) (as_nanos now)) self.old.items) self.old.room }
         ensures count { length self.new.items + length (filter (is_expired (seen_limits limits.now) (as_nanos now)) self.old.items) ≡ length self.old.items }
         ensures capacity { vec_capacity out.new ≡ vec_capacity out.old }
+        ensures few { (seen_limits limits.now).max_lifetime ≡ None → steps.new ≤ steps.old + (2 * vec_len out.new + 1) }
+        ensures each { steps.new ≤ steps.old + 2 * length self.old.items }
+        ensures none { (seen_limits limits.now).max_lifetime ≡ None → (seen_limits limits.now).idle_timeout ≡ None → steps.new ≡ steps.old }
     {
-        if let Some(stack) = &mut self.stack {
-            sift(stack, limits, now, out);
+        if let Some(ring) = &mut self.ring {
+            if limits.max_lifetime().is_some() {
+                reap_each(ring, limits, now, out, steps);
+            } else {
+                reap_front(ring, limits, now, out, steps);
+            }
         }
     }
 
@@ -118,7 +142,21 @@ impl<T, A: Allocator> Idle<T, A> {
         ensures handed { result ≡ map pair_of self.old.items }
         ensures closed { self.new ≡ roster [] 0 }
     {
-        Leftover::of(self.stack.take())
+        Leftover::of(self.ring.take())
+    }
+}
+
+// Puts one at the back, where there is room.
+fn push_back<T, A: Allocator>(
+    ring: &mut HeapCircularBuffer<IdleConnection<T>, A>,
+    entry: IdleConnection<T>,
+)
+    requires { length ring.old.items < ring.old.capacity }
+    ensures { ring.new ≡ buffer (ring.old.items ++ entry ∷ []) ring.old.capacity }
+{
+    match ring.push_back(entry) {
+        None => {}
+        Some(_) => unreachable!(),
     }
 }
 
@@ -129,50 +167,5 @@ pub(crate) fn reached(limit: Option<Duration>, length: Duration) -> bool
     match limit {
         Some(limit) => limit.as_nanos() <= length.as_nanos(),
         None => false,
-    }
-}
-
-#[tactic(auto, unfolding(crate::specs::Connections::is_expired))]
-fn is_expired<T>(entry: &IdleConnection<T>, limits: &Limits, now: Duration) -> bool
-    ensures { result ≡ is_expired (seen_limits limits.now) (as_nanos now) entry.now }
-{
-    reached(limits.idle_timeout(), now.saturating_sub(entry.since))
-        || reached(limits.max_lifetime(), now.saturating_sub(entry.birth))
-}
-
-#[tactic(auto, unfolding(crate::specs::Connections::closing))]
-fn released<T>(entry: IdleConnection<T>, now: Duration) -> Released<T>
-    ensures { seen_released result ≡ closing (as_nanos now) entry }
-{
-    Released {
-        id: entry.id,
-        age: now.saturating_sub(entry.birth),
-        value: entry.value,
-    }
-}
-
-// Moves the expired ones from the stack to the list.
-fn sift<T, A: Allocator>(
-    stack: &mut Vec<IdleConnection<T>, A>,
-    limits: &Limits,
-    now: Duration,
-    out: &mut Vec<Released<T>>,
-)
-    requires empty { vec_len out.old ≡ 0 }
-    requires room { vec_len stack.old ≤ vec_capacity out.old }
-    ensures released { map seen_released out.new.items ≡ closed_of (seen_limits limits.now) (as_nanos now) stack.old.items }
-    ensures kept { stack.new.items ≡ filter (is_kept (seen_limits limits.now) (as_nanos now)) stack.old.items }
-    ensures count { length stack.new.items + length (filter (is_expired (seen_limits limits.now) (as_nanos now)) stack.old.items) ≡ length stack.old.items }
-    ensures room_stays { vec_capacity stack.new ≡ vec_capacity stack.old }
-    ensures capacity { vec_capacity out.new ≡ vec_capacity out.old }
-{
-    let mut at = 0;
-    for _ in 0..stack.len() {
-        if is_expired(&stack[at], limits, now) {
-            let entry = stack.remove(at);
-            out.push_reserved(released(entry, now));
-        } else {
-            at += 1;
-        }
     }
 }

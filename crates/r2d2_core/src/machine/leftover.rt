@@ -6,15 +6,15 @@ ghost use Rattle.r2d2_core.specs.Connections.{pair_of};
 ghost use Rattle.r2d2_core.specs.Roster.{roster_of};
 
 use super::idle::IdleConnection;
+use circular_buffer::HeapCircularBuffer;
 use std::alloc::{Allocator, Global};
 use std::marker::Model;
-use std::vec;
 
-/// The idle values that a close hands out, oldest first, each with its id. It takes no memory: it goes through the list that held
-/// them.
+/// The idle values that a close hands out, oldest first, each with its id. It takes no memory: it is the ring that held them, and
+/// each costs one move out of it.
 #[derive(Drop)]
 pub struct Leftover<T, A: Allocator = Global> {
-    rest: Option<vec::IntoIter<IdleConnection<T>, A>>,
+    rest: Option<HeapCircularBuffer<IdleConnection<T>, A>>,
 }
 
 impl<T, A: Allocator> Model for Leftover<T, A> {
@@ -23,18 +23,17 @@ impl<T, A: Allocator> Model for Leftover<T, A> {
     ghost Value = { List (ℕ × T) };
 
     ghost use Rattle.r2d2_core.specs.Connections.{pair_of};
-    ghost use Rattle.r2d2_core.specs.Roster.{left_of};
+    ghost use Rattle.r2d2_core.specs.Roster.{roster_of};
 
-    ghost view = { λ a. map pair_of (left_of a.rest) };
+    ghost view = { λ a. map pair_of (roster_of a.rest).items };
 }
 
 impl<T, A: Allocator> Leftover<T, A> {
-    pub(crate) fn of(rest: Option<Vec<IdleConnection<T>, A>>) -> Leftover<T, A>
+    /// The ring, or none where an earlier close has it.
+    pub(crate) fn of(rest: Option<HeapCircularBuffer<IdleConnection<T>, A>>) -> Leftover<T, A>
         ensures { result ≡ map pair_of (roster_of rest).items }
     {
-        Leftover {
-            rest: rest.map(|entries| entries.into_iter()),
-        }
+        Leftover { rest }
     }
 }
 
@@ -48,7 +47,7 @@ impl<T: Drop, A: Allocator> Iterator for Leftover<T, A> {
     fn next(&mut self) -> Option<(u64, T)> {
         match &mut self.rest {
             Some(rest) => {
-                let entry = rest.next()?;
+                let entry = rest.pop_front()?;
                 Some((entry.id, entry.value))
             }
             None => None,

@@ -6,9 +6,9 @@ use std::io::{self, ErrorKind, Read, Write};
 use std::str;
 use std::test::Fail;
 
-const SCRIPT: &str = "limits 1 - - - 30000 30000\nstate\nbegin 0\njump\n";
+pub(super) const SCRIPT: &str = "limits 1 - - - 30000 30000\nstate\nbegin 0\njump\n";
 
-const ANSWERS: &str = "state 0 0 1\nopen 0\n";
+pub(super) const ANSWERS: &str = "state 0 0 1\nopen 0\n";
 
 /// A reader that gives one byte at a time and fails once, before the byte at `cut`.
 #[derive(Drop)]
@@ -65,9 +65,9 @@ fn a_failed_read_is_told_after_the_answers_before_it(rt: HostRuntime) -> Result<
 
 /// A writer that takes three bytes at a time, keeps `room` more bytes and then fails.
 #[derive(Drop)]
-struct Full {
-    kept: Vec<u8>,
-    room: usize,
+pub(super) struct Full {
+    pub(super) kept: Vec<u8>,
+    pub(super) room: usize,
 }
 
 impl Write for Full {

@@ -35,19 +35,19 @@ impl FiveLines {
 impl ManageConnection for FiveLines {
     type Connection = Line;
 
-    type Error = &'static str;
+    type Error = Blammo;
 
     type Extension = ();
 
-    fn connect(&self) -> Result<Line, &'static str> {
+    fn connect(&self) -> Result<Line, Blammo> {
         if self.opened.fetch_add(1, Ordering::SeqCst) >= 5 {
-            return Err("no sixth");
+            return Err(Blammo);
         }
-        let dropped = Arc::try_clone(&self.dropped).map_err(|_| "memory")?;
+        let dropped = Arc::try_clone(&self.dropped).map_err(|_| Blammo)?;
         Ok(Line { dropped })
     }
 
-    fn is_valid(&self, _line: &mut Line) -> Result<(), &'static str> {
+    fn is_valid(&self, _line: &mut Line) -> Result<(), Blammo> {
         Ok(())
     }
 
@@ -164,5 +164,62 @@ fn how_old_an_expired_connection_is(rt: HostRuntime) -> Result<(), Fail> {
     assert_eq!(rt; ages.len(), 1);
     let age = ages[0].as_millis();
     assert!(rt; 300 <= age && age < 2000);
+    Ok(())
+}
+
+/// A customizer whose releases wait until the test lets them go on, for at most five seconds.
+struct Holds<R: Clock + Drop> {
+    /// How many releases there were, whether they may go on, and how many customizers were dropped.
+    counts: Arc<[AtomicU64; 3]>,
+    rt: R,
+}
+
+impl<R: Clock + Drop> Drop for Holds<R> {
+    fn drop(self) {
+        let Holds { counts, rt: _ } = self;
+        counts[2].fetch_add(1, Ordering::SeqCst);
+    }
+}
+
+impl<R: Clock + Drop> fmt::Debug for Holds<R> {
+    fn fmt<W: fmt::Write>(&self, f: &mut fmt::Formatter<W>) -> fmt::Result {
+        f.write_str("Holds")
+    }
+}
+
+impl<R: PoolRuntime> CustomizeConnection<Line, Blammo> for Holds<R> {
+    fn on_release(&self, _line: Line) {
+        self.counts[0].fetch_add(1, Ordering::SeqCst);
+        watched(&self.rt, &self.counts[1], 1, 500);
+    }
+}
+
+#[test]
+fn close_amid_a_reap(rt: HostRuntime) -> Result<(), Fail> {
+    let dropped = no_drops(rt.alloc())?;
+    let counts = Arc::new(
+        rt.alloc(),
+        [AtomicU64::new(0), AtomicU64::new(0), AtomicU64::new(0)],
+    )?;
+    let holds = Holds {
+        counts: Arc::try_clone(&counts)?,
+        rt,
+    };
+    let pool = Builder::new()
+        .max_size(1)
+        .min_idle(Some(0))
+        .idle_timeout(Some(Duration::from_millis(300)))
+        .reaper_rate(Duration::from_millis(300))
+        .connection_customizer(holds)
+        .build(rt, FiveLines::new(&dropped)?)?;
+    drop(pool.get()?);
+    assert_eq!(rt; watched(&rt, &counts[0], 1, 500), 1);
+    drop(pool);
+    assert_eq!(rt; dropped.load(Ordering::SeqCst), 0);
+    counts[1].store(1, Ordering::SeqCst);
+    // The worker ends with its releases, and with it the last that holds the customizer.
+    assert_eq!(rt; watched(&rt, &counts[2], 1, 500), 1);
+    assert_eq!(rt; counts[0].load(Ordering::SeqCst), 1);
+    assert_eq!(rt; dropped.load(Ordering::SeqCst), 1);
     Ok(())
 }

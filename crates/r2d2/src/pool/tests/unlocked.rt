@@ -86,19 +86,19 @@ impl<R> fmt::Debug for Prober<R> {
 impl<R: PoolRuntime> ManageConnection for Prober<R> {
     type Connection = Asking<R>;
 
-    type Error = &'static str;
+    type Error = Blammo;
 
     type Extension = ();
 
-    fn connect(&self) -> Result<Asking<R>, &'static str> {
+    fn connect(&self) -> Result<Asking<R>, Blammo> {
         self.probe.ask(Call::Connect);
-        let probe = Arc::try_clone(&self.probe).map_err(|_| "memory")?;
+        let probe = Arc::try_clone(&self.probe).map_err(|_| Blammo)?;
         Ok(Asking { probe })
     }
 
-    fn is_valid(&self, _connection: &mut Asking<R>) -> Result<(), &'static str> {
+    fn is_valid(&self, _connection: &mut Asking<R>) -> Result<(), Blammo> {
         if self.probe.ask(Call::IsValid) {
-            return Err("blammo");
+            return Err(Blammo);
         }
         Ok(())
     }
@@ -109,16 +109,16 @@ impl<R: PoolRuntime> ManageConnection for Prober<R> {
     }
 }
 
-impl<R: PoolRuntime> HandleError<&'static str> for Prober<R> {
-    fn handle_error(&self, _error: &'static str) {
+impl<R: PoolRuntime> HandleError<Blammo> for Prober<R> {
+    fn handle_error(&self, _error: Blammo) {
         self.probe.ask(Call::HandleError);
     }
 }
 
-impl<R: PoolRuntime> CustomizeConnection<Asking<R>, &'static str> for Prober<R> {
-    fn on_acquire(&self, _connection: &mut Asking<R>) -> Result<(), &'static str> {
+impl<R: PoolRuntime> CustomizeConnection<Asking<R>, Blammo> for Prober<R> {
+    fn on_acquire(&self, _connection: &mut Asking<R>) -> Result<(), Blammo> {
         if self.probe.ask(Call::OnAcquire) {
-            return Err("blammo");
+            return Err(Blammo);
         }
         Ok(())
     }

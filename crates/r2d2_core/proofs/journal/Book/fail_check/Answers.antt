@@ -1,19 +1,38 @@
-use Rattle.std.proofs.Common.{◌∙◌, ap, max}
+use Rattle.std.proofs.Common.{◌≡◌, ◌∙◌, ap, sym, subst}
 use Rattle.std.specs.Duration.{as_nanos}
 use Rattle.r2d2_core.specs.Seen.{seen_gone, map_ok}
 use Rattle.r2d2_core.specs.Recorded.{record_of_check}
 use Rattle.r2d2_core.specs.Journal.{with_noted}
-use Rattle.r2d2_core.specs.Book.{seen_book}
+use Rattle.r2d2_core.specs.Book.{SeenBook, seen_book}
+use Rattle.r2d2_core.specs.Noted.{noted_check}
 use Rattle.r2d2_core.proofs.Recording.Books.{recorded_check}
+use Rattle.r2d2_core.proofs.Recording.Moments.{latest_in, check_at}
 use Rattle.r2d2_core.proofs.journal.Book.fail_check.Goals as goal
+
+pub returns-clause-noted : goal.returns-clause-noted
+returns-clause-noted g c =
+    let old = c.self.inside.machine in
+    subst (λ (b : SeenBook _). c.note.new.self ≡ noted_check (as_nanos c.args.now) c.args.id (map_ok seen_gone c.fail_check-answer.result) b) c.self.view_is
+    (c.note.ensures
+    ∙ ap (λ made. with_noted made c.self.inside.journal)
+    (c.of_check.ensures
+    ∙ (ap (λ at. record_of_check at c.args.id (map_ok seen_gone c.fail_check-answer.result)) (c.latest-at.ensures.value ∙ ap latest_in c.fail_check-answer.ensures.after)
+    ∙ (ap (record_of_check _ c.args.id) c.fail_check-answer.ensures.answer
+    ∙ (check_at (as_nanos c.args.now) c.args.id c.args.text old
+    ∙ sym (ap (record_of_check _ c.args.id) c.fail_check-answer.ensures.answer))))))
 
 pub invariant_of-self : goal.invariant_of-self
 invariant_of-self g c =
     let old = c.self.inside.machine in
-    recorded_check (as_nanos c.args.now) c.args.id c.args.text (seen_book old c.self.inside.journal) (seen_book c.fail_check-answer.new.self c.note.new.self) c.latest.ensures.sound c.fail_check-answer.ensures.after
-    (c.note.ensures
-    ∙ ap (λ made. with_noted made c.self.inside.journal)
-    (c.of_check.ensures
-    ∙ (ap (λ at. record_of_check at c.args.id (map_ok seen_gone c.fail_check-answer.result)) (c.later-at.ensures.later ∙ ap (λ n. max n (as_nanos c.args.now)) c.latest.ensures.value)
-    ∙ ap (record_of_check (max old.latest (as_nanos c.args.now)) c.args.id) c.fail_check-answer.ensures.answer)))
-    c.self.invariant
+    record {
+      sound = c.fail_check-answer.ensures.sound;
+      recorded =
+          recorded_check (as_nanos c.args.now) c.args.id c.args.text (seen_book old c.self.inside.journal) (seen_book c.fail_check-answer.new.self c.note.new.self) c.self.invariant.sound c.fail_check-answer.ensures.after
+          (c.note.ensures
+          ∙ ap (λ made. with_noted made c.self.inside.journal)
+          (c.of_check.ensures
+          ∙ (ap (λ at. record_of_check at c.args.id (map_ok seen_gone c.fail_check-answer.result)) (c.latest-at.ensures.value ∙ ap latest_in c.fail_check-answer.ensures.after)
+          ∙ (ap (record_of_check _ c.args.id) c.fail_check-answer.ensures.answer
+          ∙ check_at (as_nanos c.args.now) c.args.id c.args.text old))))
+          c.self.invariant.recorded;
+    }

@@ -1,22 +1,37 @@
-use Rattle.std.proofs.Common.{◌∙◌, ap, sym, max, length}
+use Rattle.std.proofs.Common.{◌≡◌, ◌∙◌, ap, sym, subst, max, length}
 use Rattle.std.specs.Duration.{as_nanos}
 use Rattle.std.proofs.lemmas.List.{length-map}
 use Rattle.r2d2_core.specs.Seen.{seen_released}
 use Rattle.r2d2_core.specs.Recorded.{record_of_reap}
 use Rattle.r2d2_core.specs.Journal.{with_noted}
-use Rattle.r2d2_core.specs.Book.{seen_book}
+use Rattle.r2d2_core.specs.Book.{SeenBook, seen_book}
+use Rattle.r2d2_core.specs.Noted.{noted_reap}
 use Rattle.r2d2_core.proofs.Recording.Books.{recorded_reap}
+use Rattle.r2d2_core.proofs.Recording.Moments.{latest_in}
 use Rattle.r2d2_core.proofs.journal.Book.reap.Goals as goal
+
+pub returns-clause-noted : goal.returns-clause-noted
+returns-clause-noted g c =
+    subst (λ (b : SeenBook _). c.note.new.self ≡ noted_reap (as_nanos c.args.now) (length c.reap_uncounted-ordered.new.out.items) c.reap_uncounted-ordered.result b) c.self.view_is
+    (c.note.ensures
+    ∙ ap (λ made. with_noted made c.self.inside.journal)
+    (c.of_reap.ensures
+    ∙ (ap (λ at. record_of_reap at c.len.result c.reap_uncounted-ordered.result) (c.latest-at.ensures.value ∙ ap latest_in c.reap_uncounted-ordered.ensures.after)
+    ∙ ap (λ n. record_of_reap (max c.self.inside.machine.latest (as_nanos c.args.now)) n c.reap_uncounted-ordered.result) (c.len.ensures ∙ c.reap_uncounted-ordered.new.out.ok.0))))
 
 pub invariant_of-self : goal.invariant_of-self
 invariant_of-self g c =
     let old = c.self.inside.machine in
-    recorded_reap (as_nanos c.args.now) (seen_book old c.self.inside.journal) (seen_book c.reap-ordered.new.self c.note.new.self) c.len.result
-    (c.len.ensures ∙ c.reap-ordered.new.out.ok.0 ∙ (sym (length-map c.reap-ordered.new.out.items seen_released) ∙ ap length c.reap-ordered.ensures.released))
-    c.latest.ensures.sound c.reap-ordered.ensures.after
-    (c.note.ensures
-    ∙ ap (λ made. with_noted made c.self.inside.journal)
-    (c.of_reap.ensures
-    ∙ (ap (λ at. record_of_reap at c.len.result c.reap-ordered.result) (c.later-at.ensures.later ∙ ap (λ n. max n (as_nanos c.args.now)) c.latest.ensures.value)
-    ∙ ap (record_of_reap (max old.latest (as_nanos c.args.now)) c.len.result) c.reap-ordered.ensures.answer)))
-    c.self.invariant
+    record {
+      sound = c.reap_uncounted-ordered.ensures.sound;
+      recorded =
+          recorded_reap (as_nanos c.args.now) (seen_book old c.self.inside.journal) (seen_book c.reap_uncounted-ordered.new.self c.note.new.self) c.len.result
+          (c.len.ensures ∙ c.reap_uncounted-ordered.new.out.ok.0 ∙ (sym (length-map c.reap_uncounted-ordered.new.out.items seen_released) ∙ ap length c.reap_uncounted-ordered.ensures.released))
+          c.self.invariant.sound c.reap_uncounted-ordered.ensures.after
+          (c.note.ensures
+          ∙ ap (λ made. with_noted made c.self.inside.journal)
+          (c.of_reap.ensures
+          ∙ (ap (λ at. record_of_reap at c.len.result c.reap_uncounted-ordered.result) (c.latest-at.ensures.value ∙ ap latest_in c.reap_uncounted-ordered.ensures.after)
+          ∙ ap (record_of_reap (max old.latest (as_nanos c.args.now)) c.len.result) c.reap_uncounted-ordered.ensures.answer)))
+          c.self.invariant.recorded;
+    }

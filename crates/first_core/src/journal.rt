@@ -1,0 +1,23 @@
+// A book, which is a core with a journal.
+
+use r2d2_core::{Book, Job, Limits};
+use std::time::Duration;
+
+pub fn printed<R: Print + AllocGlobal>(rt: &R, limits: Limits) -> Result<(), anyhow::Error> {
+    let mut book = Book::new(rt.alloc(), limits, Duration::ZERO, 1024)?;
+    if let Job::Open { tries } = book.begin(Duration::ZERO) {
+        if let Ok(id) = book.number(tries) {
+            book.admit(Duration::from_millis(20), id, "a connection")
+                .ok();
+        }
+    }
+    let report = book.report()?;
+    for record in report.records.as_slice() {
+        println!(rt; "{record:?}")?;
+    }
+    println!(rt;
+        "{} connections, {} pending, {} records lost",
+        report.connections, report.pending, report.lost
+    )?;
+    Ok(())
+}

@@ -1,0 +1,95 @@
+// Settings and calls at the edge of what there is.
+
+use crate::callers::keep;
+use crate::managers::Sevens;
+use r2d2::{Builder, ErrorKind};
+use std::test::Fail;
+use std::thread;
+use std::time::{Duration, Instant};
+
+#[test]
+fn a_call_that_waits_for_no_time(rt: HostRuntime) -> Result<(), Fail> {
+    let pool = Builder::new().max_size(1).build(rt, Sevens)?;
+    let lent = pool.get_timeout(Duration::ZERO)?;
+    let error = pool
+        .get_timeout(Duration::ZERO)
+        .err()
+        .ok_or("a connection")?;
+    assert_eq!(rt; error.kind(), ErrorKind::Timeout);
+    drop(lent);
+    assert!(rt; pool.get_timeout(Duration::ZERO).is_ok());
+    Ok(())
+}
+
+#[test]
+fn a_call_that_waits_for_ever(rt: HostRuntime) -> Result<(), Fail> {
+    let pool = Builder::new()
+        .max_size(1)
+        .connection_timeout(Duration::MAX)
+        .build(rt, Sevens)?;
+    let lent = pool.get()?;
+    let other = thread::spawn(&rt, move || keep(rt, Duration::from_millis(200), lent))?;
+    let began = Instant::now(&rt)?;
+    drop(pool.get()?);
+    assert!(rt; began.elapsed(&rt)? >= Duration::from_millis(100));
+    other.join(&rt);
+    assert!(rt; pool.get_timeout(Duration::MAX).is_ok());
+    Ok(())
+}
+
+#[test]
+fn a_timeout_of_a_nanosecond(rt: HostRuntime) -> Result<(), Fail> {
+    let pool = Builder::new()
+        .max_size(1)
+        .connection_timeout(Duration::from_nanos(1))
+        .build_unchecked(rt, Sevens)?;
+    for _ in 0..500 {
+        if pool.state().idle_connections == 1 {
+            break;
+        }
+        thread::sleep(&rt, Duration::from_millis(10));
+    }
+    let lent = pool.get()?;
+    let error = pool.get().err().ok_or("a connection")?;
+    assert_eq!(rt; error.kind(), ErrorKind::Timeout);
+    drop(lent);
+    Ok(())
+}
+
+#[test]
+fn lengths_of_a_nanosecond(rt: HostRuntime) -> Result<(), Fail> {
+    let nanosecond = Some(Duration::from_nanos(1));
+    let pool = Builder::new()
+        .max_size(1)
+        .max_lifetime(nanosecond)
+        .idle_timeout(nanosecond)
+        .build(rt, Sevens)?;
+    // Each is too old when it comes back, and another one is opened.
+    drop(pool.get()?);
+    drop(pool.get()?);
+    let lengths = (pool.max_lifetime(), pool.idle_timeout());
+    assert_eq!(rt; lengths, (nanosecond, nanosecond));
+    Ok(())
+}
+
+#[test]
+fn a_million_connections_at_most(rt: HostRuntime) -> Result<(), Fail> {
+    let pool = Builder::new()
+        .max_size(1_000_000)
+        .min_idle(Some(0))
+        .build(rt, Sevens)?;
+    assert_eq!(rt; pool.state().connections, 0);
+    drop(pool.get()?);
+    assert_eq!(rt; pool.state().connections, 1);
+    Ok(())
+}
+
+#[test]
+fn more_records_than_there_is_memory_for(rt: HostRuntime) -> Result<(), Fail> {
+    let refused = Builder::new()
+        .max_size(1)
+        .journal_room(usize::MAX)
+        .build(rt, Sevens);
+    assert_eq!(rt; refused.err().ok_or("a pool")?.kind(), ErrorKind::Memory);
+    Ok(())
+}
