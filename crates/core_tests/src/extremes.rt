@@ -1,19 +1,48 @@
-// The greatest moments, the last ids and many failures.
+// What no line of a script can say: the greatest moment, which is no whole number of milliseconds, and the last ids.
 
-use crate::lines::{push_state, tell};
-use crate::rows::row;
-use crate::steps::{begin, fail, limits, ms, number, sized};
+use crate::machine::lines_of;
+use crate::steps::{begin, fail, ms, number, sized};
+use pool_steps::program::line::Line;
 use r2d2_core::schedule::delay;
-use r2d2_core::{Core, Job, Limits, Step};
+use r2d2_core::{Book, Core, Limits, Step};
+use std::alloc::{AllocError, Global};
+use std::process::Abort;
+use std::str;
 use std::test::Fail;
 use std::time::Duration;
 
+// The lines of the steps, and a look at the state.
+fn lines(alloc: Global, steps: Vec<Step<u64>>) -> Result<Vec<Line>, AllocError> {
+    let mut lines = Vec::new(alloc);
+    for step in steps {
+        lines.push(Line::Step(step))?;
+    }
+    lines.push(Line::State)?;
+    Ok(lines)
+}
+
+// A core and a book of those limits, whose ids begin at the first one, answer the steps so.
+fn answers<R: Abort + AllocGlobal, const N: usize>(
+    rt: &R,
+    limits: Limits,
+    first_id: u64,
+    steps: [Step<u64>; N],
+    wanted: &str,
+) -> Result<(), Fail> {
+    let alloc = rt.alloc();
+    let now = Duration::ZERO;
+    let steps = Vec::from_array(alloc, steps)?;
+    let mut core: Core<u64> = Core::with_first_id(alloc, limits, now, first_id)?;
+    let by_a_core = lines_of(alloc, &mut core, lines(alloc, steps.clone()?)?)?;
+    assert_eq!(rt; str::from_utf8(by_a_core.as_slice())?, wanted);
+    let mut book: Book<u64> = Book::with_first_id(alloc, limits, now, first_id, 0)?;
+    let by_a_book = lines_of(alloc, &mut book, lines(alloc, steps)?)?;
+    assert_eq!(rt; str::from_utf8(by_a_book.as_slice())?, wanted);
+    Ok(())
+}
+
 #[test]
 fn uses_ids_up(rt: HostRuntime) -> Result<(), Fail> {
-    let now = Duration::ZERO;
-    let limits = sized(2).ok_or("limits")?;
-    let mut core: Core<u64> = Core::with_first_id(rt.alloc(), limits, now, u64::MAX - 1)?;
-    let mut text = String::new(rt.alloc());
     let steps = [
         begin(0),
         begin(0),
@@ -22,16 +51,13 @@ fn uses_ids_up(rt: HostRuntime) -> Result<(), Fail> {
         fail(0, 0),
         begin(0),
     ];
-    for step in Vec::from_array(rt.alloc(), steps)? {
-        let answer = core.answer(rt.alloc(), step)?;
-        tell(&mut text, 0, answer)?;
-    }
-    push_state(&mut text, &core)?;
-    assert_eq!(rt;
-        text.as_str(),
-        "open 0; open 0; numbered 18446744073709551614; refused IdsUsedUp; retry 400; wait 400; state 0 0 2"
-    );
-    Ok(())
+    answers(
+        &rt,
+        sized(2).ok_or("limits")?,
+        u64::MAX - 1,
+        steps,
+        "open 0\nopen 0\nnumbered 18446744073709551614\nrefused IdsUsedUp\nretry 400\nwait 400\nstate 0 0 2\n",
+    )
 }
 
 #[test]
@@ -42,34 +68,20 @@ fn stops_at_the_greatest_moment(rt: HostRuntime) -> Result<(), Fail> {
         tries: 0,
         text: None,
     };
-    row(
+    answers(
         &rt,
+        sized(1).ok_or("limits")?,
         0,
-        sized(1),
         [Step::Begin { now }, failing, Step::Begin { now }],
-        "open 0; retry 18446744073709551615999.999999; open 1; state 0 0 1",
+        "open 0\nretry 18446744073709551615999.999999\nopen 1\nstate 0 0 1\n",
     )?;
-    row(
+    answers(
         &rt,
+        Limits::of(1, None, Some(ms(1)), None, ms(1000), now).ok_or("limits")?,
         0,
-        Limits::of(1, None, Some(ms(1)), None, ms(1000), now),
         [Step::Begin { now }, begin(0), begin(0)],
-        "open 0; reap; reap; state 0 0 1",
-    )?;
-    Ok(())
-}
-
-#[test]
-fn counts_tries_up_to_ninety_nine(rt: HostRuntime) -> Result<(), Fail> {
-    let limits = limits(1, None, None, None, 1000, 30_000).ok_or("limits")?;
-    let mut core: Core<u64> = Core::new(rt.alloc(), limits, Duration::ZERO)?;
-    let mut now = Duration::ZERO;
-    for k in 0..100 {
-        assert!(rt; core.begin(now) == Job::Open { tries: k });
-        now = core.fail(now, k, None).ok().ok_or("refused")?;
-    }
-    assert!(rt; core.begin(now) == Job::Open { tries: 99 });
-    Ok(())
+        "open 0\nreap\nreap\nstate 0 0 1\n",
+    )
 }
 
 #[test]

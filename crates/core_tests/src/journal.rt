@@ -1,67 +1,41 @@
-// A book beside a core: the same answers, and records that replay.
+// The journal of a book, and what it reports.
 
-use crate::lines::tell;
 use crate::replays::replays;
-use crate::steps::{
-    admit, bad_by, begin, close, error, fail, id_of, limits, ms, number, put_back, reap, sized,
-    take, want,
-};
+use crate::steps::{admit, begin, close, limits, ms, number, put_back, reap, sized, take, want};
 use linked_list_allocator::LocalHeap;
-use r2d2_core::{Answer, Book, IdList, Limits, Record, RecordList, Report, Step};
+use r2d2_core::{Book, IdList, Record, RecordList, Report, Step};
 use std::alloc::{AllocError, Allocator, Global};
 use std::test::Fail;
 use std::time::Duration;
 
-// What a book answers to steps, one answer each.
-pub(crate) fn answers_of_a_book(
+// Takes the steps by a book.
+pub(crate) fn take_all<A: Allocator>(
     alloc: Global,
-    book: &mut Book<u64>,
+    book: &mut Book<u64, A>,
     steps: Vec<Step<u64>>,
-) -> Result<Vec<Answer<u64>>, AllocError> {
-    let mut answers = Vec::new(alloc);
-    for step in steps {
-        let answer = book.answer(alloc, step)?;
-        answers.push(answer)?;
-    }
-    Ok(answers)
-}
-
-// A book with room for all records of a row.
-pub(crate) fn book_for(alloc: Global, limits: Limits) -> Result<Book<u64>, AllocError> {
-    Book::new(alloc, limits, Duration::ZERO, 256)
-}
-
-// How many are connected, idle and pending.
-pub(crate) fn push_state_of_a_book<A: Allocator>(
-    text: &mut String,
-    book: &Book<u64, A>,
 ) -> Result<(), AllocError> {
-    let connections = book.connections();
-    let idle = book.idle();
-    let pending = book.pending();
-    write!(text, "state {connections} {idle} {pending}")
+    for step in steps {
+        book.answer(alloc, step)?;
+    }
+    Ok(())
 }
-
-// Whether the report of a book has all records, and they come to what the report counts.
-pub(crate) fn report_replays(alloc: Global, book: &Book<u64>) -> Result<bool, AllocError> {
-    let report = book.report()?;
-    Ok(report.lost == 0 && replays(alloc, &report)?)
-}
-
-// THE ROWS
 
 // One connection comes in, is taken, and comes back.
-fn one_kept(alloc: Global, room: usize) -> Result<Report, Fail> {
-    let limits = sized(1).ok_or("limits")?;
-    let mut book = Book::new(alloc, limits, Duration::ZERO, room)?;
-    let steps = [
+fn one_kept() -> [Step<u64>; 5] {
+    [
         begin(0),
         number(0),
         admit(1, 0, 7),
         take(2),
         put_back(3, 0, 7),
-    ];
-    answers_of_a_book(alloc, &mut book, Vec::from_array(alloc, steps)?)?;
+    ]
+}
+
+// What a book with room for so many records reports of it.
+fn report_of_one_kept(alloc: Global, room: usize) -> Result<Report, Fail> {
+    let limits = sized(1).ok_or("limits")?;
+    let mut book = Book::new(alloc, limits, Duration::ZERO, room)?;
+    take_all(alloc, &mut book, Vec::from_array(alloc, one_kept())?)?;
     Ok(book.report()?)
 }
 
@@ -77,13 +51,13 @@ fn keeps_the_newest_records(rt: HostRuntime) -> Result<(), Fail> {
         Record::Kept { at: ms(3), id: 0 },
     ];
     for (room, lost) in [(4usize, 0u64), (3, 0), (2, 1), (1, 2), (0, 3)] {
-        let report = one_kept(rt.alloc(), room)?;
+        let report = report_of_one_kept(rt.alloc(), room)?;
         let first = all.len() - all.len().min(room);
         assert_eq!(rt; report.records.as_slice(), &all[first..], "at {room}");
         assert_eq!(rt; report.lost, lost, "at {room}");
         assert_eq!(rt; report.idle.as_slice(), &[0u64][..], "at {room}");
     }
-    let report = one_kept(rt.alloc(), 3)?;
+    let report = report_of_one_kept(rt.alloc(), 3)?;
     assert_eq!(rt;
         counts(rt.alloc(), &report)?.as_str(),
         "1 0 1 0 false, lost 0, true"
@@ -98,9 +72,9 @@ fn two_reaped(alloc: Global) -> Result<Book<u64>, Fail> {
     let opening = [begin(0), begin(0), number(0), number(0)];
     let admitting = [admit(0, 0, 70), admit(0, 1, 71)];
     let reaping = [reap(999), reap(1000), want(1001)];
-    answers_of_a_book(alloc, &mut book, Vec::from_array(alloc, opening)?)?;
-    answers_of_a_book(alloc, &mut book, Vec::from_array(alloc, admitting)?)?;
-    answers_of_a_book(alloc, &mut book, Vec::from_array(alloc, reaping)?)?;
+    take_all(alloc, &mut book, Vec::from_array(alloc, opening)?)?;
+    take_all(alloc, &mut book, Vec::from_array(alloc, admitting)?)?;
+    take_all(alloc, &mut book, Vec::from_array(alloc, reaping)?)?;
     Ok(book)
 }
 
@@ -145,7 +119,7 @@ fn reports_what_a_reap_did(rt: HostRuntime) -> Result<(), Fail> {
 fn reports_what_a_close_did(rt: HostRuntime) -> Result<(), Fail> {
     let alloc = rt.alloc();
     let mut book = two_reaped(alloc)?;
-    answers_of_a_book(
+    take_all(
         alloc,
         &mut book,
         Vec::from_array(alloc, [close(), close()])?,
@@ -173,13 +147,13 @@ fn a_list_of_ids_is_given_back(rt: HostRuntime) -> Result<(), Fail> {
 #[test]
 fn finds_a_report_that_does_not_replay(rt: HostRuntime) -> Result<(), Fail> {
     let alloc = rt.alloc();
-    let mut report = one_kept(alloc, 3)?;
+    let mut report = report_of_one_kept(alloc, 3)?;
     assert!(rt; replays(alloc, &report)?);
     report.pending = 1;
     assert!(rt; !replays(alloc, &report)?);
-    let short = one_kept(alloc, 2)?;
+    let short = report_of_one_kept(alloc, 2)?;
     assert!(rt; !replays(alloc, &short)?);
-    let mut list = one_kept(alloc, 3)?.records.into_vec();
+    let mut list = report_of_one_kept(alloc, 3)?.records.into_vec();
     list.pop();
     report.pending = 0;
     report.records = RecordList::of(list);
@@ -187,85 +161,19 @@ fn finds_a_report_that_does_not_replay(rt: HostRuntime) -> Result<(), Fail> {
     Ok(())
 }
 
-// MEMORY
-
-// Every kind of step but a close, accepted and refused.
-fn steps(alloc: Global) -> Result<Vec<Step<u64>>, AllocError> {
-    let blammo = bad_by(alloc, 5, 0, "blammo")?;
-    let opening = vec![in alloc;
-        begin(0),
-        begin(0),
-        number(0),
-        admit(1, 0, 70),
-        admit(1, 0, 70),
-    ]?;
-    let lending = vec![in alloc; want(2), want(2), put_back(3, 0, 70), take(4), blammo]?;
-    let failing = vec![in alloc; fail(6, 0), fail(6, 0), error(), reap(7)]?;
-    let mut all = opening;
-    for more in [lending, failing] {
-        all.extend(more)?;
-    }
-    Ok(all)
-}
-
-// What the steps answer, and two closes after them, whose values are told too.
-fn every_answer<A: Allocator>(
-    alloc: Global,
-    book: &mut Book<u64, A>,
-) -> Result<String, AllocError> {
-    let mut text = String::new(alloc);
-    for step in steps(alloc)? {
-        let id = id_of(&step);
-        let answer = book.answer(alloc, step)?;
-        tell(&mut text, id, answer)?;
-    }
-    for _ in 0..2 {
-        for (id, value) in book.close() {
-            write!(text, "left {id} {value}; ")?;
-        }
-    }
-    push_state_of_a_book(&mut text, book)?;
-    Ok(text)
-}
-
-// How many records there are, and whether they come to what the report counts.
-fn push_report<A: Allocator>(
-    alloc: Global,
-    text: &mut String,
-    book: &Book<u64, A>,
-) -> Result<(), AllocError> {
-    let report = book.report_in(alloc)?;
-    let records = report.records.as_slice().len();
-    let whole = replays(alloc, &report)?;
-    write!(text, "; {records} records, {whole}")
-}
-
-// The same on a heap that has no more room, where a report is refused and then, with memory, made.
-fn answers_on_a_full_heap(alloc: Global, limits: Limits) -> Result<String, AllocError> {
+// Where the heap has no more room, a report is refused; with other memory it is made.
+#[test]
+fn a_report_takes_memory(rt: HostRuntime) -> Result<(), Fail> {
+    let alloc = rt.alloc();
+    let limits = sized(1).ok_or("limits")?;
     let heap = LocalHeap::new(alloc, 8192)?;
     let mut book: Book<u64, &LocalHeap> = Book::new(&heap, limits, Duration::ZERO, 16)?;
     let _rest: Vec<u8, &LocalHeap> = Vec::with_capacity(&heap, heap.free())?;
-    let mut text = every_answer(alloc, &mut book)?;
-    if book.report().is_ok() {
-        text.push_str("; there is room")?;
-    }
-    push_report(alloc, &mut text, &book)?;
-    Ok(text)
-}
-
-#[test]
-fn steps_of_a_book_take_no_memory(rt: HostRuntime) -> Result<(), Fail> {
-    let alloc = rt.alloc();
-    let limits = limits(2, None, None, Some(1000), 30_000, 30_000).ok_or("limits")?;
-    let mut book = Book::new(alloc, limits, Duration::ZERO, 16)?;
-    let wanted =
-        "open 0; open 0; numbered 0; admitted; refused NotNumbered; taken 0 70 ordered 0; empty ordered 0; kept; \
-        taken 0 70 ordered 0; gone 0 age 4 ordered 1; retry 406; refused NoOpening; error blammo; reaped ordered 0; \
-        state 0 0 0; 6 records, true";
-    let mut text = every_answer(alloc, &mut book)?;
-    push_report(alloc, &mut text, &book)?;
-    assert_eq!(rt; text.as_str(), wanted);
-    assert_eq!(rt; answers_on_a_full_heap(alloc, limits)?.as_str(), wanted);
+    take_all(alloc, &mut book, Vec::from_array(alloc, one_kept())?)?;
+    assert!(rt; book.report().is_err());
+    let report = book.report_in(alloc)?;
+    assert_eq!(rt; report.records.as_slice().len(), 3);
+    assert!(rt; replays(alloc, &report)?);
     Ok(())
 }
 

@@ -40,3 +40,14 @@ fn a_core_and_a_book_keep_their_limits(rt: HostRuntime) -> Result<(), Fail> {
     }
     Ok(())
 }
+
+#[test]
+fn refuses_limits(rt: HostRuntime) {
+    assert!(rt; limits(0, None, None, None, 30_000, 30_000).is_none());
+    assert!(rt; limits(5, Some(6), None, None, 30_000, 30_000).is_none());
+    assert!(rt; limits(5, None, Some(0), None, 30_000, 30_000).is_none());
+    assert!(rt; limits(5, None, None, Some(0), 30_000, 30_000).is_none());
+    assert!(rt; limits(5, None, None, None, 0, 30_000).is_none());
+    assert!(rt; limits(5, None, None, None, 30_000, 0).is_none());
+    assert!(rt; limits(5, Some(5), Some(1), Some(1), 1, 1).is_some());
+}

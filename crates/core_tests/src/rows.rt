@@ -1,92 +1,123 @@
-// A row: the steps that a new core is given, and the lines that it answers.
+// A row: a script, and each of those who are to answer it.
 
-use crate::journal::{answers_of_a_book, book_for, push_state_of_a_book, report_replays};
-use crate::lines::{push_state, tell};
-use crate::steps::{admit, begin, id_of, number};
+use crate::machine::lines_of;
+use crate::replays::replays;
+use linked_list_allocator::LocalHeap;
+use pool_steps::program::answer::{id_of, write_answer, write_state};
+use pool_steps::program::line::{Line, limits};
+use pool_steps::program::{Fault, serve};
 use r2d2_core::run::run;
-use r2d2_core::{Answer, Limits, Step};
-use std::alloc::{AllocError, AllocGlobal, Global};
-use std::process::Abort;
+use r2d2_core::{Book, Core, Limits, Step};
+use std::alloc::Global;
+use std::io::BufWriter;
 use std::time::Duration;
 
-// So many openings at the moment 0, whose values are 70, 71 and so on.
-fn openings(alloc: Global, count: u32) -> Result<Vec<Step<u64>>, AllocError> {
-    let mut steps = Vec::new(alloc);
-    for _ in 0..count {
-        steps.push(begin(0))?;
-    }
-    for _ in 0..count {
-        steps.push(number(0))?;
-    }
-    for id in 0..u64::from(count) {
-        steps.push(admit(0, id, id + 70))?;
-    }
-    Ok(steps)
-}
+// Room for a core or a book of a few connections, with all the records of a row.
+const HEAP: usize = 65_536;
 
-// The answers from the first one on, each beside the id of its step.
-fn lines(
+const RECORDS: usize = 256;
+
+// Who does not answer the script by those answers, if anyone does not. The fault is a line that is no step, or lack of memory.
+pub(crate) fn who_differs(
     alloc: Global,
-    ids: Vec<u64>,
-    answers: Vec<Answer<u64>>,
-    first: usize,
-) -> Result<String, AllocError> {
-    let mut text = String::new(alloc);
-    for (id, answer) in ids.into_iter().zip(answers).skip(first) {
-        tell(&mut text, id, answer)?;
+    script: &str,
+    answers: &str,
+) -> Result<Option<&'static str>, Fault> {
+    let (by_a_book, is_replayed) = by_a_book(alloc, script)?;
+    let answered = [
+        ("the program", by_the_program(alloc, script)?),
+        ("run", by_run(alloc, script)?),
+        ("a core on a full heap", by_a_core(alloc, script)?),
+        ("a book on a full heap", by_a_book),
+    ];
+    for (who, written) in &answered {
+        if written.as_slice() != answers.as_bytes() {
+            return Ok(Some(*who));
+        }
     }
-    Ok(text)
-}
-
-// What was answered to a row.
-#[derive(Drop)]
-struct Answered {
-    by_the_core: String,
-    by_a_book: String,
-    // The records of the book come to what its report counts.
-    replays: bool,
-}
-
-// What a core with so many idle connections answers to the steps, and then its state; and the same of a book.
-fn answers_to(
-    alloc: Global,
-    opened: u32,
-    limits: Limits,
-    steps: Vec<Step<u64>>,
-) -> Result<Answered, AllocError> {
-    let mut all = openings(alloc, opened)?;
-    let first = all.len();
-    all.extend(steps)?;
-    let ids: Vec<u64> = all.iter().map(|step| id_of(step)).collect(alloc)?;
-    let same_ids: Vec<u64> = all.iter().map(|step| id_of(step)).collect(alloc)?;
-    let mut book = book_for(alloc, limits)?;
-    let answers = answers_of_a_book(alloc, &mut book, all.clone()?)?;
-    let mut by_a_book = lines(alloc, same_ids, answers, first)?;
-    push_state_of_a_book(&mut by_a_book, &book)?;
-    let (core, answers) = run(alloc, limits, Duration::ZERO, all)?;
-    let mut by_the_core = lines(alloc, ids, answers, first)?;
-    push_state(&mut by_the_core, &core)?;
-    Ok(Answered {
-        by_the_core,
-        by_a_book,
-        replays: report_replays(alloc, &book)?,
+    Ok(if is_replayed {
+        None
+    } else {
+        Some("the replay of a book")
     })
 }
 
-// After so many openings the steps answer that, those of a core and those of a book.
-pub(crate) fn row<R: Abort + AllocGlobal, const N: usize>(
-    rt: &R,
-    opened: u32,
-    limits: Option<Limits>,
-    steps: [Step<u64>; N],
-    wanted: &str,
-) -> Result<(), AllocError> {
-    let alloc = rt.alloc();
-    let limits = limits.expect(rt, "the limits are legal");
-    let steps = Vec::from_array(alloc, steps)?;
-    let found = answers_to(alloc, opened, limits, steps)?;
-    assert_eq!(rt; found.by_the_core.as_str(), wanted);
-    assert_eq!(rt; found.by_a_book.as_str(), wanted);
-    assert!(rt; found.replays, "the records come to what the report counts");
-    Ok(())
+// The limits and the lines that a script says.
+fn read(alloc: Global, script: &str) -> Result<(Limits, Vec<Line>), Fault> {
+    let mut said = script.lines();
+    let limits = limits(said.next().unwrap_or("").as_bytes())?;
+    let mut lines = Vec::new(alloc);
+    for (number, line) in (2..u64::MAX).zip(said) {
+        let line = Line::read(alloc, line.as_bytes())?;
+        let line = line.ok_or(Fault::NotAStep(number))?;
+        lines.push(line).map_err(|_| Fault::Memory)?;
+    }
+    Ok((limits, lines))
+}
+
+fn by_the_program(alloc: Global, script: &str) -> Result<Vec<u8>, Fault> {
+    let mut written = Vec::new(alloc);
+    let mut output = BufWriter::new(alloc, &mut written).map_err(|_| Fault::Memory)?;
+    serve(alloc, script.as_bytes(), &mut output)?;
+    drop(output);
+    Ok(written)
+}
+
+// All steps at once; where the script looks at the state, those before it.
+fn by_run(alloc: Global, script: &str) -> Result<Vec<u8>, Fault> {
+    let (limits, lines) = read(alloc, script)?;
+    let mut written = Vec::new(alloc);
+    let mut steps = Vec::new(alloc);
+    let mut told = 0;
+    for line in lines {
+        match line {
+            Line::Step(step) => steps.push(step).map_err(|_| Fault::Memory)?,
+            Line::State => {
+                let core = tell(alloc, limits, &steps, told, &mut written)?;
+                write_state(
+                    &mut written,
+                    core.connections(),
+                    core.idle(),
+                    core.pending(),
+                )?;
+                told = steps.len();
+            }
+        }
+    }
+    tell(alloc, limits, &steps, told, &mut written)?;
+    Ok(written)
+}
+
+// Runs the steps, and writes what those after the first so many are answered.
+fn tell(
+    alloc: Global,
+    limits: Limits,
+    steps: &Vec<Step<u64>>,
+    told: usize,
+    written: &mut Vec<u8>,
+) -> Result<Core<u64>, Fault> {
+    let (core, answers) = run(alloc, limits, Duration::ZERO, steps.clone()?)?;
+    for (step, answer) in steps.iter().zip(answers).skip(told) {
+        write_answer(written, id_of(step), answer)?;
+    }
+    Ok(core)
+}
+
+fn by_a_core(alloc: Global, script: &str) -> Result<Vec<u8>, Fault> {
+    let (limits, lines) = read(alloc, script)?;
+    let heap = LocalHeap::new(alloc, HEAP)?;
+    let mut core: Core<u64, &LocalHeap> = Core::new(&heap, limits, Duration::ZERO)?;
+    let _rest: Vec<u8, &LocalHeap> = Vec::with_capacity(&heap, heap.free())?;
+    lines_of(alloc, &mut core, lines)
+}
+
+// Says besides whether the book's records come to what it reports.
+fn by_a_book(alloc: Global, script: &str) -> Result<(Vec<u8>, bool), Fault> {
+    let (limits, lines) = read(alloc, script)?;
+    let heap = LocalHeap::new(alloc, HEAP)?;
+    let mut book: Book<u64, &LocalHeap> = Book::new(&heap, limits, Duration::ZERO, RECORDS)?;
+    let _rest: Vec<u8, &LocalHeap> = Vec::with_capacity(&heap, heap.free())?;
+    let written = lines_of(alloc, &mut book, lines)?;
+    let report = book.report_in(alloc)?;
+    Ok((written, report.lost == 0 && replays(alloc, &report)?))
 }

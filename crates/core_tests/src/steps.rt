@@ -1,7 +1,6 @@
 // Limits and steps in few words. Moments and lengths of time are in milliseconds.
 
 use r2d2_core::{Limits, Step};
-use std::alloc::{AllocError, Global};
 use std::time::Duration;
 
 pub(crate) fn ms(n: u64) -> Duration {
@@ -72,43 +71,6 @@ pub(crate) fn fail(now: u64, tries: u32) -> Step<u64> {
     }
 }
 
-pub(crate) fn fail_by(
-    alloc: Global,
-    now: u64,
-    tries: u32,
-    text: &str,
-) -> Result<Step<u64>, AllocError> {
-    let text = Some(String::from_str(alloc, text)?);
-    Ok(Step::Fail {
-        now: ms(now),
-        tries,
-        text,
-    })
-}
-
-// A failed check.
-pub(crate) fn bad(now: u64, id: u64) -> Step<u64> {
-    Step::FailCheck {
-        now: ms(now),
-        id,
-        text: None,
-    }
-}
-
-pub(crate) fn bad_by(
-    alloc: Global,
-    now: u64,
-    id: u64,
-    text: &str,
-) -> Result<Step<u64>, AllocError> {
-    let text = Some(String::from_str(alloc, text)?);
-    Ok(Step::FailCheck {
-        now: ms(now),
-        id,
-        text,
-    })
-}
-
 pub(crate) fn put_back(now: u64, id: u64, value: u64) -> Step<u64> {
     Step::PutBack {
         now: ms(now),
@@ -118,32 +80,10 @@ pub(crate) fn put_back(now: u64, id: u64, value: u64) -> Step<u64> {
     }
 }
 
-pub(crate) fn broken(now: u64, id: u64, value: u64) -> Step<u64> {
-    Step::PutBack {
-        now: ms(now),
-        id,
-        value,
-        broken: true,
-    }
-}
-
 pub(crate) fn reap(now: u64) -> Step<u64> {
     Step::Reap { now: ms(now) }
 }
 
-pub(crate) fn error() -> Step<u64> {
-    Step::TakeError
-}
-
 pub(crate) fn close() -> Step<u64> {
     Step::Close
-}
-
-// The id that a step of a lent connection names.
-pub(crate) fn id_of(step: &Step<u64>) -> u64 {
-    match step {
-        Step::FailCheck { id, .. } => *id,
-        Step::PutBack { id, .. } => *id,
-        _ => 0,
-    }
 }

@@ -1,8 +1,7 @@
 // Reaps after the idle connections have turned round and round.
 
-use crate::journal::answers_of_a_book;
-use crate::rows::row;
-use crate::steps::{admit, begin, broken, limits, ms, number, put_back, reap, take};
+use crate::journal::take_all;
+use crate::steps::{admit, begin, limits, ms, number};
 use r2d2_core::{Book, Released, Take};
 use std::alloc::{AllocError, Global};
 use std::test::Fail;
@@ -55,8 +54,8 @@ fn after_a_thousand_returns(alloc: Global) -> Result<Book<u64>, Fail> {
         number(0),
     ];
     let admitting = [admit(0, 0, 70), admit(0, 1, 71), admit(0, 2, 72)];
-    answers_of_a_book(alloc, &mut book, Vec::from_array(alloc, opening)?)?;
-    answers_of_a_book(alloc, &mut book, Vec::from_array(alloc, admitting)?)?;
+    take_all(alloc, &mut book, Vec::from_array(alloc, opening)?)?;
+    take_all(alloc, &mut book, Vec::from_array(alloc, admitting)?)?;
     let mut left = 1000u64;
     for now in 1..=500u64 {
         let count = (1 + now % 3).min(left);
@@ -88,41 +87,5 @@ fn reaps_after_a_thousand_returns(rt: HostRuntime) -> Result<(), Fail> {
         &[0u64, 2][..]
     );
     assert_eq!(rt; (book.idle(), book.pending()), (0, 3));
-    Ok(())
-}
-
-// The first reap takes three from the front of a ring for four and puts them behind it, so the ring begins at its last place
-// from then on. The second closes 0, which is idle too long, and 1, which is too old, and keeps 3 and 4, in that order.
-#[test]
-fn reaps_by_both_limits_what_has_wrapped_round(rt: HostRuntime) -> Result<(), Fail> {
-    row(
-        &rt,
-        3,
-        limits(4, None, Some(2000), Some(1000), 30_000, 30_000),
-        [
-            reap(500),
-            take(800),
-            take(800),
-            take(800),
-            begin(800),
-            number(0),
-            admit(900, 3, 73),
-            take(950),
-            put_back(1000, 0, 70),
-            put_back(1100, 3, 73),
-            put_back(1200, 1, 71),
-            broken(1250, 2, 72),
-            begin(1250),
-            number(0),
-            admit(1300, 4, 74),
-            reap(2000),
-            take(2000),
-            take(2000),
-            take(2000),
-        ],
-        "reaped ordered 0; taken 2 72 ordered 0; taken 1 71 ordered 0; taken 0 70 ordered 0; open 0; numbered 3; admitted; \
-        taken 3 73 ordered 0; kept; kept; kept; gone 2 age 1250 ordered 1; open 0; numbered 4; admitted; reaped 0 1 ordered 2; \
-        taken 4 74 ordered 0; taken 3 73 ordered 0; empty ordered 0; state 2 0 2",
-    )?;
     Ok(())
 }

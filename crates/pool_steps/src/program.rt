@@ -14,8 +14,8 @@ use std::fmt;
 use std::io::{BufRead, BufReader, BufWriter, ErrorKind, Read, Write};
 use std::time::Duration;
 
-mod answer;
-mod line;
+pub mod answer;
+pub mod line;
 #[cfg(test)]
 mod tests;
 

@@ -1,5 +1,5 @@
 // The answers to the lines.
-ghost use Rattle.std.specs.Prelude.{◌≡◌, ◌⊎◌, Some, IfErr, OnOk, map, length, option_map, string_bytes};
+ghost use Rattle.std.specs.Prelude.{◌≡◌, ◌⊎◌, Some, IfErr, OnOk, map, option_map, string_bytes};
 ghost use Rattle.std.specs.Duration.{as_nanos};
 ghost use Rattle.std.specs.Io.KnownBytes.{Appends};
 ghost use Rattle.r2d2_core.specs.Seen.{seen_take, seen_returned, seen_gone, seen_released, map_ok};
@@ -15,14 +15,14 @@ ghost use Rattle.pool_steps.specs.declared.program.Fault.TheVariants.{Memory, Wr
 use super::Fault;
 use super::line::Line;
 use r2d2_core::{Answer, Core, Gone, Job, Leftover, Refusal, Released, Returned, Step, Take};
-use std::alloc::Global;
+use std::alloc::{Allocator, Global};
 use std::io::Write;
 use std::time::Duration;
 use std::{fmt, io};
 
 /// Does what a line says, and writes the answer.
 #[tactic(auto, using(crate::proofs::Texts::text_of_step, crate::proofs::Texts::after_of_step))]
-pub(crate) fn answer<W: Write>(
+pub fn answer<W: Write>(
     alloc: Global,
     core: &mut Core<u64>,
     line: Line,
@@ -39,12 +39,12 @@ pub(crate) fn answer<W: Write>(
             let answer = core.answer(alloc, step)?;
             write_answer(output, id, answer)
         }
-        Line::State => write_state(output, core),
+        Line::State => write_state(output, core.connections(), core.idle(), core.pending()),
     }
 }
 
-// The id that a step of a lent connection names; 0 of any other step.
-fn id_of(step: &Step<u64>) -> u64
+/// The id that a step of a lent connection names; 0 of any other step.
+pub fn id_of(step: &Step<u64>) -> u64
     ensures { result ≡ id_in step.now }
 {
     match step {
@@ -53,8 +53,13 @@ fn id_of(step: &Step<u64>) -> u64
     }
 }
 
-// Writes an answer. The id is that of the step, which the answer does not name.
-fn write_answer<W: Write>(output: &mut W, id: u64, answer: Answer<u64>) -> Result<(), Fault>
+/// Writes an answer as a line. The id is that of the step, which the answer does not name. The fault is a
+/// failed write.
+pub fn write_answer<W: Write, A: Allocator>(
+    output: &mut W,
+    id: u64,
+    answer: Answer<u64, A>,
+) -> Result<(), Fault>
     ensures fault { IfErr result (λ fault. fault ≡ Write) }
     ensures written { OnOk result (Appends (W.contents output.old) (W.contents output.new) (reply_text id (seen_answer answer))) }
 {
@@ -232,7 +237,10 @@ fn write_error<W: Write>(output: &mut W, text: Option<String>) -> Result<(), Fau
     }
 }
 
-fn write_close<W: Write>(output: &mut W, leftover: Leftover<u64>) -> Result<(), Fault>
+fn write_close<W: Write, A: Allocator>(
+    output: &mut W,
+    leftover: Leftover<u64, A>,
+) -> Result<(), Fault>
     ensures fault { IfErr result (λ fault. fault ≡ Write) }
     ensures written { OnOk result (Appends (W.contents output.old) (W.contents output.new) (close_text leftover)) }
 {
@@ -241,7 +249,10 @@ fn write_close<W: Write>(output: &mut W, leftover: Leftover<u64>) -> Result<(), 
     writeln!(output).map_err(unwritten)
 }
 
-fn write_left<W: Write>(output: &mut W, leftover: Leftover<u64>) -> Result<(), Fault>
+fn write_left<W: Write, A: Allocator>(
+    output: &mut W,
+    leftover: Leftover<u64, A>,
+) -> Result<(), Fault>
     ensures fault { IfErr result (λ fault. fault ≡ Write) }
     ensures written { OnOk result (Appends (W.contents output.old) (W.contents output.new) (left_text leftover)) }
 {
@@ -251,14 +262,17 @@ fn write_left<W: Write>(output: &mut W, leftover: Leftover<u64>) -> Result<(), F
     Ok(())
 }
 
-fn write_state<W: Write>(output: &mut W, core: &Core<u64>) -> Result<(), Fault>
+/// Writes a state as a line: how many are connected, how many of them are idle, and how many openings are pending. The
+/// fault is a failed write.
+pub fn write_state<W: Write>(
+    output: &mut W,
+    connections: u32,
+    idle: u32,
+    pending: u32,
+) -> Result<(), Fault>
     ensures fault { IfErr result (λ fault. fault ≡ Write) }
-    ensures written { OnOk result (Appends (W.contents output.old) (W.contents output.new)
-        (state_text core.now.connections (length core.now.idle) core.now.on_order.pending)) }
+    ensures written { OnOk result (Appends (W.contents output.old) (W.contents output.new) (state_text connections idle pending)) }
 {
-    let connections = core.connections();
-    let idle = core.idle();
-    let pending = core.pending();
     writeln!(output, "state {connections} {idle} {pending}").map_err(unwritten)
 }
 

@@ -17,7 +17,7 @@ use std::str;
 use std::time::Duration;
 
 /// The limits that the first line says. A line of another form is not a step.
-pub(crate) fn limits(line: &[u8]) -> Result<Limits, Fault>
+pub fn limits(line: &[u8]) -> Result<Limits, Fault>
     ensures fault { IfErr result (λ fault. (fault ≡ NotAStep 1) ⊎ (fault ≡ LimitsRefused)) }
     ensures given { IfOk result (λ limits. limits_in line.now ≡ Some (sizes_of (seen_limits limits))) }
     ensures legal { IfOk result (λ limits. AreLegal (seen_limits limits)) }
@@ -97,8 +97,10 @@ impl LimitsLine {
 
 /// What a line after the first says: a step of the pool, or a look at its state.
 #[derive(Drop)]
-pub(crate) enum Line {
+pub enum Line {
+    /// A step of the pool.
     Step(Step<u64>),
+    /// A look at its state.
     State,
 }
 
@@ -106,7 +108,7 @@ impl Line {
     /// What the line says; none where it is not a step. The text of a failure takes memory, and the
     /// error comes only where that is refused.
     #[tactic(auto, unfolding(crate::specs::Lines::step_in))]
-    pub(crate) fn read(alloc: Global, line: &[u8]) -> Result<Option<Line>, AllocError>
+    pub fn read(alloc: Global, line: &[u8]) -> Result<Option<Line>, AllocError>
         ensures { IfOk result (λ said. option_map seen_line said ≡ step_in line.now) }
     {
         match text(line) {

@@ -1,4 +1,4 @@
-// Tests of the text: stories of a pool, lines of another form, reads and writes that fail.
+// Tests of the text: lines of another form, reads and writes that fail. The stories of a pool are the worked rows.
 
 use super::Fault;
 use std::alloc::Global;
@@ -8,7 +8,6 @@ use std::str;
 use std::test::Fail;
 
 mod lines;
-mod stories;
 mod strangers;
 mod streams;
 

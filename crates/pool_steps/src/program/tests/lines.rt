@@ -116,6 +116,13 @@ fn numbers_have_any_length_up_to_their_limit(rt: HostRuntime) -> Result<(), Fail
 }
 
 #[test]
+fn a_text_may_hold_spaces_and_control_characters(rt: HostRuntime) -> Result<(), Fail> {
+    let story = "limits 1 - - - 30000 30000; begin 0 -> open 0; \
+         fail 0 0  a \r\0\t\u{85}😀  -> retry 400; error -> error  a \r\0\t\u{85}😀 ";
+    tells(&rt, story, Ok(()))
+}
+
+#[test]
 fn lines_are_cut_at_line_feeds_and_are_utf8(rt: HostRuntime) -> Result<(), Fail> {
     let inputs: [(&[u8], &str, Result<(), Fault>); 10] = [
         (b"", "", Err(Fault::NotAStep(1))),

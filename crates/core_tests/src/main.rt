@@ -1,0 +1,80 @@
+//! Tests of the core of a pool. The program goes through the worked rows, which lie in its folder `data`: scripts, `NAME.steps`, with
+//! the answers that were worked out by hand, `NAME.answers`. Its tests say what no contract and no row says.
+#![tactic(auto)]
+
+#[cfg(test)]
+mod caller;
+#[cfg(test)]
+mod closing;
+#[cfg(test)]
+mod drafts;
+#[cfg(test)]
+mod extremes;
+#[cfg(test)]
+mod journal;
+#[cfg(test)]
+mod limits;
+mod machine;
+#[cfg(test)]
+mod memory;
+#[cfg(test)]
+mod plain;
+#[cfg(test)]
+mod random;
+mod replays;
+#[cfg(test)]
+mod reuse;
+mod rows;
+#[cfg(test)]
+mod said;
+#[cfg(test)]
+mod schedule;
+#[cfg(test)]
+mod steps;
+#[cfg(test)]
+mod turning;
+
+use std::process::ExitCode;
+use std::rt::Files;
+use std::{fs, io};
+
+/// Says how many rows there are, and names each that is answered otherwise; then the status is 1.
+fn main(rt: HostRuntime) -> Result<ExitCode, anyhow::Error> {
+    let names = names(&rt)?;
+    let mut status = ExitCode::SUCCESS;
+    for name in &names {
+        if let Some(fault) = fault_of(&rt, name.as_str())? {
+            println!(rt; "{name}: {fault}")?;
+            status = ExitCode::FAILURE;
+        }
+    }
+    println!(rt; "{} rows", names.len())?;
+    Ok(status)
+}
+
+// The names of the rows, in order.
+fn names<R: Files + AllocGlobal + Clone + Drop>(rt: &R) -> io::Result<Vec<String>> {
+    let mut names = Vec::new(rt.alloc());
+    for entry in fs::read_dir(rt, ".")? {
+        let entry = entry?;
+        if let Some(name) = entry.file_name().strip_suffix(".steps") {
+            names.push(String::from_str(rt.alloc(), name)?)?;
+        }
+    }
+    names.sort()?;
+    Ok(names)
+}
+
+// What is wrong with the row of this name, if anything is.
+fn fault_of<R: Files + AllocGlobal>(rt: &R, name: &str) -> io::Result<Option<String>> {
+    let alloc = rt.alloc();
+    let script = fs::read_to_string(rt, format!(in alloc; "{name}.steps")?)?;
+    let answers = fs::read_to_string(rt, format!(in alloc; "{name}.answers")?)?;
+    Ok(
+        match rows::who_differs(alloc, script.as_str(), answers.as_str()) {
+            Ok(None) => None,
+            Ok(Some(who)) => Some(format!(in alloc; "{who} answers otherwise")?),
+            Err(fault) => Some(format!(in alloc; "{fault}")?),
+        },
+    )
+}
