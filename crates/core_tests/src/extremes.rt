@@ -2,7 +2,7 @@
 
 use crate::machine::lines_of;
 use crate::steps::{begin, fail, ms, number, sized};
-use pool_steps::program::line::Line;
+use pool_lines::program::line::Line;
 use r2d2_core::schedule::delay;
 use r2d2_core::{Book, Core, Limits, Step};
 use std::alloc::{AllocError, Global};

@@ -1,8 +1,8 @@
 // A core or a book, and the lines that it answers.
 
-use pool_steps::program::Fault;
-use pool_steps::program::answer::{id_of, write_answer, write_state};
-use pool_steps::program::line::Line;
+use pool_lines::program::Fault;
+use pool_lines::program::answer::{id_of, write_answer, write_state};
+use pool_lines::program::line::Line;
 use r2d2_core::{Answer, Book, Core, Step};
 use std::alloc::{AllocError, Allocator, Global};
 

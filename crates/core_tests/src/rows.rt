@@ -3,9 +3,9 @@
 use crate::machine::lines_of;
 use crate::replays::replays;
 use linked_list_allocator::LocalHeap;
-use pool_steps::program::answer::{id_of, write_answer, write_state};
-use pool_steps::program::line::{Line, limits};
-use pool_steps::program::{Fault, serve};
+use pool_lines::program::answer::{id_of, write_answer, write_state};
+use pool_lines::program::line::{Line, limits};
+use pool_lines::program::{Fault, serve};
 use r2d2_core::run::run;
 use r2d2_core::{Book, Core, Limits, Step};
 use std::alloc::Global;
