@@ -249,7 +249,7 @@ impl<
     /// is one every 30 seconds, so an idle connection stays at most 30 seconds beyond, and longer only while every
     /// worker is busy. Until then it can still be lent.
     ///
-    /// It may not be a length of zero. The test for one from outside: None, or `age.as_nanos() > 0`.
+    /// It may not be a length of zero. The test for one from outside: None, or `!age.is_zero()`.
     pub fn max_lifetime(mut self, max_lifetime: Option<Duration>) -> Self
         requires { ForSome max_lifetime (λ d. 0 < as_nanos d) }
         ensures { result ≡ record self { max_lifetime = max_lifetime } }
@@ -265,7 +265,7 @@ impl<
     /// at most 30 seconds beyond, and longer only while every worker is busy. Until then it can still be lent, and
     /// its idle time starts anew when it comes back.
     ///
-    /// It may not be a length of zero. The test for one from outside: None, or `length.as_nanos() > 0`.
+    /// It may not be a length of zero. The test for one from outside: None, or `!length.is_zero()`.
     pub fn idle_timeout(mut self, idle_timeout: Option<Duration>) -> Self
         requires { ForSome idle_timeout (λ d. 0 < as_nanos d) }
         ensures { result ≡ record self { idle_timeout = idle_timeout } }
@@ -279,7 +279,7 @@ impl<
     /// It bounds two more things: `build` waits as long at most for the first connections, and an opening that failed
     /// is tried again after half of it at the latest.
     ///
-    /// It may not be a length of zero. The test for one from outside: `length.as_nanos() > 0`.
+    /// It may not be a length of zero. The test for one from outside: `!length.is_zero()`.
     pub fn connection_timeout(mut self, connection_timeout: Duration) -> Self
         requires { 0 < as_nanos connection_timeout }
         ensures { result ≡ record self { connection_timeout = connection_timeout } }

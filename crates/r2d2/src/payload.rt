@@ -8,7 +8,9 @@ use std::alloc::Global;
 /// admission there are none.
 #[derive(Drop)]
 pub struct Payload<C, X: Extension> {
+    /// The connection.
     pub connection: C,
+    /// What is kept beside it.
     pub extensions: Extensions<X>,
 }
 

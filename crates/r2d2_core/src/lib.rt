@@ -4,10 +4,17 @@
 //! You tell a [`Core`] what happened, and when; it answers what to do. Opening, checking and closing connections is yours.
 //!
 //! ```rust
-//! // At most 10 connections, 2 of them wanted idle; closed when idle for ten minutes, or half an hour old.
-//! let limits = Limits::of(10, Some(2), Some(second * 1800), Some(second * 600), second * 30, second * 30)
-//!     .ok_or_else(|| anyhow!("limits that no core can have"))?;
-//! let mut core = Core::new(rt.alloc(), limits, Duration::ZERO)?;
+//! // A worker asks what to do, opens a connection, and hands it in.
+//! if let Job::Open { tries } = core.begin(Duration::ZERO) {
+//!     if let Ok(id) = core.number(tries) {
+//!         core.admit(Duration::ZERO, id, "a connection").ok();
+//!     }
+//! }
+//! // A caller takes it. If none were idle, an opening would be ordered.
+//! match core.take(second, true) {
+//!     Take::Found { value, ordered, .. } => println!(rt; "lent {value}, and {ordered} ordered")?,
+//!     Take::Empty { ordered } => println!(rt; "none idle, and {ordered} ordered")?,
+//! }
 //! ```
 //!
 //! A [`Book`] is a core with a journal, [`run`](run::run) takes a list of steps, and [`reuse`] compares lending the newest
