@@ -1,10 +1,11 @@
-//! A count of steps that takes no bytes, so that a contract can bound what a call does.
+//! A count of steps, so that a contract can bound what a call does.
 ghost use Rattle.std.specs.Prelude.{◌≡◌, ◌+◌, ◌<◌};
 
 use std::marker::Model;
 use std::sync::ledger::{Blank, Book, Ledger, Share};
 
-/// How many steps were taken, in a ledger of the caller's. Nothing is counted when the program runs: the count is there for contracts.
+/// How many steps were taken, in a ledger of the caller's. It takes no bytes, and nothing is counted when the program runs: the
+/// count is there for contracts.
 #[derive(Drop)]
 pub struct Steps<L: Ledger> {
     book: Book<L>,
@@ -22,7 +23,7 @@ impl<L: Ledger> Model for Steps<L> {
 }
 
 impl<L: Ledger> Steps<L> {
-    /// No steps so far, in the ledger that the blank stands for.
+    /// No steps so far, in the ledger that `blank` is opened as.
     pub fn new(blank: Blank) -> Steps<L>
         requires name { blank.name ≡ L.name }
         requires parts { blank.parts ≡ L.parts }
