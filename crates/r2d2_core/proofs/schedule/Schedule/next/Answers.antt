@@ -41,7 +41,7 @@ returns-then-not-is_reap_before-clause-cost g c =
     let held : length c.args.self.now.openings ≡ s.held = ap (λ (p : SeenSchedule). length p.openings) (sym c.self.view_is) ∙ length-held s.entries.items s.held (omega (arith, s.entries.ok.0, c.self.invariant.filled, c.self.invariant.within)) in
     subst (λ (n : ℕ). c.remove_least.new.steps ≤ c.args.steps.now + 2 * binary_digits n) (sym held) c.remove_least.ensures.cost
 
--- the reap is the opening, since no opening is held or the least one is due later
+-- the reap comes first: no opening is held, or the least one is due later
 reap_job_is : (now : ℕ) (xs : List SeenOpening) (next_reap : Option Duration) (reap : Duration) → next_reap ≡ Some reap → first_job now xs (Some (as_nanos reap)) ≡ reap_or_wait now (as_nanos reap) → first_job now xs (option_map as_nanos next_reap) ≡ reap_or_wait now (as_nanos reap)
 reap_job_is now xs next_reap reap e h = rw e h
 
