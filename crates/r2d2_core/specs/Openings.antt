@@ -24,9 +24,9 @@ with_many zero x xs = xs
 with_many (suc n) x xs = with_opening x (with_many n x xs)
 
 -- xs in order, which is the same for all lists with the same openings
-abbrev pub in_order : List SeenOpening → List SeenOpening
-in_order [] = []
-in_order (x ∷ xs) = with_opening x (in_order xs)
+abbrev pub sorted : List SeenOpening → List SeenOpening
+sorted [] = []
+sorted (x ∷ xs) = with_opening x (sorted xs)
 
 -- the opening at i is a least one of xs
 pub record IsLeast (xs : List SeenOpening) (i : ℕ) : Type 0 where

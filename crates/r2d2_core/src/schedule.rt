@@ -44,7 +44,7 @@ impl<A: Allocator> Model for Schedule<A> {
     ghost use Rattle.std.specs.Vec.{vec_capacity};
     ghost use Rattle.std.specs.Option.{option_map};
     ghost use Rattle.std.specs.Duration.{as_nanos};
-    ghost use Rattle.r2d2_core.specs.Openings.{in_order};
+    ghost use Rattle.r2d2_core.specs.Openings.{sorted};
     ghost use Rattle.r2d2_core.specs.Schedule.{SeenSchedule};
 
     ghost Value = { SeenSchedule };
@@ -52,7 +52,7 @@ impl<A: Allocator> Model for Schedule<A> {
     ghost view = { λ s. record {
       max_size = s.max_size;
       reap_every = as_nanos s.reap_every;
-      openings = in_order s.entries.items;
+      openings = sorted s.entries.items;
       next_reap = option_map as_nanos s.next_reap;
     } };
 

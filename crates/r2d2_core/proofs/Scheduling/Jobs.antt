@@ -4,10 +4,10 @@ use Rattle.std.specs.Option.{option_map}
 use Rattle.std.specs.Duration.{as_nanos}
 use Rattle.std.specs.declared.time.Duration.{Duration}
 use Rattle.std.proofs.lemmas.Bool.{cond-true, cond-false, ltb-true, ltb-false, le-leb, lt-leb}
-use Rattle.r2d2_core.specs.Openings.{SeenOpening, in_order, IsLeast}
+use Rattle.r2d2_core.specs.Openings.{SeenOpening, sorted, IsLeast}
 use Rattle.r2d2_core.specs.Schedule.{is_due_before}
 use Rattle.r2d2_core.specs.Jobs.{Wait, Open, Reap, first_job, open_or_wait, reap_or_wait}
-use Rattle.r2d2_core.proofs.Scheduling.Openings.{in_order-from_least}
+use Rattle.r2d2_core.proofs.Scheduling.Openings.{sorted-from_least}
 
 opening_first : (now : ℕ) (xs rest : List SeenOpening) (x : SeenOpening) (reap : Option Duration) → xs ≡ x ∷ rest → is_due_before reap x.due ≡ false → first_job now xs (option_map as_nanos reap) ≡ open_or_wait now x
 opening_first now xs rest x None e h = rw e refl
@@ -17,14 +17,14 @@ reap_first : (now : ℕ) (xs rest : List SeenOpening) (x : SeenOpening) (r : ℕ
 reap_first now xs rest x r e h = rw e (cond-false _ _ _ (lt-leb x.due r (ltb-true r x.due h)))
 
 -- the opening at a least place is the entry
-pub opening_is_first : (now : ℕ) (items : List SeenOpening) (place : ℕ) (x : SeenOpening) (reap : Option Duration) → IsLeast items place → x ≡ get_or items place x → is_due_before reap x.due ≡ false → first_job now (in_order items) (option_map as_nanos reap) ≡ open_or_wait now x
-opening_is_first now items place x reap least read h = opening_first now (in_order items) _ x reap (in_order-from_least items place x least read) h
+pub opening_is_first : (now : ℕ) (items : List SeenOpening) (place : ℕ) (x : SeenOpening) (reap : Option Duration) → IsLeast items place → x ≡ get_or items place x → is_due_before reap x.due ≡ false → first_job now (sorted items) (option_map as_nanos reap) ≡ open_or_wait now x
+opening_is_first now items place x reap least read h = opening_first now (sorted items) _ x reap (sorted-from_least items place x least read) h
 
 -- the reap is the entry
-pub reap_is_first : (now : ℕ) (items : List SeenOpening) (place : ℕ) (x : SeenOpening) (reap : Duration) → IsLeast items place → x ≡ get_or items place x → is_due_before (Some reap) x.due ≡ true → first_job now (in_order items) (Some (as_nanos reap)) ≡ reap_or_wait now (as_nanos reap)
-reap_is_first now items place x reap least read h = reap_first now (in_order items) _ x (as_nanos reap) (in_order-from_least items place x least read) h
+pub reap_is_first : (now : ℕ) (items : List SeenOpening) (place : ℕ) (x : SeenOpening) (reap : Duration) → IsLeast items place → x ≡ get_or items place x → is_due_before (Some reap) x.due ≡ true → first_job now (sorted items) (Some (as_nanos reap)) ≡ reap_or_wait now (as_nanos reap)
+reap_is_first now items place x reap least read h = reap_first now (sorted items) _ x (as_nanos reap) (sorted-from_least items place x least read) h
 
-pub reap_is_alone : (now : ℕ) (items : List SeenOpening) (r : ℕ) → items ≡ [] → first_job now (in_order items) (Some r) ≡ reap_or_wait now r
+pub reap_is_alone : (now : ℕ) (items : List SeenOpening) (r : ℕ) → items ≡ [] → first_job now (sorted items) (Some r) ≡ reap_or_wait now r
 reap_is_alone now items r e = rw e refl
 
 -- what the entry says at the moment

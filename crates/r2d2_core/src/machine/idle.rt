@@ -3,7 +3,7 @@ ghost use Rattle.std.specs.Prelude.{◌≡◌, ◌+◌, ◌≤◌, ◌<◌, ◌+
 ghost use Rattle.std.specs.Duration.{as_nanos};
 ghost use Rattle.r2d2_core.specs.Limits.{seen_limits, has_reached};
 ghost use Rattle.r2d2_core.specs.Ids.{last_of, front};
-ghost use Rattle.r2d2_core.specs.Connections.{id_of_idle, is_expired, is_kept, closing, closed_of, pair_of};
+ghost use Rattle.r2d2_core.specs.Connections.{id_of_idle, is_expired, is_kept, released_at, closed_of, pair_of};
 ghost use Rattle.r2d2_core.specs.Roster.{roster};
 ghost use Rattle.r2d2_core.specs.Seen.{seen_released};
 
@@ -140,9 +140,9 @@ fn is_expired<T>(entry: &IdleConnection<T>, limits: &Limits, now: Duration) -> b
         || reached(limits.max_lifetime(), now.saturating_sub(entry.birth))
 }
 
-#[tactic(auto, unfolding(crate::specs::Connections::closing))]
+#[tactic(auto, unfolding(crate::specs::Connections::released_at))]
 fn released<T>(entry: IdleConnection<T>, now: Duration) -> Released<T>
-    ensures { seen_released result ≡ closing (as_nanos now) entry }
+    ensures { seen_released result ≡ released_at (as_nanos now) entry }
 {
     Released {
         id: entry.id,

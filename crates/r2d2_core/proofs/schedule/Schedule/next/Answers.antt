@@ -4,10 +4,10 @@ use Rattle.std.specs.Option.{option_map}
 use Rattle.std.specs.Duration.{as_nanos}
 use Rattle.std.specs.declared.time.Duration.{Duration}
 use Rattle.std.proofs.lemmas.List.{get_or_read, nil_from_length}
-use Rattle.r2d2_core.specs.Openings.{SeenOpening, in_order, IsLeast}
+use Rattle.r2d2_core.specs.Openings.{SeenOpening, sorted, IsLeast}
 use Rattle.r2d2_core.specs.Schedule.{is_due_before}
 use Rattle.r2d2_core.specs.Jobs.{Wait, Open, first_job, reap_or_wait}
-use Rattle.r2d2_core.proofs.Scheduling.Openings.{in_order-from_least}
+use Rattle.r2d2_core.proofs.Scheduling.Openings.{sorted-from_least}
 use Rattle.r2d2_core.proofs.Scheduling.Jobs.{opening_is_first, reap_is_first, reap_is_alone, opening_waits, opening_opens, reap_waits, reap_reaps}
 use Rattle.r2d2_core.proofs.schedule.Schedule.next.Goals as goal
 use Rattle.r2d2_core.proofs.schedule.Schedule.next.Goals.{then-not-is_empty+else-not-is_reap_before, else-not-is_empty}
@@ -42,13 +42,13 @@ returns-then-not-is_reap_before-clause-after g c =
     let place = c.least_place-place.result in
     let x = c.swap_remove-least.result in
     let least : IsLeast items place = rw c.deref.ensures.value at c.least_place-place.ensures in
-    let first = in_order-from_least items place x least c.swap_remove-least.ensures.value in
-    let rest : in_order c.swap_remove-least.new.self.items ≡ drop 1 (in_order items) =
-    ap in_order c.swap_remove-least.ensures.items ∙ sym (ap (λ (l : List SeenOpening). drop 1 l) first) in
+    let first = sorted-from_least items place x least c.swap_remove-least.ensures.value in
+    let rest : sorted c.swap_remove-least.new.self.items ≡ drop 1 (sorted items) =
+    ap sorted c.swap_remove-least.ensures.items ∙ sym (ap (λ (l : List SeenOpening). drop 1 l) first) in
     rw (← c.self.view_is) (rw rest refl)
 
 -- the reap is the entry, since no opening is held or the least one is due later
-reap_job_is : (now : ℕ) (items : List SeenOpening) (next_reap : Option Duration) (reap : Duration) → next_reap ≡ Some reap → first_job now (in_order items) (Some (as_nanos reap)) ≡ reap_or_wait now (as_nanos reap) → first_job now (in_order items) (option_map as_nanos next_reap) ≡ reap_or_wait now (as_nanos reap)
+reap_job_is : (now : ℕ) (items : List SeenOpening) (next_reap : Option Duration) (reap : Duration) → next_reap ≡ Some reap → first_job now (sorted items) (Some (as_nanos reap)) ≡ reap_or_wait now (as_nanos reap) → first_job now (sorted items) (option_map as_nanos next_reap) ≡ reap_or_wait now (as_nanos reap)
 reap_job_is now items next_reap reap e h = rw e h
 
 pub returns-then-as_nanos-2-clause-answer : goal.returns-then-as_nanos-2-clause-answer
@@ -58,7 +58,7 @@ returns-then-as_nanos-2-clause-answer g c =
     let items = entries.items in
     let reap = c.in-Some.reap in
     let there : c.self.inside.next_reap ≡ Some reap = search rules in
-    let reap_first : first_job now (in_order items) (Some (as_nanos reap)) ≡ reap_or_wait now (as_nanos reap) = elim c.if-not-is_empty.branch [
+    let reap_first : first_job now (sorted items) (Some (as_nanos reap)) ≡ reap_or_wait now (as_nanos reap) = elim c.if-not-is_empty.branch [
       | then-not-is_empty+else-not-is_reap_before w ↦
           let x = w.index.result.now in
           let least : IsLeast items w.least_place-place.result = rw w.deref.ensures.value at w.least_place-place.ensures in
@@ -82,7 +82,7 @@ returns-else-as_nanos-2-clause-answer g c =
     let items = entries.items in
     let reap = c.in-Some.reap in
     let there : c.self.inside.next_reap ≡ Some reap = search rules in
-    let reap_first : first_job now (in_order items) (Some (as_nanos reap)) ≡ reap_or_wait now (as_nanos reap) = elim c.if-not-is_empty.branch [
+    let reap_first : first_job now (sorted items) (Some (as_nanos reap)) ≡ reap_or_wait now (as_nanos reap) = elim c.if-not-is_empty.branch [
       | then-not-is_empty+else-not-is_reap_before w ↦
           let x = w.index.result.now in
           let least : IsLeast items w.least_place-place.result = rw w.deref.ensures.value at w.least_place-place.ensures in
