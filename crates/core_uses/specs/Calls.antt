@@ -1,6 +1,6 @@
 -- What the calls of this crate leave of a core. A moment is in nanoseconds.
 use Rattle.std.specs.Prelude.{ℕ, None}
-use Rattle.r2d2_core.specs.Jobs.{SeenJob, Open, Reap, Wait, Nothing, Ended}
+use Rattle.r2d2_core.specs.Jobs.{SeenJob, Open, Reap, Wait, Nothing, Closed}
 use Rattle.r2d2_core.specs.Refusals.{unless_refused}
 use Rattle.r2d2_core.specs.OnOrder.{number_refusal}
 use Rattle.r2d2_core.specs.Picture.{Picture}
@@ -18,7 +18,7 @@ module _ {T : Type 0} where
   opened_by Reap t value p = p
   opened_by (Wait due) t value p = p
   opened_by Nothing t value p = p
-  opened_by Ended t value p = p
+  opened_by Closed t value p = p
 
   abbrev pub after_open : ℕ → T → Picture T → Picture T
   after_open t value p = opened_by (begin_answer t p) t value (after_begin t p)

@@ -6,7 +6,7 @@ use Rattle.r2d2_core.specs.declared.machine.answers.Refusal.{Refusal}
 use Rattle.r2d2_core.specs.OnOrder.{fail_refusal}
 use Rattle.r2d2_core.specs.Picture.{Picture}
 use Rattle.r2d2_core.specs.Refusals.{unless_refused}
-use Rattle.r2d2_core.specs.Table.{after_fail, failed, after_check, lent_refusal, topped_up, lost, with_text, at}
+use Rattle.r2d2_core.specs.Table.{after_fail, failed, after_check, lent_refusal, topped_up, gone_one, with_text, raised_to}
 use Rattle.r2d2_core.specs.Steps.{step_answer, after_step}
 use Rattle.std.specs.Duration.{as_nanos}
 use Rattle.pool_lines.specs.Lines.{Fail, FailCheck, seen_step}
@@ -21,7 +21,7 @@ module _ {A : Type 0} where
   text_last now tries None p = refl
   text_last now tries (Some text) p = refl
 
-  text_last_of_check : (now id : ℕ) (text : Option (String A)) (p : Picture ℕ) → topped_up (lost id (with_text text (at now p))) ≡ with_error (option_map string_bytes text) (topped_up (lost id (with_text {A = ℕ} None (at now p))))
+  text_last_of_check : (now id : ℕ) (text : Option (String A)) (p : Picture ℕ) → topped_up (gone_one id (with_text text (raised_to now p))) ≡ with_error (option_map string_bytes text) (topped_up (gone_one id (with_text {A = ℕ} None (raised_to now p))))
   text_last_of_check now id None p = refl
   text_last_of_check now id (Some text) p = refl
 
@@ -31,7 +31,7 @@ module _ {A : Type 0} where
 
   check_failed_with : (now id : ℕ) (text : Option (String A)) (p : Picture ℕ) → after_check now id text p ≡ after_said (FailCheck now id (option_map string_bytes text)) p
   check_failed_with now id text p =
-      refused_twice (lent_refusal id p) (topped_up (lost id (with_text text (at now p)))) (topped_up (lost id (with_text {A = ℕ} None (at now p)))) p (with_error (option_map string_bytes text)) (text_last_of_check now id text p)
+      refused_twice (lent_refusal id p) (topped_up (gone_one id (with_text text (raised_to now p)))) (topped_up (gone_one id (with_text {A = ℕ} None (raised_to now p)))) p (with_error (option_map string_bytes text)) (text_last_of_check now id text p)
 
 -- what is written for the answer to a step is what is written for its line
 pub text_of_step : (s : Step ℕ) (p : Picture ℕ) → reply_text (id_in s) (step_answer s p) ≡ answer_text (seen_step s) p

@@ -165,8 +165,8 @@ said_alone word =
     else None
 
 -- a word, and a number or what failed
-unfoldable pub said_of_failure : List ℕ → List ℕ → Option SeenLine
-said_of_failure word fields =
+unfoldable pub said_of_outcome : List ℕ → List ℕ → Option SeenLine
+said_of_outcome word fields =
     if bytes_eq word (codes "number") then option_map (λ tries. Number tries) (number_in 32 fields)
     else if bytes_eq word (codes "fail") then failed_opening_in fields
     else if bytes_eq word (codes "bad") then failed_check_in fields
@@ -178,7 +178,7 @@ said_of_connection word fields =
     if bytes_eq word (codes "admit") then option_map (λ c. Admit c.0 c.1 c.2) (connection_in fields)
     else if bytes_eq word (codes "return") then option_map (λ c. PutBack c.0 c.1 c.2 false) (connection_in fields)
     else if bytes_eq word (codes "broken") then option_map (λ c. PutBack c.0 c.1 c.2 true) (connection_in fields)
-    else said_of_failure word fields
+    else said_of_outcome word fields
 
 -- a word and its fields, which for these four are a moment
 unfoldable pub said_with : List ℕ → List ℕ → Option SeenLine

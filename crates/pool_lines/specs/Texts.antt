@@ -4,7 +4,7 @@ use Rattle.std.specs.Fmt.{padded_integral, format_spec}
 use Rattle.r2d2_core.specs.declared.machine.answers.Refusal.{Refusal}
 use Rattle.r2d2_core.specs.declared.machine.answers.Refusal.TheVariants.{Closed, NotLent, NoOpening, IdsUsedUp, NotNumbered}
 use Rattle.r2d2_core.specs.Connections.{SeenReleased}
-use Rattle.r2d2_core.specs.Jobs.{SeenJob, Open, Reap, Wait, Nothing, Ended}
+use Rattle.r2d2_core.specs.Jobs.{SeenJob, Open, Reap, Wait, Nothing, Closed as JobClosed}
 use Rattle.r2d2_core.specs.Seen.{SeenTake, Found, Empty, SeenReturned, Kept, SeenGone}
 use Rattle.r2d2_core.specs.Seen as reply
 
@@ -45,7 +45,7 @@ task_text (Open tries) = line (codes "open " ++ decimal tries)
 task_text Reap = line (codes "reap")
 task_text (Wait due) = line (codes "wait " ++ milliseconds due)
 task_text Nothing = line (codes "nothing")
-task_text Ended = line (codes "closed")
+task_text JobClosed = line (codes "closed")
 
 abbrev pub number_text : Result ℕ Refusal → List ℕ
 number_text (Ok id) = line (codes "numbered " ++ decimal id)

@@ -44,7 +44,7 @@ module _ {T : Type 0} where
   settled_failure (Err why) = Refused why None
 
   abbrev pub settled_check : Result SeenGone Refusal → SeenSettled T
-  settled_check (Ok loss) = Gone loss
+  settled_check (Ok gone) = Gone gone
   settled_check (Err why) = Refused why None
 
   -- what settling an outcome at the moment t answers: that of an admission, of a failed opening, of a failed check
@@ -70,5 +70,5 @@ module _ {T : Type 0} where
   abbrev pub wakes_of_settled : SeenSettled T → Wakes
   wakes_of_settled Admitted = wakes true false
   wakes_of_settled (Retry due) = wakes false true
-  wakes_of_settled (Gone loss) = caller_and_workers_for loss.ordered
+  wakes_of_settled (Gone gone) = caller_and_workers_for gone.ordered
   wakes_of_settled (Refused why back) = nobody

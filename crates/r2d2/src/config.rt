@@ -32,7 +32,7 @@ pub struct Config<H, V, Z> {
     pub connection_timeout: Duration,
     /// How many records of what happened the pool keeps.
     pub journal_room: usize,
-    /// The time from one look for expired connections to the next.
+    /// The time from one look for expired connections to the next. Among the limits of the core it is `reap_every`.
     pub reaper_rate: Duration,
     /// What is told of errors.
     pub error_handler: H,

@@ -1,8 +1,10 @@
+pub mod Kept
 pub mod Deeds
 pub mod Births
 pub mod Orders
 pub mod InWork
 pub mod LentOnes
+pub mod Comings
 pub mod GoingOnes
 pub mod Following
 pub mod Made

@@ -1,2 +1,2 @@
-pub mod InOrder
+pub mod Sorted
 pub mod Choices

@@ -1,5 +1,5 @@
 -- Which steps are refused, what each step answers, and what a core shows.
-use Rattle.std.specs.Prelude.{ℕ, ◌+◌, ◌-◌, min, ◌^◌, Bool, ◌==◌, ◌||◌, not, nat_lt, if◌then◌else◌, List, [], ◌∷◌, map, length, Option, Some, None, Ok, Err}
+use Rattle.std.specs.Prelude.{ℕ, ◌+◌, ◌-◌, min, ◌^◌, Bool, ◌==◌, ◌||◌, not, nat_lt, if◌then◌else◌, List, [], ◌∷◌, map, length, Option, Some, None, is_some, option_map, unwrap_or, Ok, Err}
 use Rattle.std.specs.List.{list_any}
 use Rattle.r2d2_core.specs.declared.run.Step.{Step}
 use Rattle.r2d2_core.specs.declared.run.Step.TheVariants as step
@@ -11,7 +11,7 @@ use Rattle.r2d2_core.specs.Connections.{closed_of, pair_of, SeenReleased}
 use Rattle.r2d2_core.specs.Refusals.{refused_if}
 use Rattle.r2d2_core.specs.Seen.{SeenAnswer, Taken, Found, Empty, Begun, Numbered, Admitted, Failed, CheckFailed, CameBack, SeenReturned, Kept, Closed, Reaped, Told, Left}
 use Rattle.r2d2_core.specs.Picture.{Picture}
-use Rattle.r2d2_core.specs.Seen.{taking}
+use Rattle.r2d2_core.specs.Seen.{take_with}
 use Rattle.r2d2_core.specs.Seen.{or_text}
 use Rattle.r2d2_core.specs.History.{History, Made, Then, limits_of, is_closed, now_of, moment_of}
 use Rattle.r2d2_core.specs.Deeds.{connections_of, idle_of, lent_of, birth_of}
@@ -45,7 +45,7 @@ module _ {T : Type 0} where
   refused_with (step.Fail now tries text) why = Failed (Err why)
   refused_with (step.FailCheck now id text) why = CheckFailed (Err why)
   refused_with (step.PutBack now id value broken) why = CameBack (Err (why, value))
-  -- no other step is refused
+  -- no other step is refused, so this never comes
   refused_with _ why = Told None
 
   -- THE LAST ERROR
@@ -78,7 +78,7 @@ module _ {T : Type 0} where
 
   -- the answer to a step that is accepted, were it to order n openings
   abbrev pub reply_with : History T → ℕ → Step T → SeenAnswer T
-  reply_with h n (step.Take now or_order) = Taken (taking (last_of (idle_of h)) n)
+  reply_with h n (step.Take now or_order) = Taken (take_with (last_of (idle_of h)) n)
   reply_with h n (step.Begin now) = Begun (job_of h (moment_of h (step.Begin now)))
   reply_with h n (step.Number tries) = Numbered (Ok (next_id_of h))
   reply_with h n (step.Admit now id value) = Admitted (Ok tt)
@@ -116,21 +116,13 @@ module _ {T : Type 0} where
 
   -- A STEP
 
-  abbrev pub answer_by : History T → Step T → Option Refusal → SeenAnswer T
-  answer_by h s None = reply_with h (orders_of h s) s
-  answer_by h s (Some why) = refused_with s why
-
   -- the answer to a step after h
   abbrev pub answer_of : History T → Step T → SeenAnswer T
-  answer_of h s = answer_by h s (refusal_of h s)
-
-  abbrev pub after_by : History T → Step T → Option Refusal → History T
-  after_by h s None = Then h s (reply_with h (orders_of h s) s)
-  after_by h s (Some why) = h
+  answer_of h s = unwrap_or (option_map (refused_with s) (refusal_of h s)) (reply_with h (orders_of h s) s)
 
   -- the history with a step, if it is accepted
   abbrev pub after : History T → Step T → History T
-  after h s = after_by h s (refusal_of h s)
+  after h s = if is_some (refusal_of h s) then h else Then h s (reply_with h (orders_of h s) s)
 
   -- A LIST OF STEPS
 

@@ -53,9 +53,9 @@ module _ {T : Type 0} where
   is_kept limits now c = not (is_expired limits now c)
 
   -- what a reap at the moment hands out of it
-  unfoldable pub closing : ℕ → SeenIdleConnection T → SeenReleased T
-  closing now c = record { id = c.id; age = now - c.birth; value = c.value }
+  unfoldable pub released_at : ℕ → SeenIdleConnection T → SeenReleased T
+  released_at now c = record { id = c.id; age = now - c.birth; value = c.value }
 
   -- what a reap at the moment closes of a list
   abbrev pub closed_of : SeenLimits → ℕ → List (SeenIdleConnection T) → List (SeenReleased T)
-  closed_of limits now idle = map (closing now) (filter (is_expired limits now) idle)
+  closed_of limits now idle = map (released_at now) (filter (is_expired limits now) idle)

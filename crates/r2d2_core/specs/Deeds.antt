@@ -26,36 +26,16 @@ module _ {T : Type 0} where
   abbrev pub id_of_deed : Deed T → ℕ
   id_of_deed d = d.id
 
-  -- DEEDS OF A STEP, by its answer
-
-  abbrev pub take_deeds : ℕ → SeenAnswer T → List (Deed T)
-  take_deeds at (Taken (Found id birth value ordered)) = deed id at Taking_out ∷ []
-  take_deeds at _ = []
-
-  abbrev pub return_deeds : ℕ → ℕ → T → SeenAnswer T → List (Deed T)
-  return_deeds at id value (CameBack (Ok Kept)) = deed id at (Keeping value) ∷ []
-  return_deeds at id value (CameBack (Ok (Closed v age ordered))) = deed id at Going ∷ []
-  return_deeds at id value _ = []
-
-  abbrev pub reap_deeds : ℕ → SeenAnswer T → List (Deed T)
-  reap_deeds at (Reaped closed ordered) = map (λ c. deed c.id at Going) closed
-  reap_deeds at _ = []
-
-  abbrev pub close_deeds : ℕ → SeenAnswer T → List (Deed T)
-  close_deeds at (Left left) = map (λ p. deed p.0 at Going) left
-  close_deeds at _ = []
-
+  -- the deeds of a step, by its answer
   abbrev pub deeds_in : ℕ → Step T → SeenAnswer T → List (Deed T)
-  deeds_in at (step.Take now or_order) r = take_deeds at r
-  deeds_in at (step.Admit now id value) r = deed id at (Admission value) ∷ []
-  deeds_in at (step.FailCheck now id text) r = deed id at Going ∷ []
-  deeds_in at (step.PutBack now id value broken) r = return_deeds at id value r
-  deeds_in at (step.Reap now) r = reap_deeds at r
-  deeds_in at step.Close r = close_deeds at r
-  deeds_in at (step.Begin now) r = []
-  deeds_in at (step.Number tries) r = []
-  deeds_in at (step.Fail now tries text) r = []
-  deeds_in at step.TakeError r = []
+  deeds_in t (step.Take now or_order) (Taken (Found id birth value ordered)) = deed id t Taking_out ∷ []
+  deeds_in t (step.Admit now id value) r = deed id t (Admission value) ∷ []
+  deeds_in t (step.FailCheck now id text) r = deed id t Going ∷ []
+  deeds_in t (step.PutBack now id value broken) (CameBack (Ok Kept)) = deed id t (Keeping value) ∷ []
+  deeds_in t (step.PutBack now id value broken) (CameBack (Ok (Closed v age ordered))) = deed id t Going ∷ []
+  deeds_in t (step.Reap now) (Reaped closed ordered) = map (λ c. deed c.id t Going) closed
+  deeds_in t step.Close (Left left) = map (λ p. deed p.0 t Going) left
+  deeds_in t s r = []
 
   -- all deeds, oldest first
   abbrev pub deeds_of : History T → List (Deed T)
@@ -80,8 +60,7 @@ module _ {T : Type 0} where
   abbrev pub value_in : What T → Option T
   value_in (Admission value) = Some value
   value_in (Keeping value) = Some value
-  value_in Taking_out = None
-  value_in Going = None
+  value_in _ = None
 
   abbrev pub is_taking : What T → Bool
   is_taking Taking_out = true
@@ -123,6 +102,6 @@ module _ {T : Type 0} where
   gone_count (Made limits moment first) = 0
   gone_count (Then h s r) = gone_count_after (gone_count h) r
 
-  -- how many ids were admitted, less how many are gone
+  -- how many ids were admitted, less how many are gone; never more are gone than were admitted
   unfoldable pub connections_of : History T → ℕ
   connections_of h = admitted_count h - gone_count h

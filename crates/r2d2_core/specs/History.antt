@@ -38,14 +38,12 @@ module _ {T : Type 0} where
   abbrev pub raised : ℕ → Step T → ℕ
   raised latest (step.Take now or_order) = max latest (as_nanos now)
   raised latest (step.Begin now) = max latest (as_nanos now)
-  raised latest (step.Number tries) = latest
   raised latest (step.Admit now id value) = max latest (as_nanos now)
   raised latest (step.Fail now tries text) = max latest (as_nanos now)
   raised latest (step.FailCheck now id text) = max latest (as_nanos now)
   raised latest (step.PutBack now id value broken) = max latest (as_nanos now)
   raised latest (step.Reap now) = max latest (as_nanos now)
-  raised latest step.TakeError = latest
-  raised latest step.Close = latest
+  raised latest _ = latest
 
   -- the latest moment: of the making, and of each accepted step
   abbrev pub now_of : History T → ℕ

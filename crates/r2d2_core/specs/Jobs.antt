@@ -11,14 +11,14 @@ pub data SeenJob : Type 0 where
   Reap : SeenJob
   Wait : (due : ℕ) → SeenJob
   Nothing : SeenJob
-  Ended : SeenJob
+  Closed : SeenJob
 
 abbrev pub seen_job : Job → SeenJob
 seen_job (job.Open tries) = Open tries
 seen_job job.Reap = Reap
 seen_job (job.Wait due) = Wait (as_nanos due)
 seen_job job.Nothing = Nothing
-seen_job job.Closed = Ended
+seen_job job.Closed = Closed
 
 -- an opening is handed out once it is due
 abbrev pub open_or_wait : ℕ → SeenOpening → SeenJob

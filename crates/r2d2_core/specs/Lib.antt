@@ -18,13 +18,13 @@ pub mod History
 pub mod Deeds
 pub mod Pending
 pub mod Answers
-pub mod Follows
 pub mod Reuse
 pub mod Records
 pub mod Replay
 pub mod Recorded
 pub mod Journal
 pub mod Book
+pub mod BookParts
 pub mod Noted
 pub mod Steps
 pub mod Reports

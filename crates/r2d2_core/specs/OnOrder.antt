@@ -7,7 +7,7 @@ use Rattle.r2d2_core.specs.declared.machine.answers.Refusal.TheVariants as refus
 use Rattle.r2d2_core.specs.Limits.{SeenLimits, wanted_of, later_by, delay_of}
 use Rattle.r2d2_core.specs.Ids.{found, without, same_id}
 use Rattle.r2d2_core.specs.Openings.{SeenOpening, opening, with_opening, with_many, one_more, one_less}
-use Rattle.r2d2_core.specs.Jobs.{SeenJob, Open, Reap, Wait, Nothing, Ended, first_job}
+use Rattle.r2d2_core.specs.Jobs.{SeenJob, Open, Reap, Wait, Nothing, Closed, first_job}
 use Rattle.r2d2_core.specs.Schedule.{first_reap, next_by}
 use Rattle.r2d2_core.specs.Refusals.{refused_if, unless_refused}
 
@@ -74,25 +74,25 @@ first_on_order limits now first_id = record {
 -- BEGIN
 
 abbrev pub job_at : ℕ → SeenOnOrder → SeenJob
-job_at now o = if o.closed then Ended else first_job now o.scheduled o.next_reap
+job_at now o = if o.closed then Closed else first_job now o.scheduled o.next_reap
 
 abbrev pub begun_by : SeenJob → SeenOnOrder → SeenOnOrder
 begun_by (Open tries) o = record o { scheduled = drop 1 o.scheduled; in_work = one_more tries o.in_work }
 begun_by Reap o = record o { next_reap = next_by (as_nanos o.limits.reap_every) o.next_reap }
 begun_by (Wait due) o = o
 begun_by Nothing o = o
-begun_by Ended o = o
+begun_by Closed o = o
 
 abbrev pub begun : ℕ → SeenOnOrder → SeenOnOrder
 begun now o = begun_by (job_at now o) o
 
 -- NUMBER
 
-abbrev pub is_in_work : ℕ → SeenOnOrder → Bool
-is_in_work tries o = nat_lt 0 (slice_index o.in_work tries)
+abbrev pub has_in_work : ℕ → SeenOnOrder → Bool
+has_in_work tries o = nat_lt 0 (slice_index o.in_work tries)
 
 abbrev pub number_refusal : ℕ → SeenOnOrder → Option Refusal
-number_refusal tries o = refused_if o.closed refusal.Closed (refused_if (not (is_in_work tries o)) refusal.NoOpening (refused_if (o.next_id == 2 ^ 64 - 1) refusal.IdsUsedUp None))
+number_refusal tries o = refused_if o.closed refusal.Closed (refused_if (not (has_in_work tries o)) refusal.NoOpening (refused_if (o.next_id == 2 ^ 64 - 1) refusal.IdsUsedUp None))
 
 -- one in work becomes a number
 abbrev pub numbered_one : ℕ → SeenOnOrder → SeenOnOrder
@@ -113,7 +113,7 @@ admitted_one id o = record o { numbered = without same_id id o.numbered; pending
 -- FAIL
 
 abbrev pub fail_refusal : ℕ → SeenOnOrder → Option Refusal
-fail_refusal tries o = refused_if o.closed refusal.Closed (refused_if (not (is_in_work tries o)) refusal.NoOpening None)
+fail_refusal tries o = refused_if o.closed refusal.Closed (refused_if (not (has_in_work tries o)) refusal.NoOpening None)
 
 -- when an opening that failed at a moment is due again
 abbrev pub due_again : ℕ → ℕ → SeenOnOrder → ℕ

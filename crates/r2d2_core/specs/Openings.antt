@@ -24,9 +24,9 @@ with_many zero x xs = xs
 with_many (suc n) x xs = with_opening x (with_many n x xs)
 
 -- xs in order, which is the same for all lists with the same openings
-abbrev pub in_order : List SeenOpening → List SeenOpening
-in_order [] = []
-in_order (x ∷ xs) = with_opening x (in_order xs)
+abbrev pub sorted : List SeenOpening → List SeenOpening
+sorted [] = []
+sorted (x ∷ xs) = with_opening x (sorted xs)
 
 -- one more in work that failed k times, where counts says how many there are for each number of tries
 abbrev pub one_more : ℕ → List ℕ → List ℕ

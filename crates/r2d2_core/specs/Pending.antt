@@ -6,7 +6,7 @@ use Rattle.r2d2_core.specs.declared.run.Step.{Step}
 use Rattle.r2d2_core.specs.declared.run.Step.TheVariants as step
 use Rattle.r2d2_core.specs.Limits.{wanted_of, later_by, has_reaps}
 use Rattle.r2d2_core.specs.Openings.{SeenOpening, opening, with_opening, with_many}
-use Rattle.r2d2_core.specs.Jobs.{SeenJob, Open, Reap, Ended, first_job}
+use Rattle.r2d2_core.specs.Jobs.{SeenJob, Open, Reap, Closed as JobClosed, first_job}
 use Rattle.r2d2_core.specs.OnOrder.{SeenOnOrder}
 use Rattle.r2d2_core.specs.Seen.{SeenAnswer, Taken, Found, Empty, Begun, Numbered, Failed, CameBack, Closed, Reaped, CheckFailed}
 use Rattle.r2d2_core.specs.History.{History, Made, Then, limits_of, start_of, first_of, is_closed, moment_of}
@@ -29,7 +29,7 @@ module _ {T : Type 0} where
   ordered_of (Made limits moment first) = wanted_of limits
   ordered_of (Then h s r) = ordered_of h + ordered_in r
 
-  -- how many openings are ordered and not admitted
+  -- how many openings are ordered and not admitted; until the close never more are admitted than were ordered
   unfoldable pub pending_of : History T → ℕ
   pending_of h = if is_closed h then 0 else ordered_of h - admitted_count h
 
@@ -41,7 +41,7 @@ module _ {T : Type 0} where
   scheduled_after t xs (step.Begin now) (Begun (Open tries)) = drop 1 xs
   scheduled_after t xs s r = with_many (ordered_in r) (opening t 0) xs
 
-  -- the openings made, less those handed out, each of which was the least one then; the least first
+  -- the openings made, less those handed out, each of which was the least one then; the least first. This one goes forward, with the list
   abbrev pub scheduled_of : History T → List SeenOpening
   scheduled_of (Made limits moment first) = with_many (wanted_of limits) (opening moment 0) []
   scheduled_of (Then h s r) = scheduled_after (moment_of h s) (scheduled_of h) s r
@@ -61,11 +61,11 @@ module _ {T : Type 0} where
   ended_of (Then h (step.Fail now tries text) r) k = ended_of h k + (if tries == k then 1 else 0)
   ended_of (Then h _ r) k = ended_of h k
 
-  -- how many openings with these tries are in work
+  -- how many openings with these tries are in work; never more ended than were begun
   unfoldable pub in_work_at : History T → ℕ → ℕ
   in_work_at h k = if is_closed h then 0 else begun_of h k - ended_of h k
 
-  -- the same for each number of tries
+  -- the same for each number of tries, of which there are 100: tries stay at 99 once there
   unfoldable pub in_work_of : History T → List ℕ
   in_work_of h = map (in_work_at h) (range_with_len 0 100)
 
@@ -106,7 +106,7 @@ module _ {T : Type 0} where
 
   -- what a worker is to do at a moment
   abbrev pub job_of : History T → ℕ → SeenJob
-  job_of h t = if is_closed h then Ended else first_job t (scheduled_of h) (next_reap_of h)
+  job_of h t = if is_closed h then JobClosed else first_job t (scheduled_of h) (next_reap_of h)
 
   -- ALL OF IT
 

@@ -37,7 +37,7 @@ module _ {T : Type 0} where
     -- unless closed, what is idle and pending reaches what is wanted, or there is no more room
     pub replenished : p.on_order.closed ≡ false → (wanted_of p.on_order.limits ≤ length p.idle + p.on_order.pending) ⊎ (p.connections + p.on_order.pending ≡ p.on_order.limits.max_size)
     -- the idle ones stand in the order in which they came to be idle, none after the latest moment
-    pub in_order : IsNonDecreasingBy since_of p.idle
+    pub is_sorted : IsNonDecreasingBy since_of p.idle
     pub seen : All (λ c. c.since ≤ p.latest) p.idle
     -- each was admitted before
     pub born : All (λ c. c.birth ≤ c.since) p.idle

@@ -25,7 +25,7 @@ module _ {T : Type 0} where
 
 -- a failed check of the id that was accepted
 abbrev pub record_of_check : ℕ → ℕ → Result SeenGone Refusal → Option SeenRecord
-record_of_check at id (Ok loss) = Some (Closed at id loss.ordered)
+record_of_check at id (Ok gone) = Some (Closed at id gone.ordered)
 record_of_check at id (Err why) = None
 
 -- a reap that closed so many and ordered so many, not both none

@@ -3,22 +3,25 @@ use Rattle.std.specs.Prelude.{◌≡◌, ◌⊎◌, ◌+◌, ◌≤◌, true, fa
 use Rattle.r2d2_core.specs.declared.journal.report.Report.{Report}
 use Rattle.r2d2_core.specs.Limits.{seen_limits, wanted_of}
 use Rattle.r2d2_core.specs.Connections.{id_of_idle, id_of_lent}
-use Rattle.r2d2_core.specs.Replay.{Standing, first_standing, replay_of, is_legal}
-use Rattle.r2d2_core.specs.Book.{SeenBook, limits_in}
+use Rattle.r2d2_core.specs.History.{Made, is_closed}
+use Rattle.r2d2_core.specs.Deeds.{idle_of, lent_of, connections_of}
+use Rattle.r2d2_core.specs.Pending.{pending_of}
+use Rattle.r2d2_core.specs.Replay.{Retelling, told_all, is_legal}
+use Rattle.r2d2_core.specs.Book.{SeenBook}
 
 module _ {B : Type 0} where
-  -- what its records come to, read from the making on
-  abbrev pub replay_in : Report B → Standing
-  replay_in r = replay_of (seen_limits r.limits) (first_standing (seen_limits r.limits) 0) (reverse r.records)
+  -- its records, read as a history from the making on
+  abbrev pub told_in : Report B → Retelling
+  told_in r = told_all (Made (seen_limits r.limits) 0 0) (reverse r.records)
 
   -- its records are legal, and come to its ids and counts
   pub record DoesReplay (r : Report B) : Type 0 where
-    pub legal : is_legal (seen_limits r.limits) (first_standing (seen_limits r.limits) 0) (reverse r.records) ≡ true
-    pub idle : map id_of_idle (let s = replay_in r in s.idle) ≡ r.idle
-    pub lent : map id_of_lent (let s = replay_in r in s.lent) ≡ r.lent
-    pub connections : (let s = replay_in r in s.connections) ≡ r.connections
-    pub pending : (let s = replay_in r in s.pending) ≡ r.pending
-    pub closed : (let s = replay_in r in s.closed) ≡ r.closed
+    pub legal : is_legal (Made (seen_limits r.limits) 0 0) (reverse r.records) ≡ true
+    pub idle : map id_of_idle (idle_of (told_in r)) ≡ r.idle
+    pub lent : map id_of_lent (lent_of (told_in r)) ≡ r.lent
+    pub connections : connections_of (told_in r) ≡ r.connections
+    pub pending : pending_of (told_in r) ≡ r.pending
+    pub closed : is_closed (told_in r) ≡ r.closed
 
   -- what keeps of each report of a book, whatever was lost
   pub record HasSoundCounts (r : Report B) : Type 0 where
@@ -29,7 +32,7 @@ module _ {B : Type 0} where
 module _ {T B : Type 0} where
   -- it says what the book shows
   pub record IsReportOf (a : SeenBook T) (r : Report B) : Type 0 where
-    pub limits : seen_limits r.limits ≡ limits_in a
+    pub limits : seen_limits r.limits ≡ a.picture.on_order.limits
     pub records : r.records ≡ a.journal.records
     pub lost : r.lost ≡ a.journal.lost
     pub idle : r.idle ≡ map id_of_idle a.picture.idle

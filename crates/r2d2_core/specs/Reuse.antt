@@ -10,7 +10,7 @@ use Rattle.r2d2_core.specs.Ids.{front}
 use Rattle.r2d2_core.specs.Limits.{has_reached}
 
 -- each moment is at most every one after it
-pub record IsInOrder (idle : List Duration) : Type 0 where
+pub record IsSorted (idle : List Duration) : Type 0 where
   pub never_falls : IsNonDecreasingBy as_nanos idle
 
 -- RAISED MOMENTS: each counts as the latest one seen so far
@@ -20,14 +20,14 @@ abbrev pub first_seen : List ℕ → ℕ
 first_seen idle = slice_index_or idle (length idle - 1) 0
 
 -- the moment that a move hands in
-abbrev pub moment_of : Move → ℕ
-moment_of (move.Take at) = as_nanos at
-moment_of (move.Add at) = as_nanos at
+abbrev pub moment_in : Move → ℕ
+moment_in (move.Take at) = as_nanos at
+moment_in (move.Add at) = as_nanos at
 
 -- the latest moment after some moves
 abbrev pub last_seen : ℕ → List Move → ℕ
 last_seen seen [] = seen
-last_seen seen (step ∷ steps) = last_seen (max seen (moment_of step)) steps
+last_seen seen (step ∷ steps) = last_seen (max seen (moment_in step)) steps
 
 -- THE FIRST LIST: newest-first
 
@@ -39,7 +39,7 @@ newest_after moment kept (move.Add at) = kept ++ moment ∷ []
 -- what some moves leave of it
 abbrev pub newest_left : ℕ → List ℕ → List Move → List ℕ
 newest_left seen kept [] = kept
-newest_left seen kept (step ∷ steps) = newest_left (max seen (moment_of step)) (newest_after (max seen (moment_of step)) kept step) steps
+newest_left seen kept (step ∷ steps) = newest_left (max seen (moment_in step)) (newest_after (max seen (moment_in step)) kept step) steps
 
 -- THE SECOND LIST: the choice by picks
 
@@ -66,7 +66,7 @@ other_after moment other (move.Add at) = Some (picked (other.kept ++ moment ∷ 
 -- what some moves leave of it, if the picks serve
 abbrev pub other_left : ℕ → Picked → List Move → Option (List ℕ)
 other_left seen other [] = Some other.kept
-other_left seen other (step ∷ steps) = option_and_then (λ after. other_left (max seen (moment_of step)) after steps) (other_after (max seen (moment_of step)) other step)
+other_left seen other (step ∷ steps) = option_and_then (λ after. other_left (max seen (moment_in step)) after steps) (other_after (max seen (moment_in step)) other step)
 
 -- WHAT IS COMPARED: both lists start as `idle`
 

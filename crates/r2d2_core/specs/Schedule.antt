@@ -5,7 +5,7 @@ use Rattle.std.specs.declared.time.Duration.{Duration}
 use Rattle.std.specs.Duration.{as_nanos}
 use Rattle.r2d2_core.specs.Limits.{SeenLimits, later_by, has_reaps}
 use Rattle.r2d2_core.specs.Openings.{SeenOpening, with_opening}
-use Rattle.r2d2_core.specs.Jobs.{SeenJob, Open, Reap, Wait, Nothing, Ended}
+use Rattle.r2d2_core.specs.Jobs.{SeenJob, Open, Reap, Wait, Nothing, Closed}
 
 pub record SeenSchedule : Type 0 where
   pub max_size : ℕ
@@ -41,7 +41,7 @@ after_job (Open tries) p = with_openings (drop 1 p.openings) p
 after_job Reap p = record p { next_reap = next_by p.reap_every p.next_reap }
 after_job (Wait due) p = p
 after_job Nothing p = p
-after_job Ended p = p
+after_job Closed p = p
 
 -- the reap is due before that moment
 abbrev pub is_due_before : Option Duration → ℕ → Bool

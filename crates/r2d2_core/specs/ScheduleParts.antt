@@ -3,7 +3,7 @@ use Rattle.std.specs.Prelude.{◌≡◌, ◌<◌, ◌≤◌, ◌^◌, take, vec_
 use Rattle.std.specs.Option.{option_map}
 use Rattle.std.specs.Duration.{as_nanos}
 use Rattle.r2d2_core.specs.declared.schedule.Schedule.TheInside.{Inside}
-use Rattle.r2d2_core.specs.Openings.{in_order}
+use Rattle.r2d2_core.specs.Openings.{sorted}
 use Rattle.r2d2_core.specs.Heap.{IsHeap}
 use Rattle.r2d2_core.specs.Schedule.{SeenSchedule}
 
@@ -12,7 +12,7 @@ module _ {A : Type 0} where
   seen_schedule s = record {
     max_size = s.max_size;
     reap_every = as_nanos s.reap_every;
-    openings = in_order (take s.held s.entries.items);
+    openings = sorted (take s.held s.entries.items);
     next_reap = option_map as_nanos s.next_reap;
   }
 

@@ -22,9 +22,9 @@ pub data SeenReturned (T : Type 0) : Type 0 where
   Closed : (value : T) (age ordered : ℕ) → SeenReturned T
 
 -- what a take of that idle connection gives, where it orders n
-abbrev pub taking : {T : Type 0} → Option (SeenIdleConnection T) → ℕ → SeenTake T
-taking None n = Empty n
-taking (Some c) n = Found c.id c.birth c.value n
+abbrev pub take_with : {T : Type 0} → Option (SeenIdleConnection T) → ℕ → SeenTake T
+take_with None n = Empty n
+take_with (Some c) n = Found c.id c.birth c.value n
 
 -- a connection whose check failed is gone
 pub record SeenGone : Type 0 where

@@ -8,7 +8,7 @@ use Rattle.r2d2_core.specs.declared.run.Answer.TheVariants as answer
 use Rattle.r2d2_core.specs.Jobs.{seen_job}
 use Rattle.r2d2_core.specs.Picture.{Picture}
 use Rattle.r2d2_core.specs.Seen.{SeenAnswer, Taken, Begun, Numbered, Admitted, Failed, CheckFailed, CameBack, Reaped, Told, Left, seen_take, seen_returned, seen_gone, seen_released, map_ok}
-use Rattle.r2d2_core.specs.Table.{take_answer, after_take, begin_answer, after_begin, number_answer, after_number, admit_answer, after_admit, fail_answer, after_fail, return_answer, after_return, check_answer, after_check, reap_closed, reap_orders, after_reap, after_take_error, close_answer, after_close}
+use Rattle.r2d2_core.specs.Table as table
 use Rattle.r2d2_core.specs.Records.{SeenRecord}
 use Rattle.r2d2_core.specs.Journal.{SeenJournal}
 use Rattle.r2d2_core.specs.Book.{SeenBook}
@@ -30,39 +30,39 @@ seen_answer (answer.Close left) = Left left
 module _ {T : Type 0} where
   -- the answer to the step, from that picture
   abbrev pub step_answer : Step T → Picture T → SeenAnswer T
-  step_answer (step.Take now or_order) p = Taken (take_answer or_order p)
-  step_answer (step.Begin now) p = Begun (begin_answer (as_nanos now) p)
-  step_answer (step.Number tries) p = Numbered (number_answer tries p)
-  step_answer (step.Admit now id value) p = Admitted (admit_answer id value p)
-  step_answer (step.Fail now tries text) p = Failed (fail_answer (as_nanos now) tries p)
-  step_answer (step.FailCheck now id text) p = CheckFailed (check_answer (as_nanos now) id p)
-  step_answer (step.PutBack now id value broken) p = CameBack (return_answer (as_nanos now) id value broken p)
-  step_answer (step.Reap now) p = Reaped (reap_closed (as_nanos now) p) (reap_orders (as_nanos now) p)
+  step_answer (step.Take now or_order) p = Taken (table.take_answer or_order p)
+  step_answer (step.Begin now) p = Begun (table.begin_answer (as_nanos now) p)
+  step_answer (step.Number tries) p = Numbered (table.number_answer tries p)
+  step_answer (step.Admit now id value) p = Admitted (table.admit_answer id value p)
+  step_answer (step.Fail now tries text) p = Failed (table.fail_answer (as_nanos now) tries p)
+  step_answer (step.FailCheck now id text) p = CheckFailed (table.check_answer (as_nanos now) id p)
+  step_answer (step.PutBack now id value broken) p = CameBack (table.return_answer (as_nanos now) id value broken p)
+  step_answer (step.Reap now) p = Reaped (table.reap_closed (as_nanos now) p) (table.reap_orders (as_nanos now) p)
   step_answer step.TakeError p = Told p.last_error
-  step_answer step.Close p = Left (close_answer p)
+  step_answer step.Close p = Left (table.close_answer p)
 
   -- the picture after it
   abbrev pub after_step : Step T → Picture T → Picture T
-  after_step (step.Take now or_order) p = after_take (as_nanos now) or_order p
-  after_step (step.Begin now) p = after_begin (as_nanos now) p
-  after_step (step.Number tries) p = after_number tries p
-  after_step (step.Admit now id value) p = after_admit (as_nanos now) id value p
-  after_step (step.Fail now tries text) p = after_fail (as_nanos now) tries text p
-  after_step (step.FailCheck now id text) p = after_check (as_nanos now) id text p
-  after_step (step.PutBack now id value broken) p = after_return (as_nanos now) id value broken p
-  after_step (step.Reap now) p = after_reap (as_nanos now) p
-  after_step step.TakeError p = after_take_error p
-  after_step step.Close p = after_close p
+  after_step (step.Take now or_order) p = table.after_take (as_nanos now) or_order p
+  after_step (step.Begin now) p = table.after_begin (as_nanos now) p
+  after_step (step.Number tries) p = table.after_number tries p
+  after_step (step.Admit now id value) p = table.after_admit (as_nanos now) id value p
+  after_step (step.Fail now tries text) p = table.after_fail (as_nanos now) tries text p
+  after_step (step.FailCheck now id text) p = table.after_check (as_nanos now) id text p
+  after_step (step.PutBack now id value broken) p = table.after_return (as_nanos now) id value broken p
+  after_step (step.Reap now) p = table.after_reap (as_nanos now) p
+  after_step step.TakeError p = table.after_take_error p
+  after_step step.Close p = table.after_close p
 
   -- what a book notes of it: its journal after it
   abbrev pub noted_step : Step T → SeenBook T → SeenJournal SeenRecord
-  noted_step (step.Take now or_order) b = noted_take (as_nanos now) (take_answer or_order b.picture) b
-  noted_step (step.Admit now id value) b = noted_admission (as_nanos now) id (admit_answer id value b.picture) b
-  noted_step (step.FailCheck now id text) b = noted_check (as_nanos now) id (check_answer (as_nanos now) id b.picture) b
+  noted_step (step.Take now or_order) b = noted_take (as_nanos now) (table.take_answer or_order b.picture) b
+  noted_step (step.Admit now id value) b = noted_admission (as_nanos now) id (table.admit_answer id value b.picture) b
+  noted_step (step.FailCheck now id text) b = noted_check (as_nanos now) id (table.check_answer (as_nanos now) id b.picture) b
   noted_step (step.PutBack now id value broken) b =
-      noted_return (as_nanos now) id (return_answer (as_nanos now) id value broken b.picture) b
+      noted_return (as_nanos now) id (table.return_answer (as_nanos now) id value broken b.picture) b
   noted_step (step.Reap now) b =
-      noted_reap (as_nanos now) (length (reap_closed (as_nanos now) b.picture)) (reap_orders (as_nanos now) b.picture) b
+      noted_reap (as_nanos now) (length (table.reap_closed (as_nanos now) b.picture)) (table.reap_orders (as_nanos now) b.picture) b
   noted_step step.Close b = noted_close b
   noted_step _ b = b.journal
 

@@ -9,12 +9,12 @@ use Rattle.r2d2_core.specs.Connections.{SeenIdleConnection, SeenReleased, idle_c
 use Rattle.r2d2_core.specs.Refusals.{refused_if, ok_unless, ok_or_back, unless_refused}
 use Rattle.r2d2_core.specs.OnOrder.{SeenOnOrder, top_up, miss_order, with_orders, first_on_order, job_at, begun, number_refusal, after_numbering, admit_refusal, admitted_one, fail_refusal, due_again, failed_one, emptied}
 use Rattle.r2d2_core.specs.Picture.{Picture}
-use Rattle.r2d2_core.specs.Seen.{SeenTake, SeenReturned, Kept, Closed, SeenGone, taking, or_text}
+use Rattle.r2d2_core.specs.Seen.{SeenTake, SeenReturned, Kept, Closed, SeenGone, take_with, or_text}
 
 module _ {T : Type 0} where
   -- the raised moment becomes the latest
-  abbrev pub at : ℕ → Picture T → Picture T
-  at t p = record p { latest = max p.latest t }
+  abbrev pub raised_to : ℕ → Picture T → Picture T
+  raised_to t p = record p { latest = max p.latest t }
 
   abbrev pub with_on_order : SeenOnOrder → Picture T → Picture T
   with_on_order o p = record p { on_order = o }
@@ -52,10 +52,10 @@ module _ {T : Type 0} where
   taken (Some c) or_order p = topped_up (lent_out c p)
 
   abbrev pub take_answer : Bool → Picture T → SeenTake T
-  take_answer or_order p = taking (last_of p.idle) (take_orders (last_of p.idle) or_order p)
+  take_answer or_order p = take_with (last_of p.idle) (take_orders (last_of p.idle) or_order p)
 
   abbrev pub after_take : ℕ → Bool → Picture T → Picture T
-  after_take t or_order p = taken (last_of p.idle) or_order (at t p)
+  after_take t or_order p = taken (last_of p.idle) or_order (raised_to t p)
 
   -- BEGIN: the least opening is in work, or the next reap moves on
 
@@ -63,7 +63,7 @@ module _ {T : Type 0} where
   begin_answer t p = job_at (max p.latest t) p.on_order
 
   abbrev pub after_begin : ℕ → Picture T → Picture T
-  after_begin t p = with_on_order (begun (max p.latest t) p.on_order) (at t p)
+  after_begin t p = with_on_order (begun (max p.latest t) p.on_order) (raised_to t p)
 
   -- NUMBER: an opening in work has an id
 
@@ -97,7 +97,7 @@ module _ {T : Type 0} where
   fail_answer t tries p = ok_unless (fail_refusal tries p.on_order) (due_again (max p.latest t) tries p.on_order)
 
   abbrev pub failed : {A : Type 0} → ℕ → ℕ → Option (String A) → Picture T → Picture T
-  failed t tries text p = record (at t p) { on_order = failed_one (max p.latest t) tries p.on_order; last_error = or_text text p.last_error }
+  failed t tries text p = record (raised_to t p) { on_order = failed_one (max p.latest t) tries p.on_order; last_error = or_text text p.last_error }
 
   abbrev pub after_fail : {A : Type 0} → ℕ → ℕ → Option (String A) → Picture T → Picture T
   after_fail t tries text p = unless_refused (fail_refusal tries p.on_order) (failed t tries text p) p
@@ -115,45 +115,45 @@ module _ {T : Type 0} where
   abbrev pub is_closing : ℕ → Bool → Picture T → Bool
   is_closing birth broken p = broken || (has_reached p.on_order.limits.max_lifetime (p.latest - birth) || p.on_order.closed)
 
-  abbrev pub kept : ℕ → ℕ → T → Picture T → Picture T
-  kept id birth value p = record p { lent = without id_of_lent id p.lent; idle = p.idle ++ idle_connection id birth p.latest value ∷ [] }
+  abbrev pub kept_one : ℕ → ℕ → T → Picture T → Picture T
+  kept_one id birth value p = record p { lent = without id_of_lent id p.lent; idle = p.idle ++ idle_connection id birth p.latest value ∷ [] }
 
-  abbrev pub lost : ℕ → Picture T → Picture T
-  lost id p = record p { lent = without id_of_lent id p.lent; connections = p.connections - 1 }
+  abbrev pub gone_one : ℕ → Picture T → Picture T
+  gone_one id p = record p { lent = without id_of_lent id p.lent; connections = p.connections - 1 }
 
   abbrev pub return_by : Bool → ℕ → ℕ → T → Picture T → SeenReturned T
   return_by false id birth value p = Kept
-  return_by true id birth value p = Closed value (p.latest - birth) (top_up_of (lost id p))
+  return_by true id birth value p = Closed value (p.latest - birth) (top_up_of (gone_one id p))
 
   abbrev pub returned_by : Bool → ℕ → ℕ → T → Picture T → Picture T
-  returned_by false id birth value p = kept id birth value p
-  returned_by true id birth value p = topped_up (lost id p)
+  returned_by false id birth value p = kept_one id birth value p
+  returned_by true id birth value p = topped_up (gone_one id p)
 
-  abbrev pub returning : ℕ → ℕ → T → Bool → Picture T → SeenReturned T
-  returning id birth value broken p = return_by (is_closing birth broken p) id birth value p
+  abbrev pub return_of : ℕ → ℕ → T → Bool → Picture T → SeenReturned T
+  return_of id birth value broken p = return_by (is_closing birth broken p) id birth value p
 
   abbrev pub returned : ℕ → ℕ → T → Bool → Picture T → Picture T
   returned id birth value broken p = returned_by (is_closing birth broken p) id birth value p
 
   abbrev pub return_answer : ℕ → ℕ → T → Bool → Picture T → Result (SeenReturned T) (Refusal × T)
-  return_answer t id value broken p = ok_or_back (lent_refusal id p) value (returning id (lent_birth id p) value broken (at t p))
+  return_answer t id value broken p = ok_or_back (lent_refusal id p) value (return_of id (lent_birth id p) value broken (raised_to t p))
 
   abbrev pub after_return : ℕ → ℕ → T → Bool → Picture T → Picture T
-  after_return t id value broken p = unless_refused (lent_refusal id p) (returned id (lent_birth id p) value broken (at t p)) p
+  after_return t id value broken p = unless_refused (lent_refusal id p) (returned id (lent_birth id p) value broken (raised_to t p)) p
 
   -- FAILED CHECK: one that was lent is gone
 
   abbrev pub with_text : {A : Type 0} → Option (String A) → Picture T → Picture T
   with_text text p = record p { last_error = or_text text p.last_error }
 
-  abbrev pub loss : ℕ → ℕ → Picture T → SeenGone
-  loss id birth p = record { age = p.latest - birth; ordered = top_up_of (lost id p) }
+  abbrev pub gone_with : ℕ → ℕ → Picture T → SeenGone
+  gone_with id birth p = record { age = p.latest - birth; ordered = top_up_of (gone_one id p) }
 
   abbrev pub check_answer : ℕ → ℕ → Picture T → Result SeenGone Refusal
-  check_answer t id p = ok_unless (lent_refusal id p) (loss id (lent_birth id p) (at t p))
+  check_answer t id p = ok_unless (lent_refusal id p) (gone_with id (lent_birth id p) (raised_to t p))
 
   abbrev pub after_check : {A : Type 0} → ℕ → ℕ → Option (String A) → Picture T → Picture T
-  after_check t id text p = unless_refused (lent_refusal id p) (topped_up (lost id (with_text text (at t p)))) p
+  after_check t id text p = unless_refused (lent_refusal id p) (topped_up (gone_one id (with_text text (raised_to t p)))) p
 
   -- REAP: the expired ones are gone
 
@@ -167,10 +167,10 @@ module _ {T : Type 0} where
   reap_closed t p = closed_of p.on_order.limits (max p.latest t) p.idle
 
   abbrev pub reap_orders : ℕ → Picture T → ℕ
-  reap_orders t p = top_up_of (swept (at t p))
+  reap_orders t p = top_up_of (swept (raised_to t p))
 
   abbrev pub after_reap : ℕ → Picture T → Picture T
-  after_reap t p = topped_up (swept (at t p))
+  after_reap t p = topped_up (swept (raised_to t p))
 
   -- TAKE ERROR, CLOSE
 

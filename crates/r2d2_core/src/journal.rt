@@ -26,7 +26,8 @@ pub struct Book<T, A: Allocator = Global> {
 }
 
 impl<T, A: Allocator> Model for Book<T, A> {
-    ghost use Rattle.r2d2_core.specs.Book.{SeenBook, seen_book, IsFaithful};
+    ghost use Rattle.r2d2_core.specs.Book.{SeenBook, seen_book};
+    ghost use Rattle.r2d2_core.specs.BookParts.{IsFaithful};
 
     ghost Value = { SeenBook T };
 
@@ -159,13 +160,13 @@ impl<T, A: Allocator> Book<T, A> {
     ghost use Rattle.r2d2_core.specs.Seen.{seen_take, seen_returned, seen_gone, seen_released, map_ok};
     ghost use Rattle.r2d2_core.specs.Jobs.{seen_job};
     ghost use Rattle.r2d2_core.specs.Picture.{IsSound};
-    ghost use Rattle.r2d2_core.specs.Table.{take_answer, after_take, begin_answer, after_begin, number_answer, after_number, admit_answer, after_admit, fail_answer, after_fail, return_answer, after_return, check_answer, after_check, reap_closed, reap_orders, after_reap, after_take_error, close_answer, after_close};
+    ghost use Rattle.r2d2_core.specs.Table as table;
     ghost use Rattle.r2d2_core.specs.Noted.{noted_take, noted_admission, noted_return, noted_check, noted_reap, noted_close};
 
     /// As `Core::take`. A take that found is noted, and one that ordered.
     pub fn take(&mut self, now: Duration, or_order: bool) -> Take<T>
-        ensures answer { seen_take result ≡ take_answer or_order self.old.picture }
-        ensures after { self.new.picture ≡ after_take (as_nanos now) or_order self.old.picture }
+        ensures answer { seen_take result ≡ table.take_answer or_order self.old.picture }
+        ensures after { self.new.picture ≡ table.after_take (as_nanos now) or_order self.old.picture }
         ensures sound { IsSound self.new.picture }
         ensures noted { self.new.journal ≡ noted_take (as_nanos now) (seen_take result) self.old }
     {
@@ -177,8 +178,8 @@ impl<T, A: Allocator> Book<T, A> {
 
     /// As `Core::begin`, which is never noted.
     pub fn begin(&mut self, now: Duration) -> Job
-        ensures answer { seen_job result ≡ begin_answer (as_nanos now) self.old.picture }
-        ensures after { self.new.picture ≡ after_begin (as_nanos now) self.old.picture }
+        ensures answer { seen_job result ≡ table.begin_answer (as_nanos now) self.old.picture }
+        ensures after { self.new.picture ≡ table.after_begin (as_nanos now) self.old.picture }
         ensures sound { IsSound self.new.picture }
         ensures noted { self.new.journal ≡ self.old.journal }
     {
@@ -187,8 +188,8 @@ impl<T, A: Allocator> Book<T, A> {
 
     /// As `Core::number`, which is never noted.
     pub fn number(&mut self, tries: u32) -> Result<u64, Refusal>
-        ensures answer { result ≡ number_answer tries self.old.picture }
-        ensures after { self.new.picture ≡ after_number tries self.old.picture }
+        ensures answer { result ≡ table.number_answer tries self.old.picture }
+        ensures after { self.new.picture ≡ table.after_number tries self.old.picture }
         ensures sound { IsSound self.new.picture }
         ensures noted { self.new.journal ≡ self.old.journal }
     {
@@ -197,8 +198,8 @@ impl<T, A: Allocator> Book<T, A> {
 
     /// As `Core::admit`. It is noted where it is accepted.
     pub fn admit(&mut self, now: Duration, id: u64, value: T) -> Result<(), (Refusal, T)>
-        ensures answer { result ≡ admit_answer id value self.old.picture }
-        ensures after { self.new.picture ≡ after_admit (as_nanos now) id value self.old.picture }
+        ensures answer { result ≡ table.admit_answer id value self.old.picture }
+        ensures after { self.new.picture ≡ table.after_admit (as_nanos now) id value self.old.picture }
         ensures sound { IsSound self.new.picture }
         ensures noted { self.new.journal ≡ noted_admission (as_nanos now) id result self.old }
     {
@@ -215,8 +216,8 @@ impl<T, A: Allocator> Book<T, A> {
         tries: u32,
         text: Option<String>,
     ) -> Result<Duration, Refusal>
-        ensures answer { map_ok as_nanos result ≡ fail_answer (as_nanos now) tries self.old.picture }
-        ensures after { self.new.picture ≡ after_fail (as_nanos now) tries text self.old.picture }
+        ensures answer { map_ok as_nanos result ≡ table.fail_answer (as_nanos now) tries self.old.picture }
+        ensures after { self.new.picture ≡ table.after_fail (as_nanos now) tries text self.old.picture }
         ensures sound { IsSound self.new.picture }
         ensures noted { self.new.journal ≡ self.old.journal }
     {
@@ -230,8 +231,8 @@ impl<T, A: Allocator> Book<T, A> {
         id: u64,
         text: Option<String>,
     ) -> Result<Gone, Refusal>
-        ensures answer { map_ok seen_gone result ≡ check_answer (as_nanos now) id self.old.picture }
-        ensures after { self.new.picture ≡ after_check (as_nanos now) id text self.old.picture }
+        ensures answer { map_ok seen_gone result ≡ table.check_answer (as_nanos now) id self.old.picture }
+        ensures after { self.new.picture ≡ table.after_check (as_nanos now) id text self.old.picture }
         ensures sound { IsSound self.new.picture }
         ensures noted { self.new.journal ≡ noted_check (as_nanos now) id (map_ok seen_gone result) self.old }
     {
@@ -249,8 +250,8 @@ impl<T, A: Allocator> Book<T, A> {
         value: T,
         broken: bool,
     ) -> Result<Returned<T>, (Refusal, T)>
-        ensures answer { map_ok seen_returned result ≡ return_answer (as_nanos now) id value broken self.old.picture }
-        ensures after { self.new.picture ≡ after_return (as_nanos now) id value broken self.old.picture }
+        ensures answer { map_ok seen_returned result ≡ table.return_answer (as_nanos now) id value broken self.old.picture }
+        ensures after { self.new.picture ≡ table.after_return (as_nanos now) id value broken self.old.picture }
         ensures sound { IsSound self.new.picture }
         ensures noted { self.new.journal ≡ noted_return (as_nanos now) id (map_ok seen_returned result) self.old }
     {
@@ -264,9 +265,9 @@ impl<T, A: Allocator> Book<T, A> {
     pub fn reap(&mut self, now: Duration, out: &mut Vec<Released<T>>) -> u32
         requires empty { vec_len out.old ≡ 0 }
         requires room { self.old.picture.on_order.limits.max_size ≤ vec_capacity out.old }
-        ensures released { map seen_released out.new.items ≡ reap_closed (as_nanos now) self.old.picture }
-        ensures answer { result ≡ reap_orders (as_nanos now) self.old.picture }
-        ensures after { self.new.picture ≡ after_reap (as_nanos now) self.old.picture }
+        ensures released { map seen_released out.new.items ≡ table.reap_closed (as_nanos now) self.old.picture }
+        ensures answer { result ≡ table.reap_orders (as_nanos now) self.old.picture }
+        ensures after { self.new.picture ≡ table.after_reap (as_nanos now) self.old.picture }
         ensures sound { IsSound self.new.picture }
         ensures noted { self.new.journal ≡ noted_reap (as_nanos now) (length out.new.items) result self.old }
     {
@@ -279,7 +280,7 @@ impl<T, A: Allocator> Book<T, A> {
     /// As `Core::take_error`, which is never noted.
     pub fn take_error(&mut self) -> Option<String>
         ensures answer { option_map string_bytes result ≡ self.old.picture.last_error }
-        ensures after { self.new.picture ≡ after_take_error self.old.picture }
+        ensures after { self.new.picture ≡ table.after_take_error self.old.picture }
         ensures sound { IsSound self.new.picture }
         ensures noted { self.new.journal ≡ self.old.journal }
     {
@@ -288,8 +289,8 @@ impl<T, A: Allocator> Book<T, A> {
 
     /// As `Core::close`. The first one is noted.
     pub fn close(&mut self) -> Leftover<T, A>
-        ensures answer { result ≡ close_answer self.old.picture }
-        ensures after { self.new.picture ≡ after_close self.old.picture }
+        ensures answer { result ≡ table.close_answer self.old.picture }
+        ensures after { self.new.picture ≡ table.after_close self.old.picture }
         ensures sound { IsSound self.new.picture }
         ensures noted { self.new.journal ≡ noted_close self.old }
     {

@@ -259,7 +259,7 @@ impl<T, A: Allocator> Core<T, A> {
         match self.on_order.fail(latest, tries) {
             Ok(due) => {
                 self.latest = latest;
-                record(&mut self.last_error, text);
+                keep_text(&mut self.last_error, text);
                 Ok(due)
             }
             Err(why) => Err(why),
@@ -284,7 +284,7 @@ impl<T, A: Allocator> Core<T, A> {
                 let ordered = self
                     .on_order
                     .top_up(self.idle.len(), self.lent.len(), self.latest);
-                record(&mut self.last_error, text);
+                keep_text(&mut self.last_error, text);
                 Ok(Gone { age, ordered })
             }
             None => Err(Refusal::NotLent),
@@ -428,7 +428,7 @@ pub(crate) fn later(a: Duration, b: Duration) -> Duration
 ghost use Rattle.r2d2_core.specs.Seen.{or_text};
 
 // A text takes the place of the last one; where there is none, that stays.
-fn record(last_error: &mut Option<String>, text: Option<String>)
+fn keep_text(last_error: &mut Option<String>, text: Option<String>)
     ensures { option_map string_bytes last_error.new ≡ or_text text (option_map string_bytes last_error.old) }
 {
     if let Some(text) = text {

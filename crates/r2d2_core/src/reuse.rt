@@ -2,7 +2,7 @@
 ghost use Rattle.std.specs.Prelude.{◌≡◌, ◌≤◌, ◌↔◌, ◌++◌, ◌∷◌, [], Some, None, map, IsTrue, OnOk, IfOk, IfSome, IsSomeAnd};
 ghost use Rattle.std.specs.Bool.{OnTrue, OnFalse};
 ghost use Rattle.std.specs.Duration.{as_nanos};
-ghost use Rattle.r2d2_core.specs.Reuse.{IsInOrder, moment_of, picked, after_pick, newest_list, other_list, raised_now, expired, IsNeverBehind};
+ghost use Rattle.r2d2_core.specs.Reuse.{IsSorted, moment_in, picked, after_pick, newest_list, other_list, raised_now, expired, IsNeverBehind};
 
 use std::alloc::{AllocError, Global};
 use std::marker::Model;
@@ -27,8 +27,8 @@ pub struct Comparison {
 }
 
 /// Whether the list never falls: no moment is before one that stands in front of it.
-pub fn is_in_order(idle: &[Duration]) -> bool
-    ensures { IsTrue result ↔ IsInOrder idle.now }
+pub fn is_sorted(idle: &[Duration]) -> bool
+    ensures { IsTrue result ↔ IsSorted idle.now }
 {
     let mut seen = Duration::ZERO;
     for moment in idle {
@@ -62,7 +62,7 @@ pub fn compare(
     now: Duration,
     limit: Duration,
 ) -> Result<Option<Comparison>, AllocError>
-    requires { IsInOrder idle.now }
+    requires { IsSorted idle.now }
     ensures newest_first { IfOk result (λ answer. IfSome answer (λ c.
         c.newest_first ≡ expired (raised_now idle.now moves.now now) limit (newest_list idle.now moves.now))) }
     ensures other { IfOk result (λ answer. IfSome answer (λ c.
@@ -154,7 +154,7 @@ fn nanos_of(alloc: Global, moments: &[Duration]) -> Result<Vec<u128>, AllocError
 }
 
 fn nanos_at(step: &Move) -> u128
-    ensures { result ≡ moment_of step.now }
+    ensures { result ≡ moment_in step.now }
 {
     match step {
         Move::Take(at) | Move::Add(at) => at.as_nanos(),

@@ -6,7 +6,7 @@ ghost use Rattle.pool_lines.specs.declared.program.Fault.TheVariants.{NotAStep, 
 ghost use Rattle.pool_lines.specs.Number.{IsNumber, number_of};
 ghost use Rattle.pool_lines.specs.Lines.{number_in, time_in, optional_in, text_in, connection_in, failure_in};
 ghost use Rattle.pool_lines.specs.Lines.{lengths_in, fields_in, sizes_in, sizes_of, limits_in};
-ghost use Rattle.pool_lines.specs.Lines.{seen_line, said_alone, said_with, said_of_connection, said_of_failure, said_in, step_in};
+ghost use Rattle.pool_lines.specs.Lines.{seen_line, said_alone, said_with, said_of_connection, said_of_outcome, said_in, step_in};
 ghost use Rattle.pool_lines.specs.Lines.{failed_opening_in, failed_check_in, Take, Begin, Number, Admit, PutBack, Reap};
 ghost use Rattle.pool_lines.specs.Lines as spec;
 
@@ -163,9 +163,9 @@ impl Line {
         }
     }
 
-    #[tactic(auto, unfolding(crate::specs::Lines::said_of_failure))]
+    #[tactic(auto, unfolding(crate::specs::Lines::said_of_outcome))]
     fn of_failure(alloc: Global, word: &str, fields: &str) -> Result<Option<Line>, AllocError>
-        ensures { IfOk result (λ said. option_map seen_line said ≡ said_of_failure word.now fields.now) }
+        ensures { IfOk result (λ said. option_map seen_line said ≡ said_of_outcome word.now fields.now) }
     {
         match word {
             "number" => Ok(Line::number(fields)),

@@ -69,7 +69,9 @@ impl<
             config.journal_room,
         )
         .map_err(|_| Error::memory())?;
-        let closer = share(rt, Plain { book }, config, manager).map_err(|_| Error::memory())?;
+        let closer = shared_state(rt, Plain { book }, config, manager).map_err(
+            |_| Error::memory(),
+        )?;
         start_workers(&closer, lists)?;
         Ok(AnyPool { closer })
     }
@@ -105,7 +107,7 @@ fn reap_lists<P: Drop>(
 }
 
 // The state that workers, pools and lent connections share.
-fn share<B: Guarded, M: Drop, K: Drop, R: PoolRuntime>(
+fn shared_state<B: Guarded, M: Drop, K: Drop, R: PoolRuntime>(
     rt: R,
     guarded: B,
     hooks: K,

@@ -6,7 +6,7 @@ use super::closing::Closer;
 use super::guarded::Keeps;
 use super::lent::{AnyConnection, Lent};
 use super::locking::Shared;
-use super::returning::Receives;
+use super::returning::TakesBack;
 use super::{AnyPool, PoolRuntime};
 use crate::engine::{Outcome, Settled};
 use crate::hooks::Hooks;
@@ -39,7 +39,7 @@ impl<B: Keeps<M>, M: ManageConnection, K: Hooks<M>, R: PoolRuntime> AnyPool<B, M
         for _ in shared.rt.forever() {
             match shared.lend_until(end, tally) {
                 Ok(lent) => {
-                    if let Some(lent) = shared.checked(lent) {
+                    if let Some(lent) = shared.if_sound(lent) {
                         return Ok(shared.check_out(closer, start, lent));
                     }
                 }
@@ -71,7 +71,7 @@ impl<B: Keeps<M>, M: ManageConnection, K: Hooks<M>, R: PoolRuntime> AnyPool<B, M
             let Some(lent) = shared.lend_now(tally) else {
                 return Ok(None);
             };
-            if let Some(lent) = shared.checked(lent) {
+            if let Some(lent) = shared.if_sound(lent) {
                 return Ok(Some(shared.check_out(closer, start, lent)));
             }
         }
@@ -81,7 +81,7 @@ impl<B: Keeps<M>, M: ManageConnection, K: Hooks<M>, R: PoolRuntime> AnyPool<B, M
 
 impl<B: Keeps<M>, M: ManageConnection, K: Hooks<M>, R: PoolRuntime> Shared<B, M, K, R> {
     /// The connection, where it need not be checked, or its check finds it sound. Else it is closed.
-    fn checked(&self, mut lent: Lent<PayloadOf<M>>) -> Option<Lent<PayloadOf<M>>> {
+    fn if_sound(&self, mut lent: Lent<PayloadOf<M>>) -> Option<Lent<PayloadOf<M>>> {
         if self.hooks.test_on_check_out() {
             if let Err(error) = self.manager.is_valid(&mut lent.payload.connection) {
                 self.close_unsound(lent, error);

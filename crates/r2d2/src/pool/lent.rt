@@ -4,7 +4,7 @@ ghost use Rattle.std.specs.Prelude.{◌≡◌};
 use super::PoolRuntime;
 use super::closing::Closer;
 use super::guarded::{Guarded, Keeps};
-use super::returning::Receives;
+use super::returning::TakesBack;
 use crate::hooks::Hooks;
 use crate::payload::PayloadOf;
 use crate::{Extensions, ManageConnection};

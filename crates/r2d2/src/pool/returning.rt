@@ -11,7 +11,7 @@ use r2d2_core::{Released, Returned};
 use std::time::Duration;
 
 /// What drops of connections call.
-pub(super) trait Receives<P> {
+pub(super) trait TakesBack<P> {
     /// A connection that was lent at that moment comes back.
     fn take_back(&self, lent_at: Duration, lent: Lent<P>);
 
@@ -19,7 +19,7 @@ pub(super) trait Receives<P> {
     fn release(&self, released: Released<P>);
 }
 
-impl<B: Keeps<M>, M: ManageConnection, K: Hooks<M>, R: PoolRuntime> Receives<PayloadOf<M>>
+impl<B: Keeps<M>, M: ManageConnection, K: Hooks<M>, R: PoolRuntime> TakesBack<PayloadOf<M>>
     for Shared<B, M, K, R> {
     fn take_back(&self, lent_at: Duration, mut lent: Lent<PayloadOf<M>>) {
         let id = lent.id;

@@ -10,9 +10,9 @@ use Rattle.r2d2_core.specs.declared.machine.answers.Refusal.TheVariants as refus
 use Rattle.r2d2_core.specs.Limits.{SeenLimits, wanted_of}
 use Rattle.r2d2_core.specs.Ids.{found, same_id}
 use Rattle.r2d2_core.specs.Openings.{SeenOpening, opening, with_many}
-use Rattle.r2d2_core.specs.Jobs.{SeenJob, Open, Reap, Wait, Nothing, Ended, first_job}
+use Rattle.r2d2_core.specs.Jobs.{SeenJob, Open, Reap, Wait, Nothing, Closed, first_job}
 use Rattle.r2d2_core.specs.Refusals.{refused_if, unless_refused}
-use Rattle.r2d2_core.specs.OnOrder.{SeenOnOrder, IsAccounted, with_orders, first_on_order, begun_by, begun, is_in_work, number_refusal, numbered_one, after_numbering, admit_refusal, admitted_one, fail_refusal, failed_one, due_again, emptied}
+use Rattle.r2d2_core.specs.OnOrder.{SeenOnOrder, IsAccounted, with_orders, first_on_order, begun_by, begun, has_in_work, number_refusal, numbered_one, after_numbering, admit_refusal, admitted_one, fail_refusal, failed_one, due_again, emptied}
 use Rattle.r2d2_core.proofs.Scheduling.Openings.{length-with, length-with_many}
 use Rattle.r2d2_core.proofs.Lists.Counting.{All-with_many, All-with, sum-one_more, sum-one_less, get_or-sum_le}
 use Rattle.r2d2_core.proofs.Lists.Ids.{length-without, found_self}
@@ -38,11 +38,11 @@ pub is_not : (b : Bool) → b ≡ true → b ≡ false → ⊥
 is_not b e is = cc
 
 -- a number or a failure that is accepted finds one in work, on a core that is open
-pub found_in_work : (tries : ℕ) (o : SeenOnOrder) (next : Option Refusal) → refused_if o.closed refusal.Closed (refused_if (not (is_in_work tries o)) refusal.NoOpening next) ≡ None → (o.closed ≡ false) × (0 < slice_index o.in_work tries) × (next ≡ None)
+pub found_in_work : (tries : ℕ) (o : SeenOnOrder) (next : Option Refusal) → refused_if o.closed refusal.Closed (refused_if (not (has_in_work tries o)) refusal.NoOpening next) ≡ None → (o.closed ≡ false) × (0 < slice_index o.in_work tries) × (next ≡ None)
 found_in_work tries o next e =
     let first = passes o.closed refusal.Closed _ e in
-    let second = passes (not (is_in_work tries o)) refusal.NoOpening next first.1 in
-    (first.0, ltb-true 0 (slice_index o.in_work tries) (not_false (is_in_work tries o) second.0), second.1)
+    let second = passes (not (has_in_work tries o)) refusal.NoOpening next first.1 in
+    (first.0, ltb-true 0 (slice_index o.in_work tries) (not_false (has_in_work tries o) second.0), second.1)
 
 -- an admission that is accepted finds its number
 pub found_numbered : (id : ℕ) (o : SeenOnOrder) → admit_refusal id o ≡ None → (o.closed ≡ false) × (found same_id id o.numbered ≡ Some id)
@@ -110,9 +110,9 @@ accounted_task (Open tries) now o is is_open a =
 accounted_task Reap now o is is_open a = accounted_reap o is_open a
 accounted_task (Wait due) now o is is_open a = a
 accounted_task Nothing now o is is_open a = a
-accounted_task Ended now o is is_open a = a
+accounted_task Closed now o is is_open a = a
 
-begun_step : (closed : Bool) (now : ℕ) (o : SeenOnOrder) → o.closed ≡ closed → IsAccounted o → IsAccounted (begun_by (cond closed Ended (first_job now o.scheduled o.next_reap)) o)
+begun_step : (closed : Bool) (now : ℕ) (o : SeenOnOrder) → o.closed ≡ closed → IsAccounted o → IsAccounted (begun_by (cond closed Closed (first_job now o.scheduled o.next_reap)) o)
 begun_step true now o is a = a
 begun_step false now o is a = accounted_task (first_job now o.scheduled o.next_reap) now o refl is a
 

@@ -5,12 +5,12 @@ use Rattle.r2d2_core.specs.declared.machine.answers.Refusal.{Refusal}
 use Rattle.r2d2_core.specs.declared.machine.answers.Refusal.TheVariants as refusal
 use Rattle.r2d2_core.specs.Limits.{SeenLimits, wanted_of}
 use Rattle.r2d2_core.specs.Ids.{last_of, found}
-use Rattle.r2d2_core.specs.Jobs.{SeenJob, Open, Reap, Wait, Nothing, Ended}
+use Rattle.r2d2_core.specs.Jobs.{SeenJob, Open, Reap, Wait, Nothing, Closed}
 use Rattle.r2d2_core.specs.Refusals.{unless_refused}
 use Rattle.r2d2_core.specs.Connections.{SeenIdleConnection, SeenLentConnection, id_of_idle, id_of_lent, birth_in}
 use Rattle.r2d2_core.specs.OnOrder.{IsAccounted, job_at, begun_by, number_refusal, numbered_one, admit_refusal, admitted_one, fail_refusal, failed_one}
 use Rattle.r2d2_core.specs.Picture.{Picture, IsSound}
-use Rattle.r2d2_core.specs.Table.{at, with_on_order, topped_up, first_picture, taken, after_take, after_begin, after_number, admitted_at, after_admit, failed, after_fail, lent_refusal, lent_birth, is_closing, lost, returned_by, returned, after_return, with_text, after_check, after_reap, after_take_error, after_close}
+use Rattle.r2d2_core.specs.Table.{raised_to, with_on_order, topped_up, first_picture, taken, after_take, after_begin, after_number, admitted_at, after_admit, failed, after_fail, lent_refusal, lent_birth, is_closing, gone_one, returned_by, returned, after_return, with_text, after_check, after_reap, after_take_error, after_close}
 use Rattle.r2d2_core.specs.Seen.{or_text}
 use Rattle.r2d2_core.proofs.Lists.Ids.{copies_of-append3}
 use Rattle.r2d2_core.proofs.Facts.Accounted.{unless_refused-keeps, passes, not_false, is_not, found_numbered, accounted_first, accounted_begun, accounted_numbering, accounted_admitted, accounted_failed, accounted_emptied}
@@ -40,7 +40,7 @@ module _ {T : Type 0} where
     accounted = accounted_first limits now first_id le;
     fits = omega arith;
     replenished = λ is_open. inl (omega arith);
-    in_order = λ i j d ij lt. absurd (omega arith);
+    is_sorted = λ i j d ij lt. absurd (omega arith);
     seen = λ k d lt. absurd (omega arith);
     born = λ k d lt. absurd (omega arith);
     born_lent = λ k d lt. absurd (omega arith);
@@ -54,7 +54,7 @@ module _ {T : Type 0} where
   sound_taken or_order p (Some c) e s = sound_topped_up (steady_lent_out c e (steady s))
 
   pub sound_take : (t : ℕ) (or_order : Bool) {p : Picture T} → IsSound p → IsSound (after_take t or_order p)
-  sound_take t or_order {p} s = sound_taken or_order (at t p) (last_of p.idle) refl (sound_at t s)
+  sound_take t or_order {p} s = sound_taken or_order (raised_to t p) (last_of p.idle) refl (sound_at t s)
 
   -- BEGIN, NUMBER, ADMIT, FAIL
 
@@ -63,7 +63,7 @@ module _ {T : Type 0} where
   sound_task Reap {p} a s = sound_rescheduled _ _ _ a s
   sound_task (Wait due) {p} a s = s
   sound_task Nothing {p} a s = s
-  sound_task Ended {p} a s = s
+  sound_task Closed {p} a s = s
 
   pub sound_begin : (t : ℕ) {p : Picture T} → IsSound p → IsSound (after_begin t p)
   sound_begin t {p} s = sound_task (job_at (max p.latest t) p.on_order) (accounted_begun (max p.latest t) p.on_order s.accounted) (sound_at t s)
@@ -104,15 +104,15 @@ module _ {T : Type 0} where
 
   pub sound_return : (t id : ℕ) (value : T) (broken : Bool) {p : Picture T} → IsSound p → IsSound (after_return t id value broken p)
   sound_return t id value broken {p} s =
-      unless_refused-keeps IsSound (lent_refusal id p) (returned id (lent_birth id p) value broken (at t p)) p
+      unless_refused-keeps IsSound (lent_refusal id p) (returned id (lent_birth id p) value broken (raised_to t p)) p
       (λ accepted.
       let l = found_lent id p accepted in
-      subst (λ (b : ℕ). IsSound (returned id b value broken (at t p))) l.2
-      (sound_returned (is_closing l.0.birth broken (at t p)) id value l.0 (at t p) l.1 (none_holds broken _ p.on_order.closed) (sound_at t s))) s
+      subst (λ (b : ℕ). IsSound (returned id b value broken (raised_to t p))) l.2
+      (sound_returned (is_closing l.0.birth broken (raised_to t p)) id value l.0 (raised_to t p) l.1 (none_holds broken _ p.on_order.closed) (sound_at t s))) s
 
   pub sound_check : {A : Type 0} (t id : ℕ) (text : Option (String A)) {p : Picture T} → IsSound p → IsSound (after_check t id text p)
   sound_check t id text {p} s =
-      unless_refused-keeps IsSound (lent_refusal id p) (topped_up (lost id (with_text text (at t p)))) p
+      unless_refused-keeps IsSound (lent_refusal id p) (topped_up (gone_one id (with_text text (raised_to t p)))) p
       (λ accepted.
       let l = found_lent id p accepted in
       sound_topped_up (steady_lost id l.0 l.1 (steady (sound_told (or_text text p.last_error) (sound_at t s))))) s
@@ -139,7 +139,7 @@ module _ {T : Type 0} where
         accounted = accounted_emptied p.on_order;
         fits = omega (arith, s.fits);
         replenished = λ is_open. absurd (is_not true refl is_open);
-        in_order = λ i j d ij lt. absurd (omega arith);
+        is_sorted = λ i j d ij lt. absurd (omega arith);
         seen = λ k d lt. absurd (omega arith);
         born = λ k d lt. absurd (omega arith);
         born_lent = s.born_lent;

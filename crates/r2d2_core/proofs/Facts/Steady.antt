@@ -14,7 +14,7 @@ use Rattle.r2d2_core.specs.Openings.{SeenOpening}
 use Rattle.r2d2_core.specs.Connections.{SeenIdleConnection, SeenLentConnection, idle_connection, lent_connection, id_of_idle, id_of_lent, since_of, is_expired, is_kept}
 use Rattle.r2d2_core.specs.OnOrder.{IsAccounted, admitted_one, numbered_one}
 use Rattle.r2d2_core.specs.Picture.{Picture, IsSound, ids_in}
-use Rattle.r2d2_core.specs.Table.{at, with_on_order, ordered, top_up_of, topped_up, miss_order_of, lent_out, admitted_at, kept, lost, swept}
+use Rattle.r2d2_core.specs.Table.{raised_to, with_on_order, ordered, top_up_of, topped_up, miss_order_of, lent_out, admitted_at, kept_one, gone_one, swept}
 use Rattle.r2d2_core.proofs.Lists.Filters.{copies_of-filter}
 use Rattle.r2d2_core.proofs.Lists.Ids.{copies_of-append, copies_of-append3, copies_of-one, copies_of-other, copies_of-push, copies_of-last, copies_of-without, length-front, length-without, All-without, All-found, All-push, All-last, All-weaker}
 use Rattle.r2d2_core.proofs.Facts.Accounted.{is_not, accounted_orders}
@@ -72,7 +72,7 @@ module _ {T : Type 0} where
     pub counted : p.connections ≡ length p.idle + length p.lent
     pub accounted : IsAccounted p.on_order
     pub fits : p.connections + p.on_order.pending ≤ p.on_order.limits.max_size
-    pub in_order : IsNonDecreasingBy since_of p.idle
+    pub is_sorted : IsNonDecreasingBy since_of p.idle
     pub seen : All (λ c. c.since ≤ p.latest) p.idle
     pub born : All (λ c. c.birth ≤ c.since) p.idle
     pub born_lent : All (λ c. c.birth ≤ p.latest) p.lent
@@ -85,7 +85,7 @@ module _ {T : Type 0} where
     counted = s.counted;
     accounted = s.accounted;
     fits = s.fits;
-    in_order = s.in_order;
+    is_sorted = s.is_sorted;
     seen = s.seen;
     born = s.born;
     born_lent = s.born_lent;
@@ -103,7 +103,7 @@ module _ {T : Type 0} where
     accounted = s.accounted;
     fits = s.fits;
     replenished = r;
-    in_order = s.in_order;
+    is_sorted = s.is_sorted;
     seen = s.seen;
     born = s.born;
     born_lent = s.born_lent;
@@ -117,21 +117,21 @@ module _ {T : Type 0} where
 
   -- MOMENTS
 
-  pub steady_at : (t : ℕ) {p : Picture T} → IsSteady p → IsSteady (at t p)
+  pub steady_at : (t : ℕ) {p : Picture T} → IsSteady p → IsSteady (raised_to t p)
   steady_at t {p} s = record {
     apart = s.apart;
     below_next = s.below_next;
     counted = s.counted;
     accounted = s.accounted;
     fits = s.fits;
-    in_order = s.in_order;
+    is_sorted = s.is_sorted;
     seen = All-weaker (λ c. c.since ≤ p.latest) (λ c. c.since ≤ max p.latest t) p.idle (λ c le. omega arith) s.seen;
     born = s.born;
     born_lent = All-weaker (λ l. l.birth ≤ p.latest) (λ l. l.birth ≤ max p.latest t) p.lent (λ l le. omega arith) s.born_lent;
     none_once_closed = s.none_once_closed;
   }
 
-  pub sound_at : (t : ℕ) {p : Picture T} → IsSound p → IsSound (at t p)
+  pub sound_at : (t : ℕ) {p : Picture T} → IsSound p → IsSound (raised_to t p)
   sound_at t s = sound (steady_at t (steady s)) s.replenished
 
   -- ORDERS
@@ -143,7 +143,7 @@ module _ {T : Type 0} where
     counted = s.counted;
     accounted = accounted_orders n p.latest p.on_order (omega (arith, fits)) none s.accounted;
     fits = fits;
-    in_order = s.in_order;
+    is_sorted = s.is_sorted;
     seen = s.seen;
     born = s.born;
     born_lent = s.born_lent;
@@ -176,7 +176,7 @@ module _ {T : Type 0} where
     accounted = a;
     fits = s.fits;
     replenished = s.replenished;
-    in_order = s.in_order;
+    is_sorted = s.is_sorted;
     seen = s.seen;
     born = s.born;
     born_lent = s.born_lent;
@@ -192,7 +192,7 @@ module _ {T : Type 0} where
     accounted = s.accounted;
     fits = s.fits;
     replenished = s.replenished;
-    in_order = s.in_order;
+    is_sorted = s.is_sorted;
     seen = s.seen;
     born = s.born;
     born_lent = s.born_lent;
@@ -219,7 +219,7 @@ module _ {T : Type 0} where
         counted = omega (arith, s.counted, length-front p.idle c is, length_push p.lent l);
         accounted = s.accounted;
         fits = s.fits;
-        in_order = IsNonDecreasingBy-take since_of (length p.idle - 1) p.idle s.in_order;
+        is_sorted = IsNonDecreasingBy-take since_of (length p.idle - 1) p.idle s.is_sorted;
         seen = All-take (λ c. c.since ≤ p.latest) (length p.idle - 1) p.idle s.seen;
         born = All-take (λ c. c.birth ≤ c.since) (length p.idle - 1) p.idle s.born;
         born_lent = All-push (λ l. l.birth ≤ p.latest) p.lent l s.born_lent (omega arith);
@@ -229,9 +229,9 @@ module _ {T : Type 0} where
   -- RETURNS
 
   -- one that was lent is gone
-  pub steady_lost : (id : ℕ) (l : SeenLentConnection) {p : Picture T} → found id_of_lent id p.lent ≡ Some l → IsSteady p → IsSteady (lost id p)
+  pub steady_lost : (id : ℕ) (l : SeenLentConnection) {p : Picture T} → found id_of_lent id p.lent ≡ Some l → IsSteady p → IsSteady (gone_one id p)
   steady_lost id l {p} is s =
-      let ids = apart_still p (lost id p) refl (λ i. omega (
+      let ids = apart_still p (gone_one id p) refl (λ i. omega (
         arith,
         copies_of-append3 i (map id_of_idle p.idle) (map id_of_lent p.lent) p.on_order.numbered,
         copies_of-append3 i (map id_of_idle p.idle) (map id_of_lent (without id_of_lent id p.lent)) p.on_order.numbered,
@@ -244,7 +244,7 @@ module _ {T : Type 0} where
         counted = omega (arith, s.counted, less);
         accounted = s.accounted;
         fits = omega (arith, s.fits);
-        in_order = s.in_order;
+        is_sorted = s.is_sorted;
         seen = s.seen;
         born = s.born;
         born_lent = All-without (λ l. l.birth ≤ p.latest) id_of_lent id p.lent s.born_lent;
@@ -252,10 +252,10 @@ module _ {T : Type 0} where
       }
 
   -- it is idle again
-  pub sound_kept : (id : ℕ) (value : T) (l : SeenLentConnection) {p : Picture T} → found id_of_lent id p.lent ≡ Some l → p.on_order.closed ≡ false → IsSound p → IsSound (kept id l.birth value p)
+  pub sound_kept : (id : ℕ) (value : T) (l : SeenLentConnection) {p : Picture T} → found id_of_lent id p.lent ≡ Some l → p.on_order.closed ≡ false → IsSound p → IsSound (kept_one id l.birth value p)
   sound_kept id value l {p} is is_open s =
       let c : SeenIdleConnection T = idle_connection id l.birth p.latest value in
-      let ids = apart_still p (kept id l.birth value p) refl (λ i. omega (
+      let ids = apart_still p (kept_one id l.birth value p) refl (λ i. omega (
         arith,
         copies_of-append3 i (map id_of_idle p.idle) (map id_of_lent p.lent) p.on_order.numbered,
         copies_of-append3 i (map id_of_idle (p.idle ++ c ∷ [])) (map id_of_lent (without id_of_lent id p.lent)) p.on_order.numbered,
@@ -272,7 +272,7 @@ module _ {T : Type 0} where
         accounted = s.accounted;
         fits = s.fits;
         replenished = λ still. with_one_kept (wanted_of p.on_order.limits) p.on_order.pending p.connections p.on_order.limits.max_size (length p.idle) (length (p.idle ++ c ∷ [])) more (s.replenished still);
-        in_order = IsNonDecreasingBy-push since_of p.idle c s.in_order (λ d some. s.seen (length p.idle - 1) d (omega arith));
+        is_sorted = IsNonDecreasingBy-push since_of p.idle c s.is_sorted (λ d some. s.seen (length p.idle - 1) d (omega arith));
         seen = All-push (λ c. c.since ≤ p.latest) p.idle c s.seen (omega arith);
         born = All-push (λ c. c.birth ≤ c.since) p.idle c s.born birth;
         born_lent = All-without (λ l. l.birth ≤ p.latest) id_of_lent id p.lent s.born_lent;
@@ -301,7 +301,7 @@ module _ {T : Type 0} where
         accounted = a;
         fits = s.fits;
         replenished = s.replenished;
-        in_order = s.in_order;
+        is_sorted = s.is_sorted;
         seen = s.seen;
         born = s.born;
         born_lent = s.born_lent;
@@ -332,7 +332,7 @@ module _ {T : Type 0} where
         accounted = a;
         fits = omega (arith, s.fits, some);
         replenished = λ still. with_one_admitted (wanted_of o.limits) (length p.idle) (length (p.idle ++ c ∷ [])) p.connections o.pending o.limits.max_size more some (s.replenished still);
-        in_order = IsNonDecreasingBy-push since_of p.idle c s.in_order (λ d some. s.seen (length p.idle - 1) d (omega arith));
+        is_sorted = IsNonDecreasingBy-push since_of p.idle c s.is_sorted (λ d some. s.seen (length p.idle - 1) d (omega arith));
         seen = All-push (λ c. c.since ≤ p.latest) p.idle c s.seen (omega arith);
         born = All-push (λ c. c.birth ≤ c.since) p.idle c s.born (omega arith);
         born_lent = s.born_lent;
@@ -358,7 +358,7 @@ module _ {T : Type 0} where
         counted = omega (arith, s.counted, length-filter_both goes stays (λ c. refl) p.idle);
         accounted = s.accounted;
         fits = omega (arith, s.fits);
-        in_order = IsNonDecreasingBy-filter since_of stays p.idle s.in_order;
+        is_sorted = IsNonDecreasingBy-filter since_of stays p.idle s.is_sorted;
         seen = All-filter stays (λ c. c.since ≤ p.latest) p.idle s.seen;
         born = All-filter stays (λ c. c.birth ≤ c.since) p.idle s.born;
         born_lent = s.born_lent;

@@ -20,11 +20,10 @@ use Rattle.r2d2_core.specs.History.{History, Then, now_of, is_closed}
 use Rattle.r2d2_core.specs.Deeds.{Deed, deed, id_of_deed, Admission, birth_of, idle_of, lent_of, connections_of, admitted_count, gone_count}
 use Rattle.r2d2_core.specs.Pending.{ordered_of, pending_of, ids_of, is_admitted, numbered_of, next_id_of, next_reap_of, on_order_of}
 use Rattle.r2d2_core.specs.Answers.{refusal_of, picture_of}
-use Rattle.r2d2_core.specs.Follows.{IsKept, Follows}
+use Rattle.r2d2_core.proofs.Histories.Kept.{IsKept, Follows}
 use Rattle.r2d2_core.proofs.Lists.Ids.{copies_of-append3, copies_of-without}
-use Rattle.r2d2_core.proofs.Lists.Filters.{filter-absent, filter-once, filter-both}
-use Rattle.r2d2_core.proofs.Histories.Deeds.{idle_of-then, lent_of-then}
-use Rattle.r2d2_core.proofs.Facts.Latest.{one_other}
+use Rattle.r2d2_core.proofs.Lists.Filters.{filter-once, filter-both}
+use Rattle.r2d2_core.proofs.Histories.Comings.{idle_of-admitted, lent_of-admitted}
 use Rattle.r2d2_core.proofs.Facts.Accounted.{found_numbered}
 use Rattle.r2d2_core.proofs.Histories.Orders.{same_on_order, picture_of-is, in_work_of-same}
 use Rattle.r2d2_core.proofs.Histories.Following.{follows_accepted, follows_refused}
@@ -38,12 +37,6 @@ some_step false rest x o e = e
 pub is_some-found : {X : Type 0} (id_of : X → ℕ) (i : ℕ) (xs : List X) → is_some (found id_of i xs) ≡ list_any (λ x. id_of x == i) xs
 is_some-found id_of i [] = refl
 is_some-found id_of i (x ∷ xs) = some_step (id_of x == i) (list_any (λ x. id_of x == i) xs) x (found id_of i xs) (is_some-found id_of i xs)
-
-other_admits : (id i : ℕ) → not ((id == i) || false) ≡ true → (id == i) ≡ false
-other_admits id i e = by (id == i) e where
-  by : (b : Bool) → not (b || false) ≡ true → b ≡ false
-  by true e = absurd cc
-  by false e = refl
 
 -- a number that is found stands there
 copies_of-found : (id : ℕ) (xs : List ℕ) → found same_id id xs ≡ Some id → 1 ≤ copies_of id xs
@@ -80,25 +73,6 @@ module _ {T : Type 0} where
   unfolding picture_of on_order_of
   none_past h i sound past = omega (arith, sound.below_next i past, copies_of-append3 i (map id_of_idle (idle_of h)) (map id_of_lent (lent_of h)) (numbered_of h))
 
-  idle_of-admit : (h : History T) (now : Duration) (id : ℕ) (value : T) → found same_id id (numbered_of h) ≡ Some id → IsSound (picture_of h)
-      → idle_of (Then h (step.Admit now id value) (Admitted (Ok tt))) ≡ idle_of h ++ idle_connection id (max (now_of h) (as_nanos now)) (max (now_of h) (as_nanos now)) value ∷ []
-  idle_of-admit h now id value e sound =
-      let t = max (now_of h) (as_nanos now) in
-      let d : Deed T = deed id t (Admission value) in
-      let none : copies_of id (map id_of_idle (idle_of h)) ≡ 0 = omega (arith, copies_in h id sound, copies_of-found id (numbered_of h) e) in
-      idle_of-then h (step.Admit now id value) (Admitted (Ok tt)) (d ∷ []) refl (other_admits id)
-      ∙ (ap (λ l. l ++ idle_connection id (cond (id == id) t (birth_of h id)) t value ∷ []) (one_other id_of_deed d id_of_idle (idle_of h) ∙ filter-absent id_of_idle id (idle_of h) none)
-      ∙ ap (λ b. idle_of h ++ idle_connection id (cond b t (birth_of h id)) t value ∷ []) (eq-eqb id id refl))
-
-  lent_of-admit : (h : History T) (now : Duration) (id : ℕ) (value : T) → found same_id id (numbered_of h) ≡ Some id → IsSound (picture_of h)
-      → lent_of (Then h (step.Admit now id value) (Admitted (Ok tt))) ≡ lent_of h
-  lent_of-admit h now id value e sound =
-      let t = max (now_of h) (as_nanos now) in
-      let d : Deed T = deed id t (Admission value) in
-      let none : copies_of id (map id_of_lent (lent_of h)) ≡ 0 = omega (arith, copies_in h id sound, copies_of-found id (numbered_of h) e) in
-      lent_of-then h (step.Admit now id value) (Admitted (Ok tt)) (d ∷ []) refl (other_admits id)
-      ∙ (append-nil _ ∙ (one_other id_of_deed d id_of_lent (lent_of h) ∙ filter-absent id_of_lent id (lent_of h) none))
-
   numbered_of-open : (h : History T) → is_closed h ≡ false → numbered_of h ≡ filter (λ i. not (is_admitted h i)) (ids_of h)
   unfolding numbered_of
   numbered_of-open h is_open = ap (λ b. cond b [] (filter (λ i. not (is_admitted h i)) (ids_of h))) is_open
@@ -126,7 +100,8 @@ module _ {T : Type 0} where
       let s = step.Admit now id value in
       let r = Admitted (Ok tt) in
       picture_of-is (Then h s r) (admitted_at (max (now_of h) (as_nanos now)) id value (picture_of h)) refl
-      (idle_of-admit h now id value e kept.sound) (lent_of-admit h now id value e kept.sound)
+      (idle_of-admitted h now id value r (omega (arith, copies_in h id kept.sound, copies_of-found id (numbered_of h) e)))
+      (lent_of-admitted h now id value r (omega (arith, copies_in h id kept.sound, copies_of-found id (numbered_of h) e)))
       (same_on_order (on_order_of h) refl
       (in_work_of-same h s r refl (λ k. refl) (λ k. refl))
       (numbered_of-admit h now id value is_open kept.sound)

@@ -6,17 +6,17 @@ use Rattle.std.specs.declared.time.Duration.{Duration}
 use Rattle.std.proofs.lemmas.Bool.{ne_eqb}
 use Rattle.r2d2_core.specs.declared.run.Step.TheVariants as step
 use Rattle.r2d2_core.specs.Limits.{later_by, has_reaps}
-use Rattle.r2d2_core.specs.Jobs.{SeenJob, Open, Reap, Wait, Nothing, Ended, first_job}
+use Rattle.r2d2_core.specs.Jobs.{SeenJob, Open, Reap, Wait, Nothing, Closed, first_job}
 use Rattle.r2d2_core.specs.Schedule.{next_by}
 use Rattle.r2d2_core.specs.Seen.{Begun}
 use Rattle.r2d2_core.specs.OnOrder.{begun_by}
 use Rattle.r2d2_core.specs.Picture.{IsSound}
-use Rattle.r2d2_core.specs.Table.{at, with_on_order, begin_answer, after_begin}
+use Rattle.r2d2_core.specs.Table.{raised_to, with_on_order, begin_answer, after_begin}
 use Rattle.r2d2_core.specs.History.{History, Then, limits_of, start_of, is_closed, moment_of}
 use Rattle.r2d2_core.specs.Deeds.{connections_of}
 use Rattle.r2d2_core.specs.Pending.{begun_of, scheduled_of, next_id_of, numbered_of, reaps_of, next_reap_of, job_of, on_order_of}
 use Rattle.r2d2_core.specs.Answers.{picture_of}
-use Rattle.r2d2_core.specs.Follows.{IsKept, Follows}
+use Rattle.r2d2_core.proofs.Histories.Kept.{IsKept, Follows}
 use Rattle.r2d2_core.proofs.Histories.Deeds.{idle_of-none, lent_of-none}
 use Rattle.r2d2_core.proofs.Facts.Accounted.{begins_within}
 use Rattle.r2d2_core.proofs.Histories.InWork.{in_work_of-one_more}
@@ -33,7 +33,7 @@ next_by-reap true start every n = ap Some (sym (next_by-later start every n))
 next_by-reap false start every n = refl
 
 -- what opens is open
-opens_open : (closed : Bool) (k : ℕ) (task : SeenJob) → cond closed Ended task ≡ Open k → (closed ≡ false) × (Open k ≡ task)
+opens_open : (closed : Bool) (k : ℕ) (task : SeenJob) → cond closed Closed task ≡ Open k → (closed ≡ false) × (Open k ≡ task)
 opens_open true k task e = absurd cc
 opens_open false k task e = (refl, sym e)
 
@@ -53,17 +53,17 @@ module _ {T : Type 0} where
   idling : (h : History T) (now : Duration) → IsOrdering h (step.Begin now) (Begun Nothing)
   idling h now = record { closed = refl; scheduled = refl; begun = λ k. refl; ended = λ k. refl; ids = refl; admitted = λ i. refl; count = refl; reaps = refl }
 
-  ending : (h : History T) (now : Duration) → IsOrdering h (step.Begin now) (Begun Ended)
+  ending : (h : History T) (now : Duration) → IsOrdering h (step.Begin now) (Begun Closed)
   ending h now = record { closed = refl; scheduled = refl; begun = λ k. refl; ended = λ k. refl; ids = refl; admitted = λ i. refl; count = refl; reaps = refl }
 
   picture_of-begin : (h : History T) (now : Duration) (task : SeenJob) → job_of h (moment_of h (step.Begin now)) ≡ task → IsKept h
-      → picture_of (Then h (step.Begin now) (Begun task)) ≡ with_on_order (begun_by task (on_order_of h)) (at (as_nanos now) (picture_of h))
+      → picture_of (Then h (step.Begin now) (Begun task)) ≡ with_on_order (begun_by task (on_order_of h)) (raised_to (as_nanos now) (picture_of h))
   unfolding picture_of on_order_of connections_of numbered_of next_id_of
   picture_of-begin h now (Open tries) e kept =
       let s = step.Begin now in
       let r = Begun (Open tries) in
       let opens = opens_open (is_closed h) tries (first_job (moment_of h s) (scheduled_of h) (next_reap_of h)) e in
-      picture_of-is (Then h s r) (with_on_order (begun_by (Open tries) (on_order_of h)) (at (as_nanos now) (picture_of h))) refl
+      picture_of-is (Then h s r) (with_on_order (begun_by (Open tries) (on_order_of h)) (raised_to (as_nanos now) (picture_of h))) refl
       (idle_of-none h s r refl (λ i. refl)) (lent_of-none h s r refl (λ i. refl))
       (same_on_order (on_order_of h) refl
       (in_work_of-one_more h (Then h s r) tries opens.0 refl (kept.ended_were_begun tries) (λ k. refl) (λ k. refl))
@@ -72,7 +72,7 @@ module _ {T : Type 0} where
   picture_of-begin h now Reap e kept =
       let s = step.Begin now in
       let r = Begun Reap in
-      picture_of-is (Then h s r) (with_on_order (begun_by Reap (on_order_of h)) (at (as_nanos now) (picture_of h))) refl
+      picture_of-is (Then h s r) (with_on_order (begun_by Reap (on_order_of h)) (raised_to (as_nanos now) (picture_of h))) refl
       (idle_of-none h s r refl (λ i. refl)) (lent_of-none h s r refl (λ i. refl))
       (same_on_order (on_order_of h) refl
       (in_work_of-same h s r refl (λ k. refl) (λ k. refl))
@@ -81,15 +81,15 @@ module _ {T : Type 0} where
   picture_of-begin h now (Wait due) e kept =
       let s = step.Begin now in
       let r = Begun (Wait due) in
-      picture_of-unordered h s r (at (as_nanos now) (picture_of h)) (waiting h now due) kept refl refl (idle_of-none h s r refl (λ i. refl)) (lent_of-none h s r refl (λ i. refl)) refl refl refl
+      picture_of-unordered h s r (raised_to (as_nanos now) (picture_of h)) (waiting h now due) kept refl refl (idle_of-none h s r refl (λ i. refl)) (lent_of-none h s r refl (λ i. refl)) refl refl refl
   picture_of-begin h now Nothing e kept =
       let s = step.Begin now in
       let r = Begun Nothing in
-      picture_of-unordered h s r (at (as_nanos now) (picture_of h)) (idling h now) kept refl refl (idle_of-none h s r refl (λ i. refl)) (lent_of-none h s r refl (λ i. refl)) refl refl refl
-  picture_of-begin h now Ended e kept =
+      picture_of-unordered h s r (raised_to (as_nanos now) (picture_of h)) (idling h now) kept refl refl (idle_of-none h s r refl (λ i. refl)) (lent_of-none h s r refl (λ i. refl)) refl refl refl
+  picture_of-begin h now Closed e kept =
       let s = step.Begin now in
-      let r = Begun Ended in
-      picture_of-unordered h s r (at (as_nanos now) (picture_of h)) (ending h now) kept refl refl (idle_of-none h s r refl (λ i. refl)) (lent_of-none h s r refl (λ i. refl)) refl refl refl
+      let r = Begun Closed in
+      picture_of-unordered h s r (raised_to (as_nanos now) (picture_of h)) (ending h now) kept refl refl (idle_of-none h s r refl (λ i. refl)) (lent_of-none h s r refl (λ i. refl)) refl refl refl
 
   kept_begin : (h : History T) (now : Duration) (task : SeenJob) → job_of h (moment_of h (step.Begin now)) ≡ task → IsKept h → IsSound (picture_of (Then h (step.Begin now) (Begun task))) → IsKept (Then h (step.Begin now) (Begun task))
   unfolding picture_of on_order_of next_id_of
@@ -115,7 +115,7 @@ module _ {T : Type 0} where
   }
   kept_begin h now (Wait due) e kept sound = kept_ordered h (step.Begin now) (Begun (Wait due)) (waiting h now due) kept sound kept.gone_were_admitted
   kept_begin h now Nothing e kept sound = kept_ordered h (step.Begin now) (Begun Nothing) (idling h now) kept sound kept.gone_were_admitted
-  kept_begin h now Ended e kept sound = kept_ordered h (step.Begin now) (Begun Ended) (ending h now) kept sound kept.gone_were_admitted
+  kept_begin h now Closed e kept sound = kept_ordered h (step.Begin now) (Begun Closed) (ending h now) kept sound kept.gone_were_admitted
 
   pub follows_begin : (h : History T) (now : Duration) → IsKept h → Follows h (step.Begin now) (Begun (begin_answer (as_nanos now) (picture_of h))) (after_begin (as_nanos now) (picture_of h))
   unfolding picture_of on_order_of

@@ -10,13 +10,14 @@ use Rattle.r2d2_core.specs.Refusals.{ok_unless, unless_refused}
 use Rattle.r2d2_core.specs.Seen.{SeenAnswer, SeenGone, CheckFailed}
 use Rattle.r2d2_core.specs.OnOrder.{top_up}
 use Rattle.r2d2_core.specs.Picture.{Picture, IsSound}
-use Rattle.r2d2_core.specs.Table.{at, ordered, topped_up, lent_refusal, lent_birth, lost, with_text, loss, check_answer, after_check}
+use Rattle.r2d2_core.specs.Table.{raised_to, ordered, topped_up, lent_refusal, lent_birth, gone_one, with_text, gone_with, check_answer, after_check}
 use Rattle.r2d2_core.specs.History.{History, Then, is_closed, now_of}
 use Rattle.r2d2_core.specs.Deeds.{Going, birth_of, idle_of, connections_of}
 use Rattle.r2d2_core.specs.Pending.{on_order_of}
 use Rattle.r2d2_core.specs.Answers.{refusal_of, is_lent, orders_of, picture_of}
-use Rattle.r2d2_core.specs.Follows.{IsKept, Follows}
+use Rattle.r2d2_core.proofs.Histories.Kept.{IsKept, Follows}
 use Rattle.r2d2_core.proofs.Facts.Accounted.{passes, not_false}
+use Rattle.r2d2_core.proofs.Histories.GoingOnes.{apart_in}
 use Rattle.r2d2_core.proofs.Histories.LentOnes.{lent_birth-is, lent_refusal-is, lent_of-back, idle_of-lost, lent_is_connected}
 use Rattle.r2d2_core.proofs.Histories.Orders.{IsOrdering, orders_if_closed, orders_of-top_up, picture_of-ordered, kept_ordered}
 use Rattle.r2d2_core.proofs.Histories.Following.{follows_accepted, follows_refused}
@@ -33,7 +34,7 @@ module _ {T : Type 0} where
   then_lost h now id text n = Then h (checking now id text) (lost_reply h (as_nanos now) id n)
 
   idle_of-check : (h : History T) (now : Duration) (id : ℕ) (text : Option (String Global)) (n : ℕ) → is_lent h id ≡ true → IsSound (picture_of h) → idle_of (then_lost h now id text n) ≡ idle_of h
-  idle_of-check h now id text n lent sound = idle_of-lost h (checking now id text) (lost_reply h (as_nanos now) id n) id (max (now_of h) (as_nanos now)) refl (λ i. refl) lent sound
+  idle_of-check h now id text n lent sound = idle_of-lost h (checking now id text) (lost_reply h (as_nanos now) id n) id (max (now_of h) (as_nanos now)) refl (λ i. refl) lent (apart_in h sound)
 
   connections_of-check : (h : History T) (now : Duration) (id : ℕ) (text : Option (String Global)) (n : ℕ) → connections_of (then_lost h now id text n) ≡ connections_of h - 1
   unfolding connections_of
@@ -60,14 +61,14 @@ module _ {T : Type 0} where
 
   picture_of-check : (h : History T) (now : Duration) (id : ℕ) (text : Option (String Global)) (n : ℕ) → is_lent h id ≡ true → IsKept h
       → n ≡ top_up (length (idle_of h)) (connections_of h - 1) (on_order_of h) → (is_closed h ≡ true → n ≡ 0)
-      → picture_of (then_lost h now id text n) ≡ topped_up (lost id (with_text text (at (as_nanos now) (picture_of h))))
+      → picture_of (then_lost h now id text n) ≡ topped_up (gone_one id (with_text text (raised_to (as_nanos now) (picture_of h))))
   unfolding picture_of
   picture_of-check h now id text n lent kept orders none =
       let s = checking now id text in
       let r = lost_reply h (as_nanos now) id n in
-      let p = lost id (with_text text (at (as_nanos now) (picture_of h))) in
+      let p = gone_one id (with_text text (raised_to (as_nanos now) (picture_of h))) in
       picture_of-ordered h s r p n (ordering_check h now id text n) kept refl none
-      refl (idle_of-check h now id text n lent kept.sound) (lent_of-back h s r id (max (now_of h) (as_nanos now)) Going refl (λ i. refl) (λ birth. refl) kept.sound) refl (connections_of-check h now id text n) refl
+      refl (idle_of-check h now id text n lent kept.sound) (lent_of-back h s r id (max (now_of h) (as_nanos now)) Going refl (λ i. refl) (λ birth. refl) (apart_in h kept.sound)) refl (connections_of-check h now id text n) refl
       ∙ ap (λ k. ordered k p) orders
 
   pub follows_check : (h : History T) (now : Duration) (id : ℕ) (text : Option (String Global)) → IsKept h
@@ -81,10 +82,10 @@ module _ {T : Type 0} where
     n = orders_of h s
 
     lost_at : ℕ → SeenGone
-    lost_at birth = loss id birth (at (as_nanos now) (picture_of h))
+    lost_at birth = gone_with id birth (raised_to (as_nanos now) (picture_of h))
 
     new : Picture T
-    new = topped_up (lost id (with_text text (at (as_nanos now) (picture_of h))))
+    new = topped_up (gone_one id (with_text text (raised_to (as_nanos now) (picture_of h))))
 
     by : (why : Option Refusal) → refusal_of h s ≡ why → Follows h s (CheckFailed (check_answer (as_nanos now) id (picture_of h))) (after_check (as_nanos now) id text (picture_of h))
     by None accepted =

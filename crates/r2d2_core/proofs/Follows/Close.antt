@@ -15,9 +15,9 @@ use Rattle.r2d2_core.specs.History.{History, Then, limits_of, start_of, now_of, 
 use Rattle.r2d2_core.specs.Deeds.{deed, Going, deeds_in, idle_of, lent_of, admitted_count, gone_count, connections_of}
 use Rattle.r2d2_core.specs.Pending.{pending_of, in_work_of, in_work_at, numbered_of, reaps_of, next_reap_of, next_id_of, on_order_of}
 use Rattle.r2d2_core.specs.Answers.{picture_of}
-use Rattle.r2d2_core.specs.Follows.{IsKept, Follows}
+use Rattle.r2d2_core.proofs.Histories.Kept.{IsKept, Follows}
 use Rattle.r2d2_core.proofs.Lists.Filters.{filter_true}
-use Rattle.r2d2_core.proofs.Histories.GoingOnes.{going_deeds, less_gone, idle_of-going, lent_of-going, admitted_are}
+use Rattle.r2d2_core.proofs.Histories.GoingOnes.{apart_in, pairs_go, going_deeds, less_gone, idle_of-going, lent_of-going, admitted_are}
 use Rattle.r2d2_core.proofs.Histories.Orders.{same_on_order, same_picture}
 use Rattle.r2d2_core.proofs.Facts.Sounds.{sound_close}
 
@@ -30,10 +30,6 @@ all_zero a zero = refl
 all_zero a (suc n) = ap (λ (l : List ℕ). 0 ∷ l) (all_zero (a + 1) n)
 
 module _ {T : Type 0} where
-  pairs_go : (t : ℕ) (cs : List (SeenIdleConnection T)) → map (λ p. deed {T = T} p.0 t Going) (map pair_of cs) ≡ going_deeds id_of_idle t cs
-  pairs_go t [] = refl
-  pairs_go t (c ∷ cs) = ap (λ l. deed c.id t Going ∷ l) (pairs_go t cs)
-
   abbrev left_by : History T → SeenAnswer T
   left_by h = Left (map pair_of (idle_of h))
 
@@ -42,10 +38,10 @@ module _ {T : Type 0} where
   all_go h = pairs_go (now_of h) (idle_of h) ∙ ap (going_deeds id_of_idle (now_of h)) (sym (filter_true (idle_of h)))
 
   pub idle_of-close : (h : History T) → IsKept h → idle_of (Then h step.Close (left_by h)) ≡ []
-  idle_of-close h kept = idle_of-going h step.Close (left_by h) (now_of h) (λ c. true) (all_go h) (λ i. refl) kept.sound ∙ none_pass (idle_of h)
+  idle_of-close h kept = idle_of-going h step.Close (left_by h) (now_of h) (λ c. true) (all_go h) (λ i. refl) (apart_in h kept.sound) ∙ none_pass (idle_of h)
 
   pub lent_of-close : (h : History T) → IsKept h → lent_of (Then h step.Close (left_by h)) ≡ lent_of h
-  lent_of-close h kept = lent_of-going h step.Close (left_by h) (now_of h) (λ c. true) (all_go h) (λ i. refl) kept.sound
+  lent_of-close h kept = lent_of-going h step.Close (left_by h) (now_of h) (λ c. true) (all_go h) (λ i. refl) (apart_in h kept.sound)
 
   -- two pictures that differ in these fields alone
   same_close : (p : Picture T) {idle idle' : List (SeenIdleConnection T)} {lent lent' : List SeenLentConnection} {work work' : List ℕ} {n n' : ℕ}

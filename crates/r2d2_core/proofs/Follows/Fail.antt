@@ -16,7 +16,7 @@ use Rattle.r2d2_core.specs.History.{History, Then, is_closed, now_of, limits_of}
 use Rattle.r2d2_core.specs.Deeds.{connections_of, admitted_count}
 use Rattle.r2d2_core.specs.Pending.{ordered_of, pending_of, numbered_of, next_reap_of, next_id_of, on_order_of}
 use Rattle.r2d2_core.specs.Answers.{refusal_of, is_in_work, picture_of}
-use Rattle.r2d2_core.specs.Follows.{IsKept, Follows}
+use Rattle.r2d2_core.proofs.Histories.Kept.{IsKept, Follows}
 use Rattle.r2d2_core.proofs.Histories.Deeds.{idle_of-none, lent_of-none}
 use Rattle.r2d2_core.proofs.Histories.InWork.{in_work_of-one_less, is_in_work-on_order, ended_fits}
 use Rattle.r2d2_core.proofs.Facts.Accounted.{passes, not_false}

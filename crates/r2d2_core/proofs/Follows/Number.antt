@@ -16,7 +16,7 @@ use Rattle.r2d2_core.specs.History.{History, Then, is_closed}
 use Rattle.r2d2_core.specs.Deeds.{connections_of}
 use Rattle.r2d2_core.specs.Pending.{begun_of, ended_of, in_work_at, ids_of, is_admitted, numbered_of, next_id_of, next_reap_of, on_order_of}
 use Rattle.r2d2_core.specs.Answers.{refusal_of, picture_of}
-use Rattle.r2d2_core.specs.Follows.{IsKept, Follows}
+use Rattle.r2d2_core.proofs.Histories.Kept.{IsKept, Follows}
 use Rattle.r2d2_core.proofs.Histories.Deeds.{idle_of-none, lent_of-none}
 use Rattle.r2d2_core.proofs.Facts.Accounted.{found_in_work}
 use Rattle.r2d2_core.proofs.Histories.InWork.{slice_index-in_work_of, in_work_of-one_less, is_in_work-on_order}

@@ -5,27 +5,22 @@ use Rattle.std.specs.Duration.{as_nanos}
 use Rattle.std.specs.declared.time.Duration.{Duration}
 use Rattle.std.proofs.lemmas.List.{length-map}
 use Rattle.r2d2_core.specs.declared.run.Step.TheVariants as step
-use Rattle.r2d2_core.specs.Connections.{SeenIdleConnection, id_of_idle, is_expired, is_kept, closing, closed_of}
+use Rattle.r2d2_core.specs.Connections.{SeenIdleConnection, id_of_idle, is_expired, is_kept, released_at, closed_of}
 use Rattle.r2d2_core.specs.Picture.{IsSound}
-use Rattle.r2d2_core.specs.Table.{at, ordered, swept, reap_closed, reap_orders, after_reap}
+use Rattle.r2d2_core.specs.Table.{raised_to, ordered, swept, reap_closed, reap_orders, after_reap}
 use Rattle.r2d2_core.specs.Seen.{SeenAnswer, Reaped}
 use Rattle.r2d2_core.specs.History.{History, Then, limits_of, now_of, is_closed, moment_of}
 use Rattle.r2d2_core.specs.Deeds.{Going, deed, deeds_in, idle_of, lent_of, admitted_count, gone_count, connections_of}
 use Rattle.r2d2_core.specs.Pending.{on_order_of}
 use Rattle.r2d2_core.specs.Answers.{orders_of, picture_of}
-use Rattle.r2d2_core.specs.Follows.{IsKept, Follows}
+use Rattle.r2d2_core.proofs.Histories.Kept.{IsKept, Follows}
 use Rattle.std.proofs.lemmas.List.Filters.{length-filter_both}
-use Rattle.r2d2_core.proofs.Histories.GoingOnes.{less_gone, going_deeds, idle_of-going, lent_of-going, admitted_are}
+use Rattle.r2d2_core.proofs.Histories.GoingOnes.{less_gone, apart_in, closings_go, going_deeds, idle_of-going, lent_of-going, admitted_are}
 use Rattle.r2d2_core.proofs.Histories.Orders.{IsOrdering, orders_if_closed, orders_of-top_up, picture_of-ordered, kept_ordered}
 use Rattle.r2d2_core.proofs.Histories.Following.{follows_accepted}
 use Rattle.r2d2_core.proofs.Facts.Sounds.{sound_reap}
 
 module _ {T : Type 0} where
-  closings_go : (t : ℕ) (cs : List (SeenIdleConnection T)) → map (λ c. deed {T = T} c.id t Going) (map (closing t) cs) ≡ going_deeds id_of_idle t cs
-  unfolding closing
-  closings_go t [] = refl
-  closings_go t (c ∷ cs) = ap (λ l. deed c.id t Going ∷ l) (closings_go t cs)
-
   -- the moment of a reap, raised to the latest
   abbrev reaped_at : History T → Duration → ℕ
   reaped_at h now = max (now_of h) (as_nanos now)
@@ -37,17 +32,17 @@ module _ {T : Type 0} where
   reaped_by h now n = Reaped (closed_of (limits_of h) (reaped_at h now) (idle_of h)) n
 
   expired_go : (h : History T) (now : Duration) (n : ℕ) → deeds_in (moment_of h (step.Reap now)) (step.Reap now) (reaped_by h now n) ≡ going_deeds id_of_idle (reaped_at h now) (expired_of h now)
-  expired_go h now n = closings_go (reaped_at h now) (expired_of h now)
+  expired_go h now n = closings_go (reaped_at h now) (reaped_at h now) (expired_of h now)
 
   pub idle_of-reap : (h : History T) (now : Duration) (n : ℕ) → IsKept h → idle_of (Then h (step.Reap now) (reaped_by h now n)) ≡ filter (is_kept (limits_of h) (reaped_at h now)) (idle_of h)
   unfolding is_expired is_kept
-  idle_of-reap h now n kept = idle_of-going h (step.Reap now) (reaped_by h now n) (reaped_at h now) (is_expired (limits_of h) (reaped_at h now)) (expired_go h now n) (λ i. refl) kept.sound
+  idle_of-reap h now n kept = idle_of-going h (step.Reap now) (reaped_by h now n) (reaped_at h now) (is_expired (limits_of h) (reaped_at h now)) (expired_go h now n) (λ i. refl) (apart_in h kept.sound)
 
   pub lent_of-reap : (h : History T) (now : Duration) (n : ℕ) → IsKept h → lent_of (Then h (step.Reap now) (reaped_by h now n)) ≡ lent_of h
-  lent_of-reap h now n kept = lent_of-going h (step.Reap now) (reaped_by h now n) (reaped_at h now) (is_expired (limits_of h) (reaped_at h now)) (expired_go h now n) (λ i. refl) kept.sound
+  lent_of-reap h now n kept = lent_of-going h (step.Reap now) (reaped_by h now n) (reaped_at h now) (is_expired (limits_of h) (reaped_at h now)) (expired_go h now n) (λ i. refl) (apart_in h kept.sound)
 
   length-closed_of : (h : History T) (now : Duration) → length (closed_of (limits_of h) (reaped_at h now) (idle_of h)) ≡ length (expired_of h now)
-  length-closed_of h now = length-map (expired_of h now) (closing (reaped_at h now))
+  length-closed_of h now = length-map (expired_of h now) (released_at (reaped_at h now))
 
   pub connections_of-reap : (h : History T) (now : Duration) (n : ℕ) → connections_of (Then h (step.Reap now) (reaped_by h now n)) ≡ connections_of h - length (expired_of h now)
   unfolding connections_of
@@ -83,7 +78,7 @@ module _ {T : Type 0} where
       → picture_of (Then h (step.Reap now) (reaped_by h now n)) ≡ after_reap (as_nanos now) (picture_of h)
   unfolding picture_of on_order_of
   picture_of-reap h now n kept orders none =
-      let p = swept (at (as_nanos now) (picture_of h)) in
+      let p = swept (raised_to (as_nanos now) (picture_of h)) in
       picture_of-ordered h (step.Reap now) (reaped_by h now n) p n (ordering_reap h now n) kept refl none
       refl (idle_of-reap h now n kept) (lent_of-reap h now n kept) refl (connections_of-reap h now n) refl
       ∙ ap (λ k. ordered k p) orders

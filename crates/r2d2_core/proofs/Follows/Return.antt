@@ -10,13 +10,14 @@ use Rattle.r2d2_core.specs.Refusals.{ok_or_back, unless_refused}
 use Rattle.r2d2_core.specs.Seen.{SeenAnswer, Kept, CameBack}
 use Rattle.r2d2_core.specs.OnOrder.{top_up}
 use Rattle.r2d2_core.specs.Picture.{Picture, IsSound}
-use Rattle.r2d2_core.specs.Table.{at, ordered, lent_refusal, lent_birth, kept as kept_one, lost, return_by, returned_by, returning, returned, return_answer, after_return}
+use Rattle.r2d2_core.specs.Table.{raised_to, ordered, lent_refusal, lent_birth, kept_one, gone_one, return_by, returned_by, return_of, returned, return_answer, after_return}
 use Rattle.r2d2_core.specs.History.{History, Then, is_closed, now_of}
 use Rattle.r2d2_core.specs.Deeds.{Going, Keeping, birth_of, idle_of, connections_of, admitted_count, gone_count}
 use Rattle.r2d2_core.specs.Pending.{on_order_of}
 use Rattle.r2d2_core.specs.Answers.{refusal_of, is_lent, closes, return_with, reply_with, orders_of, orders_by, top_up_after, picture_of}
-use Rattle.r2d2_core.specs.Follows.{IsKept, Follows}
+use Rattle.r2d2_core.proofs.Histories.Kept.{IsKept, Follows}
 use Rattle.r2d2_core.proofs.Facts.Accounted.{passes, not_false}
+use Rattle.r2d2_core.proofs.Histories.GoingOnes.{apart_in}
 use Rattle.r2d2_core.proofs.Histories.LentOnes.{lent_birth-is, lent_refusal-is, lent_of-back, idle_of-lost, idle_of-kept, lent_is_connected}
 use Rattle.r2d2_core.proofs.Histories.Orders.{IsOrdering, orders_if_closed, orders_of-top_up, picture_of-ordered, picture_of-unordered, kept_ordered}
 use Rattle.r2d2_core.proofs.Histories.Following.{follows_accepted, follows_refused}
@@ -35,7 +36,7 @@ module _ {T : Type 0} where
   then_back h now id value broken n b = Then h (step.PutBack now id value broken) (back_reply h (as_nanos now) id value n b)
 
   idle_of-gone : (h : History T) (now : Duration) (id : ℕ) (value : T) (broken : Bool) (n : ℕ) → is_lent h id ≡ true → IsSound (picture_of h) → idle_of (then_back h now id value broken n true) ≡ idle_of h
-  idle_of-gone h now id value broken n lent sound = idle_of-lost h (step.PutBack now id value broken) (back_reply h (as_nanos now) id value n true) id (max (now_of h) (as_nanos now)) refl (λ i. refl) lent sound
+  idle_of-gone h now id value broken n lent sound = idle_of-lost h (step.PutBack now id value broken) (back_reply h (as_nanos now) id value n true) id (max (now_of h) (as_nanos now)) refl (λ i. refl) lent (apart_in h sound)
 
   connections_of-gone : (h : History T) (now : Duration) (id : ℕ) (value : T) (broken : Bool) (n : ℕ) → connections_of (then_back h now id value broken n true) ≡ connections_of h - 1
   unfolding connections_of
@@ -79,21 +80,21 @@ module _ {T : Type 0} where
 
   picture_of-return : (h : History T) (now : Duration) (id : ℕ) (value : T) (broken : Bool) (n : ℕ) (b : Bool) → is_lent h id ≡ true → IsKept h
       → n ≡ back_orders h b → (is_closed h ≡ true → n ≡ 0)
-      → picture_of (then_back h now id value broken n b) ≡ returned_by b id (birth_of h id) value (at (as_nanos now) (picture_of h))
+      → picture_of (then_back h now id value broken n b) ≡ returned_by b id (birth_of h id) value (raised_to (as_nanos now) (picture_of h))
   unfolding picture_of
   picture_of-return h now id value broken n true lent kept orders none =
       let s : Step T = step.PutBack now id value broken in
       let r = back_reply h (as_nanos now) id value n true in
-      let p = lost id (at (as_nanos now) (picture_of h)) in
+      let p = gone_one id (raised_to (as_nanos now) (picture_of h)) in
       picture_of-ordered h s r p n (ordering_return h now id value broken n true) kept refl none
-      refl (idle_of-gone h now id value broken n lent kept.sound) (lent_of-back h s r id (max (now_of h) (as_nanos now)) Going refl (λ i. refl) (λ birth. refl) kept.sound) refl (connections_of-gone h now id value broken n) refl
+      refl (idle_of-gone h now id value broken n lent kept.sound) (lent_of-back h s r id (max (now_of h) (as_nanos now)) Going refl (λ i. refl) (λ birth. refl) (apart_in h kept.sound)) refl (connections_of-gone h now id value broken n) refl
       ∙ ap (λ k. ordered k p) orders
   picture_of-return h now id value broken n false lent kept orders none =
       let s : Step T = step.PutBack now id value broken in
       let r = back_reply h (as_nanos now) id value n false in
       let t = max (now_of h) (as_nanos now) in
-      picture_of-unordered h s r (kept_one id (birth_of h id) value (at (as_nanos now) (picture_of h))) (ordering_return h now id value broken n false) kept refl
-      refl (idle_of-kept h s r id t value refl (λ i. refl) lent kept.sound) (lent_of-back h s r id t (Keeping value) refl (λ i. refl) (λ birth. refl) kept.sound) refl (connections_of-kept h now id value broken n) refl
+      picture_of-unordered h s r (kept_one id (birth_of h id) value (raised_to (as_nanos now) (picture_of h))) (ordering_return h now id value broken n false) kept refl
+      refl (idle_of-kept h s r id t value refl (λ i. refl) lent (apart_in h kept.sound)) (lent_of-back h s r id t (Keeping value) refl (λ i. refl) (λ birth. refl) (apart_in h kept.sound)) refl (connections_of-kept h now id value broken n) refl
 
   gone_of-return : (h : History T) (now : Duration) (id : ℕ) (value : T) (broken : Bool) (n : ℕ) (b : Bool) → is_lent h id ≡ true → IsKept h → gone_count (then_back h now id value broken n b) ≤ admitted_count h
   gone_of-return h now id value broken n true lent kept = lent_is_connected h id lent kept.sound
@@ -101,7 +102,7 @@ module _ {T : Type 0} where
 
   -- the answer of the table, where it orders as many
   return_by-is : (h : History T) (now : Duration) (id : ℕ) (value : T) (n : ℕ) (b : Bool) → n ≡ back_orders h b
-      → CameBack (Ok (return_by b id (birth_of h id) value (at (as_nanos now) (picture_of h)))) ≡ back_reply h (as_nanos now) id value n b
+      → CameBack (Ok (return_by b id (birth_of h id) value (raised_to (as_nanos now) (picture_of h)))) ≡ back_reply h (as_nanos now) id value n b
   unfolding picture_of
   return_by-is h now id value n true orders = ap (λ k. back_reply h (as_nanos now) id value k true) (sym orders)
   return_by-is h now id value n false orders = refl
@@ -109,13 +110,13 @@ module _ {T : Type 0} where
   -- one that is accepted, closed or kept
   follows_back : (h : History T) (now : Duration) (id : ℕ) (value : T) (broken b : Bool) → IsKept h → is_lent h id ≡ true
       → closes h (max (now_of h) (as_nanos now)) id broken ≡ b → refusal_of h (step.PutBack now id value broken) ≡ None
-      → IsSound (returned_by b id (birth_of h id) value (at (as_nanos now) (picture_of h)))
-      → Follows h (step.PutBack now id value broken) (CameBack (Ok (return_by b id (birth_of h id) value (at (as_nanos now) (picture_of h))))) (returned_by b id (birth_of h id) value (at (as_nanos now) (picture_of h)))
+      → IsSound (returned_by b id (birth_of h id) value (raised_to (as_nanos now) (picture_of h)))
+      → Follows h (step.PutBack now id value broken) (CameBack (Ok (return_by b id (birth_of h id) value (raised_to (as_nanos now) (picture_of h))))) (returned_by b id (birth_of h id) value (raised_to (as_nanos now) (picture_of h)))
   follows_back h now id value broken b kept lent e accepted sound =
       let s : Step T = step.PutBack now id value broken in
       let n = orders_of h s in
       let orders : n ≡ back_orders h b = orders_of-return h now id value broken b e lent kept.sound in
-      let picture : picture_of (then_back h now id value broken n b) ≡ returned_by b id (birth_of h id) value (at (as_nanos now) (picture_of h)) = picture_of-return h now id value broken n b lent kept orders (orders_if_closed h s) in
+      let picture : picture_of (then_back h now id value broken n b) ≡ returned_by b id (birth_of h id) value (raised_to (as_nanos now) (picture_of h)) = picture_of-return h now id value broken n b lent kept orders (orders_if_closed h s) in
       let r : reply_with h n s ≡ back_reply h (as_nanos now) id value n b = ap (back_reply h (as_nanos now) id value n) e in
       follows_accepted h s _ _ accepted
       (return_by-is h now id value n b orders ∙ sym r)
@@ -131,14 +132,14 @@ module _ {T : Type 0} where
     s = step.PutBack now id value broken
 
     p : Picture T
-    p = at (as_nanos now) (picture_of h)
+    p = raised_to (as_nanos now) (picture_of h)
 
     by : (why : Option Refusal) → refusal_of h s ≡ why → Follows h s (CameBack (return_answer (as_nanos now) id value broken (picture_of h))) (after_return (as_nanos now) id value broken (picture_of h))
     by None accepted =
         let none : lent_refusal id (picture_of h) ≡ None = lent_refusal-is h id ∙ accepted in
         let lent : is_lent h id ≡ true = not_false (is_lent h id) (passes (not (is_lent h id)) refusal.NotLent None accepted).0 in
         let born : lent_birth id (picture_of h) ≡ birth_of h id = lent_birth-is h id lent in
-        let reply : return_answer (as_nanos now) id value broken (picture_of h) ≡ Ok (returning id (birth_of h id) value broken p) = ap (λ o. ok_or_back o value (returning id (lent_birth id (picture_of h)) value broken p)) none ∙ ap (λ birth. Ok (returning id birth value broken p)) born in
+        let reply : return_answer (as_nanos now) id value broken (picture_of h) ≡ Ok (return_of id (birth_of h id) value broken p) = ap (λ o. ok_or_back o value (return_of id (lent_birth id (picture_of h)) value broken p)) none ∙ ap (λ birth. Ok (return_of id birth value broken p)) born in
         let new : after_return (as_nanos now) id value broken (picture_of h) ≡ returned id (birth_of h id) value broken p = ap (λ o. unless_refused o (returned id (lent_birth id (picture_of h)) value broken p) (picture_of h)) none ∙ ap (λ birth. returned id birth value broken p) born in
         let follows = follows_back h now id value broken (closes h (max (now_of h) (as_nanos now)) id broken) kept lent refl accepted (subst IsSound new (sound_return (as_nanos now) id value broken kept.sound)) in
         record {
@@ -149,6 +150,6 @@ module _ {T : Type 0} where
     by (Some why) refused =
         let some : lent_refusal id (picture_of h) ≡ Some why = lent_refusal-is h id ∙ refused in
         follows_refused h s _ _ why refused
-        (ap (λ o. CameBack (ok_or_back o value (returning id (lent_birth id (picture_of h)) value broken p))) some)
+        (ap (λ o. CameBack (ok_or_back o value (return_of id (lent_birth id (picture_of h)) value broken p))) some)
         (ap (λ o. unless_refused o (returned id (lent_birth id (picture_of h)) value broken p) (picture_of h)) some)
         kept

@@ -6,7 +6,7 @@ use Rattle.r2d2_core.specs.declared.run.Answer.{Answer}
 use Rattle.r2d2_core.specs.Picture.{Picture}
 use Rattle.r2d2_core.specs.History.{History}
 use Rattle.r2d2_core.specs.Answers.{answer_of, after, answers_of, after_all, picture_of}
-use Rattle.r2d2_core.specs.Follows.{IsKept}
+use Rattle.r2d2_core.proofs.Histories.Kept.{IsKept}
 use Rattle.r2d2_core.specs.Steps.{seen_answer, step_answer, after_step}
 use Rattle.r2d2_core.proofs.Follows.Step.{follows_there}
 

@@ -6,7 +6,7 @@ use Rattle.r2d2_core.specs.Picture.{Picture}
 use Rattle.r2d2_core.specs.Seen.{SeenAnswer}
 use Rattle.r2d2_core.specs.History.{History}
 use Rattle.r2d2_core.specs.Answers.{picture_of}
-use Rattle.r2d2_core.specs.Follows.{IsKept, Follows}
+use Rattle.r2d2_core.proofs.Histories.Kept.{IsKept, Follows}
 use Rattle.r2d2_core.specs.Steps.{step_answer, after_step}
 use Rattle.r2d2_core.proofs.Follows.Take.{follows_take}
 use Rattle.r2d2_core.proofs.Follows.Begin.{follows_begin}

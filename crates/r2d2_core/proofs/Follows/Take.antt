@@ -10,58 +10,22 @@ use Rattle.r2d2_core.specs.Ids.{last_of, front, copies_of}
 use Rattle.r2d2_core.specs.Connections.{SeenIdleConnection, lent_connection, id_of_idle, id_of_lent}
 use Rattle.r2d2_core.specs.Seen.{Taken, Found, Empty}
 use Rattle.r2d2_core.specs.Picture.{IsSound}
-use Rattle.r2d2_core.specs.Table.{at, ordered, lent_out, take_orders, taken, take_answer, after_take}
-use Rattle.r2d2_core.specs.Seen.{taking}
+use Rattle.r2d2_core.specs.Table.{raised_to, ordered, lent_out, take_orders, taken, take_answer, after_take}
+use Rattle.r2d2_core.specs.Seen.{take_with}
 use Rattle.r2d2_core.specs.History.{History, Then, is_closed, moment_of}
 use Rattle.r2d2_core.specs.Deeds.{Deed, deed, id_of_deed, Taking_out, birth_of, idle_of, lent_of, connections_of, gone_count}
 use Rattle.r2d2_core.specs.Pending.{on_order_of}
 use Rattle.r2d2_core.specs.Answers.{orders_of, orders_by, picture_of}
-use Rattle.r2d2_core.specs.Follows.{IsKept, Follows}
-use Rattle.r2d2_core.proofs.Lists.Ids.{copies_of-append3, copies_of-last, last_is}
-use Rattle.r2d2_core.proofs.Lists.Filters.{filter-absent, filter-last}
-use Rattle.r2d2_core.proofs.Facts.Latest.{one_other}
-use Rattle.r2d2_core.proofs.Histories.Deeds.{idle_of-then, lent_of-then, idle_of-none, lent_of-none}
-use Rattle.r2d2_core.proofs.Histories.Births.{birth_of-last}
+use Rattle.r2d2_core.proofs.Histories.Kept.{IsKept, Follows}
+use Rattle.r2d2_core.proofs.Histories.Deeds.{idle_of-none, lent_of-none}
+use Rattle.r2d2_core.proofs.Histories.GoingOnes.{apart_in}
+use Rattle.r2d2_core.proofs.Histories.Comings.{idle_of-found, lent_of-found}
 use Rattle.r2d2_core.proofs.Histories.Orders.{IsOrdering, orders_if_closed, orders_of-top_up, picture_of-ordered, kept_ordered}
 use Rattle.r2d2_core.proofs.Histories.Following.{follows_accepted}
 use Rattle.r2d2_core.proofs.Facts.Sounds.{sound_take}
 
-copies_of-self : (i : ℕ) → copies_of i (i ∷ []) ≡ 1
-copies_of-self i = ap (λ b. cond b 1 0 + 0) (eq-eqb i i refl)
-
 module _ {T : Type 0} where
-  -- the last idle one stands once among the idle, and is not lent
-  once_in_front : (h : History T) (c : SeenIdleConnection T) → last_of (idle_of h) ≡ Some c → IsSound (picture_of h) → copies_of c.id (map id_of_idle (front (idle_of h))) ≡ 0
-  unfolding picture_of
-  once_in_front h c e sound =
-      let self : copies_of c.id (c.id ∷ []) ≡ 1 = copies_of-self c.id in
-      omega (arith, sound.apart c.id, copies_of-append3 c.id (map id_of_idle (idle_of h)) (map id_of_lent (lent_of h)) (on_order_of h).numbered, copies_of-last id_of_idle c.id (idle_of h) c e, self)
-
-  idle_not_lent : (h : History T) (c : SeenIdleConnection T) → last_of (idle_of h) ≡ Some c → IsSound (picture_of h) → copies_of c.id (map id_of_lent (lent_of h)) ≡ 0
-  unfolding picture_of
-  idle_not_lent h c e sound =
-      let self : copies_of c.id (c.id ∷ []) ≡ 1 = copies_of-self c.id in
-      omega (arith, sound.apart c.id, copies_of-append3 c.id (map id_of_idle (idle_of h)) (map id_of_lent (lent_of h)) (on_order_of h).numbered, copies_of-last id_of_idle c.id (idle_of h) c e, self)
-
-  idle_of-take : (h : History T) (now : Duration) (or_order : Bool) (c : SeenIdleConnection T) (n : ℕ) → last_of (idle_of h) ≡ Some c → IsSound (picture_of h)
-      → idle_of (Then h (step.Take now or_order) (Taken (Found c.id c.birth c.value n))) ≡ front (idle_of h)
-  idle_of-take h now or_order c n e sound =
-      let d : Deed T = deed c.id (moment_of h (step.Take now or_order)) Taking_out in
-      idle_of-then h (step.Take now or_order) (Taken (Found c.id c.birth c.value n)) (d ∷ []) refl (λ i other. refl)
-      ∙ (append-nil _
-      ∙ (one_other id_of_deed d id_of_idle (idle_of h)
-      ∙ (ap (filter (λ y. not (c.id == y.id))) (last_is (idle_of h) c e)
-      ∙ filter-last id_of_idle (front (idle_of h)) c (once_in_front h c e sound))))
-
-  lent_of-take : (h : History T) (now : Duration) (or_order : Bool) (c : SeenIdleConnection T) (n : ℕ) → last_of (idle_of h) ≡ Some c → IsSound (picture_of h)
-      → lent_of (Then h (step.Take now or_order) (Taken (Found c.id c.birth c.value n))) ≡ lent_of h ++ lent_connection c.id c.birth ∷ []
-  lent_of-take h now or_order c n e sound =
-      let d : Deed T = deed c.id (moment_of h (step.Take now or_order)) Taking_out in
-      lent_of-then h (step.Take now or_order) (Taken (Found c.id c.birth c.value n)) (d ∷ []) refl (λ i other. refl)
-      ∙ (ap (λ l. l ++ lent_connection c.id (birth_of h c.id) ∷ []) (one_other id_of_deed d id_of_lent (lent_of h) ∙ filter-absent id_of_lent c.id (lent_of h) (idle_not_lent h c e sound))
-      ∙ ap (λ b. lent_of h ++ lent_connection c.id b ∷ []) (sym (birth_of-last h c e)))
-
-  connections_of-take : (h : History T) (now : Duration) (or_order : Bool) (m : Option (SeenIdleConnection T)) (n : ℕ) → connections_of (Then h (step.Take now or_order) (Taken (taking m n))) ≡ connections_of h
+  connections_of-take : (h : History T) (now : Duration) (or_order : Bool) (m : Option (SeenIdleConnection T)) (n : ℕ) → connections_of (Then h (step.Take now or_order) (Taken (take_with m n))) ≡ connections_of h
   unfolding connections_of
   connections_of-take h now or_order None n = refl
   connections_of-take h now or_order (Some c) n = refl
@@ -72,15 +36,15 @@ module _ {T : Type 0} where
   unfolding orders_of picture_of on_order_of
   orders_of-take h now or_order None e sound =
       let s = step.Take now or_order in
-      ap (λ m. cond (is_closed h) 0 (orders_by h (Then h s (Taken (taking m 0))) s (Taken (taking m 0)))) e
+      ap (λ m. cond (is_closed h) 0 (orders_by h (Then h s (Taken (take_with m 0))) s (Taken (take_with m 0)))) e
   orders_of-take h now or_order (Some c) e sound =
       let s = step.Take now or_order in
       orders_of-top_up h s (length (front (idle_of h))) (connections_of h)
       (rw e refl)
-      (rw e (ap length (idle_of-take h now or_order c 0 e sound)))
+      (rw e (ap length (idle_of-found h s (Taken (Found c.id c.birth c.value 0)) _ c refl (λ i. refl) e (apart_in h sound))))
       (connections_of-take h now or_order (last_of (idle_of h)) 0)
 
-  ordering_take : (h : History T) (now : Duration) (or_order : Bool) (m : Option (SeenIdleConnection T)) (n : ℕ) → IsOrdering h (step.Take now or_order) (Taken (taking m n))
+  ordering_take : (h : History T) (now : Duration) (or_order : Bool) (m : Option (SeenIdleConnection T)) (n : ℕ) → IsOrdering h (step.Take now or_order) (Taken (take_with m n))
   ordering_take h now or_order m n = record {
     closed = refl;
     scheduled = refl;
@@ -95,22 +59,22 @@ module _ {T : Type 0} where
   -- the picture after a take
   picture_of-take : (h : History T) (now : Duration) (or_order : Bool) (m : Option (SeenIdleConnection T)) (n : ℕ) → last_of (idle_of h) ≡ m → IsKept h
       → n ≡ take_orders m or_order (picture_of h) → (is_closed h ≡ true → n ≡ 0)
-      → picture_of (Then h (step.Take now or_order) (Taken (taking m n))) ≡ taken m or_order (at (as_nanos now) (picture_of h))
+      → picture_of (Then h (step.Take now or_order) (Taken (take_with m n))) ≡ taken m or_order (raised_to (as_nanos now) (picture_of h))
   unfolding picture_of
   picture_of-take h now or_order None n e kept orders none =
       let s = step.Take now or_order in
-      let p = at (as_nanos now) (picture_of h) in
+      let p = raised_to (as_nanos now) (picture_of h) in
       picture_of-ordered h s (Taken (Empty n)) p n (ordering_take h now or_order None n) kept refl none
       refl (idle_of-none h s (Taken (Empty n)) refl (λ i. refl)) (lent_of-none h s (Taken (Empty n)) refl (λ i. refl)) refl (connections_of-take h now or_order None n) refl
       ∙ ap (λ k. ordered k p) orders
   picture_of-take h now or_order (Some c) n e kept orders none =
       let s = step.Take now or_order in
-      let p = lent_out c (at (as_nanos now) (picture_of h)) in
+      let p = lent_out c (raised_to (as_nanos now) (picture_of h)) in
       picture_of-ordered h s (Taken (Found c.id c.birth c.value n)) p n (ordering_take h now or_order (Some c) n) kept refl none
-      refl (idle_of-take h now or_order c n e kept.sound) (lent_of-take h now or_order c n e kept.sound) refl (connections_of-take h now or_order (Some c) n) refl
+      refl (idle_of-found h s (Taken (Found c.id c.birth c.value n)) _ c refl (λ i. refl) e (apart_in h kept.sound)) (lent_of-found h s (Taken (Found c.id c.birth c.value n)) _ c refl (λ i. refl) e (apart_in h kept.sound)) refl (connections_of-take h now or_order (Some c) n) refl
       ∙ ap (λ k. ordered k p) orders
 
-  gone_of-take : (h : History T) (now : Duration) (or_order : Bool) (m : Option (SeenIdleConnection T)) (n : ℕ) → gone_count (Then h (step.Take now or_order) (Taken (taking m n))) ≡ gone_count h
+  gone_of-take : (h : History T) (now : Duration) (or_order : Bool) (m : Option (SeenIdleConnection T)) (n : ℕ) → gone_count (Then h (step.Take now or_order) (Taken (take_with m n))) ≡ gone_count h
   gone_of-take h now or_order None n = refl
   gone_of-take h now or_order (Some c) n = refl
 
@@ -122,8 +86,8 @@ module _ {T : Type 0} where
       let m = last_of (idle_of h) in
       let n = orders_of h s in
       let orders : n ≡ take_orders m or_order (picture_of h) = orders_of-take h now or_order m refl kept.sound in
-      let picture : picture_of (Then h s (Taken (taking m n))) ≡ after_take (as_nanos now) or_order (picture_of h) = picture_of-take h now or_order m n refl kept orders (orders_if_closed h s) in
+      let picture : picture_of (Then h s (Taken (take_with m n))) ≡ after_take (as_nanos now) or_order (picture_of h) = picture_of-take h now or_order m n refl kept orders (orders_if_closed h s) in
       follows_accepted h s (Taken (take_answer or_order (picture_of h))) (after_take (as_nanos now) or_order (picture_of h)) refl
-      (ap (λ k. Taken (taking m k)) (sym orders))
+      (ap (λ k. Taken (take_with m k)) (sym orders))
       (sym picture)
-      (kept_ordered h s (Taken (taking m n)) (ordering_take h now or_order m n) kept (subst IsSound (sym picture) (sound_take (as_nanos now) or_order kept.sound)) (omega (arith, kept.gone_were_admitted, gone_of-take h now or_order m n)))
+      (kept_ordered h s (Taken (take_with m n)) (ordering_take h now or_order m n) kept (subst IsSound (sym picture) (sound_take (as_nanos now) or_order kept.sound)) (omega (arith, kept.gone_were_admitted, gone_of-take h now or_order m n)))

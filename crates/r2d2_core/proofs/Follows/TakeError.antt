@@ -7,7 +7,7 @@ use Rattle.r2d2_core.specs.Table.{after_take_error}
 use Rattle.r2d2_core.specs.History.{History, Then}
 use Rattle.r2d2_core.specs.Deeds.{connections_of}
 use Rattle.r2d2_core.specs.Answers.{last_error_of, picture_of}
-use Rattle.r2d2_core.specs.Follows.{IsKept, Follows}
+use Rattle.r2d2_core.proofs.Histories.Kept.{IsKept, Follows}
 use Rattle.r2d2_core.proofs.Histories.Deeds.{idle_of-none, lent_of-none}
 use Rattle.r2d2_core.proofs.Histories.Orders.{IsOrdering, picture_of-unordered, kept_ordered}
 use Rattle.r2d2_core.proofs.Histories.Following.{follows_accepted}

@@ -1,17 +1,22 @@
 -- What one more deed does to the latest deeds, and so to what is idle and lent.
-use Rattle.std.proofs.Common.{◌≡◌, ℕ, Bool, true, false, cond, List, [], ◌∷◌, ◌++◌, Option, Some, None, refl, ◌∙◌, ap}
+use Rattle.std.proofs.Common.{◌≡◌, ℕ, ◌+◌, ◌≤◌, Bool, true, false, cond, List, [], ◌∷◌, ◌++◌, map, Option, Some, None, refl, ◌∙◌, ap}
 use Rattle.std.specs.Prelude.{filter, filter_map}
 use Rattle.std.specs.List.{cons_option}
 use Rattle.std.specs.Option.{MatchOption}
 use Rattle.std.proofs.lemmas.List.{append-nil}
 use Rattle.std.proofs.lemmas.List.Elements.{filter_map-append}
 use Rattle.r2d2_core.specs.declared.run.Step.{Step}
-use Rattle.r2d2_core.specs.Ids.{latest}
+use Rattle.r2d2_core.specs.Ids.{latest, copies_of}
+use Rattle.r2d2_core.specs.Connections.{id_of_idle, id_of_lent}
 use Rattle.r2d2_core.specs.History.{History, Then, moment_of}
 use Rattle.r2d2_core.specs.Deeds.{Deed, What, Admission, Taking_out, Keeping, Going, deeds_of, deeds_in, id_of_deed, birth_of, admits, as_idle, as_lent, idle_of, lent_of}
 use Rattle.r2d2_core.specs.Seen.{SeenAnswer}
 use Rattle.r2d2_core.proofs.Lists.Filters.{filter_true}
 use Rattle.r2d2_core.proofs.Facts.Latest.{is_other, latest-append}
+
+-- no id stands twice among the idle and the lent ones
+abbrev pub AreApart : {T : Type 0} → History T → Type 0
+AreApart h = (i : ℕ) → copies_of i (map id_of_idle (idle_of h)) + copies_of i (map id_of_lent (lent_of h)) ≤ 1
 
 keeps_step : {X Y : Type 0} (b : Bool) (o : Option Y) (q : Y → Bool) (f : X → Option Y) (x : X) (xs : List X) (ys zs : List Y)
     → f x ≡ o → MatchOption o (Unit {0}) (λ y. q y ≡ b) → filter_map f xs ≡ filter q ys

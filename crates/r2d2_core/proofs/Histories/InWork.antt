@@ -9,7 +9,7 @@ use Rattle.r2d2_core.specs.Openings.{one_more, one_less}
 use Rattle.r2d2_core.specs.History.{History, is_closed}
 use Rattle.r2d2_core.specs.Pending.{begun_of, ended_of, in_work_at, in_work_of}
 use Rattle.r2d2_core.specs.Answers.{is_in_work}
-use Rattle.r2d2_core.specs.Follows.{IsKept}
+use Rattle.r2d2_core.proofs.Histories.Kept.{IsKept}
 
 -- the two counts differ at one place
 map_changed : (f g : ℕ → ℕ) (n k v : ℕ) → (k < n → g k ≡ v) → ((j : ℕ) → j ≢ k → g j ≡ f j) → map g (range_with_len 0 n) ≡ slice_set (map f (range_with_len 0 n)) k v

@@ -18,7 +18,7 @@ use Rattle.r2d2_core.specs.Deeds.{Deed, What, Admission, Taking_out, Keeping, Go
 use Rattle.r2d2_core.specs.Pending.{numbered_of, on_order_of}
 use Rattle.r2d2_core.specs.Answers.{is_lent, picture_of}
 use Rattle.r2d2_core.proofs.Histories.Births.{shown_all}
-use Rattle.r2d2_core.proofs.Histories.Deeds.{idle_of-then, lent_of-then}
+use Rattle.r2d2_core.proofs.Histories.Deeds.{AreApart, idle_of-then, lent_of-then}
 use Rattle.r2d2_core.proofs.Facts.Latest.{is_other, one_other}
 use Rattle.r2d2_core.proofs.Lists.Filters.{filter-absent, filter-once}
 use Rattle.r2d2_core.proofs.Lists.Ids.{copies_of-append3}
@@ -73,53 +73,50 @@ module _ {T : Type 0} where
   unfolding lent_of
   births_of_lent h = shown_all (λ c. c.birth ≡ birth_of h c.id) (λ d. as_lent (birth_of h d.id) d) (λ d. birth_shown (birth_of h) d.id d.at d.what) (latest id_of_deed (deeds_of h))
 
+  pub birth_of-lent : (h : History T) (id : ℕ) → is_lent h id ≡ true → unwrap_or (birth_in id (lent_of h)) 0 ≡ birth_of h id
+  birth_of-lent h id lent = born_as (birth_of h) id (lent_of h) (births_of_lent h) lent
+
   pub lent_birth-is : (h : History T) (id : ℕ) → is_lent h id ≡ true → lent_birth id (picture_of h) ≡ birth_of h id
   unfolding picture_of
-  lent_birth-is h id lent = born_as (birth_of h) id (lent_of h) (births_of_lent h) lent
+  lent_birth-is h id lent = birth_of-lent h id lent
 
   -- the refusal of the table is that of the history
   pub lent_refusal-is : (h : History T) (id : ℕ) → lent_refusal id (picture_of h) ≡ refused_if (not (is_lent h id)) refusal.NotLent None
   unfolding picture_of
   lent_refusal-is h id = ap (λ b. refused_if (not b) refusal.NotLent None) (is_some-birth_in id (lent_of h))
 
-  -- a lent id stands once among the lent ones, and not among the idle ones
-  pub once_lent : (h : History T) (id : ℕ) → IsSound (picture_of h) → copies_of id (map id_of_lent (lent_of h)) ≤ 1
-  unfolding picture_of on_order_of
-  once_lent h id sound = omega (arith, sound.apart id, copies_of-append3 id (map id_of_idle (idle_of h)) (map id_of_lent (lent_of h)) (numbered_of h))
-
-  pub lent_not_idle : (h : History T) (id : ℕ) → is_lent h id ≡ true → IsSound (picture_of h) → copies_of id (map id_of_idle (idle_of h)) ≡ 0
-  unfolding picture_of on_order_of
-  lent_not_idle h id lent sound =
-      omega (arith, sound.apart id, copies_of-append3 id (map id_of_idle (idle_of h)) (map id_of_lent (lent_of h)) (numbered_of h), copies_of-found id_of_lent id (lent_of h) lent)
+  -- a lent id is not among the idle ones
+  lent_not_idle : (h : History T) (id : ℕ) → is_lent h id ≡ true → AreApart h → copies_of id (map id_of_idle (idle_of h)) ≡ 0
+  lent_not_idle h id lent apart = omega (arith, apart id, copies_of-found id_of_lent id (lent_of h) lent)
 
   -- a step that takes a lent one back, whether it keeps it or not
   pub lent_of-back : (h : History T) (s : Step T) (r : SeenAnswer T) (id t : ℕ) (w : What T) → deeds_in (moment_of h s) s r ≡ deed id t w ∷ [] → ((i : ℕ) → admits s i ≡ false)
-      → ((birth : ℕ) → as_lent birth (deed id t w) ≡ None) → IsSound (picture_of h) → lent_of (Then h s r) ≡ without id_of_lent id (lent_of h)
-  lent_of-back h s r id t w e none not_taken sound =
+      → ((birth : ℕ) → as_lent birth (deed id t w) ≡ None) → AreApart h → lent_of (Then h s r) ≡ without id_of_lent id (lent_of h)
+  lent_of-back h s r id t w e none not_taken apart =
       let d : Deed T = deed id t w in
       lent_of-then h s r (d ∷ []) e (λ i other. none i)
       ∙ (ap (λ o. filter (λ c. is_other id_of_deed (d ∷ []) c.id) (lent_of h) ++ cons_option o []) (not_taken (birth_of (Then h s r) id))
       ∙ (append-nil _
       ∙ (one_other id_of_deed d id_of_lent (lent_of h)
-      ∙ filter-once id_of_lent id (lent_of h) (once_lent h id sound))))
+      ∙ filter-once id_of_lent id (lent_of h) (omega (arith, apart id)))))
 
   -- what is idle stays where it is gone
   pub idle_of-lost : (h : History T) (s : Step T) (r : SeenAnswer T) (id t : ℕ) → deeds_in (moment_of h s) s r ≡ deed id t Going ∷ [] → ((i : ℕ) → admits s i ≡ false)
-      → is_lent h id ≡ true → IsSound (picture_of h) → idle_of (Then h s r) ≡ idle_of h
-  idle_of-lost h s r id t e none lent sound =
+      → is_lent h id ≡ true → AreApart h → idle_of (Then h s r) ≡ idle_of h
+  idle_of-lost h s r id t e none lent apart =
       let d : Deed T = deed id t Going in
       idle_of-then h s r (d ∷ []) e (λ i other. none i)
       ∙ (append-nil _
       ∙ (one_other id_of_deed d id_of_idle (idle_of h)
-      ∙ filter-absent id_of_idle id (idle_of h) (lent_not_idle h id lent sound)))
+      ∙ filter-absent id_of_idle id (idle_of h) (lent_not_idle h id lent apart)))
 
   -- where it is kept, it is the last
   pub idle_of-kept : (h : History T) (s : Step T) (r : SeenAnswer T) (id t : ℕ) (value : T) → deeds_in (moment_of h s) s r ≡ deed id t (Keeping value) ∷ [] → ((i : ℕ) → admits s i ≡ false)
-      → is_lent h id ≡ true → IsSound (picture_of h) → idle_of (Then h s r) ≡ idle_of h ++ idle_connection id (birth_of h id) t value ∷ []
-  idle_of-kept h s r id t value e none lent sound =
+      → is_lent h id ≡ true → AreApart h → idle_of (Then h s r) ≡ idle_of h ++ idle_connection id (birth_of h id) t value ∷ []
+  idle_of-kept h s r id t value e none lent apart =
       let d : Deed T = deed id t (Keeping value) in
       idle_of-then h s r (d ∷ []) e (λ i other. none i)
-      ∙ (ap (λ l. l ++ idle_connection id (birth_of (Then h s r) id) t value ∷ []) (one_other id_of_deed d id_of_idle (idle_of h) ∙ filter-absent id_of_idle id (idle_of h) (lent_not_idle h id lent sound))
+      ∙ (ap (λ l. l ++ idle_connection id (birth_of (Then h s r) id) t value ∷ []) (one_other id_of_deed d id_of_idle (idle_of h) ∙ filter-absent id_of_idle id (idle_of h) (lent_not_idle h id lent apart))
       ∙ ap (λ b. idle_of h ++ idle_connection id (cond b (moment_of h s) (birth_of h id)) t value ∷ []) (none id))
 
   -- a lent one was admitted and is not gone

@@ -8,7 +8,7 @@ use Rattle.r2d2_core.specs.History.{History, Made}
 use Rattle.r2d2_core.specs.Deeds.{idle_of, lent_of, connections_of}
 use Rattle.r2d2_core.specs.Pending.{pending_of, in_work_at, in_work_of, next_id_of, numbered_of, next_reap_of, on_order_of}
 use Rattle.r2d2_core.specs.Answers.{picture_of}
-use Rattle.r2d2_core.specs.Follows.{IsKept}
+use Rattle.r2d2_core.proofs.Histories.Kept.{IsKept}
 use Rattle.r2d2_core.proofs.Histories.Orders.{same_on_order, picture_of-is}
 use Rattle.r2d2_core.proofs.Facts.Sounds.{sound_first}
 

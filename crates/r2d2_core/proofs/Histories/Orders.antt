@@ -15,7 +15,7 @@ use Rattle.r2d2_core.specs.History.{History, Then, limits_of, is_closed, now_of,
 use Rattle.r2d2_core.specs.Deeds.{idle_of, lent_of, connections_of, admitted_count, gone_count}
 use Rattle.r2d2_core.specs.Pending.{ordered_in, ordered_of, pending_of, scheduled_of, begun_of, ended_of, in_work_at, in_work_of, ids_of, next_id_of, is_admitted, numbered_of, reaps_of, next_reap_of, on_order_of}
 use Rattle.r2d2_core.specs.Answers.{orders_of, orders_by, top_up_after, reply_with, last_error_of, picture_of}
-use Rattle.r2d2_core.specs.Follows.{IsKept}
+use Rattle.r2d2_core.proofs.Histories.Kept.{IsKept}
 
 -- a step after h, with its reply, orders as many as the reply says, and does nothing else to what is on order
 pub record IsOrdering {T : Type 0} (h : History T) (s : Step T) (r : SeenAnswer T) : Type 0 where

@@ -6,23 +6,27 @@ use Rattle.r2d2_core.specs.declared.machine.answers.Refusal.{Refusal}
 use Rattle.r2d2_core.specs.declared.machine.answers.Refusal.TheVariants as refusal
 use Rattle.r2d2_core.specs.Limits.{SeenLimits}
 use Rattle.r2d2_core.specs.Ids.{last_of, copies_of}
-use Rattle.r2d2_core.specs.Connections.{SeenIdleConnection, closing, is_expired, birth_in}
-use Rattle.r2d2_core.specs.Jobs.{SeenJob, Open, Reap, Wait, Nothing, Ended}
+use Rattle.r2d2_core.specs.Connections.{SeenIdleConnection, released_at, is_expired, birth_in}
+use Rattle.r2d2_core.specs.Jobs.{SeenJob, Open, Reap, Wait, Nothing, Closed}
 use Rattle.r2d2_core.specs.Refusals.{ok_unless, ok_or_back, unless_refused}
 use Rattle.r2d2_core.specs.OnOrder.{SeenOnOrder, job_at, begun_by, number_refusal, numbered_one, fail_refusal, admit_refusal}
 use Rattle.r2d2_core.specs.Picture.{Picture, IsSound}
-use Rattle.r2d2_core.specs.Table.{at, with_on_order, first_picture, take_orders, taken, take_answer, after_take, after_begin, after_number, failed, after_fail, admitted_at, admit_answer, after_admit, with_text, lost, topped_up, lent_refusal, lent_birth, is_closing, returned_by, returned, returning, return_answer, after_return, loss, check_answer, after_check, reap_closed, reap_orders, after_reap, after_close}
-use Rattle.r2d2_core.specs.Seen.{taking}
+use Rattle.r2d2_core.specs.Table.{raised_to, with_on_order, first_picture, take_orders, taken, take_answer, after_take, after_begin, after_number, failed, after_fail, admitted_at, admit_answer, after_admit, with_text, gone_one, topped_up, lent_refusal, lent_birth, is_closing, returned_by, returned, return_of, return_answer, after_return, gone_with, check_answer, after_check, reap_closed, reap_orders, after_reap, after_close}
+use Rattle.r2d2_core.specs.Seen.{take_with}
 use Rattle.r2d2_core.specs.Seen.{or_text}
 use Rattle.r2d2_core.specs.Records.{SeenRecord}
-use Rattle.r2d2_core.specs.Replay.{Standing, first_standing, replay_of}
+use Rattle.r2d2_core.specs.History.{Made}
+use Rattle.r2d2_core.specs.Deeds.{idle_of, lent_of, connections_of}
+use Rattle.r2d2_core.specs.Pending.{pending_of}
+use Rattle.r2d2_core.specs.Replay.{Retelling}
 use Rattle.r2d2_core.specs.Recorded.{record_of_take, record_of_admission, record_of_return, record_of_check, record_of_reap, record_of_close}
 use Rattle.r2d2_core.specs.Journal.{SeenJournal, seen_journal, with_noted, one_more_lost}
-use Rattle.r2d2_core.specs.Book.{SeenBook, bare, limits_in, KeepReplaying, IsRecorded}
+use Rattle.r2d2_core.specs.Book.{SeenBook, ComesTo, bare, limits_of_book, making_of}
+use Rattle.r2d2_core.specs.BookParts.{KeepReplaying, IsRecorded}
 use Rattle.r2d2_core.proofs.Facts.Accounted.{passes, not_false, found_numbered}
 use Rattle.r2d2_core.proofs.Facts.Steady.{sound_at, sound_told}
 use Rattle.r2d2_core.proofs.Lists.Ids.{copies_of-append, copies_of-other}
-use Rattle.r2d2_core.proofs.Recording.Replaying.{same_standing, with_none_more}
+use Rattle.r2d2_core.proofs.Recording.Replaying.{with_none_more}
 use Rattle.r2d2_core.proofs.Recording.Takes.{newest, replaying_at, replaying_taken, replaying_admitted}
 use Rattle.r2d2_core.proofs.Recording.Returns.{replaying_lost, replaying_returned}
 use Rattle.r2d2_core.proofs.Recording.Reaps.{replaying_reap, replaying_close}
@@ -35,7 +39,7 @@ begun_leaves (Open tries) o = (refl, refl, refl, refl, refl)
 begun_leaves Reap o = (refl, refl, refl, refl, refl)
 begun_leaves (Wait due) o = (refl, refl, refl, refl, refl)
 begun_leaves Nothing o = (refl, refl, refl, refl, refl)
-begun_leaves Ended o = (refl, refl, refl, refl, refl)
+begun_leaves Closed o = (refl, refl, refl, refl, refl)
 
 -- ids stay known
 stays_known : (n n' : ℕ) (ids ids' : List ℕ) → n ≡ n' → ids ≡ ids' → (i : ℕ) → (i < n) × (copies_of i ids ≡ 0) → (i < n') × (copies_of i ids' ≡ 0)
@@ -46,56 +50,62 @@ known_numbered next numbered i k = (omega (arith, k.0), omega (arith, k.1, copie
 
 module _ {T : Type 0} where
   -- with one record more
-  one_more_by : (limits : SeenLimits) (base : Standing) (l m : SeenJournal SeenRecord) (r : SeenRecord) (p p' : Picture T) (b : Bool) (rest : List SeenRecord)
-      → (l.lost ≡ 0 → KeepReplaying limits base (reverse l.records) p)
-      → ((rs : List SeenRecord) → KeepReplaying limits base rs p → KeepReplaying limits base (r ∷ rs) p')
+  one_more_by : (base : Retelling) (l m : SeenJournal SeenRecord) (r : SeenRecord) (p p' : Picture T) (b : Bool) (rest : List SeenRecord)
+      → (l.lost ≡ 0 → KeepReplaying base (reverse l.records) p)
+      → ((rs : List SeenRecord) → KeepReplaying base rs p → KeepReplaying base (r ∷ rs) p')
       → m ≡ cond b (seen_journal (l.records ++ r ∷ []) l.room l.lost) (seen_journal rest l.room (one_more_lost l.lost))
-      → m.lost ≡ 0 → KeepReplaying limits base (reverse m.records) p'
-  one_more_by limits base l m r p p' true rest old more is lost =
-      subst (λ rs. KeepReplaying limits base rs p') (sym (ap (λ (k : SeenJournal SeenRecord). reverse k.records) is ∙ reverse-append l.records (r ∷ []))) (more (reverse l.records) (old (sym (ap (λ (k : SeenJournal SeenRecord). k.lost) is) ∙ lost)))
-  one_more_by limits base l m r p p' false rest old more is lost = absurd (not_lost l.lost (sym (ap (λ (k : SeenJournal SeenRecord). k.lost) is) ∙ lost))
+      → m.lost ≡ 0 → KeepReplaying base (reverse m.records) p'
+  one_more_by base l m r p p' true rest old more is lost =
+      subst (λ rs. KeepReplaying base rs p') (sym (ap (λ (k : SeenJournal SeenRecord). reverse k.records) is ∙ reverse-append l.records (r ∷ []))) (more (reverse l.records) (old (sym (ap (λ (k : SeenJournal SeenRecord). k.lost) is) ∙ lost)))
+  one_more_by base l m r p p' false rest old more is lost = absurd (not_lost l.lost (sym (ap (λ (k : SeenJournal SeenRecord). k.lost) is) ∙ lost))
 
   -- or none
-  noted_by : (limits : SeenLimits) (base : Standing) (l m : SeenJournal SeenRecord) (made : Option SeenRecord) (p p' : Picture T)
-      → (l.lost ≡ 0 → KeepReplaying limits base (reverse l.records) p)
-      → ((rs : List SeenRecord) → KeepReplaying limits base rs p → KeepReplaying limits base (newest made rs) p')
-      → m ≡ with_noted made l → m.lost ≡ 0 → KeepReplaying limits base (reverse m.records) p'
-  noted_by limits base l m None p p' old more is lost =
-      subst (λ (k : SeenJournal SeenRecord). KeepReplaying limits base (reverse k.records) p') (sym is) (more (reverse l.records) (old (sym (ap (λ (k : SeenJournal SeenRecord). k.lost) is) ∙ lost)))
-  noted_by limits base l m (Some r) p p' old more is lost = one_more_by limits base l m r p p' (nat_lt (length l.records) l.room) _ old more is lost
+  noted_by : (base : Retelling) (l m : SeenJournal SeenRecord) (made : Option SeenRecord) (p p' : Picture T)
+      → (l.lost ≡ 0 → KeepReplaying base (reverse l.records) p)
+      → ((rs : List SeenRecord) → KeepReplaying base rs p → KeepReplaying base (newest made rs) p')
+      → m ≡ with_noted made l → m.lost ≡ 0 → KeepReplaying base (reverse m.records) p'
+  noted_by base l m None p p' old more is lost =
+      subst (λ (k : SeenJournal SeenRecord). KeepReplaying base (reverse k.records) p') (sym is) (more (reverse l.records) (old (sym (ap (λ (k : SeenJournal SeenRecord). k.lost) is) ∙ lost)))
+  noted_by base l m (Some r) p p' old more is lost = one_more_by base l m r p p' (nat_lt (length l.records) l.room) _ old more is lost
 
   -- a step that keeps the limits keeps what is recorded, where the records replay with its own
-  pub recorded : (made : Option SeenRecord) (a a' : SeenBook T) (p : Picture T) → a'.picture ≡ p → p.on_order.limits ≡ limits_in a → a'.journal ≡ with_noted made a.journal
-      → ((base : Standing) (rs : List SeenRecord) → KeepReplaying (limits_in a) base rs a.picture → KeepReplaying (limits_in a) base (newest made rs) p)
+  pub recorded : (made : Option SeenRecord) (a a' : SeenBook T) (p : Picture T) → a'.picture ≡ p → p.on_order.limits ≡ limits_of_book a → a'.journal ≡ with_noted made a.journal
+      → ((base : Retelling) (rs : List SeenRecord) → KeepReplaying base rs a.picture → KeepReplaying base (newest made rs) p)
       → IsRecorded a → IsRecorded a'
   recorded made a a' p went same noted more old =
       λ lost.
-      subst (λ (q : Picture T). KeepReplaying q.on_order.limits (first_standing q.on_order.limits 0) (reverse a'.journal.records) q) (sym went)
-      (subst (λ ls. KeepReplaying ls (first_standing ls 0) (reverse a'.journal.records) p) (sym same)
-      (noted_by (limits_in a) (first_standing (limits_in a) 0) a.journal a'.journal made a.picture p old (more (first_standing (limits_in a) 0)) noted lost))
+      subst (λ (q : Picture T). KeepReplaying (Made q.on_order.limits 0 0) (reverse a'.journal.records) q) (sym went)
+      (subst (λ ls. KeepReplaying (Made ls 0 0) (reverse a'.journal.records) p) (sym same)
+      (noted_by (making_of a) a.journal a'.journal made a.picture p old (more (making_of a)) noted lost))
 
   -- MAKING
 
-  replaying_made : (limits : SeenLimits) (now first_id : ℕ) → KeepReplaying {T = T} limits (first_standing limits 0) [] (first_picture limits now first_id)
-  unfolding replay_of
-  replaying_made limits now first_id = record {
-    told = record { legal = refl; shows = same_standing refl refl refl (omega arith) (omega arith) refl };
-    not_after = omega arith;
-    known = λ i e. absurd cc;
-    some_came = omega arith;
-    some_ordered = λ is_open. omega arith;
-  }
+  replaying_made : (limits : SeenLimits) (now first_id : ℕ) → KeepReplaying {T = T} (Made limits 0 0) [] (first_picture limits now first_id)
+  unfolding idle_of lent_of connections_of pending_of
+  replaying_made limits now first_id =
+      let shows : ComesTo {T = T} (Made limits 0 0) (first_picture limits now first_id) =
+      record { limits = refl; idle = refl; lent = refl; connections = omega arith; pending = omega arith; closed = refl } in
+      record {
+        replay = record { legal = refl; shows = shows };
+        tells = record {
+          shows = shows;
+          not_after = omega arith;
+          known = λ i e. absurd cc;
+          some_came = omega arith;
+          some_ordered = λ is_open. omega arith;
+        };
+      }
 
   -- a book just made
   pub recorded_made : (limits : SeenLimits) (now first_id room : ℕ) (a : SeenBook T) → a.picture ≡ first_picture limits now first_id → a.journal ≡ seen_journal [] room 0 → IsRecorded a
   recorded_made limits now first_id room a is none =
       λ lost.
-      subst (λ (p : Picture T). KeepReplaying p.on_order.limits (first_standing p.on_order.limits 0) (reverse a.journal.records) p) (sym is)
-      (subst (λ (l : SeenJournal SeenRecord). KeepReplaying {T = T} limits (first_standing limits 0) (reverse l.records) (first_picture limits now first_id)) (sym none) (replaying_made limits now first_id))
+      subst (λ (p : Picture T). KeepReplaying (Made p.on_order.limits 0 0) (reverse a.journal.records) p) (sym is)
+      (subst (λ (l : SeenJournal SeenRecord). KeepReplaying {T = T} (Made limits 0 0) (reverse l.records) (first_picture limits now first_id)) (sym none) (replaying_made limits now first_id))
 
   -- TAKE
 
-  take_orders-at : (t : ℕ) (o : Bool) (m : Option (SeenIdleConnection T)) (p : Picture T) → take_orders m o (at t p) ≡ take_orders m o p
+  take_orders-at : (t : ℕ) (o : Bool) (m : Option (SeenIdleConnection T)) (p : Picture T) → take_orders m o (raised_to t p) ≡ take_orders m o p
   take_orders-at t o None p = refl
   take_orders-at t o (Some c) p = refl
 
@@ -108,19 +118,19 @@ module _ {T : Type 0} where
   recorded_take t o a a' sound went noted old =
       let p = a.picture in
       let m = last_of p.idle in
-      recorded (record_of_take (max p.latest t) (taking m (take_orders m o (at t p)))) a a' (after_take t o p) went (limits-taken o m (at t p))
-      (noted ∙ ap (λ n. with_noted (record_of_take (max p.latest t) (taking m n)) a.journal) (sym (take_orders-at t o m p)))
-      (λ base rs k. replaying_taken base rs (at t p) o m refl (sound_at t sound) (replaying_at t base rs p k)) old
+      recorded (record_of_take (max p.latest t) (take_with m (take_orders m o (raised_to t p)))) a a' (after_take t o p) went (limits-taken o m (raised_to t p))
+      (noted ∙ ap (λ n. with_noted (record_of_take (max p.latest t) (take_with m n)) a.journal) (sym (take_orders-at t o m p)))
+      (λ base rs k. replaying_taken base rs (raised_to t p) o m refl (sound_at t sound) (replaying_at t base rs p k)) old
 
   -- BEGIN, NUMBER, FAIL, TAKE ERROR
 
   -- a step that leaves what records tell
-  pub recorded_none : (a a' : SeenBook T) (p : Picture T) → a'.picture ≡ p → p.on_order.limits ≡ limits_in a → a'.journal ≡ a.journal
+  pub recorded_none : (a a' : SeenBook T) (p : Picture T) → a'.picture ≡ p → p.on_order.limits ≡ limits_of_book a → a'.journal ≡ a.journal
       → a.picture.idle ≡ p.idle → a.picture.lent ≡ p.lent → a.picture.connections ≡ p.connections → a.picture.on_order.pending ≡ p.on_order.pending → a.picture.on_order.closed ≡ p.on_order.closed → a.picture.latest ≤ p.latest
       → ((i : ℕ) → (i < a.picture.on_order.next_id) × (copies_of i a.picture.on_order.numbered ≡ 0) → (i < p.on_order.next_id) × (copies_of i p.on_order.numbered ≡ 0))
       → IsRecorded a → IsRecorded a'
   recorded_none a a' p went same noted idle lent connections pending closed later known old =
-      recorded None a a' p went same noted (λ base rs k. with_none_more (limits_in a) base rs a.picture p k (ap (map bare) idle) lent connections pending closed later known) old
+      recorded None a a' p went same noted (λ base rs k. with_none_more base rs a.picture p (sym same) k (ap (map bare) idle) lent connections pending closed later known) old
 
   pub recorded_begin : (t : ℕ) (a a' : SeenBook T) → a'.picture ≡ after_begin t a.picture → a'.journal ≡ a.journal → IsRecorded a → IsRecorded a'
   recorded_begin t a a' went noted old =
@@ -152,7 +162,7 @@ module _ {T : Type 0} where
       let p = a.picture in
       let there = found_numbered id p.on_order e in
       recorded (record_of_admission (max p.latest t) id (ok_or_back {T = T} None value tt)) a a' (admitted_at (max p.latest t) id value p) went refl noted
-      (λ base rs k. replaying_admitted base rs (at t p) id value there.0 there.1 (sound_at t sound) (replaying_at t base rs p k)) old
+      (λ base rs k. replaying_admitted base rs (raised_to t p) id value there.0 there.1 (sound_at t sound) (replaying_at t base rs p k)) old
   admit_by t id value a a' (Some why) e sound went noted old = recorded None a a' a.picture went refl noted (λ base rs k. k) old
 
   pub recorded_admit : (t id : ℕ) (value : T) (a a' : SeenBook T) → IsSound a.picture → a'.picture ≡ after_admit t id value a.picture
@@ -170,13 +180,13 @@ module _ {T : Type 0} where
   limits-returned false id birth value p = refl
 
   return_by_refusal : (t id : ℕ) (value : T) (broken : Bool) (a a' : SeenBook T) (why : Option Refusal) → lent_refusal id a.picture ≡ why → IsSound a.picture
-      → a'.picture ≡ unless_refused why (returned id (lent_birth id a.picture) value broken (at t a.picture)) a.picture
-      → a'.journal ≡ with_noted (record_of_return (max a.picture.latest t) id (ok_or_back why value (returning id (lent_birth id a.picture) value broken (at t a.picture)))) a.journal → IsRecorded a → IsRecorded a'
+      → a'.picture ≡ unless_refused why (returned id (lent_birth id a.picture) value broken (raised_to t a.picture)) a.picture
+      → a'.journal ≡ with_noted (record_of_return (max a.picture.latest t) id (ok_or_back why value (return_of id (lent_birth id a.picture) value broken (raised_to t a.picture)))) a.journal → IsRecorded a → IsRecorded a'
   return_by_refusal t id value broken a a' None e sound went noted old =
       let p = a.picture in
-      let closes = is_closing (lent_birth id p) broken (at t p) in
-      recorded _ a a' (returned id (lent_birth id p) value broken (at t p)) went (limits-returned closes id (lent_birth id p) value (at t p)) noted
-      (λ base rs k. replaying_returned closes base rs (at t p) id value broken refl (is_lent id p e) (sound_at t sound) (replaying_at t base rs p k)) old
+      let closes = is_closing (lent_birth id p) broken (raised_to t p) in
+      recorded _ a a' (returned id (lent_birth id p) value broken (raised_to t p)) went (limits-returned closes id (lent_birth id p) value (raised_to t p)) noted
+      (λ base rs k. replaying_returned closes base rs (raised_to t p) id value broken refl (is_lent id p e) (sound_at t sound) (replaying_at t base rs p k)) old
   return_by_refusal t id value broken a a' (Some why) e sound went noted old = recorded None a a' a.picture went refl noted (λ base rs k. k) old
 
   pub recorded_return : (t id : ℕ) (value : T) (broken : Bool) (a a' : SeenBook T) → IsSound a.picture → a'.picture ≡ after_return t id value broken a.picture
@@ -184,17 +194,17 @@ module _ {T : Type 0} where
   recorded_return t id value broken a a' sound went noted old = return_by_refusal t id value broken a a' (lent_refusal id a.picture) refl sound went noted old
 
   -- a text changes nothing that records tell
-  replaying_told : {A : Type 0} (text : Option (String A)) (base : Standing) (rs : List SeenRecord) (p : Picture T) → KeepReplaying p.on_order.limits base rs p → KeepReplaying p.on_order.limits base rs (with_text text p)
-  replaying_told text base rs p k = with_none_more p.on_order.limits base rs p (with_text text p) k refl refl refl refl refl (omega arith) (λ i known. known)
+  replaying_told : {A : Type 0} (text : Option (String A)) (base : Retelling) (rs : List SeenRecord) (p : Picture T) → KeepReplaying base rs p → KeepReplaying base rs (with_text text p)
+  replaying_told text base rs p k = with_none_more base rs p (with_text text p) refl k refl refl refl refl refl (omega arith) (λ i known. known)
 
   check_by : {A : Type 0} (t id : ℕ) (text : Option (String A)) (a a' : SeenBook T) (why : Option Refusal) → lent_refusal id a.picture ≡ why → IsSound a.picture
-      → a'.picture ≡ unless_refused why (topped_up (lost id (with_text text (at t a.picture)))) a.picture
-      → a'.journal ≡ with_noted (record_of_check (max a.picture.latest t) id (ok_unless why (loss id (lent_birth id a.picture) (at t a.picture)))) a.journal → IsRecorded a → IsRecorded a'
+      → a'.picture ≡ unless_refused why (topped_up (gone_one id (with_text text (raised_to t a.picture)))) a.picture
+      → a'.journal ≡ with_noted (record_of_check (max a.picture.latest t) id (ok_unless why (gone_with id (lent_birth id a.picture) (raised_to t a.picture)))) a.journal → IsRecorded a → IsRecorded a'
   check_by t id text a a' None e sound went noted old =
       let p = a.picture in
-      recorded (record_of_check (max p.latest t) id (ok_unless None (loss id (lent_birth id p) (at t p)))) a a' (topped_up (lost id (with_text text (at t p)))) went refl noted
+      recorded (record_of_check (max p.latest t) id (ok_unless None (gone_with id (lent_birth id p) (raised_to t p)))) a a' (topped_up (gone_one id (with_text text (raised_to t p)))) went refl noted
       (λ base rs k.
-      replaying_lost base rs (with_text text (at t p)) id (is_lent id p e) (sound_told (or_text text p.last_error) (sound_at t sound)) (replaying_told text base rs (at t p) (replaying_at t base rs p k))) old
+      replaying_lost base rs (with_text text (raised_to t p)) id (is_lent id p e) (sound_told (or_text text p.last_error) (sound_at t sound)) (replaying_told text base rs (raised_to t p) (replaying_at t base rs p k))) old
   check_by t id text a a' (Some why) e sound went noted old = recorded None a a' a.picture went refl noted (λ base rs k. k) old
 
   pub recorded_check : {A : Type 0} (t id : ℕ) (text : Option (String A)) (a a' : SeenBook T) → IsSound a.picture → a'.picture ≡ after_check t id text a.picture
@@ -209,8 +219,8 @@ module _ {T : Type 0} where
       let p = a.picture in
       let gone = filter (is_expired p.on_order.limits (max p.latest t)) p.idle in
       recorded _ a a' (after_reap t p) went refl
-      (noted ∙ ap (λ n. with_noted (record_of_reap (max p.latest t) n (reap_orders t p)) a.journal) (is ∙ length-map gone (closing (max p.latest t))))
-      (λ base rs k. replaying_reap base rs (at t p) (sound_at t sound) (replaying_at t base rs p k)) old
+      (noted ∙ ap (λ n. with_noted (record_of_reap (max p.latest t) n (reap_orders t p)) a.journal) (is ∙ length-map gone (released_at (max p.latest t))))
+      (λ base rs k. replaying_reap base rs (raised_to t p) (sound_at t sound) (replaying_at t base rs p k)) old
 
   pub recorded_close : (a a' : SeenBook T) → IsSound a.picture → a'.picture ≡ after_close a.picture
       → a'.journal ≡ with_noted (record_of_close a.picture.latest a.picture.on_order.closed) a.journal → IsRecorded a → IsRecorded a'

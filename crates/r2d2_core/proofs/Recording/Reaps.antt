@@ -1,57 +1,34 @@
 -- The records of reaps and of the close.
-use Rattle.std.proofs.Common.{◌≡◌, ℕ, suc, ◌+◌, ◌-◌, ◌≤◌, min, Bool, true, false, cond, ◌||◌, not, ◌==◌, List, [], ◌∷◌, ◌++◌, map, length, Some, None, refl, sym, ◌∙◌, ap, arith}
-use Rattle.std.specs.Prelude.{filter, filter_map, nat_lt, ◌&&◌, if◌then◌else◌}
-use Rattle.std.specs.List.{list_any}
-use Rattle.std.proofs.lemmas.List.{append-nil, length-map}
-use Rattle.std.proofs.lemmas.List.Elements.{filter_agree}
+use Rattle.std.proofs.Common.{◌≡◌, ℕ, ◌+◌, ◌-◌, ◌≤◌, max, Bool, true, false, cond, ◌||◌, not, ◌==◌, List, [], ◌∷◌, map, length, Some, None, refl, sym, ◌∙◌, ap, arith}
+use Rattle.std.specs.Prelude.{nat_le, filter, nat_lt, ◌&&◌}
+use Rattle.std.specs.Duration.{as_nanos}
+use Rattle.std.proofs.lemmas.List.{length-map}
 use Rattle.std.proofs.lemmas.Bool.{eq-eqb, eqb-true}
 use Rattle.std.proofs.lemmas.Bool.Decides.{nat_tests}
-use Rattle.r2d2_core.specs.Limits.{SeenLimits, wanted_of}
-use Rattle.r2d2_core.specs.Ids.{copies_of, latest}
-use Rattle.r2d2_core.specs.Connections.{SeenIdleConnection, SeenLentConnection, id_of_idle, id_of_lent, is_expired, is_kept}
+use Rattle.r2d2_core.specs.declared.run.Step.{Step}
+use Rattle.r2d2_core.specs.declared.run.Step.TheVariants as step
+use Rattle.r2d2_core.specs.Limits.{SeenLimits}
+use Rattle.r2d2_core.specs.Ids.{copies_of}
+use Rattle.r2d2_core.specs.Connections.{SeenIdleConnection, id_of_idle, id_of_lent, pair_of, is_expired, is_kept, released_at}
 use Rattle.r2d2_core.specs.Picture.{Picture, IsSound}
 use Rattle.r2d2_core.specs.Table.{top_up_of, topped_up, swept, after_close}
+use Rattle.r2d2_core.specs.Jobs.{Nothing}
+use Rattle.r2d2_core.specs.Seen as answer
+use Rattle.r2d2_core.specs.History.{Then, limits_of, is_closed, now_of, moment_of}
+use Rattle.r2d2_core.specs.Deeds.{deeds_in, idle_of, lent_of, connections_of, admitted_count, gone_count}
+use Rattle.r2d2_core.specs.Pending.{ordered_of, pending_of}
+use Rattle.r2d2_core.specs.Answers.{reaped_of, reply_with, orders_of}
 use Rattle.r2d2_core.specs.Records.{SeenRecord, Reaped, ClosedAll}
-use Rattle.r2d2_core.specs.Replay.{Idle, Standing, BornDeed, id_of_born, goes, is_untouched, idle_after, lent_after, admissions, departures, is_none_idle}
+use Rattle.r2d2_core.specs.Replay.{Retelling, of_nanos, told}
 use Rattle.r2d2_core.specs.Recorded.{record_of_reap, record_of_close}
-use Rattle.r2d2_core.specs.Book.{bare, KeepReplaying}
-use Rattle.r2d2_core.proofs.Lists.Filters.{filter_true, filter-outside, filter-apart, copies_of-filter}
-use Rattle.r2d2_core.proofs.Lists.Ids.{copies_of-append3}
-use Rattle.r2d2_core.proofs.Facts.Latest.{any_id, none_left}
-use Rattle.r2d2_core.proofs.Recording.Replaying.{both, with_one_more, with_none_more}
-use Rattle.r2d2_core.proofs.Recording.Takes.{newest, open_for, pending_rest, ids_bare, none_ordered, none_pending}
-
--- THOSE THAT GO
-
-going-admissions : (at : ℕ) (cs : List Idle) → admissions (map (goes at) cs) ≡ 0
-going-admissions at [] = refl
-going-admissions at (c ∷ cs) = going-admissions at cs
-
-going-departures : (at : ℕ) (cs : List Idle) → departures (map (goes at) cs) ≡ length cs
-going-departures at [] = refl
-going-departures at (c ∷ cs) = ap suc (going-departures at cs)
-
--- with ids apart, those stay that do not go
-stay_idle : (p : Idle → Bool) (at : ℕ) (cs : List Idle) → ((i : ℕ) → copies_of i (map id_of_idle cs) ≤ 1)
-    → filter (λ c. is_untouched (map (goes at) (filter p cs)) c.id) cs ++ filter_map idle_after (latest id_of_born (map (goes at) (filter p cs))) ≡ filter (λ c. not (p c)) cs
-stay_idle p at cs apart =
-    let gone = filter p cs in
-    let stay = filter (λ (c : Idle). is_untouched (map (goes at) gone) c.id) cs in
-    ap (λ l. stay ++ l) (none_left id_of_born idle_after (goes at) gone (λ c. refl))
-    ∙ (append-nil stay
-    ∙ (filter_agree (λ c. is_untouched (map (goes at) gone) c.id) (λ c. not (list_any (λ x. id_of_idle x == id_of_idle c) gone)) (λ c. ap not (any_id id_of_born (goes at) c.id gone)) cs
-    ∙ filter-outside p id_of_idle cs apart))
-
--- and so does all that is lent
-stay_lent : (p : Idle → Bool) (at : ℕ) (cs : List Idle) (lent : List SeenLentConnection) → ((i : ℕ) → copies_of i (map id_of_idle cs) + copies_of i (map id_of_lent lent) ≤ 1)
-    → filter (λ c. is_untouched (map (goes at) (filter p cs)) c.id) lent ++ filter_map lent_after (latest id_of_born (map (goes at) (filter p cs))) ≡ lent
-stay_lent p at cs lent apart =
-    let gone = filter p cs in
-    let stay = filter (λ (c : SeenLentConnection). is_untouched (map (goes at) gone) c.id) lent in
-    ap (λ l. stay ++ l) (none_left id_of_born lent_after (goes at) gone (λ c. refl))
-    ∙ (append-nil stay
-    ∙ (filter_agree (λ c. is_untouched (map (goes at) gone) c.id) (λ c. not (list_any (λ x. id_of_idle x == id_of_lent c) gone)) (λ c. ap not (any_id id_of_born (goes at) c.id gone)) lent
-    ∙ filter-apart id_of_idle id_of_lent gone lent (λ i. omega (arith, apart i, copies_of-filter p id_of_idle i cs))))
+use Rattle.r2d2_core.specs.Book.{bare}
+use Rattle.r2d2_core.specs.BookParts.{Tells, KeepReplaying}
+use Rattle.r2d2_core.proofs.Lists.Filters.{filter_true}
+use Rattle.r2d2_core.proofs.Histories.Deeds.{AreApart, idle_of-none, lent_of-none}
+use Rattle.r2d2_core.proofs.Histories.GoingOnes.{closings_go, pairs_go, going_deeds, idle_of-going, lent_of-going}
+use Rattle.r2d2_core.proofs.Histories.Orders.{orders_of-top_up}
+use Rattle.r2d2_core.proofs.Recording.Replaying.{raised_is, as_nanos-of, both, le_is, apart_told, top_up_told, Says, with_one_more, with_none_more}
+use Rattle.r2d2_core.proofs.Recording.Takes.{newest, none_ordered, none_pending, pending_told}
 
 map_cond : {X Y : Type 0} (f : X → Y) (b : Bool) (x : X) (xs : List X) → map f (cond b (x ∷ xs) xs) ≡ cond b (f x ∷ map f xs) (map f xs)
 map_cond f true x xs = refl
@@ -70,15 +47,15 @@ none_true [] = refl
 none_true (x ∷ xs) = none_true xs
 
 -- a reap that closed or ordered says so
-says_some : (closed n : ℕ) (cs : List Idle) → length cs ≡ closed → ((closed == 0) && (n == 0)) ≡ false → (nat_lt 0 n || not (is_none_idle cs)) ≡ true
-says_some closed n [] e some = none_closed (n == 0) n refl (ap (λ k. (k == 0) && (n == 0)) e ∙ some) where
-  none_closed : (b : Bool) (n : ℕ) → (n == 0) ≡ b → (true && b) ≡ false → (nat_lt 0 n || false) ≡ true
-  none_closed true n e h = absurd cc
-  none_closed false n e h = grind (arith, nat_tests)
-says_some closed n (c ∷ cs) e some = any_true (nat_lt 0 n) where
-  any_true : (b : Bool) → (b || true) ≡ true
-  any_true true = refl
-  any_true false = refl
+says_some : (closed gone n : ℕ) → closed ≡ gone → ((gone == 0) && (n == 0)) ≡ false → (nat_lt 0 n || nat_lt 0 closed) ≡ true
+says_some closed gone n e some = by (nat_lt 0 n) (nat_lt 0 closed) refl refl where
+  by : (a b : Bool) → nat_lt 0 n ≡ a → nat_lt 0 closed ≡ b → (a || b) ≡ true
+  by true b f g = refl
+  by false true f g = refl
+  by false false f g =
+      let no_n : n ≡ 0 = grind (arith, nat_tests) in
+      let no_closed : closed ≡ 0 = grind (arith, nat_tests) in
+      absurd (cc (some, both (gone == 0) (n == 0) (eq-eqb gone 0 (sym e ∙ no_closed)) (eq-eqb n 0 no_n)))
 
 -- a reap that closed and ordered nothing
 none_at_all : (closed n : ℕ) → ((closed == 0) && (n == 0)) ≡ true → (closed ≡ 0) × (n ≡ 0)
@@ -105,7 +82,7 @@ open_if_some true gone n g o some = absurd (cc (some, none_is gone n (g refl) (o
 open_if_some false gone n g o some = refl
 
 module _ {T : Type 0} where
-  filter_bare : (p : Idle → Bool) (xs : List (SeenIdleConnection T)) → filter p (map bare xs) ≡ map bare (filter (λ c. p (bare c)) xs)
+  filter_bare : (p : SeenIdleConnection (Unit {0}) → Bool) (xs : List (SeenIdleConnection T)) → filter p (map bare xs) ≡ map bare (filter (λ c. p (bare c)) xs)
   filter_bare p [] = refl
   filter_bare p (x ∷ xs) = ap (λ l. cond (p (bare x)) (bare x ∷ l) l) (filter_bare p xs) ∙ sym (map_cond bare (p (bare x)) x (filter (λ c. p (bare c)) xs))
 
@@ -118,104 +95,131 @@ module _ {T : Type 0} where
   unfolding is_expired is_kept
   kept_bare limits now xs = filter_bare (λ c. not (is_expired limits now c)) xs
 
+  -- what a reap closes of a history that tells of the picture
+  abbrev gone_in : Picture T → List (SeenIdleConnection T)
+  gone_in p = filter (is_expired p.on_order.limits p.latest) p.idle
+
+  expired_told : (h : Retelling) (p : Picture T) → Tells h p → filter (is_expired (limits_of h) p.latest) (idle_of h) ≡ map bare (gone_in p)
+  expired_told h p k =
+      ap (λ ls. filter (is_expired ls p.latest) (idle_of h)) k.shows.limits
+      ∙ (ap (filter (is_expired p.on_order.limits p.latest)) k.shows.idle ∙ expired_bare p.on_order.limits p.latest p.idle)
+
+  kept_told : (h : Retelling) (p : Picture T) → Tells h p → filter (λ c. not (is_expired (limits_of h) p.latest c)) (idle_of h) ≡ map bare (filter (is_kept p.on_order.limits p.latest) p.idle)
+  kept_told h p k =
+      ap (λ ls. filter (λ c. not (is_expired ls p.latest c)) (idle_of h)) k.shows.limits
+      ∙ (ap (filter (λ c. not (is_expired p.on_order.limits p.latest c))) k.shows.idle ∙ kept_bare p.on_order.limits p.latest p.idle)
+
   -- a reap that closed or ordered, at its moment
-  replaying_reaped : (base : Standing) (rs : List SeenRecord) (p : Picture T) → ((length (filter (is_expired p.on_order.limits p.latest) p.idle) == 0) && (top_up_of (swept p) == 0)) ≡ false
-      → (p.on_order.closed ≡ false) → IsSound p → KeepReplaying p.on_order.limits base rs p
-      → KeepReplaying p.on_order.limits base (Reaped p.latest (top_up_of (swept p)) ∷ rs) (topped_up (swept p))
-  replaying_reaped base rs p some is_open sound old =
-      let limits = p.on_order.limits in
-      let closed = p.on_order.closed in
-      let pending = p.on_order.pending in
-      let expired : Idle → Bool = is_expired limits p.latest in
-      let gone = filter (is_expired limits p.latest) p.idle in
-      let bares = map bare p.idle in
+  says_reaped : (h : Retelling) (p : Picture T) → ((length (gone_in p) == 0) && (top_up_of (swept p) == 0)) ≡ false
+      → (p.on_order.closed ≡ false) → IsSound p → Tells h p → Says h (Reaped p.latest (top_up_of (swept p))) (topped_up (swept p))
+  unfolding connections_of pending_of
+  says_reaped h p some is_open sound k =
       let n = top_up_of (swept p) in
-      let es : List BornDeed = map (goes p.latest) (filter expired bares) in
-      let sums = λ (i : ℕ). copies_of-append3 i (map id_of_idle p.idle) (map id_of_lent p.lent) p.on_order.numbered in
-      let ids = λ (i : ℕ). ap (copies_of i) (ids_bare p.idle) in
-      let counted : length (filter expired bares) ≡ length gone = ap length (expired_bare limits p.latest p.idle) ∙ length-map gone bare in
-      let departs : departures es ≡ length gone = going-departures p.latest (filter expired bares) ∙ counted in
-      let admits : admissions es ≡ 0 = going-admissions p.latest (filter expired bares) in
-      with_one_more limits base rs (Reaped p.latest n) es p (topped_up (swept p)) old
-      (record {
-        deeds = refl;
-        idle = stay_idle expired p.latest bares (λ i. omega (arith, sound.apart i, sums i, ids i)) ∙ kept_bare limits p.latest p.idle;
-        lent = stay_lent expired p.latest bares p.lent (λ i. omega (arith, sound.apart i, sums i, ids i));
-        connections = omega (arith, departs, admits);
-        some_there = omega (arith, departs, admits, sound.counted, fewer_filtered (is_expired limits p.latest) p.idle);
-        pending = ap (λ k. cond closed 0 (pending + n - k)) admits ∙ pending_rest closed pending n (λ is. absurd (cc (is, is_open)));
-        some_pending = omega (arith, admits);
-        closed = refl;
-        later = omega arith;
-        not_after = omega arith;
-        known = old.known;
-        is_open = open_for closed false is_open;
-        fit = λ k.
-            both (n == _) _
-            (eq-eqb n _ (ap (λ j. if closed then 0 else min (wanted_of limits - j) (limits.max_size - (p.connections - length gone) - pending)) (sym (length-map (filter (is_kept limits p.latest) p.idle) bare))))
-            (says_some (length gone) n (filter expired bares) counted some);
-      })
+      let s : Step (Unit {0}) = step.Reap (of_nanos p.latest) in
+      let r = answer.Reaped (reaped_of h p.latest) n in
+      let apart = apart_told h p k sound in
+      let raised : max (now_of h) (as_nanos (of_nanos p.latest)) ≡ p.latest = raised_is (now_of h) p.latest k.not_after in
+      let gone : length (reaped_of h p.latest) ≡ length (gone_in p) =
+      length-map (filter (is_expired (limits_of h) p.latest) (idle_of h)) (released_at p.latest) ∙ (ap length (expired_told h p k) ∙ length-map (gone_in p) bare) in
+      let still = filter (is_kept p.on_order.limits p.latest) p.idle in
+      let connections : admitted_count h - (gone_count h + length (reaped_of h p.latest)) ≡ p.connections - length (gone_in p) = omega (arith, k.shows.connections, gone) in
+      let idle : (m : ℕ) → idle_of (Then h s (answer.Reaped (reaped_of h p.latest) m)) ≡ map bare still =
+      λ m. idle_of-going h s (answer.Reaped (reaped_of h p.latest) m) (max (now_of h) (as_nanos (of_nanos p.latest))) (is_expired (limits_of h) p.latest)
+      (closings_go (max (now_of h) (as_nanos (of_nanos p.latest))) p.latest (filter (is_expired (limits_of h) p.latest) (idle_of h))) (λ i. refl) apart
+      ∙ kept_told h p k in
+      let reply : reply_with h 0 s ≡ answer.Reaped (reaped_of h p.latest) 0 = ap (λ t. answer.Reaped (reaped_of h t) 0) raised in
+      let orders : orders_of h s ≡ n =
+      orders_of-top_up h s (length still) (p.connections - length (gone_in p)) refl
+      (ap (λ a. length (idle_of (Then h s a))) reply ∙ (ap length (idle 0) ∙ length-map still bare))
+      (ap (λ a. connections_of (Then h s a)) reply ∙ connections)
+      ∙ top_up_told h p k (length still) (p.connections - length (gone_in p)) in
+      record {
+        fit = both (nat_le (now_of h) p.latest) _ (le_is (now_of h) p.latest k.not_after)
+            (both (n == orders_of h s) _ (eq-eqb n (orders_of h s) (sym orders)) (says_some (length (reaped_of h p.latest)) (length (gone_in p)) n gone some));
+        tells = record {
+          shows = record {
+            limits = k.shows.limits;
+            idle = idle n;
+            lent =
+                lent_of-going h s r (max (now_of h) (as_nanos (of_nanos p.latest))) (is_expired (limits_of h) p.latest)
+                (closings_go (max (now_of h) (as_nanos (of_nanos p.latest))) p.latest (filter (is_expired (limits_of h) p.latest) (idle_of h))) (λ i. refl) apart
+                ∙ k.shows.lent;
+            connections = connections;
+            pending = pending_told h p n k (λ c. absurd (cc (c, is_open)));
+            closed = k.shows.closed;
+          };
+          not_after = omega (arith, raised);
+          known = k.known;
+          some_came = omega (arith, k.some_came, k.shows.connections, sound.counted, gone, fewer_filtered (is_expired p.on_order.limits p.latest) p.idle);
+          some_ordered = λ open_now. omega (arith, k.some_ordered open_now);
+        };
+      }
 
   -- a reap that closed and ordered nothing
-  replaying_idle_reap : (base : Standing) (rs : List SeenRecord) (p : Picture T) → length (filter (is_expired p.on_order.limits p.latest) p.idle) ≡ 0 → top_up_of (swept p) ≡ 0 → KeepReplaying p.on_order.limits base rs p
-      → KeepReplaying p.on_order.limits base rs (topped_up (swept p))
+  replaying_idle_reap : (base : Retelling) (rs : List SeenRecord) (p : Picture T) → length (gone_in p) ≡ 0 → top_up_of (swept p) ≡ 0 → KeepReplaying base rs p
+      → KeepReplaying base rs (topped_up (swept p))
   unfolding is_expired is_kept
   replaying_idle_reap base rs p none_gone none old =
-      let limits = p.on_order.limits in
-      with_none_more limits base rs p (topped_up (swept p)) old
-      (sym (ap (map bare) (all_stay (is_expired limits p.latest) p.idle none_gone))) refl (omega (arith, none_gone)) (omega (arith, none)) refl (omega arith) (λ i k. k)
+      with_none_more base rs p (topped_up (swept p)) refl old
+      (sym (ap (map bare) (all_stay (is_expired p.on_order.limits p.latest) p.idle none_gone))) refl (omega (arith, none_gone)) (omega (arith, none)) refl (omega arith) (λ i k. k)
 
-  reap_step : (base : Standing) (rs : List SeenRecord) (p : Picture T) (b : Bool) → ((length (filter (is_expired p.on_order.limits p.latest) p.idle) == 0) && (top_up_of (swept p) == 0)) ≡ b → IsSound p
-      → KeepReplaying p.on_order.limits base rs p → KeepReplaying p.on_order.limits base (newest (cond b None (Some (Reaped p.latest (top_up_of (swept p))))) rs) (topped_up (swept p))
+  reap_step : (base : Retelling) (rs : List SeenRecord) (p : Picture T) (b : Bool) → ((length (gone_in p) == 0) && (top_up_of (swept p) == 0)) ≡ b → IsSound p
+      → KeepReplaying base rs p → KeepReplaying base (newest (cond b None (Some (Reaped p.latest (top_up_of (swept p))))) rs) (topped_up (swept p))
   reap_step base rs p true e sound old =
-      let none = none_at_all (length (filter (is_expired p.on_order.limits p.latest) p.idle)) (top_up_of (swept p)) e in
+      let none = none_at_all (length (gone_in p)) (top_up_of (swept p)) e in
       replaying_idle_reap base rs p none.0 none.1 old
   reap_step base rs p false e sound old =
       let closed = p.on_order.closed in
-      let gone : closed ≡ true → length (filter (is_expired p.on_order.limits p.latest) p.idle) ≡ 0 = λ is. ap (λ l. length (filter (is_expired p.on_order.limits p.latest) l)) (sound.none_once_closed is) in
+      let gone : closed ≡ true → length (gone_in p) ≡ 0 = λ is. ap (λ l. length (filter (is_expired p.on_order.limits p.latest) l)) (sound.none_once_closed is) in
       let orders : closed ≡ true → top_up_of (swept p) ≡ 0 = λ is. none_ordered closed _ is in
-      replaying_reaped base rs p e (open_if_some closed _ _ gone orders e) sound old
+      with_one_more base rs _ p _ (says_reaped _ p e (open_if_some closed _ _ gone orders e) sound) old
 
   -- a reap, at its moment
-  pub replaying_reap : (base : Standing) (rs : List SeenRecord) (p : Picture T) → IsSound p → KeepReplaying p.on_order.limits base rs p
-      → KeepReplaying p.on_order.limits base (newest (record_of_reap p.latest (length (filter (is_expired p.on_order.limits p.latest) p.idle)) (top_up_of (swept p))) rs) (topped_up (swept p))
+  pub replaying_reap : (base : Retelling) (rs : List SeenRecord) (p : Picture T) → IsSound p → KeepReplaying base rs p
+      → KeepReplaying base (newest (record_of_reap p.latest (length (filter (is_expired p.on_order.limits p.latest) p.idle)) (top_up_of (swept p))) rs) (topped_up (swept p))
   replaying_reap base rs p sound old = reap_step base rs p _ refl sound old
 
   -- CLOSE
 
-  close_step : (base : Standing) (rs : List SeenRecord) (p : Picture T) (b : Bool) → p.on_order.closed ≡ b → IsSound p → KeepReplaying p.on_order.limits base rs p
-      → KeepReplaying p.on_order.limits base (newest (cond b None (Some (ClosedAll p.latest))) rs) (after_close p)
+  says_closed : (h : Retelling) (p : Picture T) → p.on_order.closed ≡ false → IsSound p → Tells h p → Says h (ClosedAll p.latest) (after_close p)
+  unfolding connections_of pending_of
+  says_closed h p is_open sound k =
+      let b : Step (Unit {0}) = step.Begin (of_nanos p.latest) in
+      let g : Retelling = Then h b (answer.Begun Nothing) in
+      let left = answer.Left (map pair_of (idle_of h)) in
+      let same_idle : idle_of g ≡ idle_of h = idle_of-none h b (answer.Begun Nothing) refl (λ i. refl) in
+      let same_lent : lent_of g ≡ lent_of h = lent_of-none h b (answer.Begun Nothing) refl (λ i. refl) in
+      let apart : AreApart g = λ i. omega (arith, apart_told h p k sound i, ap (λ l. copies_of i (map id_of_idle l)) same_idle, ap (λ l. copies_of i (map id_of_lent l)) same_lent) in
+      let t = moment_of g step.Close in
+      let go : deeds_in t step.Close left ≡ going_deeds id_of_idle t (filter (λ c. true) (idle_of g)) =
+      pairs_go t (idle_of h) ∙ ap (going_deeds id_of_idle t) (sym same_idle ∙ sym (filter_true (idle_of g))) in
+      let count : length (map pair_of (idle_of h)) ≡ length p.idle = length-map (idle_of h) pair_of ∙ (ap length k.shows.idle ∙ length-map p.idle bare) in
+      record {
+        fit = both (nat_le (now_of h) p.latest) _ (le_is (now_of h) p.latest k.not_after) (ap not k.shows.closed ∙ ap not is_open);
+        tells = record {
+          shows = record {
+            limits = k.shows.limits;
+            idle = idle_of-going g step.Close left t (λ c. true) go (λ i. refl) apart ∙ none_true (idle_of g);
+            lent = lent_of-going g step.Close left t (λ c. true) go (λ i. refl) apart ∙ (same_lent ∙ k.shows.lent);
+            connections = omega (arith, k.shows.connections, count);
+            pending = refl;
+            closed = refl;
+          };
+          not_after = omega (arith, k.not_after, as_nanos-of p.latest);
+          known = λ i kn. let o = k.known i kn in (o.0, refl);
+          some_came = omega (arith, k.some_came, k.shows.connections, sound.counted, count);
+          some_ordered = λ open_now. absurd (cc open_now);
+        };
+      }
+
+  close_step : (base : Retelling) (rs : List SeenRecord) (p : Picture T) (b : Bool) → p.on_order.closed ≡ b → IsSound p → KeepReplaying base rs p
+      → KeepReplaying base (newest (cond b None (Some (ClosedAll p.latest))) rs) (after_close p)
   close_step base rs p true e sound old =
-      with_none_more p.on_order.limits base rs p (after_close p) old
+      with_none_more base rs p (after_close p) refl old
       (ap (map bare) (sound.none_once_closed e)) refl (omega (arith, ap length (sound.none_once_closed e))) (none_pending p sound e) e (omega arith) (λ i k. (k.0, refl))
-  close_step base rs p false e sound old =
-      let at = p.latest in
-      let bares = map bare p.idle in
-      let all = λ (c : Idle). true in
-      let es : List BornDeed = map (goes at) bares in
-      let every : map (goes at) (filter all bares) ≡ es = ap (map (goes at)) (filter_true bares) in
-      let sums = λ (i : ℕ). copies_of-append3 i (map id_of_idle p.idle) (map id_of_lent p.lent) p.on_order.numbered in
-      let ids = λ (i : ℕ). ap (copies_of i) (ids_bare p.idle) in
-      let departs : departures es ≡ length p.idle = going-departures at bares ∙ length-map p.idle bare in
-      let admits : admissions es ≡ 0 = going-admissions at bares in
-      with_one_more p.on_order.limits base rs (ClosedAll at) es p (after_close p) old
-      (record {
-        deeds = refl;
-        idle = ap (λ l. filter (λ (c : Idle). is_untouched l c.id) bares ++ filter_map idle_after (latest id_of_born l)) (sym every) ∙ (stay_idle all at bares (λ i. omega (arith, sound.apart i, sums i, ids i)) ∙ none_true bares);
-        lent = ap (λ l. filter (λ (c : SeenLentConnection). is_untouched l c.id) p.lent ++ filter_map lent_after (latest id_of_born l)) (sym every) ∙ stay_lent all at bares p.lent (λ i. omega (arith, sound.apart i, sums i, ids i));
-        connections = omega (arith, departs, admits);
-        some_there = omega (arith, departs, admits, sound.counted);
-        pending = refl;
-        some_pending = omega (arith, admits);
-        closed = refl;
-        later = omega arith;
-        not_after = omega arith;
-        known = λ i k. let o = old.known i k in (o.0, refl);
-        is_open = open_for p.on_order.closed false e;
-        fit = λ k. refl;
-      })
+  close_step base rs p false e sound old = with_one_more base rs _ p _ (says_closed _ p e sound) old
 
   -- a close
-  pub replaying_close : (base : Standing) (rs : List SeenRecord) (p : Picture T) → IsSound p → KeepReplaying p.on_order.limits base rs p
-      → KeepReplaying p.on_order.limits base (newest (record_of_close p.latest p.on_order.closed) rs) (after_close p)
-  replaying_close base rs p sound old = close_step base rs p p.on_order.closed refl sound old
+  pub replaying_close : (base : Retelling) (rs : List SeenRecord) (p : Picture T) → IsSound p → KeepReplaying base rs p
+      → KeepReplaying base (newest (record_of_close p.latest p.on_order.closed) rs) (after_close p)
+  replaying_close base rs p sound old = close_step base rs p _ refl sound old

@@ -6,25 +6,28 @@ use Rattle.r2d2_core.specs.Picture.{IsSound}
 use Rattle.r2d2_core.specs.declared.journal.report.Report.{Report}
 use Rattle.r2d2_core.specs.Limits.{SeenLimits}
 use Rattle.r2d2_core.specs.Connections.{id_of_idle, id_of_lent}
-use Rattle.r2d2_core.specs.Replay.{Standing, first_standing, moment_by, replay_of, is_legal}
-use Rattle.r2d2_core.specs.Book.{SeenBook, standing_in, limits_in, IsReplayed}
-use Rattle.r2d2_core.specs.Reports.{replay_in, DoesReplay, IsReportOf, HasSoundCounts}
-use Rattle.r2d2_core.proofs.Recording.Takes.{ids_bare}
+use Rattle.r2d2_core.specs.History.{Made, is_closed}
+use Rattle.r2d2_core.specs.Deeds.{idle_of, lent_of, connections_of}
+use Rattle.r2d2_core.specs.Pending.{pending_of}
+use Rattle.r2d2_core.specs.Replay.{Retelling, told_all, is_legal}
+use Rattle.r2d2_core.specs.Book.{SeenBook, making_of, IsReplayed}
+use Rattle.r2d2_core.specs.Reports.{told_in, DoesReplay, IsReportOf, HasSoundCounts}
+use Rattle.r2d2_core.proofs.Recording.Replaying.{ids_bare}
 
 -- where the records of a book replay, those of its report do
 pub report_replays : {T B : Type 0} (a : SeenBook T) (r : Report B) → IsReportOf a r → IsReplayed a → r.lost ≡ 0 → DoesReplay r
 report_replays a r is replayed lost =
-    let base = first_standing (limits_in a) 0 in
     let told = replayed (sym is.lost ∙ lost) in
-    let whole : replay_in r ≡ standing_in (moment_by base (reverse a.journal.records)) a.picture =
-    ap (λ (ls : SeenLimits). replay_of ls (first_standing ls 0) (reverse r.records)) is.limits ∙ ap (λ rs. replay_of (limits_in a) base (reverse rs)) is.records ∙ told.shows in
+    let shows = told.shows in
+    let whole : told_in r ≡ told_all (making_of a) (reverse a.journal.records) =
+    ap (λ (ls : SeenLimits). told_all (Made ls 0 0) (reverse r.records)) is.limits ∙ ap (λ rs. told_all (making_of a) (reverse rs)) is.records in
     record {
-      legal = ap (λ (ls : SeenLimits). is_legal ls (first_standing ls 0) (reverse r.records)) is.limits ∙ ap (λ rs. is_legal (limits_in a) base (reverse rs)) is.records ∙ told.legal;
-      idle = ap (λ (s : Standing). map id_of_idle s.idle) whole ∙ ids_bare a.picture.idle ∙ sym is.idle;
-      lent = ap (λ (s : Standing). map id_of_lent s.lent) whole ∙ sym is.lent;
-      connections = ap (λ (s : Standing). s.connections) whole ∙ sym is.connections;
-      pending = ap (λ (s : Standing). s.pending) whole ∙ sym is.pending;
-      closed = ap (λ (s : Standing). s.closed) whole ∙ sym is.closed;
+      legal = ap (λ (ls : SeenLimits). is_legal (Made ls 0 0) (reverse r.records)) is.limits ∙ ap (λ rs. is_legal (making_of a) (reverse rs)) is.records ∙ told.legal;
+      idle = ap (λ (h : Retelling). map id_of_idle (idle_of h)) whole ∙ ap (map id_of_idle) shows.idle ∙ ids_bare a.picture.idle ∙ sym is.idle;
+      lent = ap (λ (h : Retelling). map id_of_lent (lent_of h)) whole ∙ ap (map id_of_lent) shows.lent ∙ sym is.lent;
+      connections = ap connections_of whole ∙ shows.connections ∙ sym is.connections;
+      pending = ap pending_of whole ∙ shows.pending ∙ sym is.pending;
+      closed = ap is_closed whole ∙ shows.closed ∙ sym is.closed;
     }
 
 -- the counts of a report of a sound book are sound

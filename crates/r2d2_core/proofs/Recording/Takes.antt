@@ -1,67 +1,46 @@
 -- The records of takes and admissions.
-use Rattle.std.proofs.Common.{◌≡◌, ℕ, ◌+◌, ◌-◌, ◌≤◌, ◌<◌, min, Bool, true, false, cond, ◌||◌, not, ◌==◌, List, [], ◌∷◌, ◌++◌, map, length, Option, Some, None, refl, sym, ◌∙◌, ap, subst, arith, inl, inr}
-use Rattle.std.specs.Prelude.{filter, nat_lt, if◌then◌else◌, unwrap_or, option_map}
-use Rattle.std.proofs.lemmas.List.{append-nil, map-append, length-map, map-id}
+use Rattle.std.proofs.Common.{◌≡◌, ℕ, ◌+◌, ◌-◌, ◌≤◌, ◌<◌, max, min, Bool, true, false, cond, ◌||◌, not, ◌==◌, List, [], ◌∷◌, ◌++◌, map, length, Option, Some, None, Ok, refl, sym, ◌∙◌, ap, subst, arith, inl, inr}
+use Rattle.std.specs.Prelude.{nat_le, nat_lt, if◌then◌else◌, unwrap_or, option_map}
+use Rattle.std.specs.Duration.{as_nanos}
+use Rattle.std.proofs.lemmas.List.{map-append, length-map, map-id}
 use Rattle.std.proofs.lemmas.Bool.{eq-eqb, eqb-true, cases_lt}
 use Rattle.std.proofs.lemmas.Bool.Decides.{nat_tests}
-use Rattle.r2d2_core.specs.Limits.{wanted_of}
+use Rattle.r2d2_core.specs.declared.run.Step.{Step}
+use Rattle.r2d2_core.specs.declared.run.Step.TheVariants as step
+use Rattle.r2d2_core.specs.Limits.{SeenLimits}
 use Rattle.r2d2_core.specs.Ids.{last_of, front, found, without, same_id, copies_of}
 use Rattle.r2d2_core.specs.Connections.{SeenIdleConnection, idle_connection, lent_connection, id_of_idle, id_of_lent}
 use Rattle.r2d2_core.specs.OnOrder.{room_beside, IsEmpty}
 use Rattle.r2d2_core.specs.Picture.{Picture, IsSound}
-use Rattle.r2d2_core.specs.Table.{at, ordered, top_up_of, topped_up, miss_order_of, lent_out, take_orders, taken, admitted_at}
-use Rattle.r2d2_core.specs.Seen.{taking}
-use Rattle.r2d2_core.specs.Deeds.{Admission, Taking_out}
+use Rattle.r2d2_core.specs.Table.{raised_to, ordered, top_up_of, topped_up, miss_order_of, lent_out, take_orders, taken, admitted_at}
+use Rattle.r2d2_core.specs.Seen.{take_with}
+use Rattle.r2d2_core.specs.Seen as answer
+use Rattle.r2d2_core.specs.History.{History, Then, limits_of, is_closed, now_of}
+use Rattle.r2d2_core.specs.Deeds.{idle_of, lent_of, birth_of, connections_of, admitted_count, gone_count}
+use Rattle.r2d2_core.specs.Pending.{ordered_of, pending_of, is_admitted}
+use Rattle.r2d2_core.specs.Answers.{orders_of, orders_by}
 use Rattle.r2d2_core.specs.Records.{SeenRecord, Taken, Ordered, Admitted}
-use Rattle.r2d2_core.specs.Replay.{Idle, Standing, BornDeed, born, id_of_born, idle_birth, is_untouched, is_known, has_id, is_none_idle, top_up_by}
+use Rattle.r2d2_core.specs.Replay.{Retelling, of_nanos, told, is_newest}
 use Rattle.r2d2_core.specs.Recorded.{record_of_take}
-use Rattle.r2d2_core.specs.Book.{bare, standing_in, KeepReplaying}
-use Rattle.r2d2_core.proofs.Lists.Filters.{filter_true, filter-absent, filter-last}
-use Rattle.r2d2_core.proofs.Lists.Ids.{copies_of-append3, copies_of-last, copies_of-without, last_of-push, last_is, length-front}
-use Rattle.r2d2_core.proofs.Facts.Latest.{one_other}
-use Rattle.r2d2_core.proofs.Recording.Replaying.{both, with_one_more, with_none_more}
+use Rattle.r2d2_core.specs.Book.{bare}
+use Rattle.r2d2_core.specs.BookParts.{Tells, KeepReplaying}
+use Rattle.r2d2_core.proofs.Lists.Ids.{copies_of-append3, copies_of-without, last_of-push, front-push, last_is, length-front}
+use Rattle.r2d2_core.proofs.Histories.Deeds.{idle_of-none, lent_of-none}
+use Rattle.r2d2_core.proofs.Histories.Comings.{idle_of-found, lent_of-found, idle_of-admitted, lent_of-admitted}
+use Rattle.r2d2_core.proofs.Histories.Orders.{orders_of-top_up, pending_more}
+use Rattle.r2d2_core.proofs.Recording.Replaying.{raised_is, as_nanos-of, both, le_is, lt_is, ids_bare, apart_told, top_up_told, Says, with_one_more, with_none_more}
 
 -- the newest first
 abbrev pub newest : Option SeenRecord → List SeenRecord → List SeenRecord
 newest None rs = rs
 newest (Some r) rs = r ∷ rs
 
-pub lt_is : (a b : ℕ) → a < b → nat_lt a b ≡ true
-lt_is a b h = grind (arith, nat_tests)
-
 copies_of-self : (i : ℕ) → copies_of i (i ∷ []) ≡ 1
 copies_of-self i = ap (λ b. cond b 1 0 + 0) (eq-eqb i i refl)
-
--- an open pool takes any record, and a closed one a closing
-pub open_for : (closed c : Bool) → closed ≡ false → (not closed || c) ≡ true
-open_for true c e = absurd cc
-open_for false c e = refl
-
-open_if : (closed : Bool) (n : ℕ) (c : Bool) → (closed ≡ true → n ≡ 0) → 1 ≤ n → (not closed || c) ≡ true
-open_if true n c h le = absurd (omega (arith, h refl))
-open_if false n c h le = refl
-
--- nothing is pending once closed
-pub pending_rest : (closed : Bool) (pending n : ℕ) → (closed ≡ true → pending + n ≡ 0) → cond closed 0 (pending + n - 0) ≡ pending + n
-pending_rest true pending n h = sym (h refl)
-pending_rest false pending n h = omega arith
 
 pub none_ordered : (closed : Bool) (n : ℕ) → closed ≡ true → cond closed 0 n ≡ 0
 none_ordered true n e = refl
 none_ordered false n e = absurd cc
-
--- no id is left out where there is no deed
-pub all_untouched : {Y : Type 0} (id_of : Y → ℕ) (ys : List Y) → filter (λ y. is_untouched [] (id_of y)) ys ++ [] ≡ ys
-all_untouched id_of ys = append-nil _ ∙ filter_true ys
-
-found_last_step : {X : Type 0} (b : Bool) (x : X) (n : ℕ) (o : Option X) (y : X) → cond b 1 0 + n ≡ 0 → (n ≡ 0 → o ≡ Some y) → cond b (Some x) o ≡ Some y
-found_last_step true x n o y e ih = absurd (omega arith)
-found_last_step false x n o y e ih = ih (omega arith)
-
--- the last is found by its id
-found-last : {X : Type 0} (id_of : X → ℕ) (xs : List X) (x : X) → copies_of (id_of x) (map id_of xs) ≡ 0 → found id_of (id_of x) (xs ++ x ∷ []) ≡ Some x
-found-last id_of [] x none = ap (λ b. cond b (Some x) None) (eq-eqb (id_of x) (id_of x) refl)
-found-last id_of (y ∷ ys) x none = found_last_step (id_of y == id_of x) y (copies_of (id_of x) (map id_of ys)) (found id_of (id_of x) (ys ++ x ∷ [])) x none (found-last id_of ys x)
 
 none_is_last : {X : Type 0} (xs : List X) → last_of xs ≡ None → xs ≡ []
 none_is_last [] e = refl
@@ -72,6 +51,10 @@ miss_is : (closed o : Bool) (room : ℕ) → 1 ≤ cond closed 0 (cond o (min 1 
 miss_is true o room h = absurd (omega arith)
 miss_is false true room h = (refl, omega arith, omega arith)
 miss_is false false room h = absurd (omega arith)
+
+missed_is : (closed : Bool) (room : ℕ) → closed ≡ false → 1 ≤ room → cond closed 0 (min 1 room) ≡ 1
+missed_is true room e le = absurd cc
+missed_is false room e le = omega arith
 
 pub not_true : (b : Bool) → (b ≡ true → ⊥) → not b ≡ true
 not_true true h = absurd (h refl)
@@ -88,126 +71,140 @@ some_there : (id : ℕ) (xs : List ℕ) → 1 ≤ copies_of id xs → 1 ≤ leng
 some_there id [] h = absurd (omega arith)
 some_there id (x ∷ xs) h = omega arith
 
-pending_admitted : (closed : Bool) (pending : ℕ) → closed ≡ false → cond closed 0 (pending + 0 - 1) ≡ pending - 1
-pending_admitted true pending e = absurd cc
-pending_admitted false pending e = omega arith
+-- one is admitted that was pending
+pending_less : (closed : Bool) (ordered admitted : ℕ) → cond closed 0 (ordered + 0 - (admitted + 1)) ≡ cond closed 0 (ordered - admitted) - 1
+pending_less true ordered admitted = omega arith
+pending_less false ordered admitted = omega arith
+
+admitted_fewer : (closed : Bool) (ordered admitted pending : ℕ) → closed ≡ false → cond closed 0 (ordered - admitted) ≡ pending → 1 ≤ pending → admitted + 1 ≤ ordered + 0
+admitted_fewer true ordered admitted pending e is some = absurd cc
+admitted_fewer false ordered admitted pending e is some = omega (arith, is, some)
 
 module _ {T : Type 0} where
-  pub ids_bare : (xs : List (SeenIdleConnection T)) → map id_of_idle (map bare xs) ≡ map id_of_idle xs
-  ids_bare [] = refl
-  ids_bare (x ∷ xs) = ap (λ l. x.id ∷ l) (ids_bare xs)
-
   last_bare : (xs : List (SeenIdleConnection T)) (c : SeenIdleConnection T) → last_of xs ≡ Some c → last_of (map bare xs) ≡ Some (bare c)
   last_bare xs c e = ap last_of (ap (map bare) (last_is xs c e) ∙ map-append bare (front xs) (c ∷ [])) ∙ last_of-push (map bare (front xs)) (bare c)
+
+  front_bare : (xs : List (SeenIdleConnection T)) (c : SeenIdleConnection T) → last_of xs ≡ Some c → front (map bare xs) ≡ map bare (front xs)
+  front_bare xs c e = ap front (ap (map bare) (last_is xs c e) ∙ map-append bare (front xs) (c ∷ [])) ∙ front-push (map bare (front xs)) (bare c)
+
+  none_bare : (xs : List (SeenIdleConnection T)) → last_of xs ≡ None → last_of (map bare xs) ≡ None
+  none_bare xs e = ap (λ l. last_of (map bare l)) (none_is_last xs e)
 
   -- nothing is pending once closed
   pub none_pending : (p : Picture T) → IsSound p → p.on_order.closed ≡ true → p.on_order.pending ≡ 0
   none_pending p sound closed = let e : IsEmpty p.on_order = sound.accounted.empty_once_closed closed in e.pending
 
-  -- nor idle
-  none_idle : (p : Picture T) → IsSound p → p.on_order.closed ≡ true → length p.idle ≡ 0
-  none_idle p sound closed = ap length (sound.none_once_closed closed)
-
   -- a step's moment changes nothing that records tell
-  pub replaying_at : (t : ℕ) (base : Standing) (rs : List SeenRecord) (p : Picture T) → KeepReplaying p.on_order.limits base rs p → KeepReplaying p.on_order.limits base rs (at t p)
-  replaying_at t base rs p old = with_none_more p.on_order.limits base rs p (at t p) old refl refl refl refl refl (omega arith) (λ i k. k)
+  pub replaying_at : (t : ℕ) (base : Retelling) (rs : List SeenRecord) (p : Picture T) → KeepReplaying base rs p → KeepReplaying base rs (raised_to t p)
+  replaying_at t base rs p old = with_none_more base rs p (raised_to t p) refl old refl refl refl refl refl (omega arith) (λ i k. k)
+
+  -- what is pending after n more are ordered
+  pub pending_told : (h : Retelling) (p : Picture T) (n : ℕ) → Tells h p → (p.on_order.closed ≡ true → n ≡ 0) → cond (is_closed h) 0 (ordered_of h + n - admitted_count h) ≡ p.on_order.pending + n
+  unfolding pending_of
+  pending_told h p n k none =
+      pending_more (is_closed h) (ordered_of h) n (admitted_count h) (λ closed. none (sym k.shows.closed ∙ closed)) k.some_ordered
+      ∙ ap (λ m. m + n) k.shows.pending
 
   -- TAKE
 
   -- a take that found
-  replaying_found : (base : Standing) (rs : List SeenRecord) (p : Picture T) (c : SeenIdleConnection T) → last_of p.idle ≡ Some c → IsSound p → KeepReplaying p.on_order.limits base rs p
-      → KeepReplaying p.on_order.limits base (Taken p.latest c.id (top_up_of (lent_out c p)) ∷ rs) (topped_up (lent_out c p))
-  replaying_found base rs p c e sound old =
-      let limits = p.on_order.limits in
-      let closed = p.on_order.closed in
-      let pending = p.on_order.pending in
-      let p' = topped_up (lent_out c p) in
+  says_found : (h : Retelling) (p : Picture T) (c : SeenIdleConnection T) → last_of p.idle ≡ Some c → IsSound p → Tells h p
+      → Says h (Taken p.latest c.id (top_up_of (lent_out c p))) (topped_up (lent_out c p))
+  unfolding connections_of pending_of
+  says_found h p c e sound k =
       let n = top_up_of (lent_out c p) in
-      let f = map bare (front p.idle) in
-      let d : BornDeed = born (idle_birth c.id (map bare p.idle)) c.id p.latest Taking_out in
-      let whole : map bare p.idle ≡ f ++ bare c ∷ [] = ap (map bare) (last_is p.idle c e) ∙ map-append bare (front p.idle) (c ∷ []) in
-      let sums = copies_of-append3 c.id (map id_of_idle p.idle) (map id_of_lent p.lent) p.on_order.numbered in
-      let once : copies_of c.id (map id_of_idle (front p.idle)) ≡ 0 = omega (arith, copies_of-last id_of_idle c.id p.idle c e, copies_of-self c.id, sound.apart c.id, sums) in
-      let away : copies_of c.id (map id_of_lent p.lent) ≡ 0 = omega (arith, copies_of-last id_of_idle c.id p.idle c e, copies_of-self c.id, sound.apart c.id, sums) in
-      let bare_once : copies_of c.id (map id_of_idle f) ≡ 0 = ap (copies_of c.id) (ids_bare (front p.idle)) ∙ once in
-      let birth : idle_birth c.id (map bare p.idle) ≡ c.birth =
-      ap (idle_birth c.id) whole ∙ ap (λ (o : Option Idle). unwrap_or (option_map (λ (x : Idle). x.birth) o) 0) (found-last id_of_idle f (bare c) bare_once) in
-      let quiet : closed ≡ true → pending + n ≡ 0 = λ is. omega (arith, none_pending p sound is, none_ordered closed (min (wanted_of limits - length (front p.idle)) (room_beside p.connections p.on_order)) is) in
-      with_one_more limits base rs (Taken p.latest c.id n) (d ∷ []) p p' old
-      (record {
-        deeds = refl;
-        idle = append-nil _ ∙ (one_other id_of_born d id_of_idle (map bare p.idle) ∙ (ap (filter (λ x. not (c.id == x.id))) whole ∙ filter-last id_of_idle f (bare c) bare_once));
-        lent =
-            ap (λ l. l ++ lent_connection c.id (idle_birth c.id (map bare p.idle)) ∷ []) (one_other id_of_born d id_of_lent p.lent ∙ filter-absent id_of_lent c.id p.lent away)
-            ∙ ap (λ b. p.lent ++ lent_connection c.id b ∷ []) birth;
-        connections = omega arith;
-        some_there = omega arith;
-        pending = pending_rest closed pending n quiet;
-        some_pending = omega arith;
-        closed = refl;
-        later = omega arith;
-        not_after = omega arith;
-        known = old.known;
-        is_open = open_if closed (length p.idle) false (none_idle p sound) (omega (arith, length-front p.idle c e));
-        fit = λ k.
-            both (has_id c.id (last_of (map bare p.idle))) _
-            (ap (has_id c.id) (last_bare p.idle c e) ∙ eq-eqb c.id c.id refl)
-            (eq-eqb n (top_up_by limits (standing_in k p) (standing_in p.latest p')) (ap (λ j. if closed then 0 else min (wanted_of limits - j) (limits.max_size - p.connections - pending)) (sym (length-map (front p.idle) bare))));
-      })
+      let closed = p.on_order.closed in
+      let s : Step (Unit {0}) = step.Take (of_nanos p.latest) true in
+      let last : last_of (idle_of h) ≡ Some (bare c) = ap last_of k.shows.idle ∙ last_bare p.idle c e in
+      let apart = apart_told h p k sound in
+      let fronts : front (idle_of h) ≡ map bare (front p.idle) = ap front k.shows.idle ∙ front_bare p.idle c e in
+      let quiet : closed ≡ true → n ≡ 0 = λ is. none_ordered closed _ is in
+      let orders : orders_of h s ≡ n =
+      orders_of-top_up h s (length (front p.idle)) p.connections
+      (rw last refl)
+      (rw last (ap length (idle_of-found h s (answer.Taken (answer.Found c.id c.birth tt 0)) _ (bare c) refl (λ i. refl) last apart ∙ fronts) ∙ length-map (front p.idle) bare))
+      k.shows.connections
+      ∙ top_up_told h p k (length (front p.idle)) p.connections in
+      record {
+        fit = both (nat_le (now_of h) p.latest) _ (le_is (now_of h) p.latest k.not_after)
+            (both (is_newest h c.id) _
+            (ap (λ o. unwrap_or (option_map (λ (x : SeenIdleConnection (Unit {0})). x.id == c.id) o) false) last ∙ eq-eqb c.id c.id refl)
+            (eq-eqb n (orders_of h s) (sym orders)));
+        tells = record {
+          shows = record {
+            limits = k.shows.limits;
+            idle = idle_of-found h s (answer.Taken (answer.Found c.id (birth_of h c.id) tt n)) _ (bare c) refl (λ i. refl) last apart ∙ fronts;
+            lent =
+                lent_of-found h s (answer.Taken (answer.Found c.id (birth_of h c.id) tt n)) _ (bare c) refl (λ i. refl) last apart
+                ∙ ap (λ l. l ++ lent_connection c.id c.birth ∷ []) k.shows.lent;
+            connections = k.shows.connections;
+            pending = pending_told h p n k quiet;
+            closed = k.shows.closed;
+          };
+          not_after = omega (arith, k.not_after, as_nanos-of p.latest);
+          known = k.known;
+          some_came = k.some_came;
+          some_ordered = λ is_open. omega (arith, k.some_ordered is_open);
+        };
+      }
 
   -- a take that found none, and ordered
-  replaying_ordered : (base : Standing) (rs : List SeenRecord) (p : Picture T) (o : Bool) → last_of p.idle ≡ None → 1 ≤ miss_order_of o p → KeepReplaying p.on_order.limits base rs p
-      → KeepReplaying p.on_order.limits base (Ordered p.latest (miss_order_of o p) ∷ rs) (ordered (miss_order_of o p) p)
-  replaying_ordered base rs p o e some old =
+  says_ordered : (h : Retelling) (p : Picture T) (o : Bool) → last_of p.idle ≡ None → 1 ≤ miss_order_of o p → Tells h p → Says h (Ordered p.latest (miss_order_of o p)) (ordered (miss_order_of o p) p)
+  unfolding orders_of connections_of pending_of
+  says_ordered h p o e some k =
       let n = miss_order_of o p in
       let closed = p.on_order.closed in
+      let s : Step (Unit {0}) = step.Take (of_nanos p.latest) true in
       let is = miss_is closed o (room_beside p.connections p.on_order) some in
-      with_one_more p.on_order.limits base rs (Ordered p.latest n) [] p (ordered n p) old
-      (record {
-        deeds = refl;
-        idle = all_untouched id_of_idle (map bare p.idle);
-        lent = all_untouched id_of_lent p.lent;
-        connections = omega arith;
-        some_there = omega arith;
-        pending = pending_rest closed p.on_order.pending n (λ c. absurd (cc (c, is.0)));
-        some_pending = omega arith;
-        closed = refl;
-        later = omega arith;
-        not_after = omega arith;
-        known = old.known;
-        is_open = open_for closed false is.0;
-        fit = λ k.
-            both (is_none_idle (map bare p.idle)) _
-            (ap (λ l. is_none_idle (map bare l)) (none_is_last p.idle e))
-            (both (n == 1) _ (eq-eqb n 1 is.1) (lt_is 0 (room_beside p.connections p.on_order) (omega (arith, is.2))));
-      })
+      let last : last_of (idle_of h) ≡ None = ap last_of k.shows.idle ∙ none_bare p.idle e in
+      let r = answer.Taken (answer.Empty n) in
+      let orders : orders_of h s ≡ 1 =
+      ap (λ m. cond (is_closed h) 0 (orders_by h (Then h s (answer.Taken (take_with m 0))) s (answer.Taken (take_with m 0)))) last
+      ∙ missed_is (is_closed h) ((limits_of h).max_size - connections_of h - pending_of h) (k.shows.closed ∙ is.0)
+      (omega (arith, ap (λ (ls : SeenLimits). ls.max_size) k.shows.limits, k.shows.connections, k.shows.pending, is.2)) in
+      record {
+        fit = both (nat_le (now_of h) p.latest) _ (le_is (now_of h) p.latest k.not_after)
+            (both (length (idle_of h) == 0) _
+            (eq-eqb (length (idle_of h)) 0 (ap length (k.shows.idle ∙ ap (map bare) (none_is_last p.idle e))))
+            (both (n == 1) _ (eq-eqb n 1 is.1) (eq-eqb n (orders_of h s) (is.1 ∙ sym orders))));
+        tells = record {
+          shows = record {
+            limits = k.shows.limits;
+            idle = idle_of-none h s r refl (λ i. refl) ∙ k.shows.idle;
+            lent = lent_of-none h s r refl (λ i. refl) ∙ k.shows.lent;
+            connections = k.shows.connections;
+            pending = pending_told h p n k (λ c. absurd (cc (c, is.0)));
+            closed = k.shows.closed;
+          };
+          not_after = omega (arith, k.not_after, as_nanos-of p.latest);
+          known = k.known;
+          some_came = k.some_came;
+          some_ordered = λ is_open. omega (arith, k.some_ordered is_open);
+        };
+      }
 
-  -- and that ordered nothing
-  replaying_missed : (base : Standing) (rs : List SeenRecord) (p : Picture T) (o : Bool) → miss_order_of o p ≡ 0 → KeepReplaying p.on_order.limits base rs p → KeepReplaying p.on_order.limits base rs (ordered (miss_order_of o p) p)
-  replaying_missed base rs p o none old = with_none_more p.on_order.limits base rs p (ordered (miss_order_of o p) p) old refl refl refl (omega (arith, none)) refl (omega arith) (λ i k. k)
-
-  miss_step : (base : Standing) (rs : List SeenRecord) (p : Picture T) (o b : Bool) → last_of p.idle ≡ None → (miss_order_of o p == 0) ≡ b → KeepReplaying p.on_order.limits base rs p
-      → KeepReplaying p.on_order.limits base (newest (cond b None (Some (Ordered p.latest (miss_order_of o p)))) rs) (ordered (miss_order_of o p) p)
-  miss_step base rs p o true e n old = replaying_missed base rs p o (eqb-true (miss_order_of o p) 0 n) old
-  miss_step base rs p o false e n old = replaying_ordered base rs p o e (some (miss_order_of o p) n) old where
+  miss_step : (base : Retelling) (rs : List SeenRecord) (p : Picture T) (o b : Bool) → last_of p.idle ≡ None → (miss_order_of o p == 0) ≡ b → KeepReplaying base rs p
+      → KeepReplaying base (newest (cond b None (Some (Ordered p.latest (miss_order_of o p)))) rs) (ordered (miss_order_of o p) p)
+  miss_step base rs p o true e n old =
+      with_none_more base rs p (ordered (miss_order_of o p) p) refl old refl refl refl (omega (arith, eqb-true (miss_order_of o p) 0 n)) refl (omega arith) (λ i k. k)
+  miss_step base rs p o false e n old = with_one_more base rs _ p _ (says_ordered _ p o e (some (miss_order_of o p) n)) old where
     some : (k : ℕ) → (k == 0) ≡ false → 1 ≤ k
     some k f = grind (arith, nat_tests)
 
   -- a take, at its moment
-  pub replaying_taken : (base : Standing) (rs : List SeenRecord) (p : Picture T) (o : Bool) (m : Option (SeenIdleConnection T)) → last_of p.idle ≡ m → IsSound p → KeepReplaying p.on_order.limits base rs p
-      → KeepReplaying p.on_order.limits base (newest (record_of_take p.latest (taking m (take_orders m o p))) rs) (taken m o p)
+  pub replaying_taken : (base : Retelling) (rs : List SeenRecord) (p : Picture T) (o : Bool) (m : Option (SeenIdleConnection T)) → last_of p.idle ≡ m → IsSound p → KeepReplaying base rs p
+      → KeepReplaying base (newest (record_of_take p.latest (take_with m (take_orders m o p))) rs) (taken m o p)
   replaying_taken base rs p o None e sound old = miss_step base rs p o (miss_order_of o p == 0) e refl old
-  replaying_taken base rs p o (Some c) e sound old = replaying_found base rs p c e sound old
+  replaying_taken base rs p o (Some c) e sound old = with_one_more base rs _ p _ (says_found _ p c e sound) old
 
   -- ADMIT
 
   -- an admission, at its moment
-  pub replaying_admitted : (base : Standing) (rs : List SeenRecord) (p : Picture T) (id : ℕ) (value : T) → p.on_order.closed ≡ false → found same_id id p.on_order.numbered ≡ Some id → IsSound p
-      → KeepReplaying p.on_order.limits base rs p → KeepReplaying p.on_order.limits base (Admitted p.latest id ∷ rs) (admitted_at p.latest id value p)
-  replaying_admitted base rs p id value is_open there sound old =
-      let p' = admitted_at p.latest id value p in
+  says_admitted : (h : Retelling) (p : Picture T) (id : ℕ) (value : T) → p.on_order.closed ≡ false → found same_id id p.on_order.numbered ≡ Some id → IsSound p → Tells h p
+      → Says h (Admitted p.latest id) (admitted_at p.latest id value p)
+  unfolding connections_of pending_of
+  says_admitted h p id value is_open there sound k =
       let c : SeenIdleConnection T = idle_connection id p.latest p.latest value in
-      let d : BornDeed = born p.latest id p.latest (Admission tt) in
       let numbered = p.on_order.numbered in
       let sums = copies_of-append3 id (map id_of_idle p.idle) (map id_of_lent p.lent) numbered in
       let taken_out = λ (j : ℕ). copies_of-without same_id id j numbered id there in
@@ -215,32 +212,40 @@ module _ {T : Type 0} where
       let here : copies_of id (without same_id id numbered) + 1 ≡ copies_of id numbered =
       omega (arith, taken_out id, copies_of-self id, ap (copies_of id) (same (without same_id id numbered)), ap (copies_of id) (same numbered)) in
       let gone : copies_of id (without same_id id numbered) ≡ 0 = omega (arith, here, sound.apart id, sums) in
-      let not_idle : copies_of id (map id_of_idle p.idle) ≡ 0 = omega (arith, here, sound.apart id, sums) in
-      let not_lent : copies_of id (map id_of_lent p.lent) ≡ 0 = omega (arith, here, sound.apart id, sums) in
+      let not_idle : copies_of id (map id_of_idle (idle_of h)) ≡ 0 =
+      omega (arith, ap (λ l. copies_of id (map id_of_idle l)) k.shows.idle, ap (copies_of id) (ids_bare p.idle), here, sound.apart id, sums) in
+      let not_lent : copies_of id (map id_of_lent (lent_of h)) ≡ 0 = omega (arith, ap (λ l. copies_of id (map id_of_lent l)) k.shows.lent, here, sound.apart id, sums) in
       let waits : 1 ≤ length numbered = some_there id numbered (omega (arith, here)) in
       let below : id < p.on_order.next_id = elim (cases_lt id p.on_order.next_id) [ inl h ↦ h | inr h ↦ absurd (omega (arith, sound.below_next id h, sums, here)) ] in
       let some : 1 ≤ p.on_order.pending = omega (arith, sound.accounted.placed, waits) in
-      with_one_more p.on_order.limits base rs (Admitted p.latest id) (d ∷ []) p p' old
-      (record {
-        deeds = refl;
-        idle =
-            ap (λ l. l ++ bare c ∷ []) (one_other id_of_born d id_of_idle (map bare p.idle) ∙ filter-absent id_of_idle id (map bare p.idle) (ap (copies_of id) (ids_bare p.idle) ∙ not_idle))
-            ∙ sym (map-append bare p.idle (c ∷ []));
-        lent = append-nil _ ∙ (one_other id_of_born d id_of_lent p.lent ∙ filter-absent id_of_lent id p.lent not_lent);
-        connections = omega arith;
-        some_there = omega arith;
-        pending = pending_admitted p.on_order.closed p.on_order.pending is_open;
-        some_pending = omega (arith, some);
-        closed = refl;
-        later = omega arith;
-        not_after = omega arith;
-        known = λ i k.
-            known_admitted id i p.on_order.next_id numbered (without same_id id numbered) (is_known base rs i) (id == i) refl k
-            below gone
-            (omega (arith, taken_out i, ap (copies_of i) (same (without same_id id numbered)), ap (copies_of i) (same numbered))) (old.known i);
-        is_open = open_for p.on_order.closed false is_open;
-        fit = λ k.
-            both (not (is_known base rs id)) _
-            (not_true (is_known base rs id) (λ kn. let o = old.known id kn in omega (arith, o.1, here)))
-            (lt_is 0 p.on_order.pending (omega (arith, some)));
-      })
+      let raised : max (now_of h) (as_nanos (of_nanos p.latest)) ≡ p.latest = raised_is (now_of h) p.latest k.not_after in
+      record {
+        fit = both (nat_le (now_of h) p.latest) _ (le_is (now_of h) p.latest k.not_after)
+            (both (not (is_admitted h id)) _
+            (not_true (is_admitted h id) (λ kn. let o = k.known id kn in omega (arith, o.1, here)))
+            (lt_is 0 (pending_of h) (omega (arith, k.shows.pending, some))));
+        tells = record {
+          shows = record {
+            limits = k.shows.limits;
+            idle =
+                idle_of-admitted h (of_nanos p.latest) id tt (answer.Admitted (Ok tt)) not_idle
+                ∙ (ap (λ t. idle_of h ++ idle_connection id t t tt ∷ []) raised
+                ∙ (ap (λ l. l ++ bare c ∷ []) k.shows.idle ∙ sym (map-append bare p.idle (c ∷ []))));
+            lent = lent_of-admitted h (of_nanos p.latest) id tt (answer.Admitted (Ok tt)) not_lent ∙ k.shows.lent;
+            connections = omega (arith, k.shows.connections, k.some_came);
+            pending = pending_less (is_closed h) (ordered_of h) (admitted_count h) ∙ ap (λ n. n - 1) k.shows.pending;
+            closed = k.shows.closed;
+          };
+          not_after = omega (arith, raised);
+          known = λ i kn.
+              known_admitted id i p.on_order.next_id numbered (without same_id id numbered) (is_admitted h i) (id == i) refl kn
+              below gone
+              (omega (arith, taken_out i, ap (copies_of i) (same (without same_id id numbered)), ap (copies_of i) (same numbered))) (k.known i);
+          some_came = omega (arith, k.some_came);
+          some_ordered = λ still. admitted_fewer (is_closed h) (ordered_of h) (admitted_count h) p.on_order.pending still k.shows.pending some;
+        };
+      }
+
+  pub replaying_admitted : (base : Retelling) (rs : List SeenRecord) (p : Picture T) (id : ℕ) (value : T) → p.on_order.closed ≡ false → found same_id id p.on_order.numbered ≡ Some id → IsSound p
+      → KeepReplaying base rs p → KeepReplaying base (Admitted p.latest id ∷ rs) (admitted_at p.latest id value p)
+  replaying_admitted base rs p id value is_open there sound old = with_one_more base rs _ p _ (says_admitted _ p id value is_open there sound) old

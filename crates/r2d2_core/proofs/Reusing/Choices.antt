@@ -13,7 +13,7 @@ use Rattle.std.proofs.lemmas.List.Sorted.{IsNonDecreasingBy-take, IsNonDecreasin
 use Rattle.r2d2_core.specs.declared.reuse.Move.{Move}
 use Rattle.r2d2_core.specs.declared.reuse.Move.TheVariants as move
 use Rattle.r2d2_core.specs.Ids.{front}
-use Rattle.r2d2_core.specs.Reuse.{IsInOrder, first_seen, newest_left, other_left, Picked, picked, after_pick, moments_of, newest_list, other_list, IsNeverBehind}
+use Rattle.r2d2_core.specs.Reuse.{IsSorted, first_seen, newest_left, other_left, Picked, picked, after_pick, moments_of, newest_list, other_list, IsNeverBehind}
 
 -- a test that an earlier moment passes where a later one does
 pub record IsForOld (p : ℕ → Bool) : Type 0 where
@@ -142,7 +142,7 @@ at_least p old (move.Add at ∷ moves) seen newest other left ahead e =
     at_least p old moves t (newest ++ t ∷ []) (picked (other.kept ++ t ∷ []) other.picks) left
     (ahead_add p seen t newest other.kept ahead (omega arith)) e
 
-non_decreasing-moments : (idle : List Duration) → IsInOrder idle → IsNonDecreasing (moments_of idle)
+non_decreasing-moments : (idle : List Duration) → IsSorted idle → IsNonDecreasing (moments_of idle)
 non_decreasing-moments idle order i j d le lt =
     let z : Duration = record { secs = 0; nanos = 0 } in
     let len : length (moments_of idle) ≡ length idle = length-map idle as_nanos in
@@ -158,7 +158,7 @@ first_is_seen xs = record {
 }
 
 -- the same of whole comparisons
-pub at_least_left : (p : ℕ → Bool) → IsForOld p → (idle : List Duration) (moves : List Move) (picks : List ℕ) (left : List ℕ) → IsInOrder idle → other_list idle moves picks ≡ Some left → count_by p left ≤ count_by p (newest_list idle moves)
+pub at_least_left : (p : ℕ → Bool) → IsForOld p → (idle : List Duration) (moves : List Move) (picks : List ℕ) (left : List ℕ) → IsSorted idle → other_list idle moves picks ≡ Some left → count_by p left ≤ count_by p (newest_list idle moves)
 at_least_left p old idle moves picks left order e =
     at_least p old moves (first_seen (moments_of idle)) (moments_of idle) (picked (moments_of idle) picks) left
     (record { order = non_decreasing-moments idle order; last = first_is_seen (moments_of idle); same = refl; few = omega arith }) e
@@ -173,7 +173,7 @@ if_some : {X : Type 0} (P : X → Type 0) (o : Option X) → ((x : X) → o ≡ 
 if_some P None h = tt
 if_some P (Some x) h = h x refl
 
-pub never_behind : (idle : List Duration) (moves : List Move) (picks : List ℕ) → IsInOrder idle → IfSome (other_list idle moves picks) (IsNeverBehind (newest_list idle moves))
+pub never_behind : (idle : List Duration) (moves : List Move) (picks : List ℕ) → IsSorted idle → IfSome (other_list idle moves picks) (IsNeverBehind (newest_list idle moves))
 never_behind idle moves picks order =
     if_some (IsNeverBehind (newest_list idle moves)) (other_list idle moves picks)
     (λ left e x. at_least_left _ (not_after_is_for_old x) idle moves picks left order e)

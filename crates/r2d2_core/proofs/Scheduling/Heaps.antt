@@ -10,9 +10,9 @@ use Rattle.std.specs.List.Sorted.{IsPermutation}
 use Rattle.std.proofs.lemmas.List.Edits.{Swapped, swapped_from_swap, length-swap}
 use lib.Pow.{pow_mono}
 use native.Mathlib.Nat.{pow-suc, mul-le-mul_left, le_trans}
-use Rattle.r2d2_core.specs.Openings.{SeenOpening, is_before, in_order, with_opening}
+use Rattle.r2d2_core.specs.Openings.{SeenOpening, is_before, sorted, with_opening}
 use Rattle.r2d2_core.specs.Heap.{binary_digits, parent, IsHeap, IsHeapButTheLast, IsHeapButTheFirst}
-use Rattle.r2d2_core.proofs.Scheduling.Openings.{not_both_before, not_before_through, not_before_trans, not_before_itself, in_order-least, in_order-permutation, in_order-push}
+use Rattle.r2d2_core.proofs.Scheduling.Openings.{not_both_before, not_before_through, not_before_trans, not_before_itself, sorted-least, sorted-permutation, sorted-push}
 
 -- ---- how many binary digits
 
@@ -200,9 +200,9 @@ root_least xs d heap (suc fuel) k small within =
     ]
 
 -- the first of a heap is the least, and the last takes its place
-pub in_order-heap : (xs : List SeenOpening) (x : SeenOpening) → IsHeap xs → 0 < length xs → x ≡ get_or xs 0 x → in_order xs ≡ x ∷ in_order (swap_remove xs 0 x)
-in_order-heap xs x heap some read =
-    in_order-least xs (swap_remove xs 0 x) x (IsPermutation-swap_remove xs 0 x some read)
+pub sorted-heap : (xs : List SeenOpening) (x : SeenOpening) → IsHeap xs → 0 < length xs → x ≡ get_or xs 0 x → sorted xs ≡ x ∷ sorted (swap_remove xs 0 x)
+sorted-heap xs x heap some read =
+    sorted-least xs (swap_remove xs 0 x) x (IsPermutation-swap_remove xs 0 x some read)
     (λ k d h. rw (get_or_read xs 0 x some read d) (root_least xs d heap k k (omega arith) h))
 
 -- what is left of the first n, once the last of them and the first are swapped
@@ -251,15 +251,15 @@ heap_but_the_first xs n some within heap k d low high =
     (heap k d (omega arith) (omega arith))
 
 -- the first n but the least, however they lie
-pub in_order-removed : (xs ys : List SeenOpening) (n : ℕ) → 0 < n → n ≤ length xs → IsHeap (take n xs) → IsPermutation (take (n - 1) (swap xs 0 (n - 1))) ys → in_order ys ≡ drop 1 (in_order (take n xs))
-in_order-removed xs ys n some within heap moved =
+pub sorted-removed : (xs ys : List SeenOpening) (n : ℕ) → 0 < n → n ≤ length xs → IsHeap (take n xs) → IsPermutation (take (n - 1) (swap xs 0 (n - 1))) ys → sorted ys ≡ drop 1 (sorted (take n xs))
+sorted-removed xs ys n some within heap moved =
     let live = take n xs in
     let size : length live ≡ n = length-take-le n xs within in
     let x = get_or live 0 (record { due = 0; tries = 0 }) in
     let read : x ≡ get_or live 0 x = get_or_default live 0 _ x (omega arith) in
-    let first = in_order-heap live x heap (omega arith) read in
-    in_order-permutation (take (n - 1) (swap xs 0 (n - 1))) ys moved
-    ∙ ap in_order (take-swapped xs n x some within)
+    let first = sorted-heap live x heap (omega arith) read in
+    sorted-permutation (take (n - 1) (swap xs 0 (n - 1))) ys moved
+    ∙ ap sorted (take-swapped xs n x some within)
     ∙ sym (ap (λ (l : List SeenOpening). drop 1 l) first)
 
 -- ---- one joins at the end
@@ -275,6 +275,6 @@ heap_but_the_last xs n x within heap k d low high =
     (before_end xs n k x d (omega arith)) (before_end xs n (parent k) x d (omega arith))
     (heap k d low (omega arith))
 
-pub in_order-added : (xs ys : List SeenOpening) (n : ℕ) (x : SeenOpening) → n < length xs → IsPermutation (take (n + 1) (set xs n x)) ys → in_order ys ≡ with_opening x (in_order (take n xs))
-in_order-added xs ys n x within moved =
-    in_order-permutation (take (n + 1) (set xs n x)) ys moved ∙ ap in_order (take_more_set xs n x within) ∙ in_order-push (take n xs) x
+pub sorted-added : (xs ys : List SeenOpening) (n : ℕ) (x : SeenOpening) → n < length xs → IsPermutation (take (n + 1) (set xs n x)) ys → sorted ys ≡ with_opening x (sorted (take n xs))
+sorted-added xs ys n x within moved =
+    sorted-permutation (take (n + 1) (set xs n x)) ys moved ∙ ap sorted (take_more_set xs n x within) ∙ sorted-push (take n xs) x

@@ -2,15 +2,15 @@
 use Rattle.std.proofs.Common.{arith, ◌≡◌, ℕ, ◌<◌, ◌≤◌, ◌∷◌, ◌∙◌, List, length, take, get_or, sym}
 use Rattle.std.specs.List.{swap_remove}
 use Rattle.std.proofs.lemmas.List.{length-take-le, get_or-take}
-use Rattle.r2d2_core.specs.Openings.{SeenOpening, in_order}
+use Rattle.r2d2_core.specs.Openings.{SeenOpening, sorted}
 use Rattle.r2d2_core.specs.Heap.{IsHeap}
-use Rattle.r2d2_core.proofs.Scheduling.Openings.{length-in_order}
-use Rattle.r2d2_core.proofs.Scheduling.Heaps.{in_order-heap}
+use Rattle.r2d2_core.proofs.Scheduling.Openings.{length-sorted}
+use Rattle.r2d2_core.proofs.Scheduling.Heaps.{sorted-heap}
 
-pub length-held : (items : List SeenOpening) (held : ℕ) → held ≤ length items → length (in_order (take held items)) ≡ held
-length-held items held within = length-in_order (take held items) ∙ length-take-le held items within
+pub length-held : (items : List SeenOpening) (held : ℕ) → held ≤ length items → length (sorted (take held items)) ≡ held
+length-held items held within = length-sorted (take held items) ∙ length-take-le held items within
 
-pub first_held : (items : List SeenOpening) (held : ℕ) (x : SeenOpening) → IsHeap (take held items) → 0 < held → held ≤ length items → x ≡ get_or items 0 x → in_order (take held items) ≡ x ∷ in_order (swap_remove (take held items) 0 x)
+pub first_held : (items : List SeenOpening) (held : ℕ) (x : SeenOpening) → IsHeap (take held items) → 0 < held → held ≤ length items → x ≡ get_or items 0 x → sorted (take held items) ≡ x ∷ sorted (swap_remove (take held items) 0 x)
 first_held items held x heap some within read =
     let size = length-take-le held items within in
-    in_order-heap (take held items) x heap (omega arith) (read ∙ sym (get_or-take held items 0 x some))
+    sorted-heap (take held items) x heap (omega arith) (read ∙ sym (get_or-take held items 0 x some))

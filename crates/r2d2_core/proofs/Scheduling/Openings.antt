@@ -6,7 +6,7 @@ use Rattle.std.specs.List.Sorted.{IsPermutation}
 use Rattle.std.proofs.lemmas.List.Sorted.{IsPermutation-keeps, All-permutation}
 use Rattle.std.proofs.lemmas.Bool.{cases_Bool, cases_eq, cond-true, cond-false}
 use Rattle.std.proofs.lemmas.Bool.Decides.{nat_tests}
-use Rattle.r2d2_core.specs.Openings.{SeenOpening, is_before, with_opening, in_order, with_many}
+use Rattle.r2d2_core.specs.Openings.{SeenOpening, is_before, with_opening, sorted, with_many}
 
 abbrev opening : ℕ → ℕ → SeenOpening
 opening d t = record { due = d; tries = t }
@@ -80,17 +80,17 @@ with_comm a b (y ∷ ys) =
     ]
 
 -- an opening that joins at the end
-pub in_order-push : (xs : List SeenOpening) (x : SeenOpening) → in_order (xs ++ x ∷ []) ≡ with_opening x (in_order xs)
-in_order-push [] x = refl
-in_order-push (y ∷ ys) x = ap (with_opening y) (in_order-push ys x) ∙ with_comm y x (in_order ys)
+pub sorted-push : (xs : List SeenOpening) (x : SeenOpening) → sorted (xs ++ x ∷ []) ≡ with_opening x (sorted xs)
+sorted-push [] x = refl
+sorted-push (y ∷ ys) x = ap (with_opening y) (sorted-push ys x) ∙ with_comm y x (sorted ys)
 
 -- one opening in another's place
-in_order-set : (xs : List SeenOpening) (i : ℕ) (x d : SeenOpening) → i < length xs → with_opening (get_or xs i d) (in_order (set xs i x)) ≡ with_opening x (in_order xs)
-in_order-set [] i x d h = absurd (omega arith)
-in_order-set (y ∷ ys) zero x d h = with_comm y x (in_order ys)
-in_order-set (y ∷ ys) (suc i) x d h =
-    let rest = in_order-set ys i x d (omega arith) in
-    with_comm (get_or ys i d) y (in_order (set ys i x)) ∙ ap (with_opening y) rest ∙ with_comm y x (in_order ys)
+sorted-set : (xs : List SeenOpening) (i : ℕ) (x d : SeenOpening) → i < length xs → with_opening (get_or xs i d) (sorted (set xs i x)) ≡ with_opening x (sorted xs)
+sorted-set [] i x d h = absurd (omega arith)
+sorted-set (y ∷ ys) zero x d h = with_comm y x (sorted ys)
+sorted-set (y ∷ ys) (suc i) x d h =
+    let rest = sorted-set ys i x d (omega arith) in
+    with_comm (get_or ys i d) y (sorted (set ys i x)) ∙ ap (with_opening y) rest ∙ with_comm y x (sorted ys)
 
 -- xs without the first of those that equal x
 without : SeenOpening → List SeenOpening → List SeenOpening
@@ -112,27 +112,27 @@ with_cancel x u v e = sym (without-with x u) ∙ ap (without x) e ∙ without-wi
 get_or-set_there : (l : List SeenOpening) (i j : ℕ) (b d : SeenOpening) → i < length l → j ≡ i → get_or (set l i b) j d ≡ b
 get_or-set_there l i j b d p e = rw e (get_or-set_same l i b d p)
 
-in_order-swapped : (l : List SeenOpening) (i j : ℕ) (d : SeenOpening) → i < length l → j < length l → in_order (set (set l i (get_or l j d)) j (get_or l i d)) ≡ in_order l
-in_order-swapped l i j d p q =
+sorted-swapped : (l : List SeenOpening) (i j : ℕ) (d : SeenOpening) → i < length l → j < length l → sorted (set (set l i (get_or l j d)) j (get_or l i d)) ≡ sorted l
+sorted-swapped l i j d p q =
     let a = get_or l i d in
     let b = get_or l j d in
-    let first : with_opening a (in_order (set l i b)) ≡ with_opening b (in_order l) = in_order-set l i b d p in
+    let first : with_opening a (sorted (set l i b)) ≡ with_opening b (sorted l) = sorted-set l i b d p in
     let fits : j < length (set l i b) = omega (arith, length-set l i b) in
-    let second : with_opening (get_or (set l i b) j d) (in_order (set (set l i b) j a)) ≡ with_opening a (in_order (set l i b)) = in_order-set (set l i b) j a d fits in
+    let second : with_opening (get_or (set l i b) j d) (sorted (set (set l i b) j a)) ≡ with_opening a (sorted (set l i b)) = sorted-set (set l i b) j a d fits in
     let there : get_or (set l i b) j d ≡ b = elim (cases_eq j i) [
       | inl e ↦ get_or-set_there l i j b d p e
       | inr ne ↦ get_or-set_other l i j b d ne
     ] in
-    with_cancel b _ _ (ap (λ (x : SeenOpening). with_opening x (in_order (set (set l i b) j a))) (sym there) ∙ second ∙ first)
+    with_cancel b _ _ (ap (λ (x : SeenOpening). with_opening x (sorted (set (set l i b) j a))) (sym there) ∙ second ∙ first)
 
-in_order-swap : (l : List SeenOpening) (i j : ℕ) → i < length l → j < length l → in_order (swap l i j) ≡ in_order l
-in_order-swap [] i j p q = refl
-in_order-swap (y ∷ ys) i j p q = in_order-swapped (y ∷ ys) i j y p q
+sorted-swap : (l : List SeenOpening) (i j : ℕ) → i < length l → j < length l → sorted (swap l i j) ≡ sorted l
+sorted-swap [] i j p q = refl
+sorted-swap (y ∷ ys) i j p q = sorted-swapped (y ∷ ys) i j y p q
 
 -- two lists with the same openings are one in order
-pub in_order-permutation : (xs ys : List SeenOpening) → IsPermutation xs ys → in_order ys ≡ in_order xs
-in_order-permutation xs ys h =
-    IsPermutation-keeps xs (λ (l : List SeenOpening). in_order l ≡ in_order xs) refl (λ l i j p q e. in_order-swap l i j p q ∙ e) ys h
+pub sorted-permutation : (xs ys : List SeenOpening) → IsPermutation xs ys → sorted ys ≡ sorted xs
+sorted-permutation xs ys h =
+    IsPermutation-keeps xs (λ (l : List SeenOpening). sorted l ≡ sorted xs) refl (λ l i j p q e. sorted-swap l i j p q ∙ e) ys h
 
 -- ---- which opening is first
 
@@ -157,16 +157,16 @@ Each-with P x (y ∷ ys) p h =
       | inr q ↦ rw (with_here x y ys q) (p, h)
     ]
 
-Each-in_order : (P : SeenOpening → Type 0) (l : List SeenOpening) → Each P l → Each P (in_order l)
-Each-in_order P [] h = tt
-Each-in_order P (x ∷ xs) h = Each-with P x (in_order xs) h.0 (Each-in_order P xs h.1)
+Each-sorted : (P : SeenOpening → Type 0) (l : List SeenOpening) → Each P l → Each P (sorted l)
+Each-sorted P [] h = tt
+Each-sorted P (x ∷ xs) h = Each-with P x (sorted xs) h.0 (Each-sorted P xs h.1)
 
 -- the least of xs, and the rest
-pub in_order-least : (xs ys : List SeenOpening) (m : SeenOpening) → IsPermutation xs (m ∷ ys) → All (λ y. is_before y m ≡ false) xs → in_order xs ≡ m ∷ in_order ys
-in_order-least xs ys m h least =
+pub sorted-least : (xs ys : List SeenOpening) (m : SeenOpening) → IsPermutation xs (m ∷ ys) → All (λ y. is_before y m ≡ false) xs → sorted xs ≡ m ∷ sorted ys
+sorted-least xs ys m h least =
     let P : SeenOpening → Type 0 = λ y. is_before y m ≡ false in
     let moved : Each P (m ∷ ys) = Each-from_All P (m ∷ ys) (All-permutation P xs (m ∷ ys) h least) in
-    sym (in_order-permutation xs (m ∷ ys) h) ∙ with_first m (in_order ys) (Each-in_order P ys moved.1)
+    sym (sorted-permutation xs (m ∷ ys) h) ∙ with_first m (sorted ys) (Each-sorted P ys moved.1)
 
 pub length-with : (x : SeenOpening) (l : List SeenOpening) → length (with_opening x l) ≡ length l + 1
 length-with x [] = refl
@@ -176,9 +176,9 @@ length-with x (y ∷ ys) =
       | inr q ↦ rw (with_here x y ys q) (omega arith)
     ]
 
-pub length-in_order : (xs : List SeenOpening) → length (in_order xs) ≡ length xs
-length-in_order [] = refl
-length-in_order (x ∷ xs) = omega (arith, length-with x (in_order xs), length-in_order xs)
+pub length-sorted : (xs : List SeenOpening) → length (sorted xs) ≡ length xs
+length-sorted [] = refl
+length-sorted (x ∷ xs) = omega (arith, length-with x (sorted xs), length-sorted xs)
 
 -- a later least one still has nothing before it
 pub not_before_through : (y p x : SeenOpening) → is_before y p ≡ false → is_before x p ≡ true → is_before y x ≡ false

@@ -4,7 +4,7 @@ ghost use Rattle.std.specs.Duration.{as_nanos};
 ghost use Rattle.std.specs.List.Sorted.{IsNonDecreasingBy};
 ghost use Rattle.circular_buffer.specs.Buffer.{buffer};
 ghost use Rattle.r2d2_core.specs.Limits.{seen_limits};
-ghost use Rattle.r2d2_core.specs.Connections.{is_expired, is_kept, since_of, closing, closed_of};
+ghost use Rattle.r2d2_core.specs.Connections.{is_expired, is_kept, since_of, released_at, closed_of};
 ghost use Rattle.r2d2_core.specs.Seen.{seen_released};
 
 use super::counted::{look, move_in, move_out};
@@ -25,9 +25,9 @@ fn is_expired<T>(entry: &IdleConnection<T>, limits: &Limits, now: Duration) -> b
         || reached(limits.max_lifetime(), now.saturating_sub(entry.birth))
 }
 
-#[tactic(auto, unfolding(crate::specs::Connections::closing))]
+#[tactic(auto, unfolding(crate::specs::Connections::released_at))]
 fn released<T>(entry: IdleConnection<T>, now: Duration) -> Released<T>
-    ensures { seen_released result ≡ closing (as_nanos now) entry }
+    ensures { seen_released result ≡ released_at (as_nanos now) entry }
 {
     Released {
         id: entry.id,

@@ -29,7 +29,7 @@ returns-clause-given g c =
     })
 
 pub returns-clause-replays : goal.returns-clause-replays
-returns-clause-replays g c = report_replays c.args.self.now _ (returns-clause-given g c) (subst IsReplayed c.self.view_is (λ lost. (c.self.invariant.recorded lost).told))
+returns-clause-replays g c = report_replays c.args.self.now _ (returns-clause-given g c) (subst IsReplayed c.self.view_is (λ lost. (c.self.invariant.recorded lost).replay))
 
 pub returns-clause-sound : goal.returns-clause-sound
 returns-clause-sound g c = report_sound c.args.self.now _ (returns-clause-given g c) (subst (λ (a : SeenBook _). IsSound a.picture) c.self.view_is c.self.invariant.sound)

@@ -3,7 +3,7 @@ use Rattle.std.specs.Option.{option_map}
 use Rattle.std.specs.Duration.{as_nanos}
 use Rattle.std.specs.declared.time.Duration.{Duration}
 use Rattle.std.proofs.lemmas.List.{get_or_read}
-use Rattle.r2d2_core.specs.Openings.{SeenOpening, in_order}
+use Rattle.r2d2_core.specs.Openings.{SeenOpening, sorted}
 use Rattle.r2d2_core.specs.Heap.{binary_digits}
 use Rattle.r2d2_core.specs.Schedule.{SeenSchedule, is_due_before}
 use Rattle.r2d2_core.specs.Jobs.{Wait, Open, first_job, reap_or_wait}
@@ -20,7 +20,7 @@ returns-then-as_nanos-clause-answer g c =
     let within : s.held ≤ length s.entries.items = omega (arith, s.entries.ok.0, c.self.invariant.filled, c.self.invariant.within) in
     let first = first_held s.entries.items s.held x c.self.invariant.heap c.if-self-gt0.true within c.index.ensures in
     let no_reap : is_due_before s.next_reap x.due ≡ false = search rules in
-    rw (← c.self.view_is) (ap Wait c.due-due.ensures ∙ sym (opening_first now (in_order (take s.held s.entries.items)) _ x s.next_reap first no_reap ∙ opening_waits now x (omega arith)))
+    rw (← c.self.view_is) (ap Wait c.due-due.ensures ∙ sym (opening_first now (sorted (take s.held s.entries.items)) _ x s.next_reap first no_reap ∙ opening_waits now x (omega arith)))
 
 pub returns-then-not-is_reap_before-clause-answer : goal.returns-then-not-is_reap_before-clause-answer
 returns-then-not-is_reap_before-clause-answer g c =
@@ -33,7 +33,7 @@ returns-then-not-is_reap_before-clause-answer g c =
     let same : y ≡ x = get_or_read s.entries.items 0 y (omega arith) c.index-then-not-is_reap_before.ensures x ∙ sym c.index.ensures in
     let tries : c.tries-tries.result ≡ x.tries = c.tries-tries.ensures ∙ ap (λ (o : SeenOpening). o.tries) same in
     let no_reap : is_due_before s.next_reap x.due ≡ false = search rules in
-    rw (← c.self.view_is) (ap Open tries ∙ sym (opening_first now (in_order (take s.held s.entries.items)) _ x s.next_reap first no_reap ∙ opening_opens now x (omega arith)))
+    rw (← c.self.view_is) (ap Open tries ∙ sym (opening_first now (sorted (take s.held s.entries.items)) _ x s.next_reap first no_reap ∙ opening_opens now x (omega arith)))
 
 pub returns-then-not-is_reap_before-clause-cost : goal.returns-then-not-is_reap_before-clause-cost
 returns-then-not-is_reap_before-clause-cost g c =
@@ -45,14 +45,14 @@ returns-then-not-is_reap_before-clause-cost g c =
 reap_job_is : (now : ℕ) (xs : List SeenOpening) (next_reap : Option Duration) (reap : Duration) → next_reap ≡ Some reap → first_job now xs (Some (as_nanos reap)) ≡ reap_or_wait now (as_nanos reap) → first_job now xs (option_map as_nanos next_reap) ≡ reap_or_wait now (as_nanos reap)
 reap_job_is now xs next_reap reap e h = rw e h
 
-alone : (now : ℕ) (items : List SeenOpening) (held r : ℕ) → held ≡ 0 → first_job now (in_order (take held items)) (Some r) ≡ reap_or_wait now r
+alone : (now : ℕ) (items : List SeenOpening) (held r : ℕ) → held ≡ 0 → first_job now (sorted (take held items)) (Some r) ≡ reap_or_wait now r
 alone now items held r e = rw e refl
 
 pub returns-then-as_nanos-2-clause-answer : goal.returns-then-as_nanos-2-clause-answer
 returns-then-as_nanos-2-clause-answer g c =
     let now = as_nanos c.args.now in
     let s = c.self.inside in
-    let xs = in_order (take s.held s.entries.items) in
+    let xs = sorted (take s.held s.entries.items) in
     let reap = c.in-Some.reap in
     let there : s.next_reap ≡ Some reap = search rules in
     let reap_is_first : first_job now xs (Some (as_nanos reap)) ≡ reap_or_wait now (as_nanos reap) = elim c.if-self-gt0.branch [
@@ -73,7 +73,7 @@ pub returns-else-as_nanos-2-clause-answer : goal.returns-else-as_nanos-2-clause-
 returns-else-as_nanos-2-clause-answer g c =
     let now = as_nanos c.args.now in
     let s = c.self.inside in
-    let xs = in_order (take s.held s.entries.items) in
+    let xs = sorted (take s.held s.entries.items) in
     let reap = c.in-Some.reap in
     let there : s.next_reap ≡ Some reap = search rules in
     let reap_is_first : first_job now xs (Some (as_nanos reap)) ≡ reap_or_wait now (as_nanos reap) = elim c.if-self-gt0.branch [

@@ -1,7 +1,7 @@
 use Rattle.std.proofs.Common.{arith, ◌≡◌, ℕ, ◌+◌, ◌≤◌, ◌∙◌, List, ap, sym, length, take, subst}
 use Rattle.std.specs.Vec.{with_items}
 use Rattle.std.proofs.lemmas.List.{with_items_is}
-use Rattle.r2d2_core.specs.Openings.{SeenOpening, in_order}
+use Rattle.r2d2_core.specs.Openings.{SeenOpening, sorted}
 use Rattle.r2d2_core.specs.Heap.{IsHeap, binary_digits}
 use Rattle.r2d2_core.specs.Schedule.{SeenSchedule}
 use Rattle.r2d2_core.proofs.Scheduling.Held.{length-held}
@@ -41,7 +41,7 @@ returns-clause-cost g c =
     let size : c.args.self.now.max_size ≡ s.max_size = ap (λ (p : SeenSchedule). p.max_size) (sym c.self.view_is) in
     let same : length c.add.new.entries ≡ s.entries.len = omega (arith, c.add.auto.entries, c.deref_mut.ensures.len) in
     let items : (with_items s.entries c.add.new.entries).items ≡ c.add.new.entries = with_items_is s.entries c.add.new.entries same in
-    let more : length (in_order (take (s.held + 1) (with_items s.entries c.add.new.entries).items)) ≡ s.held + 1 =
-    ap (λ (xs : List SeenOpening). length (in_order (take (s.held + 1) xs))) items
+    let more : length (sorted (take (s.held + 1) (with_items s.entries c.add.new.entries).items)) ≡ s.held + 1 =
+    ap (λ (xs : List SeenOpening). length (sorted (take (s.held + 1) xs))) items
     ∙ length-held c.add.new.entries (s.held + 1) (omega (arith, c.requires, c.self.invariant.filled)) in
     subst (λ (n : ℕ). c.add.new.steps ≤ c.args.steps.now + binary_digits n) (sym more) c.add.ensures.cost

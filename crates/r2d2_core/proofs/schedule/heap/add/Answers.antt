@@ -1,8 +1,8 @@
 use Rattle.std.proofs.Common.{arith, ◌≡◌, ◌+◌, length, take, set, ap, ◌∙◌, length-set}
 use Rattle.std.proofs.lemmas.List.{take_at, length-take-le}
 use Rattle.std.proofs.lemmas.List.Sorted.{length_permutation}
-use Rattle.r2d2_core.specs.Openings.{in_order}
-use Rattle.r2d2_core.proofs.Scheduling.Heaps.{heap_but_the_last, in_order-added}
+use Rattle.r2d2_core.specs.Openings.{sorted}
+use Rattle.r2d2_core.proofs.Scheduling.Heaps.{heap_but_the_last, sorted-added}
 use Rattle.r2d2_core.proofs.schedule.heap.add.Goals as goal
 
 pub rise-requires-clause-heap : goal.rise-requires-clause-heap
@@ -16,4 +16,4 @@ returns-clause-openings g c =
     let part = take (n + 1) (set xs n c.args.opening) in
     let size : length part ≡ n + 1 = length-take-le (n + 1) (set xs n c.args.opening) (omega (arith, length-set xs n c.args.opening, c.requires.room)) in
     let moved = length_permutation part ys c.rise.ensures.permutation in
-    ap in_order (take_at ys _ (n + 1) (moved ∙ size)) ∙ in_order-added xs ys n c.args.opening c.requires.room c.rise.ensures.permutation
+    ap sorted (take_at ys _ (n + 1) (moved ∙ size)) ∙ sorted-added xs ys n c.args.opening c.requires.room c.rise.ensures.permutation

@@ -3,9 +3,9 @@ use Rattle.std.specs.List.{swap}
 use Rattle.std.specs.List.Sorted.{IsPermutation}
 use Rattle.std.proofs.lemmas.List.{take_at}
 use Rattle.std.proofs.lemmas.List.Sorted.{length_permutation}
-use Rattle.r2d2_core.specs.Openings.{SeenOpening, in_order}
+use Rattle.r2d2_core.specs.Openings.{SeenOpening, sorted}
 use Rattle.r2d2_core.specs.Heap.{IsHeapButTheFirst}
-use Rattle.r2d2_core.proofs.Scheduling.Heaps.{heap_but_the_first, in_order-removed, length-take_swapped, binary_digits_mono}
+use Rattle.r2d2_core.proofs.Scheduling.Heaps.{heap_but_the_first, sorted-removed, length-take_swapped, binary_digits_mono}
 use Rattle.r2d2_core.proofs.schedule.heap.remove_least.Goals as goal
 
 pub sink-requires : goal.sink-requires
@@ -20,7 +20,7 @@ returns-clause-openings g c =
     let ys = c.sink.new.entries in
     let moved = subst (λ (zs : List SeenOpening). IsPermutation (take (n - 1) zs) ys) c.swap.ensures.after c.sink.ensures.permutation in
     let size = length_permutation (take (n - 1) (swap xs 0 (n - 1))) ys moved ∙ length-take_swapped xs n c.requires.some c.requires.room in
-    ap in_order (take_at ys _ (n - 1) size) ∙ in_order-removed xs ys n c.requires.some c.requires.room c.requires.heap moved
+    ap sorted (take_at ys _ (n - 1) size) ∙ sorted-removed xs ys n c.requires.some c.requires.room c.requires.heap moved
 
 pub returns-clause-cost : goal.returns-clause-cost
 returns-clause-cost g c =

@@ -1,14 +1,14 @@
 use Rattle.std.proofs.Common.{◌≡◌, ◌≤◌, ◌+◌, ◌*◌, length, vec_capacity}
 use Rattle.std.specs.Duration.{as_nanos}
 use Rattle.r2d2_core.specs.Limits.{seen_limits}
-use Rattle.r2d2_core.specs.Connections.{is_expired, closing}
+use Rattle.r2d2_core.specs.Connections.{is_expired, released_at}
 use Rattle.r2d2_core.specs.Seen.{seen_released}
 use Rattle.r2d2_core.proofs.Lists.Turning.{Turned}
 use Rattle.r2d2_core.proofs.machine.idle.reaping.reap_each.Given as goal
 
 abbrev pub invariant-loop : goal.invariant-loop
 invariant-loop g l = record {
-  turned : Turned (is_expired (seen_limits l.limits) (as_nanos l.now)) (closing (as_nanos l.now)) seen_released l.fn.ring.items l.counter l.ring.items l.out.items;
+  turned : Turned (is_expired (seen_limits l.limits) (as_nanos l.now)) (released_at (as_nanos l.now)) seen_released l.fn.ring.items l.counter l.ring.items l.out.items;
   fixed : l.ring.capacity ≡ l.fn.ring.capacity;
   fits : length l.fn.ring.items ≤ l.fn.ring.capacity;
   room : vec_capacity l.out ≡ vec_capacity l.fn.out;
