@@ -1,7 +1,7 @@
 // Newest-first beside other choices. Moments are in milliseconds. No clause says that `compare` answers where memory is
 // there; each of these calls does.
 
-use r2d2_core::reuse::{Move, compare, is_sorted};
+use r2d2_core::reuse::{Move, compare, is_in_order};
 use std::alloc::{AllocError, Global};
 use std::test::Fail;
 use std::time::Duration;
@@ -18,7 +18,7 @@ fn compared(
     now: u64,
     limit: u64,
 ) -> Result<Option<(usize, usize)>, Fail> {
-    if !is_sorted(idle) {
+    if !is_in_order(idle) {
         return Err(Fail::from("idle is in order"));
     }
     let answer = compare(alloc, idle, moves, picks, ms(now), ms(limit))?;
@@ -27,10 +27,10 @@ fn compared(
 
 #[test]
 fn a_list_in_order_never_falls(rt: HostRuntime) {
-    assert!(rt; is_sorted(&[]));
-    assert!(rt; is_sorted(&[ms(1), ms(1)]));
-    assert!(rt; is_sorted(&[ms(0), ms(10), ms(20)]));
-    assert!(rt; !is_sorted(&[ms(1), ms(0)]));
+    assert!(rt; is_in_order(&[]));
+    assert!(rt; is_in_order(&[ms(1), ms(1)]));
+    assert!(rt; is_in_order(&[ms(0), ms(10), ms(20)]));
+    assert!(rt; !is_in_order(&[ms(1), ms(0)]));
 }
 
 #[test]

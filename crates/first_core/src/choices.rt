@@ -1,7 +1,7 @@
 // Newest-first beside oldest-first.
 
 use anyhow::ensure;
-use r2d2_core::reuse::{Move, compare, is_sorted};
+use r2d2_core::reuse::{Move, compare, is_in_order};
 use std::time::Duration;
 
 fn ms(moment: u64) -> Duration {
@@ -16,7 +16,7 @@ pub fn compared<R: Print + AllocGlobal>(rt: &R) -> Result<(), anyhow::Error> {
         Move::Take(ms(70)),
         Move::Add(ms(80)),
     ];
-    ensure!(is_sorted(&idle), "the idle list falls");
+    ensure!(is_in_order(&idle), "the idle list falls");
     match compare(rt.alloc(), &idle, &moves, &[0, 0], ms(110), ms(80))? {
         Some(c) => println!(rt; "newest-first {}, oldest-first {}", c.newest_first, c.other)?,
         None => println!(rt; "a take has no pick")?,

@@ -2,7 +2,7 @@
 use Rattle.std.specs.Prelude.{◌≡◌, ℕ, ◌-◌, ◌*◌, ◌/◌, ◌<◌, false, List, length, slice_index_or}
 use Rattle.std.specs.Int.Digits.{digits_of}
 use Rattle.r2d2_core.specs.Openings.{SeenOpening, is_before}
-use Rattle.r2d2_core.specs.Jobs.{SeenJob, Open, Reap, Wait, Nothing, Ended}
+use Rattle.r2d2_core.specs.Jobs.{SeenJob, Open, Reap, Wait, Nothing, Closed}
 
 -- how many binary digits a number has
 unfoldable pub binary_digits : ℕ → ℕ
@@ -14,7 +14,7 @@ steps_of_job (Open tries) n = 2 * binary_digits n
 steps_of_job Reap n = 0
 steps_of_job (Wait due) n = 0
 steps_of_job Nothing n = 0
-steps_of_job Ended n = 0
+steps_of_job Closed n = 0
 
 -- where the one stands that the one at k is a child of
 abbrev pub parent : ℕ → ℕ

@@ -27,7 +27,7 @@ pub struct Comparison {
 }
 
 /// Whether the list never falls: no moment is before one that stands in front of it.
-pub fn is_sorted(idle: &[Duration]) -> bool
+pub fn is_in_order(idle: &[Duration]) -> bool
     ensures { IsTrue result ↔ IsSorted idle.now }
 {
     let mut seen = Duration::ZERO;

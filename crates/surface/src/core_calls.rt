@@ -3,7 +3,7 @@ ghost use Rattle.std.specs.Prelude.{◌≡◌, ◌<◌, length};
 
 use r2d2::journal::{Book, IdList, Record, RecordList, Report};
 use r2d2::machine::{Core, Gone, Leftover, Limits, Refusal, Released, Returned, Take};
-use r2d2::reuse::{Comparison, Move, compare, is_sorted};
+use r2d2::reuse::{Comparison, Move, compare, is_in_order};
 use r2d2::run::{Answer, Step, run};
 use r2d2::schedule::{Job, Schedule, delay};
 use r2d2::steps::Steps;
@@ -215,7 +215,7 @@ fn books(rt: HostRuntime) -> Result<(), Fail> {
 fn comparisons(rt: HostRuntime) -> Result<(), Fail> {
     let idle = [Duration::ZERO, seconds(1)];
     let moves = [Move::Take(seconds(1)), Move::Add(seconds(2))];
-    if is_sorted(&idle) {
+    if is_in_order(&idle) {
         let found = compare(rt.alloc(), &idle, &moves, &[0], seconds(3), seconds(3))?;
         let expected = Comparison {
             newest_first: 1,

@@ -1,6 +1,6 @@
 use Rattle.std.proofs.Common.{arith, refl}
 use Rattle.r2d2_core.proofs.Reusing.Sorted.{zero_moment, sorted_start, sorted_tail, sorted_more, sorted_less, sorted_falls, sorted_end}
-use Rattle.r2d2_core.proofs.reuse.is_sorted.Goals as goal
+use Rattle.r2d2_core.proofs.reuse.is_in_order.Goals as goal
 
 pub loop-moment-init : goal.loop-moment-init
 loop-moment-init c = record {
