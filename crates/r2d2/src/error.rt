@@ -1,8 +1,9 @@
 // Why a call of the pool failed.
-ghost use Rattle.std.specs.Prelude.{◌≡◌, IsSome, option_map, string_bytes};
+ghost use Rattle.std.specs.Prelude.{◌≡◌, IsSome, IfSome, option_map, string_bytes};
 ghost use Rattle.r2d2.specs.declared.error.ErrorKind.TheVariants.{Timeout};
 ghost use Rattle.r2d2.specs.Failures.{Failure};
 
+use std::alloc::Allocator;
 use std::fmt;
 use std::marker::Model;
 
@@ -104,3 +105,10 @@ impl fmt::Display for Error {
 }
 
 impl std::error::Error for Error {}
+
+/// The text of a manager's or a customizer's error; None where memory for it is refused.
+pub(crate) fn text_of<E: fmt::Display, A: Allocator>(alloc: A, error: &E) -> Option<String<A>>
+    ensures { IfSome result (λ text. IfSome (E.output error.now) (λ bytes. string_bytes text ≡ bytes)) }
+{
+    error.to_string(alloc).ok()
+}

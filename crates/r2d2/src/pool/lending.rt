@@ -9,6 +9,7 @@ use super::locking::Shared;
 use super::returning::TakesBack;
 use super::{AnyPool, PoolRuntime};
 use crate::engine::{Outcome, Settled};
+use crate::error::text_of;
 use crate::hooks::Hooks;
 use crate::payload::PayloadOf;
 use crate::{Error, ManageConnection};
@@ -93,7 +94,7 @@ impl<B: Keeps<M>, M: ManageConnection, K: Hooks<M>, R: PoolRuntime> Shared<B, M,
 
     // Closes a connection whose check failed.
     fn close_unsound(&self, lent: Lent<PayloadOf<M>>, error: M::Error) {
-        let text = error.to_string(self.rt.alloc()).ok();
+        let text = text_of(self.rt.alloc(), &error);
         self.hooks.error(error);
         let Lent { id, payload: value } = lent;
         if let Settled::Gone(gone) = self.settle(Outcome::Unsound { id, text }) {

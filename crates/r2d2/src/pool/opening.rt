@@ -5,6 +5,7 @@ use super::guarded::Keeps;
 use super::locking::Shared;
 use crate::ManageConnection;
 use crate::engine::Outcome;
+use crate::error::text_of;
 use crate::hooks::Hooks;
 use crate::payload::{Payload, PayloadOf, open};
 use r2d2_core::Refusal;
@@ -15,7 +16,7 @@ impl<B: Keeps<M>, M: ManageConnection, K: Hooks<M>, R: PoolRuntime> Shared<B, M,
         match open(&self.manager, self.hooks.customizer()) {
             Ok(connection) => self.admit(tries, connection),
             Err(error) => {
-                let text = error.to_string(self.rt.alloc()).ok();
+                let text = text_of(self.rt.alloc(), &error);
                 self.settle(Outcome::Failed { tries, text });
                 self.hooks.error(error);
             }

@@ -1,0 +1,321 @@
+// Managers, customizers and handlers that are slow, or fail again and again; many callers; and a pool that goes while they wait.
+
+use crate::play::{GOOD, Manager, Others, Play, Rows, watched};
+use r2d2::event::{AcquireEvent, CheckinEvent, CheckoutEvent, ReleaseEvent, TimeoutEvent};
+use r2d2::{Builder, ErrorKind, HandleEvent, ManageConnection, PlainPool, PoolRuntime};
+use std::rt::Clock;
+use std::sync::Arc;
+use std::sync::atomic::{AtomicU64, Ordering};
+use std::test::Fail;
+use std::time::{Duration, Instant};
+use std::{fmt, thread};
+
+#[test]
+fn a_connect_slower_than_the_timeout(rt: HostRuntime) -> Result<(), Fail> {
+    let rows = Rows { unheld: 0, ..GOOD };
+    let play = Play::new(rt.alloc(), rows)?;
+    let pool = Builder::new()
+        .max_size(1)
+        .connection_timeout(Duration::from_millis(300))
+        .event_handler(Others::new(rt, &play)?)
+        .build_unchecked(rt, Manager::new(rt, &play)?)?;
+    let start = Instant::now(&rt)?;
+    let error = pool.get().err().ok_or("a connection")?;
+    let waited = start.elapsed(&rt)?.as_millis();
+    assert_eq!(rt; error.kind(), ErrorKind::Timeout);
+    assert_eq!(rt; error.message(), None);
+    assert!(rt; waited >= 300 && waited < 3000, "{waited} ms");
+    assert_eq!(rt; pool.state().connections, 0);
+    // The opening goes on, and its connection serves the next caller.
+    play.let_go.store(1, Ordering::SeqCst);
+    drop(pool.get_timeout(Duration::from_secs(20))?);
+    assert!(rt; play.told(&rt, "timeout 0; acquire 0; checkout 0; checkin 0; "));
+    Ok(())
+}
+
+/// Opens a connection each 400 ms.
+#[derive(Drop)]
+struct Steady<R> {
+    rt: R,
+}
+
+impl<R: PoolRuntime> ManageConnection for Steady<R> {
+    type Connection = u32;
+
+    type Error = fmt::Error;
+
+    type Extension = ();
+
+    fn connect(&self) -> Result<u32, fmt::Error> {
+        thread::sleep(&self.rt, Duration::from_millis(400));
+        Ok(7)
+    }
+
+    fn is_valid(&self, _connection: &mut u32) -> Result<(), fmt::Error> {
+        Ok(())
+    }
+
+    fn has_broken(&self, _connection: &mut u32) -> bool {
+        false
+    }
+}
+
+#[test]
+fn a_build_waits_no_longer_for_each_connection(rt: HostRuntime) -> Result<(), Fail> {
+    let builder = Builder::new()
+        .max_size(6)
+        .thread_pool(1)
+        .connection_timeout(Duration::from_secs(1));
+    let start = Instant::now(&rt)?;
+    let error = builder.build(rt, Steady { rt }).err().ok_or("a pool")?;
+    let waited = start.elapsed(&rt)?.as_millis();
+    assert_eq!(rt; error.kind(), ErrorKind::Timeout);
+    assert!(rt; waited >= 1000 && waited < 3000, "{waited} ms");
+    Ok(())
+}
+
+#[test]
+fn a_worker_waits_where_nothing_is_due(rt: HostRuntime) -> Result<(), Fail> {
+    let play = Play::new(rt.alloc(), GOOD)?;
+    let pool = Builder::new()
+        .max_size(1)
+        .min_idle(Some(0))
+        .max_lifetime(None)
+        .idle_timeout(None)
+        .thread_pool(1)
+        .build(rt, Manager::new(rt, &play)?)?;
+    // Time for the worker to find nothing to do, now or at any later moment.
+    thread::sleep(&rt, Duration::from_millis(300));
+    assert!(rt; pool.get_timeout(Duration::from_secs(10)).is_ok());
+    Ok(())
+}
+
+#[test]
+fn a_customizer_that_fails_each_second_time(rt: HostRuntime) -> Result<(), Fail> {
+    let rows = Rows {
+        on_acquire: "-+-+-+",
+        ..GOOD
+    };
+    let play = Play::new(rt.alloc(), rows)?;
+    let pool = Builder::new()
+        .max_size(3)
+        .connection_timeout(Duration::from_secs(20))
+        .error_handler(Others::new(rt, &play)?)
+        .event_handler(Others::new(rt, &play)?)
+        .connection_customizer(Others::new(rt, &play)?)
+        .build(rt, Manager::new(rt, &play)?)?;
+    assert_eq!(rt; pool.state().connections, 3);
+    assert_eq!(rt; watched(&rt, &play.errors, 3, 1000), 3);
+    assert_eq!(rt; play.opened.load(Ordering::SeqCst), 6);
+    assert_eq!(rt; play.dropped.load(Ordering::SeqCst), 3);
+    assert_eq!(rt; play.released.load(Ordering::SeqCst), 0);
+    drop(pool);
+    assert_eq!(rt; watched(&rt, &play.managers_dropped, 1, 1000), 1);
+    assert_eq!(rt; play.dropped.load(Ordering::SeqCst), 6);
+    Ok(())
+}
+
+#[test]
+fn each_return_is_broken(rt: HostRuntime) -> Result<(), Fail> {
+    let rows = Rows {
+        has_broken: "--------------------",
+        ..GOOD
+    };
+    let play = Play::new(rt.alloc(), rows)?;
+    let pool = Builder::new()
+        .max_size(2)
+        .connection_customizer(Others::new(rt, &play)?)
+        .build(rt, Manager::new(rt, &play)?)?;
+    for closed in 0..20 {
+        assert_eq!(rt; play.released.load(Ordering::SeqCst), closed);
+        drop(pool.get()?);
+        assert!(rt; pool.state().connections <= 2);
+    }
+    assert_eq!(rt; play.released.load(Ordering::SeqCst), 20);
+    drop(pool);
+    assert_eq!(rt; watched(&rt, &play.managers_dropped, 1, 1000), 1);
+    let opened = play.opened.load(Ordering::SeqCst);
+    assert!(rt; opened >= 20 && opened <= 22, "{opened}");
+    assert_eq!(rt; play.dropped.load(Ordering::SeqCst), opened);
+    Ok(())
+}
+
+// Three connections are opened and fail their checks at once; the fourth is opened only after the caller's end.
+#[test]
+fn each_check_fails(rt: HostRuntime) -> Result<(), Fail> {
+    let rows = Rows {
+        is_valid: "----------",
+        unheld: 3,
+        ..GOOD
+    };
+    let play = Play::new(rt.alloc(), rows)?;
+    let pool = Builder::new()
+        .max_size(1)
+        .error_handler(Others::new(rt, &play)?)
+        .event_handler(Others::new(rt, &play)?)
+        .connection_customizer(Others::new(rt, &play)?)
+        .build(rt, Manager::new(rt, &play)?)?;
+    let start = Instant::now(&rt)?;
+    let wait = Duration::from_secs(2);
+    let error = pool.get_timeout(wait).err().ok_or("a connection")?;
+    let waited = start.elapsed(&rt)?.as_millis();
+    assert_eq!(rt; error.kind(), ErrorKind::Timeout);
+    assert_eq!(rt; error.message(), Some("is_valid 2"));
+    assert!(rt; waited >= 2000 && waited < 10_000, "{waited} ms");
+    assert_eq!(rt; play.released.load(Ordering::SeqCst), 3);
+    assert_eq!(rt; pool.state().connections, 0);
+    play.let_go.store(1, Ordering::SeqCst);
+    assert_eq!(rt; watched(&rt, &play.opened, 4, 1000), 4);
+    assert!(rt; pool.state().connections <= 1);
+    drop(pool);
+    assert_eq!(rt; watched(&rt, &play.managers_dropped, 1, 1000), 1);
+    assert_eq!(rt; play.dropped.load(Ordering::SeqCst), 4);
+    Ok(())
+}
+
+/// Takes two seconds to tell of a checkout.
+#[derive(Drop)]
+struct Lengthy<R> {
+    rt: R,
+}
+
+impl<R> fmt::Debug for Lengthy<R> {
+    fn fmt<W: fmt::Write>(&self, f: &mut fmt::Formatter<W>) -> fmt::Result {
+        f.write_str("Lengthy")
+    }
+}
+
+impl<R: PoolRuntime> HandleEvent for Lengthy<R> {
+    fn handle_acquire(&self, _event: AcquireEvent) {}
+
+    fn handle_release(&self, _event: ReleaseEvent) {}
+
+    fn handle_checkout(&self, _event: CheckoutEvent) {
+        thread::sleep(&self.rt, Duration::from_secs(2));
+    }
+
+    fn handle_timeout(&self, _event: TimeoutEvent) {}
+
+    fn handle_checkin(&self, _event: CheckinEvent) {}
+}
+
+// Lends a connection, and gives it back; it answers whether there was one.
+fn lends<M: ManageConnection, V: HandleEvent + 'static, R: PoolRuntime>(
+    pool: r2d2::Pool<M, r2d2::NopErrorHandler, V, r2d2::NopConnectionCustomizer, R>,
+) -> bool {
+    pool.get().is_ok()
+}
+
+#[test]
+fn a_slow_handler_holds_up_its_own_caller_alone(rt: HostRuntime) -> Result<(), Fail> {
+    let play = Play::new(rt.alloc(), GOOD)?;
+    let pool = Builder::new()
+        .max_size(3)
+        .event_handler(Lengthy { rt })
+        .build(rt, Manager::new(rt, &play)?)?;
+    let start = Instant::now(&rt)?;
+    let mut threads = Vec::new(rt.alloc());
+    for _ in 0..3 {
+        let theirs = pool.try_clone()?;
+        threads.push(thread::spawn(&rt, move || lends(theirs))?)?;
+    }
+    for thread in threads {
+        assert!(rt; thread.join(&rt));
+    }
+    let waited = start.elapsed(&rt)?.as_millis();
+    assert!(rt; waited >= 2000 && waited < 4000, "{waited} ms");
+    Ok(())
+}
+
+/// How many callers hold a connection, and how often one came while another had it.
+#[derive(Drop)]
+struct Holders {
+    now: AtomicU64,
+    clashes: AtomicU64,
+}
+
+// Lends a connection so many times; it answers how often it was alone with it.
+fn alone<M: ManageConnection, R: PoolRuntime>(
+    pool: PlainPool<M, R>,
+    holders: Arc<Holders>,
+    times: u32,
+) -> u32 {
+    let mut found = 0u32;
+    for _ in 0..times {
+        if let Ok(_lent) = pool.get() {
+            if holders.now.fetch_add(1, Ordering::SeqCst) > 0 {
+                holders.clashes.fetch_add(1, Ordering::SeqCst);
+            }
+            holders.now.fetch_sub(1, Ordering::SeqCst);
+            found = found.saturating_add(1);
+        }
+    }
+    found
+}
+
+#[test]
+fn sixteen_callers_of_one_connection(rt: HostRuntime) -> Result<(), Fail> {
+    let play = Play::new(rt.alloc(), GOOD)?;
+    let pool = Builder::new()
+        .max_size(1)
+        .build(rt, Manager::new(rt, &play)?)?;
+    let holders = Holders {
+        now: AtomicU64::new(0),
+        clashes: AtomicU64::new(0),
+    };
+    let holders = Arc::new(rt.alloc(), holders)?;
+    let mut threads = Vec::new(rt.alloc());
+    for _ in 0..16 {
+        let theirs = pool.try_clone()?;
+        let seen = Arc::try_clone(&holders)?;
+        threads.push(thread::spawn(&rt, move || alone(theirs, seen, 50))?)?;
+    }
+    let mut found = 0u32;
+    for thread in threads {
+        found = found.saturating_add(thread.join(&rt));
+    }
+    assert_eq!(rt; found, 800);
+    assert_eq!(rt; holders.clashes.load(Ordering::SeqCst), 0);
+    assert_eq!(rt; pool.state().connections, 1);
+    assert_eq!(rt; play.opened.load(Ordering::SeqCst), 1);
+    Ok(())
+}
+
+// Lends a connection, tells that it did, and keeps it until it may go.
+fn lends_late<M: ManageConnection, R: PoolRuntime>(
+    pool: PlainPool<M, R>,
+    served: Arc<AtomicU64>,
+) -> bool {
+    let lent = pool.get_timeout(Duration::from_secs(20));
+    served.fetch_add(1, Ordering::SeqCst);
+    lent.is_ok()
+}
+
+#[test]
+fn a_pool_that_goes_while_callers_of_its_clones_wait(rt: HostRuntime) -> Result<(), Fail> {
+    let play = Play::new(rt.alloc(), GOOD)?;
+    let pool = Builder::new()
+        .max_size(1)
+        .build(rt, Manager::new(rt, &play)?)?;
+    let lent = pool.get()?;
+    let served = Arc::new(rt.alloc(), AtomicU64::new(0))?;
+    let mut threads = Vec::new(rt.alloc());
+    for _ in 0..4 {
+        let theirs = pool.try_clone()?;
+        let count = Arc::try_clone(&served)?;
+        threads.push(thread::spawn(&rt, move || lends_late(theirs, count))?)?;
+    }
+    // Time for them to come to their waits.
+    thread::sleep(&rt, Duration::from_millis(300));
+    assert_eq!(rt; served.load(Ordering::SeqCst), 0);
+    drop(pool);
+    assert_eq!(rt; play.dropped.load(Ordering::SeqCst), 0);
+    drop(lent);
+    for thread in threads {
+        assert!(rt; thread.join(&rt));
+    }
+    assert_eq!(rt; watched(&rt, &play.managers_dropped, 1, 1000), 1);
+    assert_eq!(rt; play.opened.load(Ordering::SeqCst), 1);
+    assert_eq!(rt; play.dropped.load(Ordering::SeqCst), 1);
+    Ok(())
+}
