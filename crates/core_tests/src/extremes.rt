@@ -1,8 +1,9 @@
 // What no line of a script can say: the greatest moment, which is no whole number of milliseconds, and the last ids.
 
 use crate::machine::lines_of;
-use crate::steps::{begin, fail, ms, number, sized};
+use crate::steps::{admit, begin, fail, ms, number, put_back, sized, take};
 use pool_lines::program::line::Line;
+use r2d2_core::run::run;
 use r2d2_core::schedule::delay;
 use r2d2_core::{Book, Core, Limits, Step};
 use std::alloc::{AllocError, Global};
@@ -82,6 +83,88 @@ fn stops_at_the_greatest_moment(rt: HostRuntime) -> Result<(), Fail> {
         [Step::Begin { now }, begin(0), begin(0)],
         "open 0\nreap\nreap\nstate 0 0 1\n",
     )
+}
+
+#[test]
+fn lengths_up_to_the_greatest_moment(rt: HostRuntime) -> Result<(), Fail> {
+    let now = Duration::MAX;
+    let second = ms(1000);
+    let back = Step::PutBack {
+        now,
+        id: 0,
+        value: 7,
+        broken: false,
+    };
+    answers(
+        &rt,
+        Limits::of(1, None, Some(now), None, second, second).ok_or("limits")?,
+        0,
+        [begin(0), number(0), admit(0, 0, 7), take(0), back],
+        "open 0\nnumbered 0\nadmitted\ntaken 0 7 ordered 0\ngone 0 age 18446744073709551615999.999999 ordered 1\nstate 0 0 1\n",
+    )?;
+    answers(
+        &rt,
+        Limits::of(1, None, None, Some(now), second, second).ok_or("limits")?,
+        0,
+        [
+            begin(0),
+            number(0),
+            admit(1, 0, 7),
+            Step::Reap { now },
+            take(0),
+        ],
+        "open 0\nnumbered 0\nadmitted\nreaped ordered 0\ntaken 0 7 ordered 0\nstate 1 0 0\n",
+    )?;
+    answers(
+        &rt,
+        Limits::of(1, None, None, Some(now), second, second).ok_or("limits")?,
+        0,
+        [
+            begin(0),
+            number(0),
+            admit(0, 0, 7),
+            Step::Reap { now },
+            take(0),
+        ],
+        "open 0\nnumbered 0\nadmitted\nreaped 0 ordered 1\nempty ordered 0\nstate 0 0 1\n",
+    )
+}
+
+#[test]
+fn the_greatest_numbers_of_strangers(rt: HostRuntime) -> Result<(), Fail> {
+    let bad = Step::FailCheck {
+        now: ms(0),
+        id: u64::MAX,
+        text: None,
+    };
+    let steps = [
+        begin(0),
+        number(u32::MAX),
+        fail(0, u32::MAX),
+        number(0),
+        admit(0, u64::MAX, 7),
+        bad,
+        put_back(0, u64::MAX, 7),
+    ];
+    answers(
+        &rt,
+        sized(1).ok_or("limits")?,
+        0,
+        steps,
+        "open 0\nrefused NoOpening\nrefused NoOpening\nnumbered 0\nrefused NotNumbered\nrefused NotLent\nrefused NotLent\nstate 0 0 1\n",
+    )
+}
+
+#[test]
+fn no_steps_at_all(rt: HostRuntime) -> Result<(), Fail> {
+    let limits = sized(3).ok_or("limits")?;
+    let (core, answers) = run::<u64>(rt.alloc(), limits, ms(5), Vec::new(rt.alloc()))?;
+    assert_eq!(rt; answers.len(), 0);
+    assert_eq!(rt;
+        (core.connections(), core.idle(), core.pending()),
+        (0, 0, 3)
+    );
+    Ok(())
 }
 
 #[test]

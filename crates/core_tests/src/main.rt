@@ -21,6 +21,8 @@ mod memory;
 mod plain;
 #[cfg(test)]
 mod random;
+#[cfg(test)]
+mod refused;
 mod replays;
 #[cfg(test)]
 mod reuse;
@@ -34,6 +36,7 @@ mod steps;
 #[cfg(test)]
 mod turning;
 
+use std::alloc::{AllocError, Global};
 use std::process::ExitCode;
 use std::rt::Files;
 use std::{fs, io};
@@ -65,10 +68,23 @@ fn names<R: Files + AllocGlobal + Clone + Drop>(rt: &R) -> io::Result<Vec<String
     Ok(names)
 }
 
+// The lines of a script, without those that are empty or begin with `#`.
+fn without_comments(alloc: Global, file: &str) -> Result<String, AllocError> {
+    let mut script = String::new(alloc);
+    for line in file.lines() {
+        if !line.is_empty() && !line.starts_with('#') {
+            script.push_str(line)?;
+            script.push('\n')?;
+        }
+    }
+    Ok(script)
+}
+
 // What is wrong with the row of this name, if anything is.
 fn fault_of<R: Files + AllocGlobal>(rt: &R, name: &str) -> io::Result<Option<String>> {
     let alloc = rt.alloc();
-    let script = fs::read_to_string(rt, format!(in alloc; "{name}.steps")?)?;
+    let file = fs::read_to_string(rt, format!(in alloc; "{name}.steps")?)?;
+    let script = without_comments(alloc, file.as_str())?;
     let answers = fs::read_to_string(rt, format!(in alloc; "{name}.answers")?)?;
     Ok(
         match rows::who_differs(alloc, script.as_str(), answers.as_str()) {

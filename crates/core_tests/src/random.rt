@@ -5,11 +5,12 @@ use crate::drafts::{Draft, limits, next_draft};
 use crate::plain::History;
 use crate::replays::replays;
 use crate::said::Said;
+use linked_list_allocator::LocalHeap;
 use r2d2_core::run::run;
 use r2d2_core::{Book, Limits};
 use rand_core::SeedableRng;
 use rand_pcg::Pcg32;
-use std::alloc::{AllocError, Global};
+use std::alloc::{AllocError, Allocator, Global};
 use std::test::Fail;
 use std::time::Duration;
 
@@ -65,10 +66,10 @@ fn first_unlike_by_run(alloc: Global, story: &Story) -> Result<Option<Draft>, Al
 }
 
 // The first step that the book answers otherwise.
-fn first_unlike_by_book(
+fn first_unlike_by_book<A: Allocator>(
     alloc: Global,
     story: &Story,
-    book: &mut Book<u64>,
+    book: &mut Book<u64, A>,
 ) -> Result<Option<Draft>, AllocError> {
     for (draft, wanted) in story.drafts.iter().zip(story.answers.iter()) {
         let answer = book.answer(alloc, draft.step(alloc)?)?;
@@ -110,6 +111,22 @@ fn a_hundred_thousand_steps(rt: HostRuntime) -> Result<(), Fail> {
         let mut book = Book::new(alloc, limits, made, STEPS)?;
         assert_eq!(rt; first_unlike_by_book(alloc, &story, &mut book)?, None);
         assert!(rt; shows(alloc, &story.history, &book)?);
+    }
+    Ok(())
+}
+
+#[test]
+fn a_book_needs_no_memory_after_its_making(rt: HostRuntime) -> Result<(), Fail> {
+    let alloc = rt.alloc();
+    for seed in 0..50 {
+        let mut rng = Pcg32::seed_from_u64(seed);
+        let limits = limits(&mut rng).ok_or("limits")?;
+        let story = made_up(alloc, &mut rng, limits, Duration::ZERO)?;
+        let heap = LocalHeap::new(alloc, 1 << 14)?;
+        let mut book: Book<u64, &LocalHeap> = Book::new(&heap, limits, Duration::ZERO, STEPS)?;
+        let _rest: Vec<u8, &LocalHeap> = Vec::with_capacity(&heap, heap.free())?;
+        assert_eq!(rt; heap.free(), 0);
+        assert_eq!(rt; first_unlike_by_book(alloc, &story, &mut book)?, None);
     }
     Ok(())
 }
