@@ -45,10 +45,12 @@ impl Past {
 
     // The id of the one connection that came to be idle or lent by the step.
     fn id(&self) -> Option<u64> {
-        match (self.draft, &self.said) {
-            (_, Said::Found { id, .. }) => Some(*id),
-            (Draft::Admit { id, .. }, _) => Some(id),
-            (Draft::PutBack { id, .. }, Said::Kept) => Some(id),
+        if let Said::Found { id, .. } = &self.said {
+            return Some(*id);
+        }
+        match self.draft {
+            Draft::Admit { id, .. } => Some(id),
+            Draft::PutBack { id, .. } if self.said == Said::Kept => Some(id),
             _ => None,
         }
     }
