@@ -12,8 +12,8 @@ ghost use Rattle.core_uses.specs.Calls.{after_open, after_discard};
 use r2d2_core::{Core, Job, Take};
 use std::time::Duration;
 
-/// Hands in a value for the opening that is due, if there is one; false where there is none, or where the core refuses it. What is lent
-/// stays lent.
+/// Hands in a value for the opening that is due, if there is one; false where there is none, or
+/// where the core refuses it. What is lent stays lent.
 pub fn open<T: Drop>(core: &mut Core<T>, lent: &u32, now: Duration, value: T) -> bool
     requires { IsCounted core.old lent.now }
     ensures counted { IsCounted core.new lent.now }
@@ -47,7 +47,8 @@ pub fn lend<T>(core: &mut Core<T>, lent: &mut u32, now: Duration) -> Option<(u64
     }
 }
 
-/// Closes a lent connection whose check failed, and counts it no more; false where the id is not lent.
+/// Closes a lent connection whose check failed, which is no longer counted; false where the id is
+/// not lent.
 pub fn discard<T>(core: &mut Core<T>, lent: &mut u32, now: Duration, id: u64) -> bool
     requires { IsCounted core.old lent.old }
     ensures counted { IsCounted core.new lent.new }

@@ -10,7 +10,8 @@ use std::time::Duration;
 
 fn main(rt: HostRuntime) -> Result<(), anyhow::Error> {
     let second = Duration::from_secs(1);
-    // At most 10 connections, 2 of them wanted idle; closed when idle for ten minutes, or half an hour old.
+    // At most 10 connections, 2 of them wanted idle; closed when idle for ten minutes, or half an
+    // hour old.
     let limits = Limits::of(
         10,
         Some(2),

@@ -71,7 +71,8 @@ pub fn build_checked<
     Ok(Some(pool))
 }
 
-/// All that happened since the pool was made, which replays to what there is; None where records were dropped.
+/// All that happened since the pool was made, which replays to what there is; None where records
+/// were dropped.
 pub fn audit<
     M: ManageConnection,
     H: HandleError<M::Error>,
