@@ -1,7 +1,7 @@
 // Steps at random: a draft is a step without a text of its own, so that it can be taken three times.
 
 use crate::plain::History;
-use r2d2_core::{Limits, Step};
+use r2d2_core::{LendingOrder, Limits, Step};
 use rand_core::Rng;
 use rand_pcg::Pcg32;
 use std::alloc::{AllocError, Global};
@@ -130,7 +130,7 @@ fn maybe_length(rng: &mut Pcg32) -> Option<Duration> {
     }
 }
 
-/// Legal limits.
+/// Legal limits, with either lending order.
 pub(crate) fn limits(rng: &mut Pcg32) -> Option<Limits> {
     let max_size = below(rng, 5).saturating_add(1);
     let min_idle = if chance(rng, 2) {
@@ -139,7 +139,13 @@ pub(crate) fn limits(rng: &mut Pcg32) -> Option<Limits> {
         None
     };
     let (life, idle) = (maybe_length(rng), maybe_length(rng));
-    Limits::of(max_size, min_idle, life, idle, length(rng), length(rng))
+    let order = if chance(rng, 2) {
+        LendingOrder::NewestFirst
+    } else {
+        LendingOrder::OldestFirst
+    };
+    let limits = Limits::of(max_size, min_idle, life, idle, length(rng), length(rng))?;
+    Some(limits.with_order(order))
 }
 
 // Mostly a little after the latest moment; now and then before it, or as late as can be.

@@ -1,7 +1,7 @@
 // What limits say of themselves.
 
 use crate::steps::{limits, ms, sized};
-use r2d2_core::{Book, Core};
+use r2d2_core::{Book, Core, LendingOrder};
 use std::test::Fail;
 
 #[test]
@@ -14,6 +14,7 @@ fn gives_back_what_they_were_made_of(rt: HostRuntime) -> Result<(), Fail> {
     assert_eq!(rt; limits.connection_timeout(), ms(700));
     assert_eq!(rt; limits.reap_every(), ms(30));
     assert_eq!(rt; limits.wanted(), 2);
+    assert_eq!(rt; limits.order(), LendingOrder::NewestFirst);
     Ok(())
 }
 
@@ -30,6 +31,7 @@ fn wants_all_idle_where_no_number_is_given(rt: HostRuntime) -> Result<(), Fail> 
 #[test]
 fn a_core_and_a_book_keep_their_limits(rt: HostRuntime) -> Result<(), Fail> {
     let limits = limits(5, Some(2), None, None, 700, 30).ok_or("limits")?;
+    let limits = limits.with_order(LendingOrder::OldestFirst);
     let core: Core<u64> = Core::new(rt.alloc(), limits, ms(0))?;
     let book: Book<u64> = Book::new(rt.alloc(), limits, ms(0), 1)?;
     for kept in [core.limits(), book.limits()] {
@@ -37,6 +39,7 @@ fn a_core_and_a_book_keep_their_limits(rt: HostRuntime) -> Result<(), Fail> {
         assert_eq!(rt; kept.min_idle(), Some(2));
         assert_eq!(rt; kept.connection_timeout(), ms(700));
         assert_eq!(rt; kept.reap_every(), ms(30));
+        assert_eq!(rt; kept.order(), LendingOrder::OldestFirst);
     }
     Ok(())
 }

@@ -3,13 +3,19 @@
 #![tactic(auto)]
 
 #[cfg(test)]
+mod bases;
+#[cfg(test)]
 mod caller;
+#[cfg(test)]
+mod changes;
 #[cfg(test)]
 mod closing;
 #[cfg(test)]
 mod drafts;
 #[cfg(test)]
 mod extremes;
+#[cfg(test)]
+mod greatest;
 #[cfg(test)]
 mod journal;
 #[cfg(test)]

@@ -3,7 +3,7 @@
 
 use crate::drafts::Draft;
 use crate::said::Said;
-use r2d2_core::{Job, Limits, Refusal};
+use r2d2_core::{Job, LendingOrder, Limits, Refusal};
 use std::alloc::{AllocError, Global};
 use std::time::Duration;
 
@@ -177,6 +177,15 @@ impl History {
             }
         }
         Ok(list)
+    }
+
+    // The idle one that is lent next.
+    fn next(&self, alloc: Global) -> Result<Option<Idle>, AllocError> {
+        let idle = self.idle(alloc)?;
+        Ok(match self.limits.order() {
+            LendingOrder::NewestFirst => idle.last().copied(),
+            LendingOrder::OldestFirst => idle.first().copied(),
+        })
     }
 
     /// The ids of the lent ones, in the order of their takes.
@@ -411,7 +420,7 @@ impl History {
     fn reply(&self, alloc: Global, draft: Draft, at: Duration) -> Result<Said, AllocError> {
         let ordered = 0;
         Ok(match draft {
-            Draft::Take { .. } => match self.idle(alloc)?.pop() {
+            Draft::Take { .. } => match self.next(alloc)? {
                 Some(
                     Idle {
                         id,

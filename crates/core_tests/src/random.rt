@@ -7,7 +7,7 @@ use crate::replays::replays;
 use crate::said::Said;
 use linked_list_allocator::LocalHeap;
 use r2d2_core::run::run;
-use r2d2_core::{Book, Limits};
+use r2d2_core::{Book, Limits, Report};
 use rand_core::SeedableRng;
 use rand_pcg::Pcg32;
 use std::alloc::{AllocError, Allocator, Global};
@@ -80,6 +80,11 @@ fn first_unlike_by_book<A: Allocator>(
     Ok(None)
 }
 
+// Whether the report replays, as it says itself and by a second reading.
+fn does_replay(alloc: Global, report: &Report) -> Result<bool, AllocError> {
+    Ok(report.replays()? && replays(alloc, report)?)
+}
+
 // Whether the book shows what the plain reading shows, and its report replays.
 fn shows(alloc: Global, history: &History, book: &Book<u64>) -> Result<bool, AllocError> {
     let report = book.report()?;
@@ -95,7 +100,7 @@ fn shows(alloc: Global, history: &History, book: &Book<u64>) -> Result<bool, All
             && report.pending as usize == history.pending()
             && report.closed == history.is_closed()
             && report.lost == 0
-            && replays(alloc, &report)?,
+            && does_replay(alloc, &report)?,
     )
 }
 
@@ -111,6 +116,35 @@ fn a_hundred_thousand_steps(rt: HostRuntime) -> Result<(), Fail> {
         let mut book = Book::new(alloc, limits, made, STEPS)?;
         assert_eq!(rt; first_unlike_by_book(alloc, &story, &mut book)?, None);
         assert!(rt; shows(alloc, &story.history, &book)?);
+    }
+    Ok(())
+}
+
+// Whether each report replays that a book with room for so many records makes, step by step.
+fn replays_at_each_step(alloc: Global, story: &Story, room: usize) -> Result<bool, AllocError> {
+    let mut book = Book::new(alloc, story.limits, story.made, room)?;
+    for draft in story.drafts.iter() {
+        book.answer(alloc, draft.step(alloc)?)?;
+        if !does_replay(alloc, &book.report()?)? {
+            return Ok(false);
+        }
+    }
+    Ok(true)
+}
+
+#[test]
+fn each_report_replays_whatever_was_dropped(rt: HostRuntime) -> Result<(), Fail> {
+    let alloc = rt.alloc();
+    for seed in 0..200 {
+        let mut rng = Pcg32::seed_from_u64(seed);
+        let limits = limits(&mut rng).ok_or("limits")?;
+        let story = made_up(alloc, &mut rng, limits, Duration::from_millis(seed))?;
+        for room in [0usize, 1, 7, 64] {
+            assert!(rt;
+                replays_at_each_step(alloc, &story, room)?,
+                "{seed} at {room}"
+            );
+        }
     }
     Ok(())
 }

@@ -121,3 +121,27 @@ fn a_report_that_is_refused_changes_nothing(rt: HostRuntime) -> Result<(), Fail>
     assert!(rt; refused_until > 0 && refused_until < PARTS - 1);
     Ok(())
 }
+
+#[test]
+fn a_replay_that_is_refused_changes_nothing(rt: HostRuntime) -> Result<(), Fail> {
+    let limits = limits(2, None, None, Some(1000), 30_000, 30_000).ok_or("limits")?;
+    let book = lived(rt.alloc(), limits)?;
+    let mut refused_until = 0;
+    for part in 1..PARTS {
+        let heap = LocalHeap::new(rt.alloc(), 8192)?;
+        let report = book.report_in(&heap)?;
+        let rest = heap.free().saturating_sub(part * 16);
+        let _rest: Vec<u8, &LocalHeap> = Vec::with_capacity(&heap, rest)?;
+        let used = heap.used();
+        match report.replays() {
+            Ok(does_replay) => assert!(rt; does_replay, "at {part}"),
+            Err(_) => {
+                assert_eq!(rt; refused_until, part - 1, "at {part}");
+                refused_until = part;
+            }
+        }
+        assert_eq!(rt; heap.used(), used, "at {part}");
+    }
+    assert!(rt; refused_until > 0 && refused_until < PARTS - 1);
+    Ok(())
+}

@@ -1,4 +1,4 @@
-// Newest-first beside other choices. Moments are in milliseconds. No clause says that `compare` answers where memory is
+// Newest-first and oldest-first beside other choices. Moments are in milliseconds. No clause says that `compare` answers where memory is
 // there; each of these calls does.
 
 use r2d2_core::reuse::{Move, compare, is_in_order};
@@ -10,6 +10,7 @@ fn ms(moment: u64) -> Duration {
     Duration::from_millis(moment)
 }
 
+// What is expired where the newest is lent first, where the oldest is, and by the picks.
 fn compared(
     alloc: Global,
     idle: &[Duration],
@@ -17,12 +18,12 @@ fn compared(
     picks: &[usize],
     now: u64,
     limit: u64,
-) -> Result<Option<(usize, usize)>, Fail> {
+) -> Result<Option<(usize, usize, usize)>, Fail> {
     if !is_in_order(idle) {
         return Err(Fail::from("idle is in order"));
     }
     let answer = compare(alloc, idle, moves, picks, ms(now), ms(limit))?;
-    Ok(answer.map(|c| (c.newest_first, c.other)))
+    Ok(answer.map(|c| (c.newest_first, c.oldest_first, c.other)))
 }
 
 #[test]
@@ -41,7 +42,7 @@ fn worked_rows(rt: HostRuntime) -> Result<(), Fail> {
     let moves = [Move::Take(ms(25)), Move::Add(ms(26))];
     assert_eq!(rt;
         compared(alloc, &idle, &moves, &[0], 110, 100)?,
-        Some((2, 1))
+        Some((2, 1, 1))
     );
     assert_eq!(rt; compared(alloc, &idle, &moves, &[], 110, 100)?, None);
     assert_eq!(rt; compared(alloc, &idle, &moves, &[3], 110, 100)?, None);
@@ -49,16 +50,32 @@ fn worked_rows(rt: HostRuntime) -> Result<(), Fail> {
     // A take on an empty list uses no pick.
     assert_eq!(rt;
         compared(alloc, &[], &[Move::Take(ms(5))], &[], 10, 1)?,
-        Some((0, 0))
+        Some((0, 0, 0))
     );
 
     // Moments that run backwards count as the latest so far, and a pick that is left over is ignored.
     let idle = [ms(0), ms(100)];
     assert_eq!(rt;
         compared(alloc, &idle, &[Move::Add(ms(50))], &[9], 150, 50)?,
-        Some((3, 3))
+        Some((3, 3, 3))
     );
-    assert_eq!(rt; compared(alloc, &idle, &[], &[], 40, 100)?, Some((1, 1)));
+    assert_eq!(rt; compared(alloc, &idle, &[], &[], 40, 100)?, Some((1, 1, 1)));
+    Ok(())
+}
+
+// Two of three are lent. Whether the oldest of all stays is for the picks to say.
+#[test]
+fn other_choices_lie_between(rt: HostRuntime) -> Result<(), Fail> {
+    let idle = [ms(0), ms(10), ms(20)];
+    let moves = [Move::Take(ms(25)), Move::Take(ms(25))];
+    assert_eq!(rt;
+        compared(rt.alloc(), &idle, &moves, &[0, 1], 110, 100)?,
+        Some((1, 0, 1))
+    );
+    assert_eq!(rt;
+        compared(rt.alloc(), &idle, &moves, &[1, 0], 110, 100)?,
+        Some((1, 0, 0))
+    );
     Ok(())
 }
 
@@ -71,9 +88,14 @@ fn the_oldest_first_is_strictly_behind(rt: HostRuntime) -> Result<(), Fail> {
         Move::Take(ms(70)),
         Move::Add(ms(80)),
     ];
+    // To pick the first place each time is to lend the oldest.
     assert_eq!(rt;
         compared(rt.alloc(), &idle, &moves, &[0, 0], 110, 80)?,
-        Some((4, 2))
+        Some((4, 2, 2))
+    );
+    assert_eq!(rt;
+        compared(rt.alloc(), &idle, &moves, &[0, 3], 110, 80)?,
+        Some((4, 2, 3))
     );
     Ok(())
 }
@@ -149,10 +171,10 @@ fn picks_of(
 }
 
 #[test]
-fn newest_first_is_never_behind(rt: HostRuntime) -> Result<(), Fail> {
+fn no_other_choice_is_beyond_the_two(rt: HostRuntime) -> Result<(), Fail> {
     let alloc = rt.alloc();
     let mut equal: u64 = 0;
-    let mut behind: u64 = 0;
+    let mut between: u64 = 0;
     for size in 0..6 {
         let idle = idle_of(alloc, size)?;
         for code in 1..128 {
@@ -161,21 +183,23 @@ fn newest_first_is_never_behind(rt: HostRuntime) -> Result<(), Fail> {
                 let picks = picks_of(alloc, size, &moves, way)?;
                 for limit in [10, 30, 50, 70, 90] {
                     let answer = compared(alloc, &idle, &moves, &picks, 100, limit)?;
-                    let (newest_first, other) = answer.ok_or("each take has its pick")?;
+                    let (newest_first, oldest_first, other) = answer.ok_or(
+                        "each take has its pick",
+                    )?;
                     assert!(rt;
-                        other <= newest_first,
-                        "behind at {size} idle, moves {code}, way {way}, limit {limit}"
+                        oldest_first <= other && other <= newest_first,
+                        "beyond at {size} idle, moves {code}, way {way}, limit {limit}"
                     );
-                    if other < newest_first {
-                        behind = behind.saturating_add(1);
-                    } else {
+                    if oldest_first < other && other < newest_first {
+                        between = between.saturating_add(1);
+                    } else if oldest_first == newest_first {
                         equal = equal.saturating_add(1);
                     }
                 }
             }
         }
     }
-    assert!(rt; behind > 0);
+    assert!(rt; between > 0);
     assert!(rt; equal > 0);
     Ok(())
 }

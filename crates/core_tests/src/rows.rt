@@ -119,5 +119,5 @@ fn by_a_book(alloc: Global, script: &str) -> Result<(Vec<u8>, bool), Fault> {
     let _rest: Vec<u8, &LocalHeap> = Vec::with_capacity(&heap, heap.free())?;
     let written = lines_of(alloc, &mut book, lines)?;
     let report = book.report_in(alloc)?;
-    Ok((written, report.lost == 0 && replays(alloc, &report)?))
+    Ok((written, replays(alloc, &report)?))
 }

@@ -3,9 +3,8 @@
 
 ghost use Rattle.std.specs.Prelude.{◌≡◌, ◌+◌, if◌then◌else◌, true, is_some};
 ghost use Rattle.std.specs.Duration.{as_nanos};
-ghost use Rattle.r2d2_core.specs.Ids.{last_of};
 ghost use Rattle.r2d2_core.specs.Connections.{birth_in};
-ghost use Rattle.r2d2_core.specs.Table.{after_take};
+ghost use Rattle.r2d2_core.specs.Table.{next_of, after_take};
 ghost use Rattle.core_uses.specs.Counted.{IsCounted, shown_found};
 ghost use Rattle.core_uses.specs.Calls.{after_open, after_discard};
 
@@ -29,11 +28,12 @@ pub fn open<T: Drop>(core: &mut Core<T>, lent: &u32, now: Duration, value: T) ->
     }
 }
 
-/// Takes the newest idle connection, and counts it among the lent ones; None where none is idle.
+/// Takes the idle connection that is lent next, and counts it among the lent ones; None where none
+/// is idle.
 pub fn lend<T>(core: &mut Core<T>, lent: &mut u32, now: Duration) -> Option<(u64, T)>
     requires { IsCounted core.old lent.old }
     ensures counted { IsCounted core.new lent.new }
-    ensures newest { result ≡ shown_found (last_of core.old.idle) }
+    ensures next { result ≡ shown_found (next_of core.old) }
     ensures after { core.new ≡ after_take (as_nanos now) true core.old }
 {
     // This reading tells that no more are lent than there may be, so the count can't overflow.

@@ -70,8 +70,8 @@ fn values_of_a_run(rt: HostRuntime) -> Result<(), Fail> {
     Ok(())
 }
 
-// Of two connections that are idle and one that comes, a take removes the newest, or the oldest.
-fn compared(alloc: Global, idle: &[Duration]) -> Result<Option<(usize, usize)>, AllocError> {
+// Of two connections that are idle and one that comes, a take removes the newest, or the oldest, or the second.
+fn compared(alloc: Global, idle: &[Duration]) -> Result<Option<(usize, usize, usize)>, AllocError> {
     if !is_in_order(idle) {
         return Ok(None);
     }
@@ -81,8 +81,8 @@ fn compared(alloc: Global, idle: &[Duration]) -> Result<Option<(usize, usize)>, 
     ];
     let now = Duration::from_millis(200);
     let limit = Duration::from_millis(90);
-    let answer = compare(alloc, idle, &moves, &[0], now, limit)?;
-    Ok(answer.map(|c| (c.newest_first, c.other)))
+    let answer = compare(alloc, idle, &moves, &[1], now, limit)?;
+    Ok(answer.map(|c| (c.newest_first, c.oldest_first, c.other)))
 }
 
 #[test]
@@ -93,7 +93,7 @@ fn a_comparison(rt: HostRuntime) -> Result<(), Fail> {
         // At most one request of a run is refused.
         Err(_) => compared(rt.alloc(), &idle)?,
     };
-    assert_eq!(rt; answer, Some((2, 1)));
+    assert_eq!(rt; answer, Some((2, 1, 1)));
     Ok(())
 }
 
@@ -115,6 +115,27 @@ fn building(rt: HostRuntime) -> Result<(), Fail> {
             assert!(rt; error.message().is_none());
         }
     }
+    assert_eq!(rt; watched(&rt, &play.managers_dropped, 1, 1000), 1);
+    let opened = play.opened.load(Ordering::SeqCst);
+    assert_eq!(rt; play.dropped.load(Ordering::SeqCst), opened);
+    Ok(())
+}
+
+#[test]
+fn starting_each_worker(rt: HostRuntime) -> Result<(), Fail> {
+    // Each opening waits, so the third one is begun by a third worker.
+    let rows = Rows { unheld: 0, ..GOOD };
+    let Ok(play) = Play::new(rt.alloc(), rows) else {
+        return Ok(());
+    };
+    let manager = Manager::new(rt, &play)?;
+    let builder = Builder::new().max_size(3).thread_pool(3);
+    let built = builder.build_unchecked(rt, manager);
+    if built.is_ok() {
+        assert_eq!(rt; watched(&rt, play.connects(), 3, 500), 3);
+    }
+    play.let_go.store(1, Ordering::SeqCst);
+    drop(built);
     assert_eq!(rt; watched(&rt, &play.managers_dropped, 1, 1000), 1);
     let opened = play.opened.load(Ordering::SeqCst);
     assert_eq!(rt; play.dropped.load(Ordering::SeqCst), opened);

@@ -115,6 +115,11 @@ impl Play {
         Ok(Arc::new(alloc, play)?)
     }
 
+    /// How many openings were begun.
+    pub(crate) fn connects(&self) -> &AtomicU64 {
+        &self.connect.asked
+    }
+
     // Where memory is refused the word is missing in the text, and the test that reads it fails.
     fn note<R: Wait>(&self, rt: &R, word: &str, number: u64) {
         let mut text = self.text.lock(rt);

@@ -1,4 +1,4 @@
-// Newest-first beside oldest-first.
+// Newest-first and oldest-first beside a choice of one's own.
 
 use anyhow::ensure;
 use r2d2_core::reuse::{Move, compare, is_in_order};
@@ -17,8 +17,11 @@ pub fn compared<R: Print + AllocGlobal>(rt: &R) -> Result<(), anyhow::Error> {
         Move::Add(ms(80)),
     ];
     ensure!(is_in_order(&idle), "the idle list falls");
-    match compare(rt.alloc(), &idle, &moves, &[0, 0], ms(110), ms(80))? {
-        Some(c) => println!(rt; "newest-first {}, oldest-first {}", c.newest_first, c.other)?,
+    match compare(rt.alloc(), &idle, &moves, &[0, 4], ms(110), ms(80))? {
+        Some(c) => println!(rt;
+            "newest-first {}, oldest-first {}, these picks {}",
+            c.newest_first, c.oldest_first, c.other
+        )?,
         None => println!(rt; "a take has no pick")?,
     }
     Ok(())

@@ -19,5 +19,8 @@ pub fn printed<R: Print + AllocGlobal>(rt: &R, limits: Limits) -> Result<(), any
         "{} connections, {} pending, {} records lost",
         report.connections, report.pending, report.lost
     )?;
+    if !report.replays()? {
+        println!(rt; "this is no report as a book makes them")?;
+    }
     Ok(())
 }

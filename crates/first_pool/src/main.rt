@@ -45,7 +45,7 @@ fn main(rt: HostRuntime) -> Result<(), anyhow::Error> {
     let mut database = pool.get()?;
     database.execute("INSERT INTO visit (name) VALUES (?1)", params!["Ada"])?;
     println!(rt; "{:?}", pool.state())?;
-    // It goes back to the pool, and is the next one that is lent: the newest comes first.
+    // It goes back to the pool, and is lent next: the newest comes first by default.
     drop(database);
 
     let mut database = pool.get()?;

@@ -1,7 +1,12 @@
 // One thread, and no connection lent beside its own.
-use crate::pools::open_pool;
+ghost use Rattle.std.specs.Prelude.{◌≡◌};
+
+use crate::pools::{Nothings, open_all, open_pool};
 use crate::scenario::Case;
-use r2d2::PoolRuntime;
+use anyhow::ensure;
+use r2d2::{Builder, PoolRuntime};
+use std::marker::Brand;
+use std::sync::ledger::{Blank, Ledger};
 use std::sync::{Arc, Mutex};
 use std::time::{Duration, Instant};
 
@@ -38,6 +43,34 @@ pub fn get_drop<R: PoolRuntime>(
     Ok(start.elapsed(&rt)?)
 }
 
+/// The same round, without a check, at a pool that counts its takes.
+pub fn counted_get_drop<R: PoolRuntime>(rt: R, case: Case) -> Result<Duration, anyhow::Error> {
+    count_gets::<R, Brand>(rt, case, Blank::new(1))
+}
+
+// Its takes are counted by a ledger of one share.
+fn count_gets<R: PoolRuntime, L: Ledger + Send + Sync + 'static>(
+    rt: R,
+    case: Case,
+    blank: Blank,
+) -> Result<Duration, anyhow::Error>
+    requires name { blank.name ≡ L.name }
+    requires parts { blank.parts ≡ L.parts }
+    requires one { blank.parts ≡ 1 }
+{
+    let (total, mut share) = blank.open::<L>();
+    let builder = Builder::new()
+        .max_size(case.max_size)
+        .test_on_check_out(false);
+    let pool = builder.build_counted(rt, Nothings, total)?;
+    open_all(rt, &pool, &mut share, case.max_size)?;
+    let start = Instant::now(&rt)?;
+    for _i in 0..case.operations {
+        drop(pool.get(&mut share)?);
+    }
+    Ok(start.elapsed(&rt)?)
+}
+
 /// `try_get` that finds one, and the connection's return.
 pub fn try_get_hit<R: PoolRuntime>(rt: R, case: Case) -> Result<Duration, anyhow::Error> {
     let pool = open_pool(rt, case.max_size, false)?;
@@ -66,33 +99,34 @@ pub fn try_get_miss<R: PoolRuntime>(rt: R, case: Case) -> Result<Duration, anyho
 pub fn floor<R: PoolRuntime>(rt: R, case: Case) -> Result<Duration, anyhow::Error> {
     let latest = Arc::new(rt.alloc(), Mutex::new(Duration::ZERO))?;
     let start = Instant::now(&rt)?;
+    let mut went = true;
     for _ in 0..case.operations {
-        floor_round(rt, &latest, start)?;
+        went &= floor_round(rt, &latest, start);
     }
+    ensure!(went, "a round failed");
     Ok(start.elapsed(&rt)?)
 }
 
-/// One round of `floor`.
-pub fn floor_round<R: PoolRuntime>(
-    rt: R,
-    latest: &Arc<Mutex<Duration>>,
-    start: Instant,
-) -> Result<(), anyhow::Error> {
-    start.elapsed(&rt)?;
-    let holder = Arc::try_clone(latest)?;
-    step(rt, &holder, start)?;
-    start.elapsed(&rt)?;
-    start.elapsed(&rt)?;
-    step(rt, &holder, start)
+/// One round of `floor`. It hands on no error of the clock: moving one about would cost more than a pool does.
+pub fn floor_round<R: PoolRuntime>(rt: R, latest: &Arc<Mutex<Duration>>, start: Instant) -> bool {
+    since(rt, start);
+    let Ok(holder) = Arc::try_clone(latest) else {
+        return false;
+    };
+    step(rt, &holder, start);
+    since(rt, start);
+    since(rt, start);
+    step(rt, &holder, start);
+    true
 }
 
 // Takes the lock, and reads the clock under it.
-fn step<R: PoolRuntime>(
-    rt: R,
-    latest: &Mutex<Duration>,
-    start: Instant,
-) -> Result<(), anyhow::Error> {
+fn step<R: PoolRuntime>(rt: R, latest: &Mutex<Duration>, start: Instant) {
     let mut latest = latest.lock(&rt);
-    *latest = start.elapsed(&rt)?;
-    Ok(())
+    *latest = since(rt, start);
+}
+
+// The time since the start; zero where the clock can't be read.
+fn since<R: PoolRuntime>(rt: R, start: Instant) -> Duration {
+    start.elapsed(&rt).unwrap_or(Duration::ZERO)
 }

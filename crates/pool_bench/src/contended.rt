@@ -117,7 +117,7 @@ pub fn goes_round<R: PoolRuntime>(rt: R, latest: Arc<Mutex<Duration>>, rounds: u
         return false;
     };
     for _ in 0..rounds {
-        if floor_round(rt, &latest, start).is_err() {
+        if !floor_round(rt, &latest, start) {
             return false;
         }
     }

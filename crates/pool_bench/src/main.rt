@@ -1,5 +1,5 @@
 //! Times the calls of a pool. With an argument it prints a line for each scenario: its name, the threads, `max_size`, how many operations
-//! were timed, and the nanoseconds for each, in the fastest of five runs. With none it says how to run it.
+//! were timed, and the nanoseconds for each, in the fastest of twenty-five runs. With none it says how to run it.
 #![tactic(auto)]
 
 ghost use Rattle.std.specs.Prelude.{◌<◌};
@@ -17,7 +17,7 @@ use scenario::{Case, Scenario};
 use std::{env, thread};
 
 /// Calls of a scenario of one thread, in one run.
-const CALLS: u32 = 20_000;
+const CALLS: u32 = 2_000;
 
 fn main(rt: HostRuntime) -> Result<(), anyhow::Error> {
     if env::args(&rt)?.count() < 2 {
@@ -52,6 +52,7 @@ fn measure_alone<R: PoolRuntime + Print>(rt: R) -> Result<(), anyhow::Error> {
     Scenario::Floor.measure(rt, one_thread(1, CALLS))?;
     Scenario::GetDrop.measure(rt, one_thread(10, CALLS))?;
     Scenario::GetDropCheck.measure(rt, one_thread(10, CALLS))?;
+    Scenario::CountedGetDrop.measure(rt, one_thread(10, CALLS))?;
     Scenario::TryGetHit.measure(rt, one_thread(10, CALLS))?;
     Scenario::TryGetMiss.measure(rt, one_thread(1, CALLS))
 }

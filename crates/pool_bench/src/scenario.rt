@@ -6,8 +6,8 @@ use crate::{alone, growing};
 use r2d2::PoolRuntime;
 use std::time::Duration;
 
-/// How often each scenario is run. The fastest run counts: the others were held up by something else.
-pub const RUNS: u32 = 5;
+/// How often each scenario is run. The fastest run counts: the others were held up by something else. So runs are short and many.
+pub const RUNS: u32 = 25;
 
 /// How often, and at what size, a scenario is run.
 #[derive(Clone, Copy)]
@@ -53,6 +53,7 @@ pub enum Scenario {
     Floor,
     GetDrop,
     GetDropCheck,
+    CountedGetDrop,
     TryGetHit,
     TryGetMiss,
     Build,
@@ -70,6 +71,7 @@ impl Scenario {
             Scenario::Floor => "floor",
             Scenario::GetDrop => "get_drop",
             Scenario::GetDropCheck => "get_drop_check",
+            Scenario::CountedGetDrop => "counted_get_drop",
             Scenario::TryGetHit => "try_get_hit",
             Scenario::TryGetMiss => "try_get_miss",
             Scenario::Build => "build",
@@ -87,6 +89,7 @@ impl Scenario {
             Scenario::Floor => alone::floor(rt, case),
             Scenario::GetDrop => alone::get_drop(rt, case, false),
             Scenario::GetDropCheck => alone::get_drop(rt, case, true),
+            Scenario::CountedGetDrop => alone::counted_get_drop(rt, case),
             Scenario::TryGetHit => alone::try_get_hit(rt, case),
             Scenario::TryGetMiss => alone::try_get_miss(rt, case),
             Scenario::Build => growing::build(rt, case),

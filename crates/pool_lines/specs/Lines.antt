@@ -6,6 +6,8 @@ use Rattle.std.specs.Str.Parse.{digits_value}
 use Rattle.std.specs.Duration.{as_nanos}
 use Rattle.r2d2_core.specs.declared.run.Step.{Step}
 use Rattle.r2d2_core.specs.declared.run.Step.TheVariants as step
+use Rattle.r2d2_core.specs.declared.schedule.limits.LendingOrder.{LendingOrder}
+use Rattle.r2d2_core.specs.declared.schedule.limits.LendingOrder.TheVariants as lending
 use Rattle.r2d2_core.specs.Limits.{SeenLimits}
 use Rattle.pool_lines.specs.declared.program.line.Line.{Line}
 use Rattle.pool_lines.specs.declared.program.line.Line.TheVariants as line
@@ -51,6 +53,7 @@ pub record SeenLimitsLine : Type 0 where
   pub idle_timeout : Option ℕ
   pub connection_timeout : ℕ
   pub reap_every : ℕ
+  pub order : LendingOrder
 
 -- limits, with their lengths of time in nanoseconds
 abbrev pub sizes_of : SeenLimits → SeenLimitsLine
@@ -61,20 +64,22 @@ sizes_of s = record {
   idle_timeout = option_map as_nanos s.idle_timeout;
   connection_timeout = as_nanos s.connection_timeout;
   reap_every = as_nanos s.reap_every;
+  order = s.order;
 }
 
-abbrev pub sizes : ℕ → Option ℕ → Option ℕ × Option ℕ × ℕ × ℕ → SeenLimitsLine
-sizes size least l = record {
+abbrev pub sizes : ℕ → Option ℕ → Option ℕ × Option ℕ × ℕ × List ℕ → ℕ × LendingOrder → SeenLimitsLine
+sizes size least l last = record {
   max_size = size;
   min_idle = least;
   max_lifetime = l.0;
   idle_timeout = l.1;
   connection_timeout = l.2;
-  reap_every = l.3;
+  reap_every = last.0;
+  order = last.1;
 }
 
--- four lengths of time, of which the first two may be left out
-unfoldable pub lengths_in : List ℕ → Option (Option ℕ × Option ℕ × ℕ × ℕ)
+-- three lengths of time, of which the first two may be left out, and what stands after them
+unfoldable pub lengths_in : List ℕ → Option (Option ℕ × Option ℕ × ℕ × List ℕ)
 lengths_in fields = do
   life ← cut fields
   idle ← cut life.1
@@ -82,10 +87,24 @@ lengths_in fields = do
   max_lifetime ← optional_in time_in life.0
   idle_timeout ← optional_in time_in idle.0
   connection_timeout ← time_in timeout.0
-  reap_every ← time_in timeout.1
-  Some (max_lifetime, idle_timeout, connection_timeout, reap_every)
+  Some (max_lifetime, idle_timeout, connection_timeout, timeout.1)
 
--- a size, how many are wanted idle, and the lengths of time
+-- a lending order
+abbrev pub order_in : List ℕ → Option LendingOrder
+order_in word =
+    if bytes_eq word (codes "newest") then Some lending.NewestFirst
+    else if bytes_eq word (codes "oldest") then Some lending.OldestFirst
+    else None
+
+abbrev pub last_by : List ℕ → Option (List ℕ × List ℕ) → Option (ℕ × LendingOrder)
+last_by field None = option_map (λ every. (every, lending.NewestFirst)) (time_in field)
+last_by field (Some a) = time_in a.0 >>= (λ every. option_map (λ order. (every, order)) (order_in a.1))
+
+-- the last length of time, and a lending order where one follows: where none does, the newest is lent first
+unfoldable pub last_in : List ℕ → Option (ℕ × LendingOrder)
+last_in fields = last_by fields (cut fields)
+
+-- a size, how many are wanted idle, the lengths of time, and perhaps the lending order
 unfoldable pub fields_in : List ℕ → Option SeenLimitsLine
 fields_in fields = do
   size ← cut fields
@@ -93,7 +112,8 @@ fields_in fields = do
   max_size ← number_in 32 size.0
   min_idle ← optional_in (number_in 32) least.0
   lengths ← lengths_in least.1
-  Some (sizes max_size min_idle lengths)
+  last ← last_in lengths.3
+  Some (sizes max_size min_idle lengths last)
 
 -- `limits` and its fields
 unfoldable pub sizes_in : List ℕ → Option SeenLimitsLine

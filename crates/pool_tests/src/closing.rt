@@ -1,6 +1,6 @@
 // What happens to connections and to the manager where a connection is broken, or its pool goes away.
 
-use crate::callers::watched;
+use crate::callers::{keep, watched};
 use crate::listening::{Listener, Told};
 use crate::managers::{Blammo, Breaks, Counts, Manager, Value};
 use r2d2::{Builder, ManageConnection, Pool, PoolRuntime};
@@ -8,6 +8,7 @@ use std::rt::Clock;
 use std::sync::atomic::{AtomicU64, Ordering};
 use std::sync::{Arc, Mutex};
 use std::test::Fail;
+use std::thread;
 use std::time::Duration;
 
 #[test]
@@ -63,6 +64,26 @@ fn close_by_return(rt: HostRuntime) -> Result<(), Fail> {
     assert_eq!(rt; counts.dropped(), 1);
     assert_eq!(rt; watched(&rt, &counts.managers_dropped, 1, 1000), 1);
     assert_eq!(rt; counts.dropped(), 1);
+    let events = [Told::Acquire(0), Told::Checkout(0), Told::Checkin(0)];
+    assert_eq!(rt; told.lock(&rt).as_slice(), events.as_slice());
+    Ok(())
+}
+
+#[test]
+fn close_by_the_return_of_another_thread(rt: HostRuntime) -> Result<(), Fail> {
+    let counts = Counts::new(rt.alloc())?;
+    let told = Arc::new(rt.alloc(), Mutex::new(Vec::new(rt.alloc())))?;
+    let pool = Builder::new()
+        .max_size(1)
+        .event_handler(Listener::new(rt, &told)?)
+        .build(rt, Manager::new(&counts, 1, Breaks::Never)?)?;
+    let lent = pool.get()?;
+    drop(pool);
+    assert_eq!(rt; counts.dropped(), 0);
+    let other = thread::spawn(&rt, move || keep(rt, Duration::ZERO, lent))?;
+    other.join(&rt);
+    assert_eq!(rt; counts.dropped(), 1);
+    assert_eq!(rt; watched(&rt, &counts.managers_dropped, 1, 1000), 1);
     let events = [Told::Acquire(0), Told::Checkout(0), Told::Checkin(0)];
     assert_eq!(rt; told.lock(&rt).as_slice(), events.as_slice());
     Ok(())

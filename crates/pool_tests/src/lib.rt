@@ -10,6 +10,8 @@ mod closing;
 #[cfg(test)]
 mod closing_amid;
 #[cfg(test)]
+mod counting;
+#[cfg(test)]
 mod engine;
 #[cfg(test)]
 mod extensions;
@@ -34,6 +36,10 @@ mod settings;
 #[cfg(test)]
 mod stress;
 #[cfg(test)]
+mod taking_turns;
+#[cfg(test)]
 mod telling;
 #[cfg(test)]
 mod threads;
+#[cfg(test)]
+mod waking;

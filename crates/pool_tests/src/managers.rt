@@ -2,11 +2,13 @@
 ghost use Rattle.pool_tests.specs.declared.managers.Kind.TheVariants.{OfNumber, OfWord};
 ghost use Rattle.pool_tests.specs.declared.managers.Value.TheVariants.{Number, Word};
 
-use r2d2::{Extension, ManageConnection};
+use r2d2::{Extension, ManageConnection, PoolRuntime};
 use std::alloc::{AllocError, Global};
-use std::fmt;
+use std::rt::Clock;
 use std::sync::Arc;
-use std::sync::atomic::{AtomicU64, Ordering};
+use std::sync::atomic::{AtomicBool, AtomicU64, Ordering};
+use std::time::Duration;
+use std::{fmt, thread};
 
 #[derive(Clone, Copy, Debug, PartialEq, Eq)]
 pub(crate) enum Kind {
@@ -176,5 +178,67 @@ impl ManageConnection for Manager {
             Breaks::Always => true,
             Breaks::AtTheSecondReturn => returns == 1,
         }
+    }
+}
+
+/// What goes wrong.
+#[derive(Clone, Copy, PartialEq)]
+pub(crate) enum Wrong {
+    Connect,
+    IsValid,
+    HasBroken,
+}
+
+/// Opens sevens. One thing goes wrong the first time that it is done, after 300 ms: time for all others to come to their waits.
+#[derive(Drop)]
+pub(crate) struct WrongOnce<R> {
+    wrong: Wrong,
+    is_over: AtomicBool,
+    rt: R,
+}
+
+impl<R> WrongOnce<R> {
+    pub(crate) fn new(rt: R, wrong: Wrong) -> WrongOnce<R> {
+        WrongOnce {
+            wrong,
+            is_over: AtomicBool::new(false),
+            rt,
+        }
+    }
+}
+
+impl<R: Clock> WrongOnce<R> {
+    fn goes_wrong(&self, here: Wrong) -> bool {
+        if self.wrong != here || self.is_over.swap(true, Ordering::SeqCst) {
+            return false;
+        }
+        thread::sleep(&self.rt, Duration::from_millis(300));
+        true
+    }
+}
+
+impl<R: PoolRuntime> ManageConnection for WrongOnce<R> {
+    type Connection = u32;
+
+    type Error = Blammo;
+
+    type Extension = Value;
+
+    fn connect(&self) -> Result<u32, Blammo> {
+        if self.goes_wrong(Wrong::Connect) {
+            return Err(Blammo);
+        }
+        Ok(7)
+    }
+
+    fn is_valid(&self, _connection: &mut u32) -> Result<(), Blammo> {
+        if self.goes_wrong(Wrong::IsValid) {
+            return Err(Blammo);
+        }
+        Ok(())
+    }
+
+    fn has_broken(&self, _connection: &mut u32) -> bool {
+        self.goes_wrong(Wrong::HasBroken)
     }
 }

@@ -2,8 +2,8 @@
 
 use crate::managers::{Blammo, Sevens};
 use r2d2::{
-    Builder, Config, CustomizeConnection, HandleEvent, NopConnectionCustomizer, NopErrorHandler,
-    NopEventHandler,
+    Builder, Config, CustomizeConnection, HandleEvent, LendingOrder, NopConnectionCustomizer,
+    NopErrorHandler, NopEventHandler,
 };
 use std::test::Fail;
 use std::time::Duration;
@@ -58,6 +58,7 @@ fn settings(rt: HostRuntime) -> Result<(), Fail> {
         connection_timeout: Duration::from_millis(250),
         journal_room: 16,
         reaper_rate: Duration::from_secs(1),
+        lending_order: LendingOrder::NewestFirst,
         error_handler: NopErrorHandler,
         event_handler: NopEventHandler,
         connection_customizer: NopConnectionCustomizer,
@@ -67,5 +68,15 @@ fn settings(rt: HostRuntime) -> Result<(), Fail> {
         shown.as_str(),
         "Config { max_size: 2, min_idle: Some(1), test_on_check_out: false, max_lifetime: None, idle_timeout: None, connection_timeout: 250ms, error_handler: NopErrorHandler, event_handler: NopEventHandler, connection_customizer: NopConnectionCustomizer }"
     );
+    Ok(())
+}
+
+#[test]
+fn the_lending_order_is_among_the_limits(rt: HostRuntime) -> Result<(), Fail> {
+    let limits = Settings::new().limits().ok_or("limits")?;
+    assert_eq!(rt; limits.order(), LendingOrder::NewestFirst);
+    let builder = Settings::new().lending_order(LendingOrder::OldestFirst);
+    let limits = builder.limits().ok_or("limits")?;
+    assert_eq!(rt; limits.order(), LendingOrder::OldestFirst);
     Ok(())
 }

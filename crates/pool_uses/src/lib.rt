@@ -8,9 +8,10 @@ ghost use Rattle.r2d2_core.specs.Reports.{DoesReplay};
 use r2d2::event::HandleEvent;
 use r2d2::journal::Report;
 use r2d2::{
-    Builder, CustomizeConnection, Error, HandleError, ManageConnection, Pool, PoolRuntime,
-    PooledConnection,
+    Builder, CountedPool, CustomizeConnection, Error, HandleError, ManageConnection, Pool,
+    PoolRuntime, PooledConnection,
 };
+use std::sync::ledger::{Ledger, Share};
 use std::time::Duration;
 
 /// How busy a pool is at one moment.
@@ -72,7 +73,7 @@ pub fn build_checked<
 }
 
 /// All that happened since the pool was made, which replays to what there is; None where records
-/// were dropped.
+/// were folded into the base.
 pub fn audit<
     M: ManageConnection,
     H: HandleError<M::Error>,
@@ -90,7 +91,7 @@ pub fn audit<
     Ok(Some(report))
 }
 
-/// How many more openings the pool's limit leaves room for now, whatever its journal has lost.
+/// How many more openings the pool's limit leaves room for now, whatever its journal has folded.
 pub fn room_left<
     M: ManageConnection,
     H: HandleError<M::Error>,
@@ -145,4 +146,26 @@ pub fn replace<
     ensures extensions { lent.new.extensions ≡ lent.old.extensions }
 {
     **lent = connection;
+}
+
+/// Lends twice from a pool that counts, and audits it with the share that has all parts of its
+/// ledger: whatever other threads did before, the report tells of two takes more than all shares
+/// had counted.
+pub fn lend_twice_and_audit<
+    M: ManageConnection,
+    H: HandleError<M::Error>,
+    V: HandleEvent + 'static,
+    Z: CustomizeConnection<M::Connection, M::Error>,
+    R: PoolRuntime,
+    L: Ledger + Send + Sync + 'static,
+>(pool: &CountedPool<M, H, V, Z, R, L>, all: &mut Share<L>) -> Result<Report, Error>
+    requires all { all.old.parts ≡ L.parts }
+    requires some { 0 < L.parts }
+    requires few { all.old.amount + 2 < 2 ^ 64 }
+    ensures takes { IfOk result (λ report. all.old.amount + 2 ≤ report.takes) }
+    ensures parts { all.new.parts ≡ all.old.parts }
+{
+    drop(pool.get(all)?);
+    drop(pool.get(all)?);
+    pool.audit(all)
 }

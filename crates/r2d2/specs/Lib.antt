@@ -5,4 +5,5 @@ pub mod Settings
 pub mod Wakes
 pub mod Settled
 pub use Rattle.r2d2_core.specs.Limits
+pub mod Counted
 pub mod Lent

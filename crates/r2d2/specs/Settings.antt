@@ -2,7 +2,8 @@
 use Rattle.std.specs.Prelude.{◌≡◌, ℕ, ◌*◌, ◌<◌, true, Some, None, option_map}
 use Rattle.std.specs.Option.{ForSome}
 use Rattle.std.specs.Duration.{as_nanos}
-use Rattle.r2d2_core.specs.Limits.{SeenLimits, settings}
+use Rattle.r2d2_core.specs.declared.schedule.limits.LendingOrder.TheVariants.{NewestFirst}
+use Rattle.r2d2_core.specs.Limits.{SeenLimits, settings, with_order}
 use Rattle.r2d2.specs.declared.config.Config.{Config}
 
 -- a number of seconds, in nanoseconds
@@ -20,6 +21,7 @@ pub record AreDefaults {H V Z : Type 0} (config : Config H V Z) : Type 0 where
   pub connection_timeout : as_nanos config.connection_timeout ≡ seconds 30
   pub journal_room : config.journal_room ≡ 0
   pub reaper_rate : as_nanos config.reaper_rate ≡ seconds 30
+  pub lending_order : config.lending_order ≡ NewestFirst
 
 -- what a builder keeps: its sizes and lengths of time are positive
 pub record ArePositive {H V Z : Type 0} (config : Config H V Z) : Type 0 where
@@ -32,11 +34,11 @@ pub record ArePositive {H V Z : Type 0} (config : Config H V Z) : Type 0 where
 
 -- the limits among the settings
 abbrev pub limits_in : {H V Z : Type 0} → Config H V Z → SeenLimits
-limits_in config = settings config.max_size config.min_idle config.max_lifetime config.idle_timeout config.connection_timeout config.reaper_rate
+limits_in config = with_order config.lending_order (settings config.max_size config.min_idle config.max_lifetime config.idle_timeout config.connection_timeout config.reaper_rate)
 
 -- the same settings with other handlers
 abbrev pub with_handlers : {G W Y H V Z : Type 0} → G → W → Y → Config H V Z → Config G W Y
-with_handlers error_handler event_handler customizer c = record { max_size = c.max_size; min_idle = c.min_idle; thread_pool = c.thread_pool; test_on_check_out = c.test_on_check_out; max_lifetime = c.max_lifetime; idle_timeout = c.idle_timeout; connection_timeout = c.connection_timeout; journal_room = c.journal_room; reaper_rate = c.reaper_rate; error_handler = error_handler; event_handler = event_handler; connection_customizer = customizer }
+with_handlers error_handler event_handler customizer c = record { max_size = c.max_size; min_idle = c.min_idle; thread_pool = c.thread_pool; test_on_check_out = c.test_on_check_out; max_lifetime = c.max_lifetime; idle_timeout = c.idle_timeout; connection_timeout = c.connection_timeout; journal_room = c.journal_room; reaper_rate = c.reaper_rate; lending_order = c.lending_order; error_handler = error_handler; event_handler = event_handler; connection_customizer = customizer }
 
 -- with another handler of errors, of events, with another customizer alone
 abbrev pub with_error_handler : {G H V Z : Type 0} → G → Config H V Z → Config G V Z

@@ -5,7 +5,6 @@ use Rattle.r2d2_core.specs.declared.machine.answers.Refusal.{Refusal}
 use Rattle.r2d2_core.specs.Seen.{SeenGone, seen_gone}
 use Rattle.r2d2_core.specs.Picture.{Picture}
 use Rattle.r2d2_core.specs.Table.{admit_answer, after_admit, fail_answer, after_fail, check_answer, after_check}
-use Rattle.r2d2_core.specs.Records.{SeenRecord}
 use Rattle.r2d2_core.specs.Journal.{SeenJournal}
 use Rattle.r2d2_core.specs.Book.{SeenBook}
 use Rattle.r2d2_core.specs.Noted.{noted_admission, noted_check}
@@ -60,7 +59,7 @@ module _ {T : Type 0} where
   after_settle t (outcome.Unsound id text) p = after_check t id text p
 
   -- and what the book notes of it: its journal after it
-  abbrev pub noted_settle : ℕ → Outcome T → SeenBook T → SeenJournal SeenRecord
+  abbrev pub noted_settle : ℕ → Outcome T → SeenBook T → SeenJournal
   noted_settle t (outcome.Opened id value) b = noted_admission t id (admit_answer id value b.picture) b
   noted_settle t (outcome.Failed tries text) b = b.journal
   noted_settle t (outcome.Unsound id text) b = noted_check t id (check_answer t id b.picture) b

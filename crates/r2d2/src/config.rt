@@ -8,7 +8,7 @@ use crate::event::{HandleEvent, NopEventHandler};
 use crate::{
     CustomizeConnection, HandleError, ManageConnection, NopConnectionCustomizer, NopErrorHandler,
 };
-use r2d2_core::Limits;
+use r2d2_core::{LendingOrder, Limits};
 use std::fmt;
 use std::marker::{Model, PhantomData};
 use std::time::Duration;
@@ -34,6 +34,8 @@ pub struct Config<H, V, Z> {
     pub journal_room: usize,
     /// The time from one look for expired connections to the next. Among the limits of the core it is `reap_every`.
     pub reaper_rate: Duration,
+    /// Which of the idle connections is lent next.
+    pub lending_order: LendingOrder,
     /// What is told of errors.
     pub error_handler: H,
     /// What is told of events.
@@ -70,6 +72,7 @@ impl<H, V, Z> Config<H, V, Z> {
             connection_timeout: self.connection_timeout,
             journal_room: self.journal_room,
             reaper_rate: self.reaper_rate,
+            lending_order: self.lending_order,
             error_handler,
             event_handler,
             connection_customizer,
@@ -181,6 +184,7 @@ impl<M: ManageConnection> Default for Builder<M> {
                 connection_timeout: Duration::from_secs(30),
                 journal_room: 0,
                 reaper_rate: Duration::from_secs(30),
+                lending_order: LendingOrder::NewestFirst,
                 error_handler: NopErrorHandler,
                 event_handler: NopEventHandler,
                 connection_customizer: NopConnectionCustomizer,
@@ -298,6 +302,16 @@ impl<
         self
     }
 
+    /// Which of the idle connections is lent next. The default is `NewestFirst`: few connections are kept in use, and
+    /// the others reach their `idle_timeout` and are closed. Under `OldestFirst` each connection is used in its turn, so
+    /// none is idle for long while the pool is busy, and few are closed. r2d2 always lends the newest first.
+    pub fn lending_order(mut self, order: LendingOrder) -> Self
+        ensures { result ≡ record self { lending_order = order } }
+    {
+        self.config.lending_order = order;
+        self
+    }
+
     /// The time from one look for expired connections to the next. The default is 30 seconds. It has to be positive.
     /// It is for tests.
     pub(crate) fn reaper_rate(mut self, reaper_rate: Duration) -> Self
@@ -381,21 +395,22 @@ impl<
         (config, first_id)
     }
 
-    /// The limits that building would use; None exactly where `min_idle` is above `max_size`. It is the last test to
+    /// The limits that building would use, with the lending order; None exactly where `min_idle` is above `max_size`. It is the last test to
     /// make before a pool is built from settings that come from outside.
     pub fn limits(&self) -> Option<Limits>
         ensures legal { IsSome result ↔ ForSome self.now.min_idle (λ n. n ≤ self.now.max_size) }
         ensures given { IfSome result (λ limits. seen_limits limits ≡ limits_in self.now) }
     {
         let config = &self.config;
-        Limits::of(
+        let limits = Limits::of(
             config.max_size,
             config.min_idle,
             config.max_lifetime,
             config.idle_timeout,
             config.connection_timeout,
             config.reaper_rate,
-        )
+        )?;
+        Some(limits.with_order(config.lending_order))
     }
 }
 

@@ -9,7 +9,10 @@ ghost use Rattle.r2d2_core.specs.Noted.{noted_take, noted_return, noted_reap};
 ghost use Rattle.r2d2.specs.Wakes.{wakes_of_take, wakes_of_return, wakes_of_reap};
 ghost use Rattle.r2d2.specs.Settled.{seen_settled, settle_answer, after_settle, noted_settle, wakes_of_settled};
 
+mod counted;
+
 pub use crate::payload::{Payload, open};
+pub use counted::{Counted, lend_counted};
 use r2d2_core::{Book, Gone, Refusal, Released, Returned, Take};
 use std::alloc::Allocator;
 use std::time::Duration;
@@ -96,7 +99,7 @@ impl<T> Settled<T> {
     }
 }
 
-/// Takes the newest idle connection, as `Book::take`.
+/// Takes the idle connection that is lent next, as `Book::take`.
 pub fn lend<T, A: Allocator>(
     book: &mut Book<T, A>,
     now: Duration,

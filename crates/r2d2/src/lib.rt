@@ -13,7 +13,7 @@
 //! let mut database = pool.get()?;
 //! database.execute("INSERT INTO visit (name) VALUES (?1)", params!["Ada"])?;
 //! // ..
-//! // It goes back to the pool, and is the next one that is lent: the newest comes first.
+//! // It goes back to the pool, and is lent next: the newest comes first by default.
 //! drop(database);
 //! ```
 //!
@@ -41,8 +41,10 @@ pub use config::{Builder, Config};
 pub use error::{Error, ErrorKind};
 pub use event::{HandleEvent, NopEventHandler};
 pub use extensions::{Extension, Extensions};
-pub use pool::{PlainPool, Pool, PoolRuntime, PooledConnection, State};
-pub use r2d2_core::{journal, machine, reuse, run, schedule, steps};
+pub use pool::{
+    CountedConnection, CountedPool, PlainPool, Pool, PoolRuntime, PooledConnection, State,
+};
+pub use r2d2_core::{LendingOrder, journal, machine, reuse, run, schedule, steps};
 
 /// Opens connections and checks them. Nothing is asked of what it answers, nor of how long it takes: no lock of the
 /// pool is held while it is called.

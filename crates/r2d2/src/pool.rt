@@ -1,10 +1,10 @@
 //! The pool: one lock round its book, workers that open connections, and what it lends.
 ghost use Rattle.std.specs.Prelude.{◌≡◌, ℕ, ◌≤◌, IfOk, IfErr, IfSome};
 ghost use Rattle.std.specs.Arc.{arc_value};
-ghost use Rattle.r2d2_core.specs.Reports.{DoesReplay, HasSoundCounts};
+ghost use Rattle.r2d2_core.specs.Reports.{DoesReplay, HasSoundCounts, CountsItsTakes};
 
 use self::closing::Closer;
-use self::guarded::{Keeps, Plain};
+use self::guarded::{Counting, Keeps, Plain};
 use self::lent::AnyConnection;
 use self::locking::Shared;
 pub use self::state::State;
@@ -26,6 +26,7 @@ use std::time::Duration;
 
 mod building;
 mod closing;
+mod counting;
 mod guarded;
 mod lending;
 mod lent;
@@ -41,8 +42,8 @@ pub trait PoolRuntime: Clock + Threads + Wait + AllocGlobal + Copy + Send + Sync
 
 impl<R: Clock + Threads + Wait + AllocGlobal + Copy + Send + Sync + 'static> PoolRuntime for R {}
 
-/// A pool of connections. Its own threads open connections and close those that are expired; `get` lends the newest
-/// idle one. It is made by a `Builder`, and shared with another thread by `try_clone`.
+/// A pool of connections. Its own threads open connections and close those that are expired; `get` lends an idle one,
+/// the newest unless the setting `lending_order` says the oldest. It is made by a `Builder`, and shared with another thread by `try_clone`.
 ///
 /// `M` opens connections, `H` handles errors, `V` events, `Z` changes connections as they come and go, and `R` is the
 /// runtime; a `PlainPool<M, R>` is one without handlers. The pool closes when the last `Pool` over its state and the
@@ -52,6 +53,13 @@ pub type Pool<M, H, V, Z, R> = AnyPool<Plain<M>, M, Config<H, V, Z>, R>;
 /// A connection that a pool lent: it derefs to yours. It goes back to the pool when it is dropped, and keeps the pool
 /// alive until then.
 pub type PooledConnection<M, H, V, Z, R> = AnyConnection<Plain<M>, M, Config<H, V, Z>, R>;
+
+/// A pool that counts its takes: each take adds one to the share of a ledger that its caller brings. It is made by
+/// `Builder::build_counted`, and `audit` says how many takes all shares counted.
+pub type CountedPool<M, H, V, Z, R, L> = AnyPool<Counting<M, L>, M, Config<H, V, Z>, R>;
+
+/// A connection that a counted pool lent, otherwise as a `PooledConnection`.
+pub type CountedConnection<M, H, V, Z, R, L> = AnyConnection<Counting<M, L>, M, Config<H, V, Z>, R>;
 
 /// A pool whose handlers and customizer do nothing: what `Builder::new()` builds, unless one of them is set.
 pub type PlainPool<M, R> = Pool<M, NopErrorHandler, NopEventHandler, NopConnectionCustomizer, R>;
@@ -86,11 +94,12 @@ impl<B: Keeps<M>, M: ManageConnection, K: Hooks<M>, R: PoolRuntime> AnyPool<B, M
         self.shared().state()
     }
 
-    /// What happened last, as far back as the setting `journal_room` reaches, and what there is now. The error is
-    /// lack of memory; then nothing has changed.
+    /// What happened last, as far back as the setting `journal_room` reaches, what stood before that, and what there
+    /// is now. The error is lack of memory; then nothing has changed.
     pub fn journal(&self) -> Result<Report, Error>
-        ensures replays { IfOk result (λ report. report.lost ≡ 0 → DoesReplay report) }
+        ensures replays { IfOk result DoesReplay }
         ensures sound { IfOk result HasSoundCounts }
+        ensures counted { IfOk result CountsItsTakes }
         ensures refused { IfErr result IsOfMemory }
     {
         self.shared().report().map_err(|_| Error::memory())
@@ -176,7 +185,7 @@ impl<
         Builder::new()
     }
 
-    /// Lends the newest idle connection, and waits for one as long as the setting `connection_timeout` says. See
+    /// Lends an idle connection, and waits for one as long as the setting `connection_timeout` says. See
     /// `get_timeout`.
     pub fn get(&self) -> Result<PooledConnection<M, H, V, Z, R>, Error>
         ensures settings { IfOk result (λ lent. lent.settings ≡ self.now) }
@@ -185,7 +194,8 @@ impl<
         self.get_timeout(self.connection_timeout())
     }
 
-    /// Lends the newest idle connection, and waits about as long as `timeout` if there is none.
+    /// Lends an idle connection, the newest unless the setting `lending_order` says the oldest, and waits about as long
+    /// as `timeout` if there is none.
     ///
     /// If the setting `test_on_check_out` is on, the connection is checked first; one that fails is closed, and
     /// another is looked for.
@@ -199,7 +209,7 @@ impl<
         self.lend_within(timeout, &mut ())
     }
 
-    /// Lends the newest idle connection; None if there is none. It does not wait for one, and orders none.
+    /// Lends an idle connection, as `get_timeout`; None if there is none. It does not wait for one, and orders none.
     /// Connections are checked as by `get_timeout`. The error is lack of memory for a shared pointer, and then
     /// nothing has changed.
     pub fn try_get(&self) -> Result<Option<PooledConnection<M, H, V, Z, R>>, Error>

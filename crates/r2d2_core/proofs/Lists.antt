@@ -1,6 +1,8 @@
 pub mod Apart
 pub mod Ids
 pub mod Filters
+pub mod Lending
 pub mod Counting
 pub mod Turning
+pub mod Shedding
 pub mod Expiring

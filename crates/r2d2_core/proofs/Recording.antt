@@ -2,8 +2,13 @@ pub mod Rows
 pub mod Takes
 pub mod Returns
 pub mod Reaps
+pub mod Folding
+pub mod Standing
 pub mod Replaying
 pub mod Moments
+pub mod Counting
+pub mod Keeping
+pub mod Auditing
 pub mod Books
 pub mod Listing
 pub mod Reporting

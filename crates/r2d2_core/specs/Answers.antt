@@ -1,12 +1,12 @@
 -- Which steps are refused, what each step answers, and what a core shows.
-use Rattle.std.specs.Prelude.{ℕ, ◌+◌, ◌-◌, min, ◌^◌, Bool, ◌==◌, ◌||◌, not, nat_lt, if◌then◌else◌, List, [], ◌∷◌, map, length, Option, Some, None, is_some, option_map, unwrap_or, Ok, Err}
+use Rattle.std.specs.Prelude.{ℕ, ◌+◌, ◌-◌, min, ◌^◌, Bool, ◌==◌, ◌||◌, not, nat_lt, if◌then◌else◌, List, [], ◌∷◌, map, length, Option, None, is_some, option_map, unwrap_or, Ok, Err}
 use Rattle.std.specs.List.{list_any}
 use Rattle.r2d2_core.specs.declared.run.Step.{Step}
 use Rattle.r2d2_core.specs.declared.run.Step.TheVariants as step
 use Rattle.r2d2_core.specs.declared.machine.answers.Refusal.{Refusal}
 use Rattle.r2d2_core.specs.declared.machine.answers.Refusal.TheVariants as refusal
 use Rattle.r2d2_core.specs.Limits.{wanted_of, later_by, delay_of, has_reached}
-use Rattle.r2d2_core.specs.Ids.{last_of}
+use Rattle.r2d2_core.specs.Lending.{lent_next}
 use Rattle.r2d2_core.specs.Connections.{closed_of, pair_of, SeenReleased}
 use Rattle.r2d2_core.specs.Refusals.{refused_if}
 use Rattle.r2d2_core.specs.Seen.{SeenAnswer, Taken, Found, Empty, Begun, Numbered, Admitted, Failed, CheckFailed, CameBack, SeenReturned, Kept, Closed, Reaped, Told, Left}
@@ -78,7 +78,7 @@ module _ {T : Type 0} where
 
   -- the answer to a step that is accepted, were it to order n openings
   abbrev pub reply_with : History T → ℕ → Step T → SeenAnswer T
-  reply_with h n (step.Take now or_order) = Taken (take_with (last_of (idle_of h)) n)
+  reply_with h n (step.Take now or_order) = Taken (take_with (lent_next (limits_of h).order (idle_of h)) n)
   reply_with h n (step.Begin now) = Begun (job_of h (moment_of h (step.Begin now)))
   reply_with h n (step.Number tries) = Numbered (Ok (next_id_of h))
   reply_with h n (step.Admit now id value) = Admitted (Ok tt)

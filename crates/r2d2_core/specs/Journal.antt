@@ -1,27 +1,54 @@
 -- What a contract sees of the records that are kept.
-use Rattle.std.specs.Prelude.{ℕ, ◌+◌, ◌-◌, ◌^◌, min, nat_lt, List, [], ◌∷◌, ◌++◌, length, drop, Option, Some, None, if◌then◌else◌}
+use Rattle.std.specs.Prelude.{◌≡◌, ℕ, ◌+◌, ◌-◌, ◌^◌, min, nat_lt, List, [], ◌∷◌, ◌++◌, length, drop, Option, Some, None, if◌then◌else◌}
+use Rattle.r2d2_core.specs.Limits.{SeenLimits}
+use Rattle.r2d2_core.specs.Records.{SeenRecord, is_take, takes_in}
+use Rattle.r2d2_core.specs.Bases.{SeenBase, first_base}
+use Rattle.r2d2_core.specs.Folding.{folded}
 
--- the newest records, the oldest of them first; how many there is room for; and how many were dropped
-pub record SeenJournal (X : Type 0) : Type 0 where
-  pub records : List X
+-- the limits of the pool; what stood before the oldest record; the newest records, the oldest of them first; how many there is room for; how
+-- many were folded into the base; and how many takes were noted
+pub record SeenJournal : Type 0 where
+  pub limits : SeenLimits
+  pub base : SeenBase
+  pub records : List SeenRecord
   pub room : ℕ
   pub lost : ℕ
+  pub takes : ℕ
 
--- one more was dropped; the count stops at the greatest number of 64 bits
-abbrev pub one_more_lost : ℕ → ℕ
-one_more_lost n = min (n + 1) (2 ^ 64 - 1)
+-- one more; a count stops at the greatest number of 64 bits
+abbrev pub one_more : ℕ → ℕ
+one_more n = min (n + 1) (2 ^ 64 - 1)
 
-module _ {X : Type 0} where
-  abbrev pub seen_journal : List X → ℕ → ℕ → SeenJournal X
-  seen_journal xs room lost = record { records = xs; room = room; lost = lost }
+-- the takes that were noted, with a record more
+abbrev pub takes_with : SeenRecord → ℕ → ℕ
+takes_with r n = if is_take r then one_more n else n
 
-  -- one more record: where there is no room the oldest is dropped, which is the new one itself where there is room for none
-  abbrev pub with_record : X → SeenJournal X → SeenJournal X
-  with_record x l =
-      if nat_lt (length l.records) l.room then seen_journal (l.records ++ x ∷ []) l.room l.lost
-      else seen_journal (drop 1 (l.records ++ x ∷ [])) l.room (one_more_lost l.lost)
+-- the takes that were noted are those that the records tell of, where none was folded in
+abbrev pub CountsTakes : SeenJournal → Type 0
+CountsTakes l = l.lost ≡ 0 → l.takes ≡ takes_in l.records
 
-  -- with the record that a step made, if it made one
-  abbrev pub with_noted : Option X → SeenJournal X → SeenJournal X
-  with_noted None l = l
-  with_noted (Some x) l = with_record x l
+-- at the making, at a moment
+abbrev pub first_journal : SeenLimits → ℕ → ℕ → SeenJournal
+first_journal limits now room = record { limits = limits; base = first_base limits now; records = []; room = room; lost = 0; takes = 0 }
+
+-- the base with the oldest of some records
+abbrev pub with_oldest : SeenLimits → List SeenRecord → SeenBase → SeenBase
+with_oldest limits [] b = b
+with_oldest limits (r ∷ rs) b = folded limits r b
+
+-- one more record: where there is no room the oldest is folded into the base, which is the new one itself where there is room for none
+abbrev pub with_record : SeenRecord → SeenJournal → SeenJournal
+with_record r l =
+    let all = l.records ++ r ∷ [] in
+    if nat_lt (length l.records) l.room then record l { records = all; takes = takes_with r l.takes }
+    else record l { base = with_oldest l.limits all l.base; records = drop 1 all; lost = one_more l.lost; takes = takes_with r l.takes }
+
+-- some records with the one that a step made, if it made one
+abbrev pub added : Option SeenRecord → List SeenRecord → List SeenRecord
+added None rs = rs
+added (Some r) rs = rs ++ r ∷ []
+
+-- the journal with the record that a step made, if it made one
+abbrev pub with_noted : Option SeenRecord → SeenJournal → SeenJournal
+with_noted None l = l
+with_noted (Some r) l = with_record r l

@@ -1,5 +1,6 @@
 pub mod Limits
 pub mod Ids
+pub mod Lending
 pub mod Openings
 pub mod Jobs
 pub mod Heap
@@ -20,11 +21,15 @@ pub mod Pending
 pub mod Answers
 pub mod Reuse
 pub mod Records
-pub mod Replay
+pub mod Bases
+pub mod Folding
+pub mod Standing
 pub mod Recorded
 pub mod Journal
+pub mod JournalParts
 pub mod Book
 pub mod BookParts
 pub mod Noted
 pub mod Steps
 pub mod Reports
+pub mod Auditing

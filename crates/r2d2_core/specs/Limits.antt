@@ -4,6 +4,8 @@ use Rattle.std.specs.Option.{ForSome}
 use Rattle.std.specs.Duration.{as_nanos, max_nanos}
 use Rattle.std.specs.declared.time.Duration.{Duration}
 use Rattle.r2d2_core.specs.declared.schedule.limits.Limits.{Limits}
+use Rattle.r2d2_core.specs.declared.schedule.limits.LendingOrder.{LendingOrder}
+use Rattle.r2d2_core.specs.declared.schedule.limits.LendingOrder.TheVariants as lending
 
 pub record SeenLimits : Type 0 where
   pub max_size : ℕ
@@ -12,12 +14,18 @@ pub record SeenLimits : Type 0 where
   pub idle_timeout : Option Duration
   pub connection_timeout : Duration
   pub reap_every : Duration
+  pub order : LendingOrder
 
+-- limits that lend the newest first
 abbrev pub settings : ℕ → Option ℕ → Option Duration → Option Duration → Duration → Duration → SeenLimits
-settings size least life idle timeout every = record { max_size = size; min_idle = least; max_lifetime = life; idle_timeout = idle; connection_timeout = timeout; reap_every = every }
+settings size least life idle timeout every = record { max_size = size; min_idle = least; max_lifetime = life; idle_timeout = idle; connection_timeout = timeout; reap_every = every; order = lending.NewestFirst }
+
+-- the same limits, lending in that order
+abbrev pub with_order : LendingOrder → SeenLimits → SeenLimits
+with_order order limits = record limits { order = order }
 
 abbrev pub seen_limits : Limits → SeenLimits
-seen_limits l = settings l.max_size l.min_idle l.max_lifetime l.idle_timeout l.connection_timeout l.reap_every
+seen_limits l = with_order l.order (settings l.max_size l.min_idle l.max_lifetime l.idle_timeout l.connection_timeout l.reap_every)
 
 -- sizes and lengths are positive, and no more are wanted idle than there may be
 pub record AreLegal (limits : SeenLimits) : Type 0 where

@@ -1,5 +1,5 @@
 -- What a record says, as a contract sees it: its moment in nanoseconds.
-use Rattle.std.specs.Prelude.{ℕ}
+use Rattle.std.specs.Prelude.{ℕ, Bool, true, false, List, count_by}
 use Rattle.std.specs.Duration.{as_nanos}
 use Rattle.r2d2_core.specs.declared.journal.record.Record.{Record}
 use Rattle.r2d2_core.specs.declared.journal.record.Record.TheVariants as record_
@@ -20,6 +20,20 @@ pub data SeenRecord : Type 0 where
   Reaped : (at ordered : ℕ) → SeenRecord
   -- the pool was closed, and all idle ones are gone
   ClosedAll : (at : ℕ) → SeenRecord
+
+-- whether a record tells of a take that found
+abbrev pub is_take : SeenRecord → Bool
+is_take (Taken at id ordered) = true
+is_take (Ordered at ordered) = false
+is_take (Admitted at id) = false
+is_take (Kept at id) = false
+is_take (Closed at id ordered) = false
+is_take (Reaped at ordered) = false
+is_take (ClosedAll at) = false
+
+-- how many takes that found the records tell of
+abbrev pub takes_in : List SeenRecord → ℕ
+takes_in rs = count_by is_take rs
 
 abbrev pub seen_record : Record → SeenRecord
 seen_record (record_.Taken at id ordered) = Taken (as_nanos at) id ordered

@@ -1,29 +1,39 @@
--- What a report says. It has the oldest record first.
-use Rattle.std.specs.Prelude.{◌≡◌, ◌⊎◌, ◌+◌, ◌≤◌, true, false, length, map, reverse}
+-- What a report says.
+use Rattle.std.specs.Prelude.{◌≡◌, ◌⊎◌, ◌+◌, ◌≤◌, false, length, map}
+use Rattle.std.specs.Duration.{as_nanos}
+use Rattle.r2d2_core.specs.declared.journal.base.Base.{Base}
 use Rattle.r2d2_core.specs.declared.journal.report.Report.{Report}
 use Rattle.r2d2_core.specs.Limits.{seen_limits, wanted_of}
+use Rattle.r2d2_core.specs.Records.{takes_in}
 use Rattle.r2d2_core.specs.Connections.{id_of_idle, id_of_lent}
-use Rattle.r2d2_core.specs.History.{Made, is_closed}
-use Rattle.r2d2_core.specs.Deeds.{idle_of, lent_of, connections_of}
-use Rattle.r2d2_core.specs.Pending.{pending_of}
-use Rattle.r2d2_core.specs.Replay.{Retelling, told_all, is_legal}
+use Rattle.r2d2_core.specs.Bases.{SeenBase, IsLegalBase}
+use Rattle.r2d2_core.specs.Folding.{replay, AreLegalFrom}
 use Rattle.r2d2_core.specs.Book.{SeenBook}
 
 module _ {B : Type 0} where
-  -- its records, read as a history from the making on
-  abbrev pub told_in : Report B → Retelling
-  told_in r = told_all (Made (seen_limits r.limits) 0 0) (reverse r.records)
+  -- a `Base`
+  abbrev pub seen_base : Base B → SeenBase
+  seen_base b = record { at = as_nanos b.at; idle = b.idle; lent = b.lent; connections = b.connections; pending = b.pending; closed = b.closed }
 
-  -- its records are legal, and come to its ids and counts
+  -- what its records come to from its base
+  abbrev pub told_in : Report B → SeenBase
+  told_in r = replay (seen_limits r.limits) r.records (seen_base r.base)
+
+  -- its base is legal, its records are legal from there, and come to its ids and counts
   pub record DoesReplay (r : Report B) : Type 0 where
-    pub legal : is_legal (Made (seen_limits r.limits) 0 0) (reverse r.records) ≡ true
-    pub idle : map id_of_idle (idle_of (told_in r)) ≡ r.idle
-    pub lent : map id_of_lent (lent_of (told_in r)) ≡ r.lent
-    pub connections : connections_of (told_in r) ≡ r.connections
-    pub pending : pending_of (told_in r) ≡ r.pending
-    pub closed : is_closed (told_in r) ≡ r.closed
+    pub base : IsLegalBase (seen_limits r.limits) (seen_base r.base)
+    pub legal : AreLegalFrom (seen_limits r.limits) (seen_base r.base) r.records
+    pub idle : map id_of_idle (let b = told_in r in b.idle) ≡ r.idle
+    pub lent : map id_of_lent (let b = told_in r in b.lent) ≡ r.lent
+    pub connections : (let b = told_in r in b.connections) ≡ r.connections
+    pub pending : (let b = told_in r in b.pending) ≡ r.pending
+    pub closed : (let b = told_in r in b.closed) ≡ r.closed
 
-  -- what keeps of each report of a book, whatever was lost
+  -- its takes are those that its records tell of, where none was folded into the base
+  abbrev pub CountsItsTakes : Report B → Type 0
+  CountsItsTakes r = r.lost ≡ 0 → r.takes ≡ takes_in r.records
+
+  -- what keeps of the counts of each report of a book
   pub record HasSoundCounts (r : Report B) : Type 0 where
     pub counted : r.connections ≡ length r.idle + length r.lent
     pub fits : r.connections + r.pending ≤ r.limits.max_size
@@ -33,8 +43,10 @@ module _ {T B : Type 0} where
   -- it says what the book shows
   pub record IsReportOf (a : SeenBook T) (r : Report B) : Type 0 where
     pub limits : seen_limits r.limits ≡ a.picture.on_order.limits
+    pub base : seen_base r.base ≡ a.journal.base
     pub records : r.records ≡ a.journal.records
     pub lost : r.lost ≡ a.journal.lost
+    pub takes : r.takes ≡ a.journal.takes
     pub idle : r.idle ≡ map id_of_idle a.picture.idle
     pub lent : r.lent ≡ map id_of_lent a.picture.lent
     pub connections : r.connections ≡ a.picture.connections

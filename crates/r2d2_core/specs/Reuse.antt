@@ -1,12 +1,14 @@
--- Newest-first beside any other choice of the connection to lend. Two idle lists start alike and live through the same
--- moves. Of a connection they hold the moment since which it is idle, the oldest first. Moments are in nanoseconds.
+-- Newest-first and oldest-first beside any other choice of the connection to lend. Three idle lists start alike and live through
+-- the same moves. Of a connection they hold the moment since which it is idle, the oldest first. Moments are in nanoseconds.
 use Rattle.std.specs.Prelude.{ℕ, ◌-◌, ◌≤◌, max, nat_le, nat_lt, if◌then◌else◌, List, [], ◌∷◌, ◌++◌, length, map, remove, count_by, slice_index_or, Option, Some, None, option_and_then}
 use Rattle.std.specs.List.Sorted.{IsNonDecreasingBy}
 use Rattle.std.specs.Duration.{as_nanos}
 use Rattle.std.specs.declared.time.Duration.{Duration}
 use Rattle.r2d2_core.specs.declared.reuse.Move.{Move}
 use Rattle.r2d2_core.specs.declared.reuse.Move.TheVariants as move
-use Rattle.r2d2_core.specs.Ids.{front}
+use Rattle.r2d2_core.specs.declared.schedule.limits.LendingOrder.{LendingOrder}
+use Rattle.r2d2_core.specs.declared.schedule.limits.LendingOrder.TheVariants as lending
+use Rattle.r2d2_core.specs.Lending.{still_idle}
 use Rattle.r2d2_core.specs.Limits.{has_reached}
 
 -- each moment is at most every one after it
@@ -29,19 +31,19 @@ abbrev pub last_seen : ℕ → List Move → ℕ
 last_seen seen [] = seen
 last_seen seen (step ∷ steps) = last_seen (max seen (moment_in step)) steps
 
--- THE FIRST LIST: newest-first
+-- TWO LISTS: one that lends in either order
 
--- what a move at a raised moment makes of it: a take removes its last one, if there is one; an add appends the moment
-abbrev pub newest_after : ℕ → List ℕ → Move → List ℕ
-newest_after moment kept (move.Take at) = front kept
-newest_after moment kept (move.Add at) = kept ++ moment ∷ []
+-- what a move at a raised moment makes of it: a take removes the one that is lent next, if there is one; an add appends the moment
+abbrev pub order_after : LendingOrder → ℕ → List ℕ → Move → List ℕ
+order_after order moment kept (move.Take at) = still_idle order kept
+order_after order moment kept (move.Add at) = kept ++ moment ∷ []
 
 -- what some moves leave of it
-abbrev pub newest_left : ℕ → List ℕ → List Move → List ℕ
-newest_left seen kept [] = kept
-newest_left seen kept (step ∷ steps) = newest_left (max seen (moment_in step)) (newest_after (max seen (moment_in step)) kept step) steps
+abbrev pub order_left : LendingOrder → ℕ → List ℕ → List Move → List ℕ
+order_left order seen kept [] = kept
+order_left order seen kept (step ∷ steps) = order_left order (max seen (moment_in step)) (order_after order (max seen (moment_in step)) kept step) steps
 
--- THE SECOND LIST: the choice by picks
+-- THE THIRD LIST: the choice by picks
 
 -- the list, with the picks that are left
 pub record Picked : Type 0 where
@@ -68,17 +70,23 @@ abbrev pub other_left : ℕ → Picked → List Move → Option (List ℕ)
 other_left seen other [] = Some other.kept
 other_left seen other (step ∷ steps) = option_and_then (λ after. other_left (max seen (moment_in step)) after steps) (other_after (max seen (moment_in step)) other step)
 
--- WHAT IS COMPARED: both lists start as `idle`
+-- WHAT IS COMPARED: each list starts as `idle`
 
 -- the moments since which the connections are idle
 abbrev pub moments_of : List Duration → List ℕ
 moments_of idle = map as_nanos idle
 
--- what all moves leave of the first list
-abbrev pub newest_list : List Duration → List Move → List ℕ
-newest_list idle moves = newest_left (first_seen (moments_of idle)) (moments_of idle) moves
+-- what all moves leave of a list that lends in an order
+abbrev pub order_list : LendingOrder → List Duration → List Move → List ℕ
+order_list order idle moves = order_left order (first_seen (moments_of idle)) (moments_of idle) moves
 
--- what all moves leave of the second list, if the picks serve
+abbrev pub newest_list : List Duration → List Move → List ℕ
+newest_list idle moves = order_list lending.NewestFirst idle moves
+
+abbrev pub oldest_list : List Duration → List Move → List ℕ
+oldest_list idle moves = order_list lending.OldestFirst idle moves
+
+-- what all moves leave of the list that lends by picks, if the picks serve
 abbrev pub other_list : List Duration → List Move → List ℕ → Option (List ℕ)
 other_list idle moves picks = other_left (first_seen (moments_of idle)) (picked (moments_of idle) picks) moves
 
@@ -90,8 +98,8 @@ raised_now idle moves now = max (last_seen (first_seen (moments_of idle)) moves)
 abbrev pub expired : ℕ → Duration → List ℕ → ℕ
 expired now limit moments = count_by (λ moment. has_reached (Some limit) (now - moment)) moments
 
--- THE REASON: what is expired is what is not after a threshold, the moment less the limit, and at each threshold the first
--- list has at least as many
+-- THE REASON: what is expired is what is not after a threshold, the moment less the limit; and at each threshold newest-first
+-- has at least as many as the choice by picks, and that at least as many as oldest-first
 
 -- how many of the moments are not after x
 abbrev pub not_after : ℕ → List ℕ → ℕ
@@ -99,4 +107,8 @@ not_after x moments = count_by (λ moment. nat_le moment x) moments
 
 -- for each moment x, the first list has at least as many moments not after x as the second
 abbrev pub IsNeverBehind : List ℕ → List ℕ → Type 0
-IsNeverBehind newest other = (x : ℕ) → not_after x other ≤ not_after x newest
+IsNeverBehind ahead behind = (x : ℕ) → not_after x behind ≤ not_after x ahead
+
+-- the third list is never behind the first, nor ahead of the second
+abbrev pub IsBetween : List ℕ → List ℕ → List ℕ → Type 0
+IsBetween oldest newest other = IsNeverBehind other oldest × IsNeverBehind newest other

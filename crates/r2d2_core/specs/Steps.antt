@@ -9,7 +9,6 @@ use Rattle.r2d2_core.specs.Jobs.{seen_job}
 use Rattle.r2d2_core.specs.Picture.{Picture}
 use Rattle.r2d2_core.specs.Seen.{SeenAnswer, Taken, Begun, Numbered, Admitted, Failed, CheckFailed, CameBack, Reaped, Told, Left, seen_take, seen_returned, seen_gone, seen_released, map_ok}
 use Rattle.r2d2_core.specs.Table as table
-use Rattle.r2d2_core.specs.Records.{SeenRecord}
 use Rattle.r2d2_core.specs.Journal.{SeenJournal}
 use Rattle.r2d2_core.specs.Book.{SeenBook}
 use Rattle.r2d2_core.specs.Noted.{noted_take, noted_admission, noted_return, noted_check, noted_reap, noted_close}
@@ -55,7 +54,7 @@ module _ {T : Type 0} where
   after_step step.Close p = table.after_close p
 
   -- what a book notes of it: its journal after it
-  abbrev pub noted_step : Step T → SeenBook T → SeenJournal SeenRecord
+  abbrev pub noted_step : Step T → SeenBook T → SeenJournal
   noted_step (step.Take now or_order) b = noted_take (as_nanos now) (table.take_answer or_order b.picture) b
   noted_step (step.Admit now id value) b = noted_admission (as_nanos now) id (table.admit_answer id value b.picture) b
   noted_step (step.FailCheck now id text) b = noted_check (as_nanos now) id (table.check_answer (as_nanos now) id b.picture) b

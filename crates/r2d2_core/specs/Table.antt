@@ -3,7 +3,8 @@ use Rattle.std.specs.Prelude.{ℕ, ◌+◌, ◌-◌, max, Bool, true, false, ◌
 use Rattle.r2d2_core.specs.declared.machine.answers.Refusal.{Refusal}
 use Rattle.r2d2_core.specs.declared.machine.answers.Refusal.TheVariants as refusal
 use Rattle.r2d2_core.specs.Limits.{SeenLimits, has_reached}
-use Rattle.r2d2_core.specs.Ids.{last_of, front, without}
+use Rattle.r2d2_core.specs.Ids.{without}
+use Rattle.r2d2_core.specs.Lending.{lent_next, still_idle}
 use Rattle.r2d2_core.specs.Jobs.{SeenJob}
 use Rattle.r2d2_core.specs.Connections.{SeenIdleConnection, SeenReleased, idle_connection, lent_connection, id_of_lent, pair_of, birth_in, is_expired, is_kept, closed_of}
 use Rattle.r2d2_core.specs.Refusals.{refused_if, ok_unless, ok_or_back, unless_refused}
@@ -38,10 +39,13 @@ module _ {T : Type 0} where
   abbrev pub first_picture : SeenLimits → ℕ → ℕ → Picture T
   first_picture limits now first_id = record { latest = now; idle = []; lent = []; on_order = first_on_order limits now first_id; connections = 0; last_error = None }
 
-  -- TAKE: the last idle one is lent
+  -- TAKE: the idle one that is next is lent
+
+  abbrev pub next_of : Picture T → Option (SeenIdleConnection T)
+  next_of p = lent_next p.on_order.limits.order p.idle
 
   abbrev pub lent_out : SeenIdleConnection T → Picture T → Picture T
-  lent_out c p = record p { idle = front p.idle; lent = p.lent ++ lent_connection c.id c.birth ∷ [] }
+  lent_out c p = record p { idle = still_idle p.on_order.limits.order p.idle; lent = p.lent ++ lent_connection c.id c.birth ∷ [] }
 
   abbrev pub take_orders : Option (SeenIdleConnection T) → Bool → Picture T → ℕ
   take_orders None or_order p = miss_order_of or_order p
@@ -52,10 +56,10 @@ module _ {T : Type 0} where
   taken (Some c) or_order p = topped_up (lent_out c p)
 
   abbrev pub take_answer : Bool → Picture T → SeenTake T
-  take_answer or_order p = take_with (last_of p.idle) (take_orders (last_of p.idle) or_order p)
+  take_answer or_order p = take_with (next_of p) (take_orders (next_of p) or_order p)
 
   abbrev pub after_take : ℕ → Bool → Picture T → Picture T
-  after_take t or_order p = taken (last_of p.idle) or_order (raised_to t p)
+  after_take t or_order p = taken (next_of p) or_order (raised_to t p)
 
   -- BEGIN: the least opening is in work, or the next reap moves on
 

@@ -1,9 +1,10 @@
 // A journal beside a machine: what each step did.
-ghost use Rattle.std.specs.Prelude.{◌≡◌, ◌≤◌, [], map, length, option_map, string_bytes, vec_len, vec_capacity, IfOk};
+ghost use Rattle.std.specs.Prelude.{◌≡◌, ◌≤◌, map, length, option_map, string_bytes, vec_len, vec_capacity, IfOk};
 ghost use Rattle.std.specs.Duration.{as_nanos};
 
 use crate::machine::{Core, Gone, Leftover, Refusal, Released, Returned, Take};
 use crate::schedule::{Job, Limits};
+pub use base::{AwayList, Base, RestingList};
 use bounded::Journal;
 pub use record::Record;
 pub use report::{IdList, RecordList, Report};
@@ -11,11 +12,15 @@ use std::alloc::{AllocError, Allocator, Global};
 use std::marker::Model;
 use std::time::Duration;
 
+pub mod base;
 pub(crate) mod bounded;
 pub mod record;
+mod replaying;
 pub mod report;
+mod standing;
 
-/// A core that notes what each step did, in a journal of bounded room.
+/// A core that notes what each step did, in a journal of bounded room. Where there is no room for one more record, the oldest is
+/// folded into the journal's base, which tells what stood before the others.
 ///
 /// Its steps and readings are those of a core. All memory, that of the journal too, is taken at the making: no step takes any.
 #[derive(Drop)]
@@ -39,9 +44,9 @@ impl<T, A: Allocator> Model for Book<T, A> {
 impl<T, A: Allocator> Book<T, A> {
     ghost use Rattle.r2d2_core.specs.Limits.{seen_limits};
     ghost use Rattle.r2d2_core.specs.Table.{first_picture};
-    ghost use Rattle.r2d2_core.specs.Journal.{seen_journal};
+    ghost use Rattle.r2d2_core.specs.Journal.{first_journal, CountsTakes};
     ghost use Rattle.r2d2_core.specs.Book.{seen_book, HasFacts};
-    ghost use Rattle.r2d2_core.specs.Reports.{IsReportOf, DoesReplay, HasSoundCounts};
+    ghost use Rattle.r2d2_core.specs.Reports.{IsReportOf, DoesReplay, HasSoundCounts, CountsItsTakes};
 
     /// A book of a core whose ids are counted from 0, made at the moment `now`, that keeps the newest records, `room` of them at
     /// most. The error comes only where its memory is refused.
@@ -54,7 +59,7 @@ impl<T, A: Allocator> Book<T, A> {
     where
         T: Drop,
         A: Copy,
-        ensures { IfOk result (λ book. book ≡ seen_book (first_picture (seen_limits limits) (as_nanos now) 0) (seen_journal [] room 0)) }
+        ensures { IfOk result (λ book. book ≡ seen_book (first_picture (seen_limits limits) (as_nanos now) 0) (first_journal (seen_limits limits) (as_nanos now) room)) }
     {
         Book::with_first_id(alloc, limits, now, 0, room)
     }
@@ -70,10 +75,10 @@ impl<T, A: Allocator> Book<T, A> {
     where
         T: Drop,
         A: Copy,
-        ensures { IfOk result (λ book. book ≡ seen_book (first_picture (seen_limits limits) (as_nanos now) first_id) (seen_journal [] room 0)) }
+        ensures { IfOk result (λ book. book ≡ seen_book (first_picture (seen_limits limits) (as_nanos now) first_id) (first_journal (seen_limits limits) (as_nanos now) room)) }
     {
         let machine = Core::with_first_id(alloc, limits, now, first_id)?;
-        let journal = Journal::new(alloc, room)?;
+        let journal = Journal::new(alloc, limits, now, room)?;
         Ok(Book {
             alloc,
             machine,
@@ -120,14 +125,23 @@ impl<T, A: Allocator> Book<T, A> {
         self.machine.limits()
     }
 
+    /// How many takes found a connection since the making; it stops at `u64::MAX`.
+    pub fn takes(&self) -> u64
+        ensures value { result ≡ self.now.journal.takes }
+        ensures counted { CountsTakes self.now.journal }
+    {
+        self.journal.takes()
+    }
+
     /// What the book shows now, and its records, in memory of the book's own allocator. The error comes only where that is refused; then
     /// nothing changes, and the next report that finds memory answers the same.
     pub fn report(&self) -> Result<Report<A>, AllocError>
     where
         A: Copy,
         ensures given { IfOk result (λ report. IsReportOf self.now report) }
-        ensures replays { IfOk result (λ report. report.lost ≡ 0 → DoesReplay report) }
+        ensures replays { IfOk result DoesReplay }
         ensures sound { IfOk result HasSoundCounts }
+        ensures counted { IfOk result CountsItsTakes }
     {
         self.report_in(self.alloc)
     }
@@ -137,16 +151,20 @@ impl<T, A: Allocator> Book<T, A> {
     where
         B: Copy,
         ensures given { IfOk result (λ report. IsReportOf self.now report) }
-        ensures replays { IfOk result (λ report. report.lost ≡ 0 → DoesReplay report) }
+        ensures replays { IfOk result DoesReplay }
         ensures sound { IfOk result HasSoundCounts }
+        ensures counted { IfOk result CountsItsTakes }
     {
+        let base = self.journal.base(alloc)?;
         let records = self.journal.copied(alloc)?;
         let idle = IdList::of_idle(alloc, &self.machine)?;
         let lent = IdList::of_lent(alloc, &self.machine)?;
         Ok(Report {
             limits: self.machine.limits(),
+            base,
             records: RecordList::of(records),
             lost: self.journal.lost(),
+            takes: self.journal.takes(),
             idle,
             lent,
             connections: self.machine.connections(),

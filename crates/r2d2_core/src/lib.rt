@@ -18,7 +18,7 @@
 //! ```
 //!
 //! A [`Book`] is a core with a journal, [`run`](run::run) takes a list of steps, and [`reuse`] compares lending the newest
-//! connection first with other choices.
+//! connection first, lending the oldest first, and other choices.
 #![tactic(auto)]
 
 pub mod journal;
@@ -28,8 +28,8 @@ pub mod run;
 pub mod schedule;
 pub mod steps;
 
-pub use journal::{Book, IdList, Record, RecordList, Report};
+pub use journal::{AwayList, Base, Book, IdList, Record, RecordList, Report, RestingList};
 pub use machine::{Core, Gone, Leftover, Refusal, Released, Returned, Take};
 pub use run::{Answer, Step};
-pub use schedule::{Job, Limits, Schedule};
+pub use schedule::{Job, LendingOrder, Limits, Schedule};
 pub use steps::Steps;

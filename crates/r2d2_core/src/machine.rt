@@ -1,5 +1,5 @@
 // The machine of a pool: what each step does, in place.
-ghost use Rattle.std.specs.Prelude.{◌≡◌, ◌+◌, ◌*◌, ◌<◌, ◌≤◌, None, max, map, length, option_map, slice_get, string_bytes, vec_len, vec_capacity, IfOk};
+ghost use Rattle.std.specs.Prelude.{◌≡◌, ◌+◌, ◌*◌, ◌<◌, ◌≤◌, None, max, map, length, option_map, slice_get, string_bytes, nat_lt, vec_len, vec_capacity, IfOk};
 ghost use Rattle.std.specs.Duration.{as_nanos};
 
 use crate::schedule::Job;
@@ -168,16 +168,18 @@ impl<T, A: Allocator> Core<T, A> {
     ghost use Rattle.r2d2_core.specs.Seen.{seen_take, seen_returned, seen_gone, seen_released, map_ok};
     ghost use Rattle.r2d2_core.specs.Jobs.{seen_job};
     ghost use Rattle.r2d2_core.specs.Picture.{IsSound};
-    ghost use Rattle.r2d2_core.specs.Table.{take_answer, after_take, begin_answer, after_begin, number_answer, after_number, admit_answer, after_admit, fail_answer, after_fail, return_answer, after_return, check_answer, after_check, reap_closed, reap_orders, after_reap, after_take_error, close_answer, after_close};
+    ghost use Rattle.r2d2_core.specs.Table as table;
 
-    /// Lends the newest idle connection and tops up; where none is idle, orders one if `or_order` says so and there is room.
+    /// Lends the idle connection that is next in the order of the limits, and tops up; where none is idle, orders one
+    /// if `or_order` says so and there is room.
     pub fn take(&mut self, now: Duration, or_order: bool) -> Take<T>
-        ensures answer { seen_take result ≡ take_answer or_order self.old }
-        ensures after { self.new ≡ after_take (as_nanos now) or_order self.old }
+        ensures answer { seen_take result ≡ table.take_answer or_order self.old }
+        ensures after { self.new ≡ table.after_take (as_nanos now) or_order self.old }
         ensures sound { IsSound self.new }
     {
         self.latest = later(self.latest, now);
-        match self.idle.take() {
+        let order = self.on_order.limits().order();
+        match self.idle.take(order) {
             Some(entry) => {
                 self.lent.add(LentConnection::new(entry.id, entry.birth));
                 let ordered = self
@@ -202,8 +204,8 @@ impl<T, A: Allocator> Core<T, A> {
 
     /// What a worker is to do at the moment `now`: the least opening, or the reap that is due before it.
     pub fn begin(&mut self, now: Duration) -> Job
-        ensures answer { seen_job result ≡ begin_answer (as_nanos now) self.old }
-        ensures after { self.new ≡ after_begin (as_nanos now) self.old }
+        ensures answer { seen_job result ≡ table.begin_answer (as_nanos now) self.old }
+        ensures after { self.new ≡ table.after_begin (as_nanos now) self.old }
         ensures sound { IsSound self.new }
     {
         self.latest = later(self.latest, now);
@@ -213,8 +215,8 @@ impl<T, A: Allocator> Core<T, A> {
     /// Gives an id to the connection of an opening in work with these tries. It is refused where the core is closed, where
     /// no such opening is in work, and where the next id would be `u64::MAX`.
     pub fn number(&mut self, tries: u32) -> Result<u64, Refusal>
-        ensures answer { result ≡ number_answer tries self.old }
-        ensures after { self.new ≡ after_number tries self.old }
+        ensures answer { result ≡ table.number_answer tries self.old }
+        ensures after { self.new ≡ table.after_number tries self.old }
         ensures sound { IsSound self.new }
     {
         self.on_order.number(tries)
@@ -223,8 +225,8 @@ impl<T, A: Allocator> Core<T, A> {
     /// Takes in a connection that was numbered, as the newest idle one. It is refused, and the value comes back, where
     /// the core is closed and where the id does not await its admission.
     pub fn admit(&mut self, now: Duration, id: u64, value: T) -> Result<(), (Refusal, T)>
-        ensures answer { result ≡ admit_answer id value self.old }
-        ensures after { self.new ≡ after_admit (as_nanos now) id value self.old }
+        ensures answer { result ≡ table.admit_answer id value self.old }
+        ensures after { self.new ≡ table.after_admit (as_nanos now) id value self.old }
         ensures sound { IsSound self.new }
     {
         match self.on_order.admit(id) {
@@ -251,8 +253,8 @@ impl<T, A: Allocator> Core<T, A> {
         tries: u32,
         text: Option<String>,
     ) -> Result<Duration, Refusal>
-        ensures answer { map_ok as_nanos result ≡ fail_answer (as_nanos now) tries self.old }
-        ensures after { self.new ≡ after_fail (as_nanos now) tries text self.old }
+        ensures answer { map_ok as_nanos result ≡ table.fail_answer (as_nanos now) tries self.old }
+        ensures after { self.new ≡ table.after_fail (as_nanos now) tries text self.old }
         ensures sound { IsSound self.new }
     {
         let latest = later(self.latest, now);
@@ -273,8 +275,8 @@ impl<T, A: Allocator> Core<T, A> {
         id: u64,
         text: Option<String>,
     ) -> Result<Gone, Refusal>
-        ensures answer { map_ok seen_gone result ≡ check_answer (as_nanos now) id self.old }
-        ensures after { self.new ≡ after_check (as_nanos now) id text self.old }
+        ensures answer { map_ok seen_gone result ≡ table.check_answer (as_nanos now) id self.old }
+        ensures after { self.new ≡ table.after_check (as_nanos now) id text self.old }
         ensures sound { IsSound self.new }
     {
         match self.lent.remove(id) {
@@ -301,20 +303,21 @@ impl<T, A: Allocator> Core<T, A> {
         value: T,
         broken: bool,
     ) -> Result<Returned<T>, (Refusal, T)>
-        ensures answer { map_ok seen_returned result ≡ return_answer (as_nanos now) id value broken self.old }
-        ensures after { self.new ≡ after_return (as_nanos now) id value broken self.old }
+        ensures answer { map_ok seen_returned result ≡ table.return_answer (as_nanos now) id value broken self.old }
+        ensures after { self.new ≡ table.after_return (as_nanos now) id value broken self.old }
         ensures sound { IsSound self.new }
     {
         match self.lent.remove(id) {
             Some(loan) => {
-                self.latest = later(self.latest, now);
+                let latest = later(self.latest, now);
+                self.latest = latest;
                 let birth = loan.birth();
-                let age = self.latest.saturating_sub(birth);
+                let age = latest.saturating_sub(birth);
                 let limits = self.on_order.limits();
                 if broken || reached(limits.max_lifetime(), age) || self.on_order.is_closed() {
                     let ordered = self
                         .on_order
-                        .top_up(self.idle.len(), self.lent.len(), self.latest);
+                        .top_up(self.idle.len(), self.lent.len(), latest);
                     Ok(Returned::Closed {
                         value,
                         age,
@@ -324,7 +327,7 @@ impl<T, A: Allocator> Core<T, A> {
                     self.idle.add(IdleConnection {
                         id,
                         birth,
-                        since: self.latest,
+                        since: latest,
                         value,
                     });
                     Ok(Returned::Kept)
@@ -348,9 +351,9 @@ impl<T, A: Allocator> Core<T, A> {
     ) -> u32
         requires empty { vec_len out.old ≡ 0 }
         requires room { self.old.on_order.limits.max_size ≤ vec_capacity out.old }
-        ensures released { map seen_released out.new.items ≡ reap_closed (as_nanos now) self.old }
-        ensures answer { result ≡ reap_orders (as_nanos now) self.old }
-        ensures after { self.new ≡ after_reap (as_nanos now) self.old }
+        ensures released { map seen_released out.new.items ≡ table.reap_closed (as_nanos now) self.old }
+        ensures answer { result ≡ table.reap_orders (as_nanos now) self.old }
+        ensures after { self.new ≡ table.after_reap (as_nanos now) self.old }
         ensures sound { IsSound self.new }
         ensures two_for_each { steps.new ≤ steps.old + 2 * length self.old.idle }
         ensures two_for_each_closed { self.old.on_order.limits.max_lifetime ≡ None → steps.new ≤ steps.old + (2 * length out.new.items + 1) }
@@ -367,9 +370,9 @@ impl<T, A: Allocator> Core<T, A> {
     pub fn reap_uncounted(&mut self, now: Duration, out: &mut Vec<Released<T>>) -> u32
         requires empty { vec_len out.old ≡ 0 }
         requires room { self.old.on_order.limits.max_size ≤ vec_capacity out.old }
-        ensures released { map seen_released out.new.items ≡ reap_closed (as_nanos now) self.old }
-        ensures answer { result ≡ reap_orders (as_nanos now) self.old }
-        ensures after { self.new ≡ after_reap (as_nanos now) self.old }
+        ensures released { map seen_released out.new.items ≡ table.reap_closed (as_nanos now) self.old }
+        ensures answer { result ≡ table.reap_orders (as_nanos now) self.old }
+        ensures after { self.new ≡ table.after_reap (as_nanos now) self.old }
         ensures sound { IsSound self.new }
     {
         self.reap_from::<Brand>(now, out, Blank::new(1))
@@ -387,9 +390,9 @@ impl<T, A: Allocator> Core<T, A> {
         requires some { 0 < L.parts }
         requires empty { vec_len out.old ≡ 0 }
         requires room { self.old.on_order.limits.max_size ≤ vec_capacity out.old }
-        ensures released { map seen_released out.new.items ≡ reap_closed (as_nanos now) self.old }
-        ensures answer { result ≡ reap_orders (as_nanos now) self.old }
-        ensures after { self.new ≡ after_reap (as_nanos now) self.old }
+        ensures released { map seen_released out.new.items ≡ table.reap_closed (as_nanos now) self.old }
+        ensures answer { result ≡ table.reap_orders (as_nanos now) self.old }
+        ensures after { self.new ≡ table.after_reap (as_nanos now) self.old }
         ensures sound { IsSound self.new }
     {
         let mut steps: Steps<L> = Steps::new(blank);
@@ -399,7 +402,7 @@ impl<T, A: Allocator> Core<T, A> {
     /// The latest text recorded since the last admission, if it was not told yet: each is told once.
     pub fn take_error(&mut self) -> Option<String>
         ensures answer { option_map string_bytes result ≡ self.old.last_error }
-        ensures after { self.new ≡ after_take_error self.old }
+        ensures after { self.new ≡ table.after_take_error self.old }
         ensures sound { IsSound self.new }
     {
         self.last_error.take()
@@ -407,8 +410,8 @@ impl<T, A: Allocator> Core<T, A> {
 
     /// Hands out all idle values, and forgets all openings, for good. Lent connections stay lent.
     pub fn close(&mut self) -> Leftover<T, A>
-        ensures answer { result ≡ close_answer self.old }
-        ensures after { self.new ≡ after_close self.old }
+        ensures answer { result ≡ table.close_answer self.old }
+        ensures after { self.new ≡ table.after_close self.old }
         ensures sound { IsSound self.new }
     {
         let left = self.idle.close();
@@ -417,12 +420,19 @@ impl<T, A: Allocator> Core<T, A> {
     }
 }
 
+// Whether the first is the lesser. Their parts are compared, so it costs less than to compare their lengths in nanoseconds.
+pub(crate) fn is_before(a: Duration, b: Duration) -> bool
+    ensures { result ≡ nat_lt (as_nanos a) (as_nanos b) }
+{
+    a.checked_sub(b).is_none()
+}
+
 // The later of two moments; the first one, where they are the same.
 pub(crate) fn later(a: Duration, b: Duration) -> Duration
     ensures later { as_nanos result ≡ max (as_nanos a) (as_nanos b) }
     ensures first { as_nanos b ≤ as_nanos a → result ≡ a }
 {
-    if a.as_nanos() < b.as_nanos() { b } else { a }
+    if is_before(a, b) { b } else { a }
 }
 
 ghost use Rattle.r2d2_core.specs.Seen.{or_text};

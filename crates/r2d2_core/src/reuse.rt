@@ -1,8 +1,8 @@
-// Newest-first compared with every other choice of the connection to lend.
-ghost use Rattle.std.specs.Prelude.{◌≡◌, ◌≤◌, ◌↔◌, ◌++◌, ◌∷◌, [], Some, None, map, IsTrue, OnOk, IfOk, IfSome, IsSomeAnd};
+// Newest-first and oldest-first compared with every other choice of the connection to lend.
+ghost use Rattle.std.specs.Prelude.{◌≡◌, ◌≤◌, ◌↔◌, ◌++◌, ◌∷◌, [], Some, None, map, drop, length, vec_len, ◌-◌, IsTrue, OnOk, IfOk, IfSome, IsSomeAnd};
 ghost use Rattle.std.specs.Bool.{OnTrue, OnFalse};
 ghost use Rattle.std.specs.Duration.{as_nanos};
-ghost use Rattle.r2d2_core.specs.Reuse.{IsSorted, moment_in, picked, after_pick, newest_list, other_list, raised_now, expired, IsNeverBehind};
+ghost use Rattle.r2d2_core.specs.Reuse.{IsSorted, moment_in, picked, after_pick, newest_list, oldest_list, other_list, raised_now, expired, IsBetween};
 
 use std::alloc::{AllocError, Global};
 use std::marker::Model;
@@ -22,6 +22,8 @@ pub enum Move {
 pub struct Comparison {
     /// Where each take lends the newest one.
     pub newest_first: usize,
+    /// Where each take lends the oldest one.
+    pub oldest_first: usize,
     /// Where each take lends the one that a pick names.
     pub other: usize,
 }
@@ -40,20 +42,21 @@ pub fn is_in_order(idle: &[Duration]) -> bool
     true
 }
 
-/// Plays the moves on two lists that start as `idle`, and counts what is expired in each in the end.
+/// Plays the moves on three lists that start as `idle`, and counts what is expired in each in the end.
 ///
-/// `idle` has the moments since which connections are idle, oldest first. A take removes the newest from the first list,
-/// and from the second the place that the next pick names, counted from 0; on an empty list it removes nothing and uses no
-/// pick. An add appends its moment to both. Expired are those whose moment is at least `limit` before `now`. No moment runs
-/// backwards: each, `now` included, counts as the latest so far, beginning with the last of `idle`.
+/// `idle` has the moments since which connections are idle, oldest first. A take removes the newest from the first list, the
+/// oldest from the second, and from the third the place that the next pick names, counted from 0; on an empty list it removes
+/// nothing and uses no pick. An add appends its moment to each. Expired are those whose moment is at least `limit` before `now`.
+/// No moment runs backwards: each, `now` included, counts as the latest so far, beginning with the last of `idle`.
 ///
 /// `None` says that a take on a list that is not empty had no pick left, or one that names no place. Picks left over are
-/// ignored. It takes memory for two lists.
+/// ignored. It takes memory for three lists.
 ///
-/// Whatever the picks, newest-first leaves at least as many expired; the clause `at_every_threshold` says why.
+/// Whatever the picks, newest-first leaves at least as many expired, and oldest-first at most as many; the clause
+/// `at_every_threshold` says why.
 ///
-/// It takes time in proportion to `idle` and `moves`, and for each take what removing from the second list costs: at most
-/// its length.
+/// It takes time in proportion to `idle` and `moves`, and for each take what removing from a list costs: at most its
+/// length.
 pub fn compare(
     alloc: Global,
     idle: &[Duration],
@@ -65,16 +68,21 @@ pub fn compare(
     requires { IsSorted idle.now }
     ensures newest_first { IfOk result (λ answer. IfSome answer (λ c.
         c.newest_first ≡ expired (raised_now idle.now moves.now now) limit (newest_list idle.now moves.now))) }
+    ensures oldest_first { IfOk result (λ answer. IfSome answer (λ c.
+        c.oldest_first ≡ expired (raised_now idle.now moves.now now) limit (oldest_list idle.now moves.now))) }
     ensures other { IfOk result (λ answer. IfSome answer (λ c.
         IsSomeAnd (other_list idle.now moves.now picks.now)
         (λ left. c.other ≡ expired (raised_now idle.now moves.now now) limit left))) }
     ensures none { IfOk result (λ answer. (answer ≡ None) ↔ (other_list idle.now moves.now picks.now ≡ None)) }
 
     ensures at_least { IfOk result (λ answer. IfSome answer (λ c. c.other ≤ c.newest_first)) }
+    ensures at_most { IfOk result (λ answer. IfSome answer (λ c. c.oldest_first ≤ c.other)) }
     // This holds of every idle list in order, whether memory was there or not.
-    ensures at_every_threshold { IfSome (other_list idle.now moves.now picks.now) (IsNeverBehind (newest_list idle.now moves.now)) }
+    ensures at_every_threshold { IfSome (other_list idle.now moves.now picks.now)
+        (IsBetween (oldest_list idle.now moves.now) (newest_list idle.now moves.now)) }
 {
     let mut newest = nanos_of(alloc, idle)?;
+    let mut oldest = nanos_of(alloc, idle)?;
     let mut other = Picked {
         kept: nanos_of(alloc, idle)?,
         picks,
@@ -85,12 +93,14 @@ pub fn compare(
         match step {
             Move::Take(_) => {
                 newest.pop();
+                remove_first(&mut oldest);
                 if !other.take() {
                     return Ok(None);
                 }
             }
             Move::Add(_) => {
                 newest.push(seen)?;
+                oldest.push(seen)?;
                 other.add(seen)?;
             }
         }
@@ -98,6 +108,7 @@ pub fn compare(
     let now = seen.max(now.as_nanos());
     Ok(Some(Comparison {
         newest_first: count_expired(now, limit, &newest),
+        oldest_first: count_expired(now, limit, &oldest),
         other: count_expired(now, limit, &other.kept),
     }))
 }
@@ -141,6 +152,15 @@ impl<'a> Picked<'a> {
     {
         self.kept.push(moment)?;
         Ok(())
+    }
+}
+
+// Removes the first one, if there is one.
+fn remove_first(moments: &mut Vec<u128>)
+    ensures { moments.new.items ≡ drop 1 moments.old.items }
+{
+    if !moments.is_empty() {
+        moments.remove(0);
     }
 }
 

@@ -76,7 +76,7 @@ pub enum Step<T> {
 /// What a step answered: the variant has the name of the step's.
 #[derive(Drop)]
 pub enum Answer<T, A: Allocator = Global> {
-    /// The newest idle connection, or none; and how many openings were ordered.
+    /// The idle connection that was next in the lending order, or none; and how many openings were ordered.
     Take(Take<T>),
     /// What the worker is to do.
     Begin(Job),

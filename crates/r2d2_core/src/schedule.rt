@@ -4,7 +4,7 @@ ghost use Rattle.std.specs.Duration.{as_nanos};
 ghost use Rattle.r2d2_core.specs.Schedule.{is_due_before};
 
 use crate::steps::Steps;
-pub use limits::Limits;
+pub use limits::{LendingOrder, Limits};
 use opening::Opening;
 use std::alloc::{AllocError, Allocator, Global};
 use std::marker::Model;

@@ -5,7 +5,7 @@ use r2d2::journal::{Book, IdList, Record, RecordList, Report};
 use r2d2::machine::{Core, Gone, Leftover, Limits, Refusal, Released, Returned, Take};
 use r2d2::reuse::{Comparison, Move, compare, is_in_order};
 use r2d2::run::{Answer, Step, run};
-use r2d2::schedule::{Job, Schedule, delay};
+use r2d2::schedule::{Job, LendingOrder, Schedule, delay};
 use r2d2::steps::Steps;
 use std::alloc::Global;
 use std::marker::Brand;
@@ -51,6 +51,8 @@ fn schedules(rt: HostRuntime) -> Result<(), Fail> {
     assert_eq!(rt; limits.idle_timeout(), Some(seconds(3)));
     assert_eq!(rt; limits.connection_timeout(), seconds(1));
     assert_eq!(rt; limits.reap_every(), seconds(2));
+    let limits = limits.with_order(LendingOrder::OldestFirst);
+    assert_eq!(rt; limits.order(), LendingOrder::OldestFirst);
     let mut counted = Schedule::new(rt.alloc(), limits, Duration::ZERO)?;
     if counted.len() < limits.max_size() {
         assert_eq!(rt;
@@ -160,9 +162,10 @@ fn journals(rt: HostRuntime) -> Result<(), Fail> {
 
     let book: Book<u32> = Book::with_first_id(rt.alloc(), limits, Duration::ZERO, 1, 5)?;
     let report = book.report_in(rt.alloc())?;
-    let records: RecordList = RecordList::of(report.records.into_vec());
-    let idle: IdList = IdList::of(report.idle.into_vec());
-    assert!(rt; records.as_slice().is_empty() && idle.as_slice().is_empty());
+    assert!(rt; report.records.as_slice().is_empty() && report.idle.as_slice().is_empty());
+    let records: RecordList = RecordList::of(Vec::new(rt.alloc()));
+    let idle: IdList = IdList::of(Vec::new(rt.alloc()));
+    assert!(rt; records.into_vec().is_empty() && idle.into_vec().is_empty());
     Ok(())
 }
 
@@ -220,6 +223,7 @@ fn comparisons(rt: HostRuntime) -> Result<(), Fail> {
         let found = compare(rt.alloc(), &idle, &moves, &[0], seconds(3), seconds(3))?;
         let expected = Comparison {
             newest_first: 1,
+            oldest_first: 0,
             other: 0,
         };
         assert_eq!(rt; found, Some(expected));

@@ -4,6 +4,8 @@
 #[cfg(test)]
 mod core_calls;
 #[cfg(test)]
+mod counted_calls;
+#[cfg(test)]
 mod engine_calls;
 #[cfg(test)]
 mod pool_calls;

@@ -7,7 +7,7 @@ use log::{Level, Logged};
 use r2d2::event::{self, AcquireEvent, CheckinEvent, CheckoutEvent, ReleaseEvent, TimeoutEvent};
 use r2d2::{
     Builder, Config, CustomizeConnection, Extension, Extensions, HandleError, HandleEvent,
-    LoggingErrorHandler, ManageConnection, NopConnectionCustomizer, NopErrorHandler,
+    LendingOrder, LoggingErrorHandler, ManageConnection, NopConnectionCustomizer, NopErrorHandler,
     NopEventHandler,
 };
 use std::fmt;
@@ -226,10 +226,15 @@ fn settings(rt: HostRuntime) -> Result<(), Fail> {
         .idle_timeout(None)
         .connection_timeout(Duration::from_secs(5))
         .journal_room(4)
+        .lending_order(LendingOrder::OldestFirst)
         .error_handler(NopErrorHandler)
         .event_handler(Silent)
         .connection_customizer(Silent);
-    assert_eq!(rt; builder.limits().ok_or("limits")?.wanted(), 2);
+    let limits = builder.limits().ok_or("limits")?;
+    assert_eq!(rt;
+        (limits.wanted(), limits.order()),
+        (2, LendingOrder::OldestFirst)
+    );
     let config = Config {
         max_size: 3,
         min_idle: Some(2),
@@ -240,6 +245,7 @@ fn settings(rt: HostRuntime) -> Result<(), Fail> {
         connection_timeout: Duration::from_secs(5),
         journal_room: 4,
         reaper_rate: Duration::from_secs(30),
+        lending_order: LendingOrder::OldestFirst,
         error_handler: NopErrorHandler,
         event_handler: Silent,
         connection_customizer: Silent,

@@ -5,13 +5,13 @@ ghost use Rattle.r2d2_core.specs.Limits.{SeenLimits as Bounds, seen_limits, AreL
 ghost use Rattle.pool_lines.specs.declared.program.Fault.TheVariants.{NotAStep, LimitsRefused};
 ghost use Rattle.pool_lines.specs.Number.{IsNumber, number_of};
 ghost use Rattle.pool_lines.specs.Lines.{number_in, time_in, optional_in, text_in, connection_in, failure_in};
-ghost use Rattle.pool_lines.specs.Lines.{lengths_in, fields_in, sizes_in, sizes_of, limits_in};
+ghost use Rattle.pool_lines.specs.Lines.{lengths_in, order_in, last_in, fields_in, sizes_in, sizes_of, limits_in};
 ghost use Rattle.pool_lines.specs.Lines.{seen_line, said_alone, said_with, said_of_connection, said_of_outcome, said_in, step_in};
 ghost use Rattle.pool_lines.specs.Lines.{failed_opening_in, failed_check_in, Take, Begin, Number, Admit, PutBack, Reap};
 ghost use Rattle.pool_lines.specs.Lines as spec;
 
 use super::Fault;
-use r2d2_core::{Limits, Step};
+use r2d2_core::{LendingOrder, Limits, Step};
 use std::alloc::{AllocError, Global};
 use std::str;
 use std::time::Duration;
@@ -38,6 +38,7 @@ struct LimitsLine {
     idle_timeout: Option<Duration>,
     connection_timeout: Duration,
     reap_every: Duration,
+    order: LendingOrder,
 }
 
 impl LimitsLine {
@@ -69,7 +70,8 @@ impl LimitsLine {
         let (min_idle, fields) = cut(fields)?;
         let max_size = small_number(max_size)?;
         let min_idle = optional_number(min_idle)?;
-        let (max_lifetime, idle_timeout, connection_timeout, reap_every) = lengths(fields)?;
+        let (max_lifetime, idle_timeout, connection_timeout, fields) = lengths(fields)?;
+        let (reap_every, order) = reaps_and_order(fields)?;
         Some(LimitsLine {
             max_size,
             min_idle,
@@ -77,21 +79,24 @@ impl LimitsLine {
             idle_timeout,
             connection_timeout,
             reap_every,
+            order,
         })
     }
 
+    #[tactic(auto, using(crate::proofs::Fields::legal_with_order, crate::proofs::Fields::legal_in_any_order))]
     fn limits(&self) -> Option<Limits>
         ensures legal { IsSome result ↔ AreLegal (bounds_of self.now) }
         ensures given { IfSome result (λ limits. seen_limits limits ≡ bounds_of self.now) }
     {
-        Limits::of(
+        let limits = Limits::of(
             self.max_size,
             self.min_idle,
             self.max_lifetime,
             self.idle_timeout,
             self.connection_timeout,
             self.reap_every,
-        )
+        )?;
+        Some(limits.with_order(self.order))
     }
 }
 
@@ -298,20 +303,47 @@ fn failure(fields: &str) -> Option<(Duration, &str, Option<&str>)>
     }
 }
 
-// Four lengths of time, of which the first two may be left out.
+// Three lengths of time, of which the first two may be left out, and what stands after them.
 #[tactic(auto, unfolding(crate::specs::Lines::lengths_in))]
-fn lengths(fields: &str) -> Option<(Option<Duration>, Option<Duration>, Duration, Duration)>
-    ensures { option_map (λ l. (option_map as_nanos l.0, option_map as_nanos l.1, as_nanos l.2, as_nanos l.3)) result
+fn lengths(fields: &str) -> Option<(Option<Duration>, Option<Duration>, Duration, &str)>
+    ensures { option_map (λ l. (option_map as_nanos l.0, option_map as_nanos l.1, as_nanos l.2, l.3.now)) result
         ≡ lengths_in fields.now }
 {
     let (max_lifetime, fields) = cut(fields)?;
     let (idle_timeout, fields) = cut(fields)?;
-    let (connection_timeout, reap_every) = cut(fields)?;
+    let (connection_timeout, fields) = cut(fields)?;
     let max_lifetime = optional_time(max_lifetime)?;
     let idle_timeout = optional_time(idle_timeout)?;
     let connection_timeout = time(connection_timeout)?;
-    let reap_every = time(reap_every)?;
-    Some((max_lifetime, idle_timeout, connection_timeout, reap_every))
+    Some((max_lifetime, idle_timeout, connection_timeout, fields))
+}
+
+// The time between reaps, and the lending order, which may be left out.
+#[tactic(auto, unfolding(crate::specs::Lines::last_in))]
+fn reaps_and_order(fields: &str) -> Option<(Duration, LendingOrder)>
+    ensures { option_map (λ l. (as_nanos l.0, l.1)) result ≡ last_in fields.now }
+{
+    match cut(fields) {
+        Some((reap_every, order)) => {
+            let reap_every = time(reap_every)?;
+            let order = lending_order(order)?;
+            Some((reap_every, order))
+        }
+        None => {
+            let reap_every = time(fields)?;
+            Some((reap_every, LendingOrder::NewestFirst))
+        }
+    }
+}
+
+fn lending_order(word: &str) -> Option<LendingOrder>
+    ensures { result ≡ order_in word.now }
+{
+    match word {
+        "newest" => Some(LendingOrder::NewestFirst),
+        "oldest" => Some(LendingOrder::OldestFirst),
+        _ => None,
+    }
 }
 
 // A field that may be left out by `-`.

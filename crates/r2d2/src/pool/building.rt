@@ -5,17 +5,19 @@ ghost use Rattle.std.specs.Arc.{arc_value};
 ghost use Rattle.r2d2.specs.Failures.{IsOfMemoryOrThreads};
 
 use super::closing::Closer;
-use super::guarded::{Guarded, Keeps, Plain};
+use super::guarded::{Counting, Guarded, Keeps, Plain};
 use super::locking::Shared;
-use super::{AnyPool, Pool, PoolRuntime};
-use crate::config::Builder;
+use super::{AnyPool, CountedPool, Pool, PoolRuntime};
+use crate::config::{Builder, Config};
+use crate::engine::Counted;
 use crate::event::HandleEvent;
 use crate::hooks::Hooks;
 use crate::payload::PayloadOf;
 use crate::{CustomizeConnection, Error, HandleError, ManageConnection};
 use r2d2_core::{Book, Released};
 use std::alloc::{AllocError, Global};
-use std::sync::{Arc, Condvar, Mutex};
+use std::sync::ledger::Ledger;
+use std::sync::{Arc, Condvar, Mutex, ledger};
 use std::thread;
 use std::time::{Duration, Instant};
 
@@ -54,27 +56,68 @@ impl<
         ensures settings { IfOk result (λ pool. pool ≡ self) }
         ensures refused { IfErr result IsOfMemoryOrThreads }
     {
+        let (config, book, lists) = self.prepare(rt.alloc()).map_err(|_| Error::memory())?;
+        open_pool(rt, Plain { book }, config, manager, lists)
+    }
+
+    /// Makes a pool whose takes are counted, and is otherwise as `build_unchecked`.
+    ///
+    /// `total` is the book of a ledger that counted nothing yet. Each caller brings a share of that ledger, and each
+    /// take that finds adds one to it. After an error `total` is dropped with the rest.
+    pub fn build_counted<R: PoolRuntime, L: Ledger + Send + Sync + 'static>(
+        self,
+        rt: R,
+        manager: M,
+        total: ledger::Book<L>,
+    ) -> Result<CountedPool<M, H, V, Z, R, L>, Error>
+        requires size { ForSome self.min_idle (λ n. n ≤ self.max_size) }
+        requires total { total.total ≡ 0 }
+        ensures settings { IfOk result (λ pool. pool ≡ self) }
+        ensures refused { IfErr result IsOfMemoryOrThreads }
+    {
+        let (config, book, lists) = self.prepare(rt.alloc()).map_err(|_| Error::memory())?;
+        let counted = Counted::new(book, total);
+        open_pool(rt, Counting { counted }, config, manager, lists)
+    }
+
+    // The settings, a book in which nothing has happened, and a list for each worker.
+    fn prepare(self, alloc: Global) -> Result<Prepared<M, H, V, Z>, AllocError>
+        requires { ForSome self.min_idle (λ n. n ≤ self.max_size) }
+        ensures settings { IfOk result (λ made. made.0 ≡ self) }
+        ensures takes { IfOk result (λ made. made.1.journal.takes ≡ 0) }
+    {
         let Some(limits) = self.limits() else {
             unreachable!()
         };
         let (config, first_id) = self.into_parts();
-        let lists = reap_lists(rt.alloc(), config.thread_pool, limits.max_size()).map_err(
-            |_| Error::memory(),
-        )?;
-        let book = Book::with_first_id(
-            rt.alloc(),
-            limits,
-            Duration::ZERO,
-            first_id,
-            config.journal_room,
-        )
-        .map_err(|_| Error::memory())?;
-        let closer = shared_state(rt, Plain { book }, config, manager).map_err(
-            |_| Error::memory(),
-        )?;
-        start_workers(&closer, lists)?;
-        Ok(AnyPool { closer })
+        let lists = reap_lists(alloc, config.thread_pool, limits.max_size())?;
+        let room = config.journal_room;
+        let book = Book::with_first_id(alloc, limits, Duration::ZERO, first_id, room)?;
+        Ok((config, book, lists))
     }
+}
+
+// What a pool is made of, before it has a lock.
+type Prepared<M, H, V, Z> = (
+    Config<H, V, Z>,
+    Book<PayloadOf<M>>,
+    Vec<Vec<Released<PayloadOf<M>>>>,
+);
+
+// The pool over what its lock is to guard, with a worker for each list.
+fn open_pool<B: Keeps<M> + Send + 'static, M: ManageConnection, K: Hooks<M>, R: PoolRuntime>(
+    rt: R,
+    guarded: B,
+    hooks: K,
+    manager: M,
+    lists: Vec<Vec<Released<PayloadOf<M>>>>,
+) -> Result<AnyPool<B, M, K, R>, Error>
+    ensures settings { IfOk result (λ pool. pool ≡ hooks) }
+    ensures refused { IfErr result IsOfMemoryOrThreads }
+{
+    let closer = shared_state(rt, guarded, hooks, manager).map_err(|_| Error::memory())?;
+    start_workers(&closer, lists)?;
+    Ok(AnyPool { closer })
 }
 
 // Waits until as many connections as are wanted were opened, or as long as a caller would wait.

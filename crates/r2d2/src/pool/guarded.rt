@@ -1,12 +1,15 @@
-// What the lock of a pool guards: a book.
-ghost use Rattle.std.specs.Prelude.{◌≡◌, ℕ, ◌+◌, ◌<◌, MatchOption};
+// What the lock of a pool guards: a book, plain or counted.
+ghost use Rattle.std.specs.Prelude.{◌≡◌, ◌≤◌, ℕ, ◌+◌, ◌<◌, IsTrue, MatchOption, vec_len, vec_capacity};
 
 use super::lent::Lent;
 use crate::ManageConnection;
-use crate::engine::{Outcome, Settled, Wakes, give_back, lend, settle, sweep};
+use crate::engine::{
+    Counted, Outcome, Settled, Wakes, give_back, lend, lend_counted, settle, sweep,
+};
 use crate::payload::PayloadOf;
 use r2d2_core::machine::Leftover;
 use r2d2_core::{Book, Job, Refusal, Released, Returned};
+use std::sync::ledger::{Ledger, Share};
 use std::time::Duration;
 
 /// What the lock of a pool guards: a book, and what counts its takes. It says nothing of threads, so drops may call it.
@@ -24,7 +27,7 @@ pub trait Guarded: Drop {
 
     ghost per_take: { ℕ };
 
-    /// Takes the newest idle connection; where none is idle it orders one, if it is asked to.
+    /// Takes the idle connection that is lent next; where none is idle it orders one, if it is asked to.
     fn lend(
         &mut self,
         now: Duration,
@@ -126,10 +129,8 @@ impl<M: ManageConnection> Guarded for Plain<M> {
         settle(&mut self.book, now, outcome)
     }
 
-    // The list has room from the making on; but of a locked book its type alone is known, so this asks.
     fn reap(&mut self, now: Duration, expired: &mut Vec<Released<PayloadOf<M>>>) -> Wakes {
-        let room = self.book.limits().max_size() as usize;
-        if !expired.is_empty() || expired.capacity() < room {
+        if !has_room(&self.book, expired) {
             return Wakes::nobody();
         }
         let (_ordered, wakes) = sweep(&mut self.book, now, expired);
@@ -155,4 +156,88 @@ impl<M: ManageConnection> Guarded for Plain<M> {
     fn book(&self) -> &Book<PayloadOf<M>> {
         &self.book
     }
+}
+
+/// The same, with a ledger that counts its takes.
+#[derive(Drop)]
+pub struct Counting<M: ManageConnection, L: Ledger> {
+    pub(super) counted: Counted<PayloadOf<M>, L>,
+}
+
+impl<M: ManageConnection, L: Ledger> Guarded for Counting<M, L> {
+    type Payload = PayloadOf<M>;
+
+    type Tally = Share<L>;
+
+    ghost parts = { λ share. share.parts };
+
+    ghost amount = { λ share. share.amount };
+
+    ghost per_take = { 1 };
+
+    fn lend(
+        &mut self,
+        now: Duration,
+        or_order: bool,
+        tally: &mut Share<L>,
+    ) -> (Option<Lent<PayloadOf<M>>>, Wakes) {
+        let (taken, wakes) = lend_counted(&mut self.counted, now, or_order, tally);
+        (Lent::of(taken), wakes)
+    }
+
+    fn put_back(
+        &mut self,
+        now: Duration,
+        lent: Lent<PayloadOf<M>>,
+        broken: bool,
+    ) -> (
+        Result<Returned<PayloadOf<M>>, (Refusal, PayloadOf<M>)>,
+        Wakes,
+    ) {
+        let Lent { id, payload } = lent;
+        self.counted.give_back(now, id, payload, broken)
+    }
+
+    fn settle(
+        &mut self,
+        now: Duration,
+        outcome: Outcome<PayloadOf<M>>,
+    ) -> (Settled<PayloadOf<M>>, Wakes) {
+        self.counted.settle(now, outcome)
+    }
+
+    fn reap(&mut self, now: Duration, expired: &mut Vec<Released<PayloadOf<M>>>) -> Wakes {
+        if !has_room(self.counted.book(), expired) {
+            return Wakes::nobody();
+        }
+        let (_ordered, wakes) = self.counted.sweep(now, expired);
+        wakes
+    }
+
+    fn begin(&mut self, now: Duration) -> Job {
+        self.counted.begin(now)
+    }
+
+    fn number(&mut self, tries: u32) -> Result<u64, Refusal> {
+        self.counted.number(tries)
+    }
+
+    fn take_error(&mut self) -> Option<String> {
+        self.counted.take_error()
+    }
+
+    fn close(&mut self) -> Leftover<PayloadOf<M>> {
+        self.counted.close()
+    }
+
+    fn book(&self) -> &Book<PayloadOf<M>> {
+        self.counted.book()
+    }
+}
+
+// Whether a reap can use the list. It has room from the making on; but of a locked book its type alone is known, so this asks.
+fn has_room<P>(book: &Book<P>, expired: &Vec<Released<P>>) -> bool
+    ensures { IsTrue result → (vec_len expired.now ≡ 0) × (book.now.picture.on_order.limits.max_size ≤ vec_capacity expired.now) }
+{
+    expired.is_empty() && expired.capacity() >= book.limits().max_size() as usize
 }

@@ -24,8 +24,14 @@ pub struct Lent<P> {
 }
 
 impl<P> Lent<P> {
+    ghost use Rattle.std.specs.Prelude.{MatchOption};
+    ghost use Rattle.r2d2_core.specs.Seen.{seen_take};
+    ghost use Rattle.r2d2.specs.Counted.{found_by};
+
     /// What a take found.
-    pub(super) fn of(taken: Take<P>) -> Option<Lent<P>> {
+    pub(super) fn of(taken: Take<P>) -> Option<Lent<P>>
+        ensures { MatchOption result (found_by (seen_take taken) ≡ 0) (λ _. found_by (seen_take taken) ≡ 1) }
+    {
         match taken {
             Take::Found { id, value, .. } => Some(Lent { id, payload: value }),
             Take::Empty { .. } => None,

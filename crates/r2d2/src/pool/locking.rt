@@ -1,6 +1,6 @@
 // The lock of a pool, and each step that is made under it.
 ghost use Rattle.std.specs.Prelude.{◌≡◌, ◌≤◌, ◌<◌, ◌+◌, MatchOption, IfOk};
-ghost use Rattle.r2d2_core.specs.Reports.{DoesReplay, HasSoundCounts};
+ghost use Rattle.r2d2_core.specs.Reports.{DoesReplay, HasSoundCounts, CountsItsTakes};
 
 use super::State;
 use super::guarded::Guarded;
@@ -83,8 +83,9 @@ impl<B: Guarded, M, K, R: Clock + Wait> Shared<B, M, K, R> {
 
     /// What the book reports.
     pub(super) fn report(&self) -> Result<Report, AllocError>
-        ensures replays { IfOk result (λ report. report.lost ≡ 0 → DoesReplay report) }
+        ensures replays { IfOk result DoesReplay }
         ensures sound { IfOk result HasSoundCounts }
+        ensures counted { IfOk result CountsItsTakes }
     {
         self.step(
             &mut (),
@@ -92,7 +93,7 @@ impl<B: Guarded, M, K, R: Clock + Wait> Shared<B, M, K, R> {
         )
     }
 
-    /// Takes the newest idle connection, if there is one, and orders none.
+    /// Takes the idle connection that is lent next, if there is one, and orders none.
     pub(super) fn lend_now(&self, tally: &mut B::Tally) -> Option<Lent<B::Payload>>
         requires { 0 < B.parts tally.old }
         ensures parts { B.parts tally.new ≡ B.parts tally.old }

@@ -1,21 +1,26 @@
-// Those who hand the lock to a wait: a caller, the maker of a pool, a worker. Each other step is made by `Shared::step`.
-ghost use Rattle.std.specs.Prelude.{◌≡◌, ◌<◌, ◌+◌, OnOk, OnErr};
+// Those who take the lock by themselves: a caller, the maker of a pool and a worker, who hand it to a wait, and an audit. Each other step is
+// made by `Shared::step`.
+ghost use Rattle.std.specs.Prelude.{◌≡◌, ◌<◌, ◌+◌, OnOk, OnErr, IfOk};
+ghost use Rattle.r2d2_core.specs.Reports.{DoesReplay, HasSoundCounts, CountsItsTakes};
+ghost use Rattle.r2d2.specs.Counted.{counted_up_to};
 
 use super::PoolRuntime;
-use super::guarded::{Guarded, Keeps};
+use super::guarded::{Counting, Guarded, Keeps};
 use super::lent::Lent;
 use super::locking::Shared;
 use crate::ManageConnection;
 use crate::hooks::Hooks;
 use crate::payload::PayloadOf;
-use r2d2_core::{Job, Released};
+use r2d2_core::{Job, Released, Report};
+use std::alloc::AllocError;
 use std::rt::Clock;
 use std::sync::Wait;
+use std::sync::ledger::{Ledger, Share};
 use std::time::Duration;
 
 impl<B: Guarded, M, K, R: Clock + Wait> Shared<B, M, K, R> {
-    /// Takes the newest idle connection; where there is none it orders one and waits, until the moment `end`. Past that it answers the latest
-    /// error of an opening or a check.
+    /// Takes the idle connection that is lent next; where there is none it orders one and waits, until the moment `end`. Past that it
+    /// answers the latest error of an opening or a check.
     pub(super) fn lend_until(
         &self,
         end: Duration,
@@ -89,5 +94,20 @@ impl<B: Keeps<M>, M: ManageConnection, K: Hooks<M>, R: PoolRuntime> Shared<B, M,
                 Job::Closed => return,
             }
         }
+    }
+}
+
+impl<M: ManageConnection, L: Ledger, K, R: Clock + Wait> Shared<Counting<M, L>, M, K, R> {
+    /// What the book reports, beside the share with all parts.
+    pub(super) fn audit(&self, all: &mut Share<L>) -> Result<Report, AllocError>
+        requires { all.old.parts ≡ L.parts }
+        ensures takes { IfOk result (λ report. report.takes ≡ counted_up_to all.old.amount) }
+        ensures counted { IfOk result CountsItsTakes }
+        ensures replays { IfOk result DoesReplay }
+        ensures sound { IfOk result HasSoundCounts }
+        ensures amount { all.new.amount ≡ all.old.amount }
+        ensures parts { all.new.parts ≡ all.old.parts }
+    {
+        self.guarded.lock(&self.rt).counted.audit(all)
     }
 }

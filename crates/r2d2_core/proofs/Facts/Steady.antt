@@ -3,20 +3,22 @@ use Rattle.std.proofs.Common.{◌≡◌, ◌⊎◌, ℕ, ◌+◌, ◌-◌, ◌<�
 use Rattle.std.specs.List.{All, filter}
 use Rattle.std.specs.List.Sorted.{IsNonDecreasingBy}
 use Rattle.std.proofs.lemmas.List.{length_push, map-id}
-use Rattle.std.proofs.lemmas.List.Elements.{All-take, All-filter}
+use Rattle.std.proofs.lemmas.List.Elements.{All-filter}
 use Rattle.std.proofs.lemmas.List.Filters.{length-filter_both}
 use Rattle.std.proofs.lemmas.List.Kept.{IsNonDecreasingBy-filter}
-use Rattle.std.proofs.lemmas.List.Sorted.{IsNonDecreasingBy-take, IsNonDecreasingBy-push}
+use Rattle.std.proofs.lemmas.List.Sorted.{IsNonDecreasingBy-push}
 use Rattle.std.proofs.lemmas.Bool.{cases_lt, cases_eq}
 use Rattle.r2d2_core.specs.Limits.{wanted_of}
-use Rattle.r2d2_core.specs.Ids.{same_id, last_of, front, found, without, copies_of}
+use Rattle.r2d2_core.specs.Ids.{same_id, found, without, copies_of}
+use Rattle.r2d2_core.specs.Lending.{lent_next, still_idle}
 use Rattle.r2d2_core.specs.Openings.{SeenOpening}
 use Rattle.r2d2_core.specs.Connections.{SeenIdleConnection, SeenLentConnection, idle_connection, lent_connection, id_of_idle, id_of_lent, since_of, is_expired, is_kept}
 use Rattle.r2d2_core.specs.OnOrder.{IsAccounted, admitted_one, numbered_one}
 use Rattle.r2d2_core.specs.Picture.{Picture, IsSound, ids_in}
 use Rattle.r2d2_core.specs.Table.{raised_to, with_on_order, ordered, top_up_of, topped_up, miss_order_of, lent_out, admitted_at, kept_one, gone_one, swept}
 use Rattle.r2d2_core.proofs.Lists.Filters.{copies_of-filter}
-use Rattle.r2d2_core.proofs.Lists.Ids.{copies_of-append, copies_of-append3, copies_of-one, copies_of-other, copies_of-push, copies_of-last, copies_of-without, length-front, length-without, All-without, All-found, All-push, All-last, All-weaker}
+use Rattle.r2d2_core.proofs.Lists.Ids.{copies_of-append, copies_of-append3, copies_of-one, copies_of-other, copies_of-push, copies_of-without, length-without, All-without, All-found, All-push, All-weaker}
+use Rattle.r2d2_core.proofs.Lists.Lending.{none_next, length-still_idle, copies_of-next, All-next, All-still_idle, IsNonDecreasingBy-still_idle}
 use Rattle.r2d2_core.proofs.Facts.Accounted.{is_not, accounted_orders}
 
 -- HOW MANY ARE ORDERED
@@ -60,9 +62,6 @@ with_one_kept wanted pending connections size idle more e (inr h) = inr h
 with_one_admitted : (wanted idle more connections pending size : ℕ) → more ≡ idle + 1 → 0 < pending → Reaches wanted idle pending connections size → Reaches wanted more (pending - 1) (connections + 1) size
 with_one_admitted wanted idle more connections pending size e some (inl h) = inl (omega arith)
 with_one_admitted wanted idle more connections pending size e some (inr h) = inr (omega arith)
-
-none_last : {X : Type 0} (xs : List X) (x : X) → xs ≡ [] → last_of xs ≡ Some x → ⊥
-none_last xs x e is = cc (ap last_of e)
 
 module _ {T : Type 0} where
   -- all that holds of each picture of a core, but that what is wanted was ordered
@@ -201,29 +200,30 @@ module _ {T : Type 0} where
 
   -- TAKE
 
-  pub steady_lent_out : (c : SeenIdleConnection T) {p : Picture T} → last_of p.idle ≡ Some c → IsSteady p → IsSteady (lent_out c p)
+  pub steady_lent_out : (c : SeenIdleConnection T) {p : Picture T} → lent_next p.on_order.limits.order p.idle ≡ Some c → IsSteady p → IsSteady (lent_out c p)
   steady_lent_out c {p} is s =
+      let o = p.on_order.limits.order in
       let l = lent_connection c.id c.birth in
       let ids = apart_still p (lent_out c p) refl (λ i. omega (
         arith,
         copies_of-append3 i (map id_of_idle p.idle) (map id_of_lent p.lent) p.on_order.numbered,
-        copies_of-append3 i (map id_of_idle (front p.idle)) (map id_of_lent (p.lent ++ l ∷ [])) p.on_order.numbered,
-        copies_of-last id_of_idle i p.idle c is,
+        copies_of-append3 i (map id_of_idle (still_idle o p.idle)) (map id_of_lent (p.lent ++ l ∷ [])) p.on_order.numbered,
+        copies_of-next id_of_idle i o p.idle c is,
         copies_of-push id_of_lent i p.lent l,
       )) s in
-      let birth : c.birth ≤ c.since = All-last (λ c. c.birth ≤ c.since) p.idle c s.born is in
-      let since : c.since ≤ p.latest = All-last (λ c. c.since ≤ p.latest) p.idle c s.seen is in
+      let birth : c.birth ≤ c.since = All-next (λ c. c.birth ≤ c.since) o p.idle c s.born is in
+      let since : c.since ≤ p.latest = All-next (λ c. c.since ≤ p.latest) o p.idle c s.seen is in
       record {
         apart = ids.0;
         below_next = ids.1;
-        counted = omega (arith, s.counted, length-front p.idle c is, length_push p.lent l);
+        counted = omega (arith, s.counted, length-still_idle o p.idle c is, length_push p.lent l);
         accounted = s.accounted;
         fits = s.fits;
-        is_sorted = IsNonDecreasingBy-take since_of (length p.idle - 1) p.idle s.is_sorted;
-        seen = All-take (λ c. c.since ≤ p.latest) (length p.idle - 1) p.idle s.seen;
-        born = All-take (λ c. c.birth ≤ c.since) (length p.idle - 1) p.idle s.born;
+        is_sorted = IsNonDecreasingBy-still_idle since_of o p.idle s.is_sorted;
+        seen = All-still_idle (λ c. c.since ≤ p.latest) o p.idle s.seen;
+        born = All-still_idle (λ c. c.birth ≤ c.since) o p.idle s.born;
         born_lent = All-push (λ l. l.birth ≤ p.latest) p.lent l s.born_lent (omega arith);
-        none_once_closed = λ closed. absurd (none_last p.idle c (s.none_once_closed closed) is);
+        none_once_closed = λ closed. absurd (none_next o p.idle c (s.none_once_closed closed) is);
       }
 
   -- RETURNS

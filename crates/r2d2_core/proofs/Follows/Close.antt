@@ -12,7 +12,7 @@ use Rattle.r2d2_core.specs.Picture.{Picture, IsSound}
 use Rattle.r2d2_core.specs.Table.{close_answer, after_close}
 use Rattle.r2d2_core.specs.Seen.{SeenAnswer, Left}
 use Rattle.r2d2_core.specs.History.{History, Then, limits_of, start_of, now_of, is_closed, moment_of}
-use Rattle.r2d2_core.specs.Deeds.{deed, Going, deeds_in, idle_of, lent_of, admitted_count, gone_count, connections_of}
+use Rattle.r2d2_core.specs.Deeds.{deeds_in, idle_of, lent_of, admitted_count, gone_count, connections_of}
 use Rattle.r2d2_core.specs.Pending.{pending_of, in_work_of, in_work_at, numbered_of, reaps_of, next_reap_of, next_id_of, on_order_of}
 use Rattle.r2d2_core.specs.Answers.{picture_of}
 use Rattle.r2d2_core.proofs.Histories.Kept.{IsKept, Follows}

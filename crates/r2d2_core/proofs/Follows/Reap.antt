@@ -1,5 +1,5 @@
 -- A reap as the history sees it: the expired ones go, and what is wanted is ordered again.
-use Rattle.std.proofs.Common.{◌≡◌, ℕ, ◌+◌, ◌-◌, ◌≤◌, max, true, List, [], ◌∷◌, map, length, refl, sym, ◌∙◌, ap, subst, arith}
+use Rattle.std.proofs.Common.{◌≡◌, ℕ, ◌+◌, ◌-◌, ◌≤◌, max, true, List, length, refl, sym, ◌∙◌, ap, subst, arith}
 use Rattle.std.specs.Prelude.{filter}
 use Rattle.std.specs.Duration.{as_nanos}
 use Rattle.std.specs.declared.time.Duration.{Duration}
@@ -10,7 +10,7 @@ use Rattle.r2d2_core.specs.Picture.{IsSound}
 use Rattle.r2d2_core.specs.Table.{raised_to, ordered, swept, reap_closed, reap_orders, after_reap}
 use Rattle.r2d2_core.specs.Seen.{SeenAnswer, Reaped}
 use Rattle.r2d2_core.specs.History.{History, Then, limits_of, now_of, is_closed, moment_of}
-use Rattle.r2d2_core.specs.Deeds.{Going, deed, deeds_in, idle_of, lent_of, admitted_count, gone_count, connections_of}
+use Rattle.r2d2_core.specs.Deeds.{deeds_in, idle_of, lent_of, admitted_count, gone_count, connections_of}
 use Rattle.r2d2_core.specs.Pending.{on_order_of}
 use Rattle.r2d2_core.specs.Answers.{orders_of, picture_of}
 use Rattle.r2d2_core.proofs.Histories.Kept.{IsKept, Follows}

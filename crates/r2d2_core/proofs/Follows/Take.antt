@@ -1,19 +1,16 @@
 -- A take follows the history.
-use Rattle.std.proofs.Common.{◌≡◌, ℕ, ◌+◌, Bool, true, cond, [], ◌∷◌, ◌++◌, map, length, Option, Some, None, refl, sym, ◌∙◌, ap, subst, arith}
-use Rattle.std.specs.Prelude.{filter, ◌==◌, not}
+use Rattle.std.proofs.Common.{◌≡◌, ℕ, Bool, true, cond, length, Option, Some, None, refl, sym, ◌∙◌, ap, subst, arith}
 use Rattle.std.specs.Duration.{as_nanos}
 use Rattle.std.specs.declared.time.Duration.{Duration}
-use Rattle.std.proofs.lemmas.List.{append-nil}
-use Rattle.std.proofs.lemmas.Bool.{eq-eqb}
 use Rattle.r2d2_core.specs.declared.run.Step.TheVariants as step
-use Rattle.r2d2_core.specs.Ids.{last_of, front, copies_of}
-use Rattle.r2d2_core.specs.Connections.{SeenIdleConnection, lent_connection, id_of_idle, id_of_lent}
+use Rattle.r2d2_core.specs.Lending.{lent_next, still_idle}
+use Rattle.r2d2_core.specs.Connections.{SeenIdleConnection}
 use Rattle.r2d2_core.specs.Seen.{Taken, Found, Empty}
 use Rattle.r2d2_core.specs.Picture.{IsSound}
 use Rattle.r2d2_core.specs.Table.{raised_to, ordered, lent_out, take_orders, taken, take_answer, after_take}
 use Rattle.r2d2_core.specs.Seen.{take_with}
-use Rattle.r2d2_core.specs.History.{History, Then, is_closed, moment_of}
-use Rattle.r2d2_core.specs.Deeds.{Deed, deed, id_of_deed, Taking_out, birth_of, idle_of, lent_of, connections_of, gone_count}
+use Rattle.r2d2_core.specs.History.{History, Then, limits_of, is_closed}
+use Rattle.r2d2_core.specs.Deeds.{idle_of, connections_of, gone_count}
 use Rattle.r2d2_core.specs.Pending.{on_order_of}
 use Rattle.r2d2_core.specs.Answers.{orders_of, orders_by, picture_of}
 use Rattle.r2d2_core.proofs.Histories.Kept.{IsKept, Follows}
@@ -31,7 +28,7 @@ module _ {T : Type 0} where
   connections_of-take h now or_order (Some c) n = refl
 
   -- what a take orders
-  orders_of-take : (h : History T) (now : Duration) (or_order : Bool) (m : Option (SeenIdleConnection T)) → last_of (idle_of h) ≡ m → IsSound (picture_of h)
+  orders_of-take : (h : History T) (now : Duration) (or_order : Bool) (m : Option (SeenIdleConnection T)) → lent_next (limits_of h).order (idle_of h) ≡ m → IsSound (picture_of h)
       → orders_of h (step.Take now or_order) ≡ take_orders m or_order (picture_of h)
   unfolding orders_of picture_of on_order_of
   orders_of-take h now or_order None e sound =
@@ -39,10 +36,10 @@ module _ {T : Type 0} where
       ap (λ m. cond (is_closed h) 0 (orders_by h (Then h s (Taken (take_with m 0))) s (Taken (take_with m 0)))) e
   orders_of-take h now or_order (Some c) e sound =
       let s = step.Take now or_order in
-      orders_of-top_up h s (length (front (idle_of h))) (connections_of h)
+      orders_of-top_up h s (length (still_idle (limits_of h).order (idle_of h))) (connections_of h)
       (rw e refl)
-      (rw e (ap length (idle_of-found h s (Taken (Found c.id c.birth c.value 0)) _ c refl (λ i. refl) e (apart_in h sound))))
-      (connections_of-take h now or_order (last_of (idle_of h)) 0)
+      (rw e (ap length (idle_of-found h s (Taken (Found c.id c.birth c.value 0)) _ (limits_of h).order c refl (λ i. refl) e (apart_in h sound))))
+      (connections_of-take h now or_order (lent_next (limits_of h).order (idle_of h)) 0)
 
   ordering_take : (h : History T) (now : Duration) (or_order : Bool) (m : Option (SeenIdleConnection T)) (n : ℕ) → IsOrdering h (step.Take now or_order) (Taken (take_with m n))
   ordering_take h now or_order m n = record {
@@ -57,10 +54,10 @@ module _ {T : Type 0} where
   }
 
   -- the picture after a take
-  picture_of-take : (h : History T) (now : Duration) (or_order : Bool) (m : Option (SeenIdleConnection T)) (n : ℕ) → last_of (idle_of h) ≡ m → IsKept h
+  picture_of-take : (h : History T) (now : Duration) (or_order : Bool) (m : Option (SeenIdleConnection T)) (n : ℕ) → lent_next (limits_of h).order (idle_of h) ≡ m → IsKept h
       → n ≡ take_orders m or_order (picture_of h) → (is_closed h ≡ true → n ≡ 0)
       → picture_of (Then h (step.Take now or_order) (Taken (take_with m n))) ≡ taken m or_order (raised_to (as_nanos now) (picture_of h))
-  unfolding picture_of
+  unfolding picture_of on_order_of
   picture_of-take h now or_order None n e kept orders none =
       let s = step.Take now or_order in
       let p = raised_to (as_nanos now) (picture_of h) in
@@ -71,7 +68,7 @@ module _ {T : Type 0} where
       let s = step.Take now or_order in
       let p = lent_out c (raised_to (as_nanos now) (picture_of h)) in
       picture_of-ordered h s (Taken (Found c.id c.birth c.value n)) p n (ordering_take h now or_order (Some c) n) kept refl none
-      refl (idle_of-found h s (Taken (Found c.id c.birth c.value n)) _ c refl (λ i. refl) e (apart_in h kept.sound)) (lent_of-found h s (Taken (Found c.id c.birth c.value n)) _ c refl (λ i. refl) e (apart_in h kept.sound)) refl (connections_of-take h now or_order (Some c) n) refl
+      refl (idle_of-found h s (Taken (Found c.id c.birth c.value n)) _ (limits_of h).order c refl (λ i. refl) e (apart_in h kept.sound)) (lent_of-found h s (Taken (Found c.id c.birth c.value n)) _ (limits_of h).order c refl (λ i. refl) e (apart_in h kept.sound)) refl (connections_of-take h now or_order (Some c) n) refl
       ∙ ap (λ k. ordered k p) orders
 
   gone_of-take : (h : History T) (now : Duration) (or_order : Bool) (m : Option (SeenIdleConnection T)) (n : ℕ) → gone_count (Then h (step.Take now or_order) (Taken (take_with m n))) ≡ gone_count h
@@ -80,10 +77,10 @@ module _ {T : Type 0} where
 
   pub follows_take : (h : History T) (now : Duration) (or_order : Bool) → IsKept h
       → Follows h (step.Take now or_order) (Taken (take_answer or_order (picture_of h))) (after_take (as_nanos now) or_order (picture_of h))
-  unfolding picture_of
+  unfolding picture_of on_order_of
   follows_take h now or_order kept =
       let s = step.Take now or_order in
-      let m = last_of (idle_of h) in
+      let m = lent_next (limits_of h).order (idle_of h) in
       let n = orders_of h s in
       let orders : n ≡ take_orders m or_order (picture_of h) = orders_of-take h now or_order m refl kept.sound in
       let picture : picture_of (Then h s (Taken (take_with m n))) ≡ after_take (as_nanos now) or_order (picture_of h) = picture_of-take h now or_order m n refl kept orders (orders_if_closed h s) in

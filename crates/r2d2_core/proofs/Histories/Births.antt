@@ -3,7 +3,10 @@ use Rattle.std.proofs.Common.{◌≡◌, ℕ, List, [], ◌∷◌, Option, Some,
 use Rattle.std.specs.Prelude.{filter_map}
 use Rattle.std.specs.List.{AllByRecursion}
 use Rattle.std.specs.Option.{MatchOption}
+use Rattle.r2d2_core.specs.declared.schedule.limits.LendingOrder.{LendingOrder}
+use Rattle.r2d2_core.specs.declared.schedule.limits.LendingOrder.TheVariants as lending
 use Rattle.r2d2_core.specs.Ids.{latest, last_of}
+use Rattle.r2d2_core.specs.Lending.{lent_next}
 use Rattle.r2d2_core.specs.Connections.{SeenIdleConnection}
 use Rattle.r2d2_core.specs.History.{History}
 use Rattle.r2d2_core.specs.Deeds.{What, Admission, Taking_out, Keeping, Going, deeds_of, id_of_deed, birth_of, as_idle, idle_of}
@@ -13,6 +16,12 @@ last_holds : {Y : Type 0} (P : Y → Type 0) (xs : List Y) (c : Y) → AllByRecu
 last_holds P [] c all e = absurd cc
 last_holds P (x ∷ []) c all e = let same : x ≡ c = cc in subst P same all.0
 last_holds P (x ∷ y ∷ ys) c all e = last_holds P (y ∷ ys) c all.1 e
+
+-- and of the one that is lent next
+next_holds : {Y : Type 0} (P : Y → Type 0) (o : LendingOrder) (xs : List Y) (c : Y) → AllByRecursion P xs → lent_next o xs ≡ Some c → P c
+next_holds P lending.NewestFirst xs c all e = last_holds P xs c all e
+next_holds P lending.OldestFirst [] c all e = absurd cc
+next_holds P lending.OldestFirst (x ∷ xs) c all e = let same : x ≡ c = cc in subst P same all.0
 
 shown_step : {X Y : Type 0} (P : Y → Type 0) (f : X → Option Y) (o : Option Y) (x : X) (xs : List X) → f x ≡ o → MatchOption o (Unit {0}) P → AllByRecursion P (filter_map f xs) → AllByRecursion P (filter_map f (x ∷ xs))
 shown_step P f None x xs e p all = rw e all
@@ -33,6 +42,6 @@ pub births_of-idle : {T : Type 0} (h : History T) → AllByRecursion (λ c. c.bi
 unfolding idle_of
 births_of-idle h = shown_all (λ c. c.birth ≡ birth_of h c.id) (λ d. as_idle (birth_of h d.id) d) (λ d. birth_shown (birth_of h) d.id d.at d.what) (latest id_of_deed (deeds_of h))
 
--- the last idle one too
-pub birth_of-last : {T : Type 0} (h : History T) (c : SeenIdleConnection T) → last_of (idle_of h) ≡ Some c → c.birth ≡ birth_of h c.id
-birth_of-last h c e = last_holds (λ c. c.birth ≡ birth_of h c.id) (idle_of h) c (births_of-idle h) e
+-- the one that is lent next too
+pub birth_of-next : {T : Type 0} (h : History T) (o : LendingOrder) (c : SeenIdleConnection T) → lent_next o (idle_of h) ≡ Some c → c.birth ≡ birth_of h c.id
+birth_of-next h o c e = next_holds (λ c. c.birth ≡ birth_of h c.id) o (idle_of h) c (births_of-idle h) e

@@ -1,22 +1,23 @@
 -- One connection that is lent out, and one that comes in.
 use Rattle.std.proofs.Common.{◌≡◌, ℕ, ◌+◌, max, Bool, true, false, cond, ◌||◌, not, ◌==◌, [], ◌∷◌, ◌++◌, map, Some, refl, sym, ◌∙◌, ap, arith}
-use Rattle.std.specs.Prelude.{filter}
 use Rattle.std.specs.Duration.{as_nanos}
 use Rattle.std.specs.declared.time.Duration.{Duration}
 use Rattle.std.proofs.lemmas.List.{append-nil}
 use Rattle.std.proofs.lemmas.Bool.{eq-eqb}
 use Rattle.r2d2_core.specs.declared.run.Step.{Step}
 use Rattle.r2d2_core.specs.declared.run.Step.TheVariants as step
-use Rattle.r2d2_core.specs.Ids.{last_of, front, copies_of}
+use Rattle.r2d2_core.specs.Ids.{copies_of}
+use Rattle.r2d2_core.specs.declared.schedule.limits.LendingOrder.{LendingOrder}
+use Rattle.r2d2_core.specs.Lending.{lent_next, still_idle}
 use Rattle.r2d2_core.specs.Connections.{SeenIdleConnection, idle_connection, lent_connection, id_of_idle, id_of_lent}
 use Rattle.r2d2_core.specs.Seen.{SeenAnswer}
 use Rattle.r2d2_core.specs.History.{History, Then, now_of, moment_of}
 use Rattle.r2d2_core.specs.Deeds.{Deed, Admission, Taking_out, deed, deeds_in, id_of_deed, birth_of, admits, idle_of, lent_of}
-use Rattle.r2d2_core.proofs.Lists.Filters.{filter-absent, filter-last}
-use Rattle.r2d2_core.proofs.Lists.Ids.{copies_of-last, last_is}
+use Rattle.r2d2_core.proofs.Lists.Filters.{filter-absent}
+use Rattle.r2d2_core.proofs.Lists.Lending.{copies_of-next, filter-next}
 use Rattle.r2d2_core.proofs.Facts.Latest.{one_other}
 use Rattle.r2d2_core.proofs.Histories.Deeds.{AreApart, idle_of-then, lent_of-then}
-use Rattle.r2d2_core.proofs.Histories.Births.{birth_of-last}
+use Rattle.r2d2_core.proofs.Histories.Births.{birth_of-next}
 
 copies_of-self : (i : ℕ) → copies_of i (i ∷ []) ≡ 1
 copies_of-self i = ap (λ b. cond b 1 0 + 0) (eq-eqb i i refl)
@@ -28,33 +29,32 @@ other_admits id i e = by (id == i) e where
   by false e = refl
 
 module _ {T : Type 0} where
-  -- the last idle one stands once among the idle, and is not lent
-  once_in_front : (h : History T) (c : SeenIdleConnection T) → last_of (idle_of h) ≡ Some c → AreApart h → copies_of c.id (map id_of_idle (front (idle_of h))) ≡ 0
-  once_in_front h c e apart = omega (arith, apart c.id, copies_of-last id_of_idle c.id (idle_of h) c e, copies_of-self c.id)
+  -- the idle one that is lent next stands once among the idle, and is not lent
+  next_once : (h : History T) (o : LendingOrder) (c : SeenIdleConnection T) → lent_next o (idle_of h) ≡ Some c → AreApart h → copies_of c.id (map id_of_idle (still_idle o (idle_of h))) ≡ 0
+  next_once h o c e apart = omega (arith, apart c.id, copies_of-next id_of_idle c.id o (idle_of h) c e, copies_of-self c.id)
 
-  idle_not_lent : (h : History T) (c : SeenIdleConnection T) → last_of (idle_of h) ≡ Some c → AreApart h → copies_of c.id (map id_of_lent (lent_of h)) ≡ 0
-  idle_not_lent h c e apart = omega (arith, apart c.id, copies_of-last id_of_idle c.id (idle_of h) c e, copies_of-self c.id)
+  idle_not_lent : (h : History T) (o : LendingOrder) (c : SeenIdleConnection T) → lent_next o (idle_of h) ≡ Some c → AreApart h → copies_of c.id (map id_of_lent (lent_of h)) ≡ 0
+  idle_not_lent h o c e apart = omega (arith, apart c.id, copies_of-next id_of_idle c.id o (idle_of h) c e, copies_of-self c.id)
 
-  -- what is idle after a step that lends the last idle one
-  pub idle_of-found : (h : History T) (s : Step T) (r : SeenAnswer T) (t : ℕ) (c : SeenIdleConnection T) → deeds_in (moment_of h s) s r ≡ deed c.id t Taking_out ∷ [] → ((i : ℕ) → admits s i ≡ false)
-      → last_of (idle_of h) ≡ Some c → AreApart h → idle_of (Then h s r) ≡ front (idle_of h)
-  idle_of-found h s r t c es none e apart =
+  -- what is idle after a step that lends the one that is next
+  pub idle_of-found : (h : History T) (s : Step T) (r : SeenAnswer T) (t : ℕ) (o : LendingOrder) (c : SeenIdleConnection T) → deeds_in (moment_of h s) s r ≡ deed c.id t Taking_out ∷ [] → ((i : ℕ) → admits s i ≡ false)
+      → lent_next o (idle_of h) ≡ Some c → AreApart h → idle_of (Then h s r) ≡ still_idle o (idle_of h)
+  idle_of-found h s r t o c es none e apart =
       let d : Deed T = deed c.id t Taking_out in
       idle_of-then h s r (d ∷ []) es (λ i other. none i)
       ∙ (append-nil _
       ∙ (one_other id_of_deed d id_of_idle (idle_of h)
-      ∙ (ap (filter (λ y. not (c.id == y.id))) (last_is (idle_of h) c e)
-      ∙ filter-last id_of_idle (front (idle_of h)) c (once_in_front h c e apart))))
+      ∙ filter-next id_of_idle o (idle_of h) c e (next_once h o c e apart)))
 
   -- and what is lent
-  pub lent_of-found : (h : History T) (s : Step T) (r : SeenAnswer T) (t : ℕ) (c : SeenIdleConnection T) → deeds_in (moment_of h s) s r ≡ deed c.id t Taking_out ∷ [] → ((i : ℕ) → admits s i ≡ false)
-      → last_of (idle_of h) ≡ Some c → AreApart h → lent_of (Then h s r) ≡ lent_of h ++ lent_connection c.id c.birth ∷ []
-  lent_of-found h s r t c es none e apart =
+  pub lent_of-found : (h : History T) (s : Step T) (r : SeenAnswer T) (t : ℕ) (o : LendingOrder) (c : SeenIdleConnection T) → deeds_in (moment_of h s) s r ≡ deed c.id t Taking_out ∷ [] → ((i : ℕ) → admits s i ≡ false)
+      → lent_next o (idle_of h) ≡ Some c → AreApart h → lent_of (Then h s r) ≡ lent_of h ++ lent_connection c.id c.birth ∷ []
+  lent_of-found h s r t o c es none e apart =
       let d : Deed T = deed c.id t Taking_out in
       lent_of-then h s r (d ∷ []) es (λ i other. none i)
-      ∙ (ap (λ l. l ++ lent_connection c.id (birth_of (Then h s r) c.id) ∷ []) (one_other id_of_deed d id_of_lent (lent_of h) ∙ filter-absent id_of_lent c.id (lent_of h) (idle_not_lent h c e apart))
+      ∙ (ap (λ l. l ++ lent_connection c.id (birth_of (Then h s r) c.id) ∷ []) (one_other id_of_deed d id_of_lent (lent_of h) ∙ filter-absent id_of_lent c.id (lent_of h) (idle_not_lent h o c e apart))
       ∙ (ap (λ b. lent_of h ++ lent_connection c.id (cond b (moment_of h s) (birth_of h c.id)) ∷ []) (none c.id)
-      ∙ ap (λ b. lent_of h ++ lent_connection c.id b ∷ []) (sym (birth_of-last h c e))))
+      ∙ ap (λ b. lent_of h ++ lent_connection c.id b ∷ []) (sym (birth_of-next h o c e))))
 
   -- what is idle after an admission of an id that is not idle
   pub idle_of-admitted : (h : History T) (now : Duration) (id : ℕ) (value : T) (r : SeenAnswer T) → copies_of id (map id_of_idle (idle_of h)) ≡ 0

@@ -15,13 +15,11 @@ use Rattle.r2d2_core.specs.Picture.{IsSound}
 use Rattle.r2d2_core.specs.Table.{lent_refusal, lent_birth}
 use Rattle.r2d2_core.specs.History.{History, Then, moment_of}
 use Rattle.r2d2_core.specs.Deeds.{Deed, What, Admission, Taking_out, Keeping, Going, deed, deeds_of, deeds_in, id_of_deed, birth_of, admits, as_lent, idle_of, lent_of, connections_of, admitted_count, gone_count}
-use Rattle.r2d2_core.specs.Pending.{numbered_of, on_order_of}
 use Rattle.r2d2_core.specs.Answers.{is_lent, picture_of}
 use Rattle.r2d2_core.proofs.Histories.Births.{shown_all}
 use Rattle.r2d2_core.proofs.Histories.Deeds.{AreApart, idle_of-then, lent_of-then}
 use Rattle.r2d2_core.proofs.Facts.Latest.{is_other, one_other}
 use Rattle.r2d2_core.proofs.Lists.Filters.{filter-absent, filter-once}
-use Rattle.r2d2_core.proofs.Lists.Ids.{copies_of-append3}
 
 -- AMONG LENT ONES
 

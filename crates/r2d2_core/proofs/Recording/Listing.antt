@@ -1,25 +1,38 @@
--- How ids are listed, place by place.
-use Rattle.std.proofs.Common.{◌≡◌, ℕ, zero, suc, ◌+◌, ◌<◌, List, [], ◌∷◌, ◌++◌, map, length, take, Some, None, sym, ◌∙◌, ap, arith, add-one}
+-- How a list is copied, place by place.
+use Rattle.std.proofs.Common.{◌≡◌, ℕ, zero, suc, ◌+◌, ◌<◌, List, [], ◌∷◌, ◌++◌, map, length, take, Some, None, sym, ◌∙◌, ap, subst, arith, add-one}
 use Rattle.std.specs.Prelude.{option_map, slice_get}
-use Rattle.std.proofs.lemmas.List.{take_all}
+use Rattle.std.proofs.lemmas.List.{take_all, map-append}
 
-module _ {X : Type 0} where
+module _ {X Y : Type 0} where
   -- after so many places
-  pub record IsListed (f : X → ℕ) (xs : List X) (places : ℕ) (ids : List ℕ) : Type 0 where
+  pub record IsListed (f : X → Y) (xs : List X) (places : ℕ) (ids : List Y) : Type 0 where
     pub is : ids ≡ map f (take places xs)
 
-  next : (f : X → ℕ) (xs : List X) (place id : ℕ) → option_map f (slice_get xs place) ≡ Some id → map f (take place xs) ++ id ∷ [] ≡ map f (take (suc place) xs)
+  next : (f : X → Y) (xs : List X) (place : ℕ) (id : Y) → option_map f (slice_get xs place) ≡ Some id → map f (take place xs) ++ id ∷ [] ≡ map f (take (suc place) xs)
   next f [] place id e = absurd cc
   next f (x ∷ xs) zero id e = cc
   next f (x ∷ xs) (suc place) id e = ap (λ l. f x ∷ l) (next f xs place id e)
 
-  pub listed_more : (f : X → ℕ) (xs : List X) (place id : ℕ) (ids : List ℕ) → option_map f (slice_get xs place) ≡ Some id → IsListed f xs place ids → IsListed f xs (place + 1) (ids ++ id ∷ [])
+  pub listed_more : (f : X → Y) (xs : List X) (place : ℕ) (id : Y) (ids : List Y) → option_map f (slice_get xs place) ≡ Some id → IsListed f xs place ids → IsListed f xs (place + 1) (ids ++ id ∷ [])
   listed_more f xs place id ids e h = record { is = ap (λ l. l ++ id ∷ []) h.is ∙ next f xs place id e ∙ ap (λ n. map f (take n xs)) (sym (add-one place)) }
 
-  pub there_is_one : (f : X → ℕ) (xs : List X) (place : ℕ) → place < length xs → option_map f (slice_get xs place) ≡ None → ⊥
+  pub there_is_one : (f : X → Y) (xs : List X) (place : ℕ) → place < length xs → option_map f (slice_get xs place) ≡ None → ⊥
   there_is_one f [] place lt e = omega arith
   there_is_one f (x ∷ xs) zero lt e = cc
   there_is_one f (x ∷ xs) (suc place) lt e = there_is_one f xs place (omega arith) e
 
-  pub listed_all : (f : X → ℕ) (xs : List X) (places : ℕ) (ids : List ℕ) → places ≡ length xs → IsListed f xs places ids → ids ≡ map f xs
+  pub listed_all : (f : X → Y) (xs : List X) (places : ℕ) (ids : List Y) → places ≡ length xs → IsListed f xs places ids → ids ≡ map f xs
   listed_all f xs places ids e h = h.is ∙ ap (map f) (take_all places xs (omega arith))
+
+-- a copy as it is
+pub same_at : {X : Type 0} (xs ys : List X) (place : ℕ) (x : X) → xs ≡ ys → slice_get xs place ≡ Some x → option_map (λ (y : X). y) (slice_get ys place) ≡ Some x
+same_at xs ys place x same e = ap (option_map (λ y. y)) (ap (λ l. slice_get l place) (sym same) ∙ e)
+
+pub none_at : {X : Type 0} (xs ys : List X) (place : ℕ) → xs ≡ ys → slice_get xs place ≡ None → option_map (λ (y : X). y) (slice_get ys place) ≡ None
+none_at xs ys place same e = ap (option_map (λ y. y)) (ap (λ l. slice_get l place) (sym same) ∙ e)
+
+-- one more is copied
+pub copied_more : {P X : Type 0} (seen : P → X) (xs : List X) (place : ℕ) (items : List P) (p : P) → option_map (λ (y : X). y) (slice_get xs place) ≡ Some (seen p) → IsListed (λ (y : X). y) xs place (map seen items)
+    → IsListed (λ (y : X). y) xs (place + 1) (map seen (items ++ p ∷ []))
+copied_more {P} {X} seen xs place items p e h =
+    subst (IsListed (λ (y : X). y) xs (place + 1)) (sym (map-append seen items (p ∷ []))) (listed_more (λ (y : X). y) xs place (seen p) (map seen items) e h)

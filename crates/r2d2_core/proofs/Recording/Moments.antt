@@ -1,12 +1,11 @@
 -- A book notes a step's raised moment: where a step is accepted it is the latest moment after it.
 use Rattle.std.proofs.Common.{◌≡◌, ℕ, max, Bool, true, false, Option, Some, None, String, refl, ap}
 use Rattle.r2d2_core.specs.declared.machine.answers.Refusal.{Refusal}
-use Rattle.r2d2_core.specs.Ids.{last_of}
 use Rattle.r2d2_core.specs.Connections.{SeenIdleConnection}
 use Rattle.r2d2_core.specs.Refusals.{ok_unless, ok_or_back, unless_refused}
 use Rattle.r2d2_core.specs.OnOrder.{admit_refusal}
 use Rattle.r2d2_core.specs.Picture.{Picture}
-use Rattle.r2d2_core.specs.Table.{raised_to, taken, after_take, admitted_at, admit_answer, after_admit, with_text, gone_one, topped_up, lent_refusal, lent_birth, is_closing, returned_by, returned, return_of, return_answer, after_return, gone_with, check_answer, after_check}
+use Rattle.r2d2_core.specs.Table.{raised_to, next_of, taken, after_take, admitted_at, admit_answer, after_admit, with_text, gone_one, topped_up, lent_refusal, lent_birth, is_closing, returned_by, returned, return_of, return_answer, after_return, gone_with, check_answer, after_check}
 use Rattle.r2d2_core.specs.Recorded.{record_of_admission, record_of_return, record_of_check}
 
 module _ {T : Type 0} where
@@ -18,7 +17,7 @@ module _ {T : Type 0} where
   latest-taken (Some c) o p = refl
 
   pub latest-take : (t : ℕ) (o : Bool) (p : Picture T) → latest_in (after_take t o p) ≡ max p.latest t
-  latest-take t o p = latest-taken (last_of p.idle) o (raised_to t p)
+  latest-take t o p = latest-taken (next_of p) o (raised_to t p)
 
   admission_by : (why : Option Refusal) (t id : ℕ) (value : T) (p : Picture T)
       → record_of_admission (latest_in (unless_refused why (admitted_at (max p.latest t) id value p) p)) id (ok_or_back why value tt) ≡ record_of_admission (max p.latest t) id (ok_or_back why value tt)

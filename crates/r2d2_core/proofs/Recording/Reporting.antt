@@ -1,33 +1,37 @@
 -- What a report of a book tells.
-use Rattle.std.proofs.Common.{◌≡◌, length, map, reverse, sym, ◌∙◌, ap, arith, inl, inr}
+use Rattle.std.proofs.Common.{◌≡◌, List, length, map, sym, ◌∙◌, ap, subst, arith, inl, inr}
 use Rattle.std.proofs.lemmas.List.{length-map}
-use Rattle.r2d2_core.specs.Limits.{wanted_of, seen_limits}
+use Rattle.r2d2_core.specs.Limits.{SeenLimits, wanted_of, seen_limits}
 use Rattle.r2d2_core.specs.Picture.{IsSound}
 use Rattle.r2d2_core.specs.declared.journal.report.Report.{Report}
-use Rattle.r2d2_core.specs.Limits.{SeenLimits}
 use Rattle.r2d2_core.specs.Connections.{id_of_idle, id_of_lent}
-use Rattle.r2d2_core.specs.History.{Made, is_closed}
-use Rattle.r2d2_core.specs.Deeds.{idle_of, lent_of, connections_of}
-use Rattle.r2d2_core.specs.Pending.{pending_of}
-use Rattle.r2d2_core.specs.Replay.{Retelling, told_all, is_legal}
-use Rattle.r2d2_core.specs.Book.{SeenBook, making_of, IsReplayed}
-use Rattle.r2d2_core.specs.Reports.{told_in, DoesReplay, IsReportOf, HasSoundCounts}
+use Rattle.r2d2_core.specs.Records.{SeenRecord, takes_in}
+use Rattle.r2d2_core.specs.Bases.{SeenBase}
+use Rattle.r2d2_core.specs.Book.{SeenBook, ReplayTo, IsReplayed}
+use Rattle.r2d2_core.specs.BookParts.{IsRecorded}
+use Rattle.r2d2_core.specs.Journal.{CountsTakes}
+use Rattle.r2d2_core.specs.Reports.{seen_base, DoesReplay, IsReportOf, HasSoundCounts, CountsItsTakes}
 use Rattle.r2d2_core.proofs.Recording.Replaying.{ids_bare}
 
--- where the records of a book replay, those of its report do
-pub report_replays : {T B : Type 0} (a : SeenBook T) (r : Report B) → IsReportOf a r → IsReplayed a → r.lost ≡ 0 → DoesReplay r
-report_replays a r is replayed lost =
-    let told = replayed (sym is.lost ∙ lost) in
-    let shows = told.shows in
-    let whole : told_in r ≡ told_all (making_of a) (reverse a.journal.records) =
-    ap (λ (ls : SeenLimits). told_all (Made ls 0 0) (reverse r.records)) is.limits ∙ ap (λ rs. told_all (making_of a) (reverse rs)) is.records in
+-- what the type of a book keeps is what its callers see
+pub is_replayed : {T : Type 0} (a : SeenBook T) → IsRecorded a → IsReplayed a
+is_replayed a k = subst (λ (l : SeenLimits). ReplayTo l a.journal.base a.journal.records a.picture) k.same k.replays
+
+-- the records of a book replay, so those of its report do
+pub report_replays : {T B : Type 0} (a : SeenBook T) (r : Report B) → IsReportOf a r → IsReplayed a → DoesReplay r
+report_replays a r is replayed =
+    let k : ReplayTo (seen_limits r.limits) (seen_base r.base) r.records a.picture =
+    subst (λ (l : SeenLimits). ReplayTo l (seen_base r.base) r.records a.picture) (sym is.limits)
+    (subst (λ (b : SeenBase). ReplayTo a.picture.on_order.limits b r.records a.picture) (sym is.base)
+    (subst (λ (rs : List SeenRecord). ReplayTo a.picture.on_order.limits a.journal.base rs a.picture) (sym is.records) replayed)) in
     record {
-      legal = ap (λ (ls : SeenLimits). is_legal (Made ls 0 0) (reverse r.records)) is.limits ∙ ap (λ rs. is_legal (making_of a) (reverse rs)) is.records ∙ told.legal;
-      idle = ap (λ (h : Retelling). map id_of_idle (idle_of h)) whole ∙ ap (map id_of_idle) shows.idle ∙ ids_bare a.picture.idle ∙ sym is.idle;
-      lent = ap (λ (h : Retelling). map id_of_lent (lent_of h)) whole ∙ ap (map id_of_lent) shows.lent ∙ sym is.lent;
-      connections = ap connections_of whole ∙ shows.connections ∙ sym is.connections;
-      pending = ap pending_of whole ∙ shows.pending ∙ sym is.pending;
-      closed = ap is_closed whole ∙ shows.closed ∙ sym is.closed;
+      base = k.base;
+      legal = k.legal;
+      idle = ap (map id_of_idle) k.shows.idle ∙ ids_bare a.picture.idle ∙ sym is.idle;
+      lent = ap (map id_of_lent) k.shows.lent ∙ sym is.lent;
+      connections = k.shows.connections ∙ sym is.connections;
+      pending = k.shows.pending ∙ sym is.pending;
+      closed = k.shows.closed ∙ sym is.closed;
     }
 
 -- the counts of a report of a sound book are sound
@@ -45,3 +49,7 @@ report_sound a r is s =
         | inr h ↦ inr (omega (arith, h, is.connections, is.pending, size))
       ];
     }
+
+-- where a book counts its takes, its report does
+pub report_counts : {T B : Type 0} (a : SeenBook T) (r : Report B) → IsReportOf a r → CountsTakes a.journal → CountsItsTakes r
+report_counts a r is counted none = is.takes ∙ counted (sym is.lost ∙ none) ∙ ap takes_in (sym is.records)

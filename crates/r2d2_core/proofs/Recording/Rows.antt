@@ -1,14 +1,14 @@
--- Worked rows of records, computed from the definitions alone: what they come to, and which are legal. The newest stands first.
+-- Worked rows of records, computed from the definitions alone: what they come to, and which are legal. The oldest stands first.
 use Rattle.std.proofs.Common.{◌≡◌, ℕ, ◌*◌, Bool, true, false, List, [], ◌∷◌, Option, Some, None, refl}
 use Rattle.std.specs.declared.time.Duration.{Duration}
-use Rattle.r2d2_core.specs.Limits.{SeenLimits, settings}
-use Rattle.r2d2_core.specs.Connections.{SeenIdleConnection, SeenLentConnection, idle_connection, lent_connection, is_expired, released_at}
+use Rattle.r2d2_core.specs.declared.schedule.limits.LendingOrder.TheVariants as lending
+use Rattle.r2d2_core.specs.Limits.{SeenLimits, settings, with_order}
+use Rattle.r2d2_core.specs.Ids.{copies_of}
+use Rattle.r2d2_core.specs.Connections.{lent_connection, is_expired, is_kept}
 use Rattle.r2d2_core.specs.Records.{SeenRecord, Taken, Ordered, Admitted, Kept, Closed, Reaped, ClosedAll}
-use Rattle.r2d2_core.specs.History.{Made, is_closed}
-use Rattle.r2d2_core.specs.Deeds.{idle_of, lent_of, connections_of}
-use Rattle.r2d2_core.specs.Pending.{pending_of}
-use Rattle.r2d2_core.specs.Answers.{orders_of}
-use Rattle.r2d2_core.specs.Replay.{Retelling, told_all, is_legal}
+use Rattle.r2d2_core.specs.Bases.{SeenBase, resting, first_base}
+use Rattle.r2d2_core.specs.Folding.{folded, all_follow, known_in}
+use Rattle.r2d2_core.specs.Folding.{replay as replay_from}
 
 abbrev seconds : ℕ → Duration
 seconds n = record { secs = n; nanos = 0 }
@@ -26,43 +26,32 @@ small = limited 1 None None None
 abbrev pair : SeenLimits
 pair = limited 2 None None None
 
--- whether records are legal from the making on
+-- whether records are legal from the making on, but for their ids
 abbrev legal : SeenLimits → List SeenRecord → Bool
-legal limits rs = is_legal (Made limits 0 0) rs
-
--- what is read off a history: idle, lent, connections, pending, closed
-pub record Standing : Type 0 where
-  pub idle : List (SeenIdleConnection (Unit {0}))
-  pub lent : List SeenLentConnection
-  pub connections : ℕ
-  pub pending : ℕ
-  pub closed : Bool
-
-abbrev standing_of : Retelling → Standing
-standing_of h = record { idle = idle_of h; lent = lent_of h; connections = connections_of h; pending = pending_of h; closed = is_closed h }
+legal limits rs = all_follow limits rs (first_base limits 0)
 
 -- what records come to from the making on
-abbrev replay : SeenLimits → List SeenRecord → Standing
-replay limits rs = standing_of (told_all (Made limits 0 0) rs)
+abbrev replay : SeenLimits → List SeenRecord → SeenBase
+replay limits rs = replay_from limits rs (first_base limits 0)
 
-abbrev standing : ℕ → ℕ → Bool → Standing
-standing connections pending closed = record { idle = []; lent = []; connections = connections; pending = pending; closed = closed }
+abbrev standing : ℕ → ℕ → ℕ → Bool → SeenBase
+standing at connections pending closed = record { at = at; idle = []; lent = []; connections = connections; pending = pending; closed = closed }
 
 -- ONE CONNECTION, taken and kept
 
 abbrev one_kept : List SeenRecord
-one_kept = Kept (ms 3) 0 ∷ Taken (ms 2) 0 0 ∷ Admitted (ms 1) 0 ∷ []
+one_kept = Admitted (ms 1) 0 ∷ Taken (ms 2) 0 0 ∷ Kept (ms 3) 0 ∷ []
 
-one_kept-replays : replay small one_kept ≡ record (standing 1 0 false) { idle = idle_connection 0 (ms 1) (ms 3) tt ∷ [] }
-unfolding idle_of lent_of connections_of pending_of orders_of
+one_kept-replays : replay small one_kept ≡ record (standing (ms 3) 1 0 false) { idle = resting 0 (ms 1) (ms 3) ∷ [] }
+unfolding is_expired is_kept
 one_kept-replays = refl
 
 one_kept-legal : legal small one_kept ≡ true
-unfolding idle_of lent_of connections_of pending_of orders_of
+unfolding is_expired is_kept
 one_kept-legal = refl
 
-one_lent-replays : replay small (Taken (ms 2) 0 0 ∷ Admitted (ms 1) 0 ∷ []) ≡ record (standing 1 0 false) { lent = lent_connection 0 (ms 1) ∷ [] }
-unfolding idle_of lent_of connections_of pending_of orders_of
+one_lent-replays : replay small (Admitted (ms 1) 0 ∷ Taken (ms 2) 0 0 ∷ []) ≡ record (standing (ms 2) 1 0 false) { lent = lent_connection 0 (ms 1) ∷ [] }
+unfolding is_expired is_kept
 one_lent-replays = refl
 
 -- TWO CONNECTIONS, reaped when they were idle for a second, and closed
@@ -71,131 +60,147 @@ abbrev idling : SeenLimits
 idling = limited 2 None None (Some (seconds 1))
 
 abbrev two_reaped : List SeenRecord
-two_reaped = Reaped (ms 1000) 2 ∷ Admitted 0 1 ∷ Admitted 0 0 ∷ []
+two_reaped = Admitted 0 0 ∷ Admitted 0 1 ∷ Reaped (ms 1000) 2 ∷ []
 
-two_reaped-replays : replay idling two_reaped ≡ standing 0 2 false
-unfolding idle_of lent_of connections_of pending_of orders_of is_expired released_at
+two_reaped-replays : replay idling two_reaped ≡ standing (ms 1000) 0 2 false
+unfolding is_expired is_kept
 two_reaped-replays = refl
 
-two_closed-replays : replay idling (ClosedAll (ms 1001) ∷ two_reaped) ≡ standing 0 0 true
-unfolding idle_of lent_of connections_of pending_of orders_of is_expired released_at
+two_closed-replays : folded idling (ClosedAll (ms 1001)) (replay idling two_reaped) ≡ standing (ms 1001) 0 0 true
+unfolding is_expired is_kept
 two_closed-replays = refl
 
-two_closed-legal : legal idling (ClosedAll (ms 1001) ∷ two_reaped) ≡ true
-unfolding idle_of lent_of connections_of pending_of orders_of is_expired released_at
+two_closed-legal : legal idling (Admitted 0 0 ∷ Admitted 0 1 ∷ Reaped (ms 1000) 2 ∷ ClosedAll (ms 1001) ∷ []) ≡ true
+unfolding is_expired is_kept
 two_closed-legal = refl
 
 -- a reap closes those that came first and leaves the others; here it finds one of two
-one_reaped-replays : replay idling (Reaped (ms 1000) 1 ∷ Kept (ms 500) 1 ∷ Taken (ms 400) 1 0 ∷ Admitted 0 1 ∷ Admitted 0 0 ∷ [])
-    ≡ record (standing 1 1 false) { idle = idle_connection 1 0 (ms 500) tt ∷ [] }
-unfolding idle_of lent_of connections_of pending_of orders_of is_expired released_at
+one_reaped-replays : replay idling (Admitted 0 0 ∷ Admitted 0 1 ∷ Taken (ms 400) 1 0 ∷ Kept (ms 500) 1 ∷ Reaped (ms 1000) 1 ∷ [])
+    ≡ record (standing (ms 1000) 1 1 false) { idle = resting 1 0 (ms 500) ∷ [] }
+unfolding is_expired is_kept
 one_reaped-replays = refl
 
--- after a history: one is lent from before, and comes back
-after_history-replays : standing_of (told_all (told_all (Made pair 0 0) (Taken (ms 5) 4 0 ∷ Admitted (ms 2) 4 ∷ [])) (Kept (ms 7) 4 ∷ [])) ≡ record (standing 1 1 false) { idle = idle_connection 4 (ms 2) (ms 7) tt ∷ [] }
-unfolding idle_of lent_of connections_of pending_of orders_of
-after_history-replays = refl
+-- after a base: one is lent from before, and comes back
+after_base-replays : replay_from pair (Kept (ms 7) 4 ∷ []) (record (standing (ms 5) 1 1 false) { lent = lent_connection 4 (ms 2) ∷ [] }) ≡ record (standing (ms 7) 1 1 false) { idle = resting 4 (ms 2) (ms 7) ∷ [] }
+unfolding is_expired is_kept
+after_base-replays = refl
+
+-- the oldest record of three is folded in, and the other two go on from there
+one_folded : folded small (Admitted (ms 1) 0) (first_base small 0) ≡ record (standing (ms 1) 1 0 false) { idle = resting 0 (ms 1) (ms 1) ∷ [] }
+unfolding is_expired is_kept
+one_folded = refl
+
+one_folded-replays : replay_from small (Taken (ms 2) 0 0 ∷ Kept (ms 3) 0 ∷ []) (folded small (Admitted (ms 1) 0) (first_base small 0)) ≡ replay small one_kept
+unfolding is_expired is_kept
+one_folded-replays = refl
+
+-- where the oldest is lent first, the older of two is next
+takes_the_oldest : legal (with_order lending.OldestFirst pair) (Admitted 0 0 ∷ Admitted 0 1 ∷ Taken 5 0 0 ∷ []) ≡ true
+unfolding is_expired is_kept
+takes_the_oldest = refl
 
 -- the moment of a close counts too
-falls_after_a_close : legal pair (Closed (ms 4) 0 0 ∷ ClosedAll (ms 5) ∷ Taken (ms 3) 0 0 ∷ Admitted (ms 2) 0 ∷ []) ≡ false
-unfolding idle_of lent_of connections_of pending_of orders_of
+falls_after_a_close : legal pair (Admitted (ms 2) 0 ∷ Taken (ms 3) 0 0 ∷ ClosedAll (ms 5) ∷ Closed (ms 4) 0 0 ∷ []) ≡ false
+unfolding is_expired is_kept
 falls_after_a_close = refl
 
 -- NOT LEGAL
 
 -- a moment that falls
-falls : legal small (Taken (ms 1) 0 0 ∷ Admitted (ms 2) 0 ∷ []) ≡ false
-unfolding idle_of lent_of connections_of pending_of orders_of
+falls : legal small (Admitted (ms 2) 0 ∷ Taken (ms 1) 0 0 ∷ []) ≡ false
+unfolding is_expired is_kept
 falls = refl
 
 -- the older of two idle ones is taken
-takes_the_older : legal pair (Taken 5 0 0 ∷ Admitted 0 1 ∷ Admitted 0 0 ∷ []) ≡ false
-unfolding idle_of lent_of connections_of pending_of orders_of
+takes_the_older : legal pair (Admitted 0 0 ∷ Admitted 0 1 ∷ Taken 5 0 0 ∷ []) ≡ false
+unfolding is_expired is_kept
 takes_the_older = refl
 
 -- a take orders more than there is room for, and less than is wanted
-takes_and_orders : legal small (Taken 5 0 1 ∷ Admitted 0 0 ∷ []) ≡ false
-unfolding idle_of lent_of connections_of pending_of orders_of
+takes_and_orders : legal small (Admitted 0 0 ∷ Taken 5 0 1 ∷ []) ≡ false
+unfolding is_expired is_kept
 takes_and_orders = refl
 
-takes_and_orders_too_few : legal (limited 2 (Some 1) None None) (Taken 5 0 0 ∷ Admitted 0 0 ∷ []) ≡ false
-unfolding idle_of lent_of connections_of pending_of orders_of
+takes_and_orders_too_few : legal (limited 2 (Some 1) None None) (Admitted 0 0 ∷ Taken 5 0 0 ∷ []) ≡ false
+unfolding is_expired is_kept
 takes_and_orders_too_few = refl
 
-takes_and_orders_one : legal (limited 2 (Some 1) None None) (Taken 5 0 1 ∷ Admitted 0 0 ∷ []) ≡ true
-unfolding idle_of lent_of connections_of pending_of orders_of
+takes_and_orders_one : legal (limited 2 (Some 1) None None) (Admitted 0 0 ∷ Taken 5 0 1 ∷ []) ≡ true
+unfolding is_expired is_kept
 takes_and_orders_one = refl
 
 -- one is ordered where one is idle, where there is no room, and two at once
-orders_beside_idle : legal (limited 3 (Some 1) None None) (Ordered 5 1 ∷ Admitted 0 0 ∷ []) ≡ false
-unfolding idle_of lent_of connections_of pending_of orders_of
+orders_beside_idle : legal (limited 3 (Some 1) None None) (Admitted 0 0 ∷ Ordered 5 1 ∷ []) ≡ false
+unfolding is_expired is_kept
 orders_beside_idle = refl
 
 orders_without_room : legal small (Ordered 5 1 ∷ []) ≡ false
-unfolding idle_of lent_of connections_of pending_of orders_of
+unfolding is_expired is_kept
 orders_without_room = refl
 
 orders_two : legal (limited 3 (Some 0) None None) (Ordered 5 2 ∷ []) ≡ false
-unfolding idle_of lent_of connections_of pending_of orders_of
+unfolding is_expired is_kept
 orders_two = refl
 
 orders_one : legal (limited 3 (Some 0) None None) (Ordered 5 1 ∷ []) ≡ true
-unfolding idle_of lent_of connections_of pending_of orders_of
+unfolding is_expired is_kept
 orders_one = refl
 
 -- an id is admitted twice, or with no opening pending
-admits_twice : legal pair (Admitted 5 0 ∷ Admitted 0 0 ∷ []) ≡ false
-unfolding idle_of lent_of connections_of pending_of orders_of
+admits_twice : copies_of 0 (known_in (first_base pair 0) (Admitted 0 0 ∷ Admitted 5 0 ∷ [])) ≡ 2
 admits_twice = refl
 
-admits_unordered : legal small (Admitted 5 1 ∷ Admitted 0 0 ∷ []) ≡ false
-unfolding idle_of lent_of connections_of pending_of orders_of
+admits_one_of_the_base : copies_of 4 (known_in (record (standing 0 1 1 false) { lent = lent_connection 4 0 ∷ [] }) (Admitted 5 4 ∷ [])) ≡ 2
+admits_one_of_the_base = refl
+
+admits_unordered : legal small (Admitted 0 0 ∷ Admitted 5 1 ∷ []) ≡ false
+unfolding is_expired is_kept
 admits_unordered = refl
 
 -- one is kept that is not lent, or is too old
-keeps_an_idle_one : legal small (Kept 5 0 ∷ Admitted 0 0 ∷ []) ≡ false
-unfolding idle_of lent_of connections_of pending_of orders_of
+keeps_an_idle_one : legal small (Admitted 0 0 ∷ Kept 5 0 ∷ []) ≡ false
+unfolding is_expired is_kept
 keeps_an_idle_one = refl
 
-keeps_an_old_one : legal (limited 1 None (Some (seconds 1)) None) (Kept (ms 1000) 0 ∷ Taken 5 0 0 ∷ Admitted 0 0 ∷ []) ≡ false
-unfolding idle_of lent_of connections_of pending_of orders_of
+keeps_an_old_one : legal (limited 1 None (Some (seconds 1)) None) (Admitted 0 0 ∷ Taken 5 0 0 ∷ Kept (ms 1000) 0 ∷ []) ≡ false
+unfolding is_expired is_kept
 keeps_an_old_one = refl
 
-keeps_a_younger_one : legal (limited 1 None (Some (seconds 1)) None) (Kept (ms 999) 0 ∷ Taken 5 0 0 ∷ Admitted 0 0 ∷ []) ≡ true
-unfolding idle_of lent_of connections_of pending_of orders_of
+keeps_a_younger_one : legal (limited 1 None (Some (seconds 1)) None) (Admitted 0 0 ∷ Taken 5 0 0 ∷ Kept (ms 999) 0 ∷ []) ≡ true
+unfolding is_expired is_kept
 keeps_a_younger_one = refl
 
 -- one is closed that is idle, or with the wrong order
-closes_an_idle_one : legal small (Closed 5 0 1 ∷ Admitted 0 0 ∷ []) ≡ false
-unfolding idle_of lent_of connections_of pending_of orders_of
+closes_an_idle_one : legal small (Admitted 0 0 ∷ Closed 5 0 1 ∷ []) ≡ false
+unfolding is_expired is_kept
 closes_an_idle_one = refl
 
-closes_without_order : legal small (Closed 6 0 0 ∷ Taken 5 0 0 ∷ Admitted 0 0 ∷ []) ≡ false
-unfolding idle_of lent_of connections_of pending_of orders_of
+closes_without_order : legal small (Admitted 0 0 ∷ Taken 5 0 0 ∷ Closed 6 0 0 ∷ []) ≡ false
+unfolding is_expired is_kept
 closes_without_order = refl
 
 -- a reap that closes and orders nothing, or orders too few
-reaps_nothing : legal idling (Reaped (ms 999) 0 ∷ Admitted 0 1 ∷ Admitted 0 0 ∷ []) ≡ false
-unfolding idle_of lent_of connections_of pending_of orders_of is_expired released_at
+reaps_nothing : legal idling (Admitted 0 0 ∷ Admitted 0 1 ∷ Reaped (ms 999) 0 ∷ []) ≡ false
+unfolding is_expired is_kept
 reaps_nothing = refl
 
-reaps_and_orders_too_few : legal idling (Reaped (ms 1000) 1 ∷ Admitted 0 1 ∷ Admitted 0 0 ∷ []) ≡ false
-unfolding idle_of lent_of connections_of pending_of orders_of is_expired released_at
+reaps_and_orders_too_few : legal idling (Admitted 0 0 ∷ Admitted 0 1 ∷ Reaped (ms 1000) 1 ∷ []) ≡ false
+unfolding is_expired is_kept
 reaps_and_orders_too_few = refl
 
 -- once closed there are closings of one alone, which order nothing
-admits_once_closed : legal pair (Admitted 7 1 ∷ ClosedAll 6 ∷ Admitted 0 0 ∷ []) ≡ false
-unfolding idle_of lent_of connections_of pending_of orders_of
+admits_once_closed : legal pair (Admitted 0 0 ∷ ClosedAll 6 ∷ Admitted 7 1 ∷ []) ≡ false
+unfolding is_expired is_kept
 admits_once_closed = refl
 
-closes_twice : legal pair (ClosedAll 7 ∷ ClosedAll 6 ∷ []) ≡ false
-unfolding idle_of lent_of connections_of pending_of orders_of
+closes_twice : legal pair (ClosedAll 6 ∷ ClosedAll 7 ∷ []) ≡ false
+unfolding is_expired is_kept
 closes_twice = refl
 
-closes_one_once_closed : legal pair (Closed 7 0 0 ∷ ClosedAll 6 ∷ Taken 5 0 0 ∷ Admitted 0 0 ∷ []) ≡ true
-unfolding idle_of lent_of connections_of pending_of orders_of
+closes_one_once_closed : legal pair (Admitted 0 0 ∷ Taken 5 0 0 ∷ ClosedAll 6 ∷ Closed 7 0 0 ∷ []) ≡ true
+unfolding is_expired is_kept
 closes_one_once_closed = refl
 
-orders_once_closed : legal pair (Closed 7 0 1 ∷ ClosedAll 6 ∷ Taken 5 0 0 ∷ Admitted 0 0 ∷ []) ≡ false
-unfolding idle_of lent_of connections_of pending_of orders_of
+orders_once_closed : legal pair (Admitted 0 0 ∷ Taken 5 0 0 ∷ ClosedAll 6 ∷ Closed 7 0 1 ∷ []) ≡ false
+unfolding is_expired is_kept
 orders_once_closed = refl

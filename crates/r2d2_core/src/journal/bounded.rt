@@ -1,53 +1,93 @@
-// The newest records.
-ghost use Rattle.std.specs.Prelude.{◌≡◌, [], map, option_map, IfOk};
+// The newest records, and what stood before them.
+ghost use Rattle.std.specs.Prelude.{◌≡◌, map, option_map, IfOk};
+ghost use Rattle.std.specs.Duration.{as_nanos};
+ghost use Rattle.r2d2_core.specs.Limits.{seen_limits};
 ghost use Rattle.r2d2_core.specs.Records.{seen_record};
-ghost use Rattle.r2d2_core.specs.Journal.{seen_journal, with_noted};
+ghost use Rattle.r2d2_core.specs.Bases.{IsLegalBase};
+ghost use Rattle.r2d2_core.specs.Folding.{AreLegalFrom};
+ghost use Rattle.r2d2_core.specs.Journal.{first_journal, added, with_noted, takes_with, CountsTakes};
+ghost use Rattle.r2d2_core.specs.Reports.{seen_base};
 
+use super::base::Base;
 use super::record::Record;
+use super::standing::Standing;
+use crate::schedule::Limits;
 use circular_buffer::HeapCircularBuffer;
 use std::alloc::{AllocError, Allocator, Global};
 use std::marker::Model;
+use std::time::Duration;
 
-/// As many records as it has room for, and how many were dropped.
+/// As many records as it has room for, what stood before the oldest of them, how many were folded into that, and how many takes
+/// were noted.
 #[derive(Drop)]
 pub(crate) struct Journal<A: Allocator = Global> {
+    limits: Limits,
+    standing: Standing<A>,
     records: HeapCircularBuffer<Record, A>,
     lost: u64,
+    takes: u64,
 }
 
 impl<A: Allocator> Model for Journal<A> {
-    ghost use Rattle.std.specs.Prelude.{◌≤◌, length, map};
-    ghost use Rattle.r2d2_core.specs.Records.{SeenRecord, seen_record};
-    ghost use Rattle.r2d2_core.specs.Journal.{SeenJournal, seen_journal};
+    ghost use Rattle.r2d2_core.specs.Journal.{SeenJournal};
+    ghost use Rattle.r2d2_core.specs.JournalParts.{journal_in, IsKeptUp};
 
-    ghost Value = { SeenJournal SeenRecord };
+    ghost Value = { SeenJournal };
 
-    ghost view = { λ a. seen_journal (map seen_record a.records.items) a.records.capacity a.lost };
+    ghost view = { journal_in };
 
-    ghost invariant = { λ a. length a.records.items ≤ a.records.capacity };
+    ghost invariant = { IsKeptUp };
 }
 
 impl<A: Allocator> Journal<A> {
-    pub(crate) fn new(alloc: A, room: usize) -> Result<Journal<A>, AllocError>
-        ensures { IfOk result (λ journal. journal ≡ seen_journal [] room 0) }
+    /// The journal of a pool made at the moment `now`, with room for so many records, and for a base of up to `max_size`
+    /// connections.
+    pub(crate) fn new(
+        alloc: A,
+        limits: Limits,
+        now: Duration,
+        room: usize,
+    ) -> Result<Journal<A>, AllocError>
+    where
+        A: Copy,
+        ensures { IfOk result (λ journal. journal ≡ first_journal (seen_limits limits) (as_nanos now) room) }
     {
+        let standing = Standing::new(alloc, now, limits.wanted(), limits.max_size() as usize)?;
         let records = HeapCircularBuffer::with_capacity(alloc, room)?;
-        Ok(Journal { records, lost: 0 })
+        Ok(Journal {
+            limits,
+            standing,
+            records,
+            lost: 0,
+            takes: 0,
+        })
     }
 
-    /// How many records were dropped.
+    /// How many records were folded into the base.
     pub(crate) fn lost(&self) -> u64
         ensures { result ≡ self.now.lost }
     {
         self.lost
     }
 
-    /// Notes the record that a step made, if it made one. Where there is no room the oldest is dropped.
+    /// How many takes that found were noted, whatever was folded in.
+    pub(crate) fn takes(&self) -> u64
+        ensures value { result ≡ self.now.takes }
+        ensures counted { CountsTakes self.now }
+    {
+        self.takes
+    }
+
+    /// Notes the record that a step made, if it made one. Where there is no room the oldest is folded into the base.
     pub(crate) fn note(&mut self, made: Option<Record>)
+        requires legal { IsLegalBase self.old.limits self.old.base }
+        requires follow { AreLegalFrom self.old.limits self.old.base (added (option_map seen_record made) self.old.records) }
         ensures { self.new ≡ with_noted (option_map seen_record made) self.old }
     {
         if let Some(made) = made {
-            if self.records.push_back(made).is_some() {
+            self.takes = with_take(self.takes, &made);
+            if let Some(oldest) = self.records.push_back(made) {
+                self.standing.follow(&self.limits, &oldest);
                 self.lost = self.lost.saturating_add(1);
             }
         }
@@ -58,5 +98,26 @@ impl<A: Allocator> Journal<A> {
         ensures { IfOk result (λ list. map seen_record list.items ≡ self.now.records) }
     {
         self.records.to_vec(alloc)
+    }
+
+    /// A copy of the base.
+    pub(crate) fn base<B: Allocator>(&self, alloc: B) -> Result<Base<B>, AllocError>
+    where
+        B: Copy,
+        requires { IsLegalBase self.now.limits self.now.base }
+        ensures { IfOk result (λ base. seen_base base ≡ self.now.base) }
+    {
+        let _max_size = self.limits.max_size();
+        self.standing.copied(alloc)
+    }
+}
+
+// The takes that were noted, with a record more.
+fn with_take(takes: u64, made: &Record) -> u64
+    ensures { result ≡ takes_with (seen_record made.now) takes }
+{
+    match made {
+        Record::Taken { .. } => takes.saturating_add(1),
+        _ => takes,
     }
 }

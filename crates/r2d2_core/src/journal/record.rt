@@ -1,5 +1,5 @@
 // What a step did to a pool.
-ghost use Rattle.std.specs.Prelude.{◌≡◌, option_map};
+ghost use Rattle.std.specs.Prelude.{◌≡◌, ◌∷◌, [], option_map, IfSome, IfNone};
 ghost use Rattle.std.specs.Duration.{as_nanos};
 
 use crate::machine::{Gone, Refusal, Returned, Take};
@@ -29,7 +29,34 @@ pub enum Record {
 impl Record {
     ghost use Rattle.r2d2_core.specs.Seen.{seen_take, seen_returned, seen_gone, map_ok};
     ghost use Rattle.r2d2_core.specs.Records.{seen_record};
+    ghost use Rattle.r2d2_core.specs.Folding.{moment_in, admitted_by};
     ghost use Rattle.r2d2_core.specs.Recorded.{record_of_take, record_of_admission, record_of_return, record_of_check, record_of_reap, record_of_close};
+
+    /// The moment of the record.
+    pub(crate) fn at(&self) -> Duration
+        ensures { as_nanos result ≡ moment_in (seen_record self.now) }
+    {
+        match self {
+            Record::Taken { at, .. }
+            | Record::Ordered { at, .. }
+            | Record::Admitted { at, .. }
+            | Record::Kept { at, .. }
+            | Record::Closed { at, .. }
+            | Record::Reaped { at, .. }
+            | Record::ClosedAll { at } => *at,
+        }
+    }
+
+    /// The id that the record admits.
+    pub(crate) fn admitted(&self) -> Option<u64>
+        ensures some { IfSome result (λ id. admitted_by (seen_record self.now) ≡ id ∷ []) }
+        ensures none { IfNone result (admitted_by (seen_record self.now) ≡ []) }
+    {
+        match self {
+            Record::Admitted { id, .. } => Some(*id),
+            _ => None,
+        }
+    }
 
     /// The record of a take, by its answer.
     pub(crate) fn of_take<T>(at: Duration, taken: &Take<T>) -> Option<Record>

@@ -3,23 +3,29 @@ ghost use Rattle.std.specs.Prelude.{◌≡◌, map, IfOk};
 ghost use Rattle.r2d2_core.specs.Connections.{id_of_idle, id_of_lent};
 ghost use Rattle.r2d2_core.specs.Records.{seen_record};
 
+use super::base::Base;
 use super::record::Record;
 use crate::machine::Core;
 use crate::schedule::Limits;
 use std::alloc::{AllocError, Allocator, Global};
 use std::marker::Model;
 
-/// What a book shows at one moment, and the newest records of what led to it.
+/// What a book shows at one moment, the newest records of what led to it, and what stood before them.
 ///
-/// Where `lost` is 0 these are all records since the making: they replay to the ids and counts that stand beside them.
+/// From the base the records replay to the ids and counts that stand beside them, however long the book was in use.
 #[derive(Drop)]
 pub struct Report<A: Allocator = Global> {
     /// The limits that the book was made with.
     pub limits: Limits,
+    /// What stood before the oldest of the records.
+    pub base: Base<A>,
     /// The newest records, as many as there was room for, the oldest of them first.
     pub records: RecordList<A>,
-    /// How many records were dropped, since there was no room for them; it stops at `u64::MAX`.
+    /// How many records were folded into the base, since there was no room for them; it stops at `u64::MAX`.
     pub lost: u64,
+    /// How many takes found a connection since the making; it stops at `u64::MAX`. Where `lost` is 0 it is the number of
+    /// `Taken` records.
+    pub takes: u64,
     /// The ids of the idle connections, in the order in which they came to be idle.
     pub idle: IdList<A>,
     /// The ids of the lent connections, in the order of their takes.
@@ -60,6 +66,10 @@ impl<A: Allocator> RecordList<A> {
         ensures { map seen_record result.now ≡ self.now }
     {
         self.records.as_slice()
+    }
+
+    pub(crate) fn allocator(&self) -> &A {
+        self.records.allocator()
     }
 
     /// Gives the list back.

@@ -20,7 +20,7 @@ pub enum Refusal {
 /// What a take gave.
 #[derive(Drop, Debug)]
 pub enum Take<T> {
-    /// The newest idle connection.
+    /// The idle connection that was next in the lending order.
     Found {
         /// The connection's id: give it back under this one.
         id: u64,

@@ -1,20 +1,22 @@
 // The connections that are idle.
-ghost use Rattle.std.specs.Prelude.{◌≡◌, ◌+◌, ◌*◌, ◌≤◌, ◌<◌, ◌++◌, ◌∷◌, [], None, length, map, filter, IfOk, IfNone, vec_capacity, vec_len, option_map, slice_get};
+ghost use Rattle.std.specs.Prelude.{◌≡◌, ◌+◌, ◌*◌, ◌≤◌, ◌<◌, ◌++◌, ◌∷◌, [], None, length, map, filter, IfOk, IfNone, vec_capacity, vec_len, option_map, option_copied, slice_get};
 ghost use Rattle.std.specs.Duration.{as_nanos};
 ghost use Rattle.std.specs.List.Sorted.{IsNonDecreasingBy};
 ghost use Rattle.circular_buffer.specs.Buffer.{buffer};
 ghost use Rattle.r2d2_core.specs.Limits.{seen_limits, has_reached};
-ghost use Rattle.r2d2_core.specs.Ids.{last_of, front};
+ghost use Rattle.r2d2_core.specs.Lending.{lent_next, still_idle};
 ghost use Rattle.r2d2_core.specs.Connections.{id_of_idle, since_of, is_expired, is_kept, closed_of, pair_of};
 ghost use Rattle.r2d2_core.specs.Roster.{roster};
 ghost use Rattle.r2d2_core.specs.Seen.{seen_released};
 
 use super::answers::Released;
+use super::is_before;
 use super::leftover::Leftover;
-use crate::schedule::Limits;
+use crate::schedule::{LendingOrder, Limits};
 use crate::steps::Steps;
 use circular_buffer::HeapCircularBuffer;
 use reaping::{reap_each, reap_front};
+use shedding::{shed_each, shed_front};
 use std::alloc::{AllocError, Allocator, Global};
 use std::marker::Model;
 use std::sync::ledger::Ledger;
@@ -22,6 +24,7 @@ use std::time::Duration;
 
 mod counted;
 mod reaping;
+mod shedding;
 
 /// A connection that is idle.
 #[derive(Drop)]
@@ -85,14 +88,24 @@ impl<T, A: Allocator> Idle<T, A> {
         }
     }
 
-    /// The newest one, which is idle no more.
-    pub(crate) fn take(&mut self) -> Option<IdleConnection<T>>
-        ensures newest { result ≡ last_of self.old.items }
-        ensures rest { self.new ≡ roster (front self.old.items) self.old.room }
+    /// The one at a place, from the oldest.
+    pub(crate) fn get(&self, place: usize) -> Option<&IdleConnection<T>>
+        ensures { option_copied result ≡ slice_get self.now.items place }
+    {
+        match &self.ring {
+            Some(ring) => ring.get(place),
+            None => None,
+        }
+    }
+
+    /// The one that is lent next, which is idle no more.
+    pub(crate) fn take(&mut self, order: LendingOrder) -> Option<IdleConnection<T>>
+        ensures next { result ≡ lent_next order self.old.items }
+        ensures others { self.new ≡ roster (still_idle order self.old.items) self.old.room }
         ensures same { IfNone result (self.new ≡ self.old) }
     {
         match &mut self.ring {
-            Some(ring) => ring.pop_back(),
+            Some(ring) => pop_next(ring, order),
             None => None,
         }
     }
@@ -137,12 +150,56 @@ impl<T, A: Allocator> Idle<T, A> {
         }
     }
 
+    /// Lets the expired ones go. Where the idle time alone is limited, it stops at the first that is kept; where neither is, it
+    /// looks at none.
+    pub(crate) fn shed(&mut self, limits: &Limits, now: Duration)
+    where
+        T: Drop,
+        requires in_order { IsNonDecreasingBy since_of self.old.items }
+        ensures kept { self.new ≡ roster (filter (is_kept (seen_limits limits.now) (as_nanos now)) self.old.items) self.old.room }
+        ensures count { length self.new.items + length (filter (is_expired (seen_limits limits.now) (as_nanos now)) self.old.items) ≡ length self.old.items }
+    {
+        if let Some(ring) = &mut self.ring {
+            if limits.max_lifetime().is_some() {
+                shed_each(ring, limits, now);
+            } else {
+                shed_front(ring, limits, now);
+            }
+        }
+    }
+
+    /// Lets all of them go; their room stays.
+    pub(crate) fn clear(&mut self)
+    where
+        T: Drop,
+        ensures { self.new ≡ roster [] self.old.room }
+    {
+        if let Some(ring) = &mut self.ring {
+            ring.clear();
+        }
+    }
+
     /// Hands all of them out; there is no room from then on.
     pub(crate) fn close(&mut self) -> Leftover<T, A>
         ensures handed { result ≡ map pair_of self.old.items }
         ensures closed { self.new ≡ roster [] 0 }
     {
         Leftover::of(self.ring.take())
+    }
+}
+
+// Takes out the one that is lent next.
+fn pop_next<T, A: Allocator>(
+    ring: &mut HeapCircularBuffer<IdleConnection<T>, A>,
+    order: LendingOrder,
+) -> Option<IdleConnection<T>>
+    ensures next { result ≡ lent_next order ring.old.items }
+    ensures others { ring.new ≡ buffer (still_idle order ring.old.items) ring.old.capacity }
+    ensures same { IfNone result (ring.new ≡ ring.old) }
+{
+    match order {
+        LendingOrder::NewestFirst => ring.pop_back(),
+        LendingOrder::OldestFirst => ring.pop_front(),
     }
 }
 
@@ -165,7 +222,7 @@ pub(crate) fn reached(limit: Option<Duration>, length: Duration) -> bool
     ensures { result ≡ has_reached limit (as_nanos length) }
 {
     match limit {
-        Some(limit) => limit.as_nanos() <= length.as_nanos(),
+        Some(limit) => !is_before(length, limit),
         None => false,
     }
 }

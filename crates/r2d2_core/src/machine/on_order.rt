@@ -42,7 +42,7 @@ impl<A: Allocator> OnOrder<A> {
     ghost use Rattle.r2d2_core.specs.Refusals.{ok_unless, unless_refused};
     ghost use Rattle.r2d2_core.specs.Jobs.{seen_job};
     ghost use Rattle.r2d2_core.specs.Seen.{map_ok};
-    ghost use Rattle.r2d2_core.specs.OnOrder.{top_up, miss_order, with_orders, first_on_order, job_at, begun, number_refusal, after_numbering, admit_refusal, admitted_one, fail_refusal, due_again, failed_one, emptied};
+    ghost use Rattle.r2d2_core.specs.OnOrder as on_order;
 
     /// What is wanted, due at `now`.
     pub(crate) fn new(
@@ -53,7 +53,7 @@ impl<A: Allocator> OnOrder<A> {
     ) -> Result<OnOrder<A>, AllocError>
     where
         A: Copy,
-        ensures { IfOk result (λ openings. openings ≡ first_on_order (seen_limits limits) (as_nanos now) first_id) }
+        ensures { IfOk result (λ openings. openings ≡ on_order.first_on_order (seen_limits limits) (as_nanos now) first_id) }
     {
         let numbered = Roster::new(alloc, limits.max_size() as usize)?;
         let mut schedule = Schedule::new(alloc, limits, now)?;
@@ -92,8 +92,8 @@ impl<A: Allocator> OnOrder<A> {
     /// Orders what is wanted beside so many idle connections, as far as there is room beside them and the lent ones.
     pub(crate) fn top_up(&mut self, idle: usize, lent: usize, due: Duration) -> u32
         requires { idle + lent + self.old.pending ≤ self.old.limits.max_size }
-        ensures answer { result ≡ top_up idle (idle + lent) self.old }
-        ensures after { self.new ≡ with_orders result (as_nanos due) self.old }
+        ensures answer { result ≡ on_order.top_up idle (idle + lent) self.old }
+        ensures after { self.new ≡ on_order.with_orders result (as_nanos due) self.old }
     {
         let _max_size = self.limits.max_size();
         let room = self.room_beside(idle + lent);
@@ -106,8 +106,8 @@ impl<A: Allocator> OnOrder<A> {
     /// Orders one where it is asked for, as far as there is room beside the connections.
     pub(crate) fn order_missed(&mut self, or_order: bool, connections: usize, due: Duration) -> u32
         requires { connections + self.old.pending ≤ self.old.limits.max_size }
-        ensures answer { result ≡ miss_order or_order connections self.old }
-        ensures after { self.new ≡ with_orders result (as_nanos due) self.old }
+        ensures answer { result ≡ on_order.miss_order or_order connections self.old }
+        ensures after { self.new ≡ on_order.with_orders result (as_nanos due) self.old }
     {
         let room = self.room_beside(connections);
         let ordered = if self.closed || !or_order {
@@ -132,7 +132,7 @@ impl<A: Allocator> OnOrder<A> {
     fn order(&mut self, count: u32, due: Duration)
         requires room { self.old.pending + count ≤ self.old.limits.max_size }
         requires still_open { self.old.closed ≡ true → count ≡ 0 }
-        ensures { self.new ≡ with_orders count (as_nanos due) self.old }
+        ensures { self.new ≡ on_order.with_orders count (as_nanos due) self.old }
     {
         self.schedule.order_many_uncounted(count, due);
         self.pending += count;
@@ -140,8 +140,8 @@ impl<A: Allocator> OnOrder<A> {
 
     /// What a worker is to do at the moment `now`.
     pub(crate) fn begin(&mut self, now: Duration) -> Job
-        ensures answer { seen_job result ≡ job_at (as_nanos now) self.old }
-        ensures after { self.new ≡ begun (as_nanos now) self.old }
+        ensures answer { seen_job result ≡ on_order.job_at (as_nanos now) self.old }
+        ensures after { self.new ≡ on_order.begun (as_nanos now) self.old }
     {
         if self.closed {
             return Job::Closed;
@@ -155,8 +155,8 @@ impl<A: Allocator> OnOrder<A> {
 
     /// Gives an id to an opening in work.
     pub(crate) fn number(&mut self, tries: u32) -> Result<u64, Refusal>
-        ensures answer { result ≡ ok_unless (number_refusal tries self.old) self.old.next_id }
-        ensures after { self.new ≡ after_numbering tries self.old }
+        ensures answer { result ≡ ok_unless (on_order.number_refusal tries self.old) self.old.next_id }
+        ensures after { self.new ≡ on_order.after_numbering tries self.old }
     {
         if self.closed {
             return Err(Refusal::Closed);
@@ -177,8 +177,8 @@ impl<A: Allocator> OnOrder<A> {
     /// Takes out a numbered one, which is pending no more.
     pub(crate) fn admit(&mut self, id: u64) -> Result<(), Refusal>
         requires { copies_of id self.old.numbered ≤ 1 }
-        ensures answer { result ≡ ok_unless (admit_refusal id self.old) tt }
-        ensures after { self.new ≡ unless_refused (admit_refusal id self.old) (admitted_one id self.old) self.old }
+        ensures answer { result ≡ ok_unless (on_order.admit_refusal id self.old) tt }
+        ensures after { self.new ≡ unless_refused (on_order.admit_refusal id self.old) (on_order.admitted_one id self.old) self.old }
         ensures less { OnOk result (self.new.pending + 1 ≡ self.old.pending) }
     {
         if self.closed {
@@ -195,8 +195,8 @@ impl<A: Allocator> OnOrder<A> {
 
     /// Puts off an opening in work that failed at the moment `now`, and says when it is due again.
     pub(crate) fn fail(&mut self, now: Duration, tries: u32) -> Result<Duration, Refusal>
-        ensures answer { map_ok as_nanos result ≡ ok_unless (fail_refusal tries self.old) (due_again (as_nanos now) tries self.old) }
-        ensures after { self.new ≡ unless_refused (fail_refusal tries self.old) (failed_one (as_nanos now) tries self.old) self.old }
+        ensures answer { map_ok as_nanos result ≡ ok_unless (on_order.fail_refusal tries self.old) (on_order.due_again (as_nanos now) tries self.old) }
+        ensures after { self.new ≡ unless_refused (on_order.fail_refusal tries self.old) (on_order.failed_one (as_nanos now) tries self.old) self.old }
     {
         if self.closed {
             return Err(Refusal::Closed);
@@ -212,7 +212,7 @@ impl<A: Allocator> OnOrder<A> {
 
     /// Forgets them all, and orders none from then on.
     pub(crate) fn close(&mut self)
-        ensures { self.new ≡ emptied self.old }
+        ensures { self.new ≡ on_order.emptied self.old }
     {
         self.schedule.clear();
         self.in_work.clear();

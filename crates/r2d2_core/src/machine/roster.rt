@@ -1,5 +1,5 @@
 // A list of things with ids, which has its room from the start.
-ghost use Rattle.std.specs.Prelude.{◌≡◌, ℕ, ◌+◌, ◌<◌, ◌≤◌, ◌++◌, ◌∷◌, [], length, map, IfOk, IfNone, IsSome, MatchOption, option_map, slice_get};
+ghost use Rattle.std.specs.Prelude.{◌≡◌, ℕ, ◌+◌, ◌<◌, ◌≤◌, ◌++◌, ◌∷◌, [], length, map, IfOk, IfNone, IsSome, MatchOption, option_map, option_copied, slice_get};
 ghost use Rattle.r2d2_core.specs.Ids.{found, without, copies_of, NoneBelow, StandsAt};
 ghost use Rattle.r2d2_core.specs.Roster.{roster};
 
@@ -58,6 +58,13 @@ impl<X: HasId, A: Allocator> Roster<X, A> {
         ensures { result ≡ option_map X.id_of (slice_get self.now.items place) }
     {
         self.list.get(place as usize).map(|x| x.id())
+    }
+
+    /// The one at a place, from the first.
+    pub(crate) fn get(&self, place: usize) -> Option<&X>
+        ensures { option_copied result ≡ slice_get self.now.items place }
+    {
+        self.list.get(place)
     }
 
     /// Adds one at the end.

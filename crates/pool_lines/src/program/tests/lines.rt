@@ -71,7 +71,11 @@ fn the_first_line_gives_the_limits(rt: HostRuntime) -> Result<(), Fail> {
         "limits",
         "limits 1 - - - 30000",
         "limits 1 - - - 30000 30000 ",
-        "limits 1 - - - 30000 30000 newest",
+        "limits 1 - - - 30000 30000 first",
+        "limits 1 - - - 30000 30000  oldest",
+        "limits 1 - - - 30000 30000 oldest ",
+        "limits 1 - - - 30000 30000 newest oldest",
+        "limits 1 - - - 30000 oldest",
         "limits 1 - - - 30000 30000 Newest",
         "Limits 1 - - - 30000 30000",
         "limits 1  - - - 30000 30000",
@@ -94,6 +98,7 @@ fn the_first_line_gives_the_limits(rt: HostRuntime) -> Result<(), Fail> {
         "limits 5 - - 0 30000 30000",
         "limits 1 - - - 0 30000",
         "limits 1 - - - 30000 0",
+        "limits 1 - - - 30000 0 oldest",
     ];
     for line in limits {
         tells(&rt, line, Err(Fault::LimitsRefused))?;

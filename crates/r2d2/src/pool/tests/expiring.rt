@@ -2,6 +2,7 @@
 
 use super::*;
 use crate::event::{AcquireEvent, CheckinEvent, CheckoutEvent, ReleaseEvent, TimeoutEvent};
+use r2d2_core::LendingOrder;
 use std::sync::Mutex;
 
 /// A connection, which counts its drop.
@@ -110,6 +111,34 @@ fn test_max_lifetime(rt: HostRuntime) -> Result<(), Fail> {
     thread::sleep(&rt, Duration::from_secs(2));
     let error = pool.get().err().ok_or("a connection")?;
     assert_eq!(rt; error.kind(), crate::ErrorKind::Timeout);
+    Ok(())
+}
+
+// How many of two connections were closed while one was lent and given back all the time, for twice the idle timeout.
+fn closed_amid_use<R: PoolRuntime>(rt: R, order: LendingOrder) -> Result<u64, Fail> {
+    let dropped = no_drops(rt.alloc())?;
+    let pool = Builder::new()
+        .max_size(2)
+        .lending_order(order)
+        .idle_timeout(Some(Duration::from_secs(2)))
+        .reaper_rate(Duration::from_secs(1))
+        .build(rt, FiveLines::new(&dropped)?)?;
+    for _ in 0..20 {
+        thread::sleep(&rt, Duration::from_millis(200));
+        drop(pool.get()?);
+    }
+    Ok(dropped.load(Ordering::SeqCst))
+}
+
+#[test]
+fn newest_first_leaves_one_to_expire(rt: HostRuntime) -> Result<(), Fail> {
+    assert!(rt; closed_amid_use(rt, LendingOrder::NewestFirst)? > 0);
+    Ok(())
+}
+
+#[test]
+fn oldest_first_lets_none_expire(rt: HostRuntime) -> Result<(), Fail> {
+    assert_eq!(rt; closed_amid_use(rt, LendingOrder::OldestFirst)?, 0);
     Ok(())
 }
 

@@ -18,7 +18,7 @@ use std::sync::ledger::Ledger;
 use std::time::Duration;
 
 #[tactic(auto, unfolding(crate::specs::Connections::is_expired))]
-fn is_expired<T>(entry: &IdleConnection<T>, limits: &Limits, now: Duration) -> bool
+pub(super) fn is_expired<T>(entry: &IdleConnection<T>, limits: &Limits, now: Duration) -> bool
     ensures { result ≡ is_expired (seen_limits limits.now) (as_nanos now) entry.now }
 {
     reached(limits.idle_timeout(), now.saturating_sub(entry.since))

@@ -1,13 +1,32 @@
-use Rattle.std.proofs.Common.{◌≡◌, ◌∙◌, ap, sym, subst}
+use Rattle.std.proofs.Common.{◌≡◌, ◌∙◌, ap, sym, subst, max}
+use Rattle.std.specs.Prelude.{option_map}
 use Rattle.std.specs.Duration.{as_nanos}
 use Rattle.r2d2_core.specs.Seen.{seen_returned, map_ok}
+use Rattle.r2d2_core.specs.Table.{after_return, return_answer}
+use Rattle.r2d2_core.specs.Records.{seen_record}
 use Rattle.r2d2_core.specs.Recorded.{record_of_return}
 use Rattle.r2d2_core.specs.Journal.{with_noted}
 use Rattle.r2d2_core.specs.Book.{SeenBook, seen_book}
 use Rattle.r2d2_core.specs.Noted.{noted_return}
-use Rattle.r2d2_core.proofs.Recording.Books.{recorded_return}
+use Rattle.r2d2_core.proofs.Recording.Books.{KeepsWith, keeps_return, recorded}
 use Rattle.r2d2_core.proofs.Recording.Moments.{latest_in, return_at}
 use Rattle.r2d2_core.proofs.journal.Book.put_back.Goals as goal
+
+-- what is noted keeps the records legal
+pub note-requires-clause-legal : goal.note-requires-clause-legal
+note-requires-clause-legal g c = c.self.invariant.recorded.replays.base
+
+pub note-requires-clause-follow : goal.note-requires-clause-follow
+note-requires-clause-follow g c =
+    let old = c.self.inside.machine in
+    let keeps = keeps_return (as_nanos c.args.now) c.args.id c.args.value c.args.broken (seen_book old c.self.inside.journal) c.self.invariant.sound c.self.invariant.recorded in
+    let made : option_map seen_record c.of_return.result ≡ record_of_return (max old.latest (as_nanos c.args.now)) c.args.id (return_answer (as_nanos c.args.now) c.args.id c.args.value c.args.broken old) =
+    c.of_return.ensures
+    ∙ (ap (λ at. record_of_return at c.args.id (map_ok seen_returned c.put_back-answer.result)) (c.latest-at.ensures.value ∙ ap latest_in c.put_back-answer.ensures.after)
+    ∙ (ap (record_of_return _ c.args.id) c.put_back-answer.ensures.answer
+    ∙ return_at (as_nanos c.args.now) c.args.id c.args.value c.args.broken old)) in
+    let k = subst (λ m. KeepsWith c.self.inside.journal m (after_return (as_nanos c.args.now) c.args.id c.args.value c.args.broken old)) (sym made) keeps in
+    k.replays.legal
 
 pub returns-clause-noted : goal.returns-clause-noted
 returns-clause-noted g c =
@@ -24,15 +43,16 @@ returns-clause-noted g c =
 pub invariant_of-self : goal.invariant_of-self
 invariant_of-self g c =
     let old = c.self.inside.machine in
+    let keeps = keeps_return (as_nanos c.args.now) c.args.id c.args.value c.args.broken (seen_book old c.self.inside.journal) c.self.invariant.sound c.self.invariant.recorded in
     record {
       sound = c.put_back-answer.ensures.sound;
       recorded =
-          recorded_return (as_nanos c.args.now) c.args.id c.args.value c.args.broken (seen_book old c.self.inside.journal) (seen_book c.put_back-answer.new.self c.note.new.self) c.self.invariant.sound c.put_back-answer.ensures.after
+          recorded _ (seen_book old c.self.inside.journal) (seen_book c.put_back-answer.new.self c.note.new.self) _ c.put_back-answer.ensures.after
           (c.note.ensures
           ∙ ap (λ made. with_noted made c.self.inside.journal)
           (c.of_return.ensures
           ∙ (ap (λ at. record_of_return at c.args.id (map_ok seen_returned c.put_back-answer.result)) (c.latest-at.ensures.value ∙ ap latest_in c.put_back-answer.ensures.after)
           ∙ (ap (record_of_return _ c.args.id) c.put_back-answer.ensures.answer
           ∙ return_at (as_nanos c.args.now) c.args.id c.args.value c.args.broken old))))
-          c.self.invariant.recorded;
+          keeps;
     }

@@ -1,16 +1,22 @@
 use Rattle.std.proofs.Common.{◌∙◌, subst}
-use Rattle.r2d2_core.specs.Book.{SeenBook, IsReplayed}
+use Rattle.r2d2_core.specs.Journal.{CountsTakes}
+use Rattle.r2d2_core.specs.Book.{SeenBook, seen_book, IsReplayed}
 use Rattle.r2d2_core.specs.Reports.{IsReportOf}
 use Rattle.r2d2_core.specs.Picture.{IsSound}
-use Rattle.r2d2_core.proofs.Recording.Reporting.{report_replays, report_sound}
+use Rattle.r2d2_core.proofs.Recording.Reporting.{is_replayed, report_replays, report_sound, report_counts}
 use Rattle.r2d2_core.proofs.journal.Book.report_in.Goals as goal
+
+pub base-requires : goal.base-requires
+base-requires g c = c.self.invariant.recorded.replays.base
 
 pub returns-clause-given : goal.returns-clause-given
 returns-clause-given g c =
     subst (λ (a : SeenBook _). IsReportOf a (record {
       limits = c.limits.result;
+      base = c.in_ok-base.base;
       records = c.of.result;
       lost = c.lost.result;
+      takes = c.takes.result;
       idle = c.in_ok-idle.idle;
       lent = c.in_ok-lent.lent;
       connections = c.connections.result;
@@ -19,8 +25,10 @@ returns-clause-given g c =
     })) c.self.view_is
     (record {
       limits = c.limits.ensures.value;
+      base = c.in_ok-base.ensures;
       records = c.of.ensures ∙ c.in_ok-records.ensures;
       lost = c.lost.ensures;
+      takes = c.takes.ensures.value;
       idle = c.in_ok-idle.ensures;
       lent = c.in_ok-lent.ensures;
       connections = c.connections.ensures.value;
@@ -29,7 +37,10 @@ returns-clause-given g c =
     })
 
 pub returns-clause-replays : goal.returns-clause-replays
-returns-clause-replays g c = report_replays c.args.self.now _ (returns-clause-given g c) (subst IsReplayed c.self.view_is (λ lost. (c.self.invariant.recorded lost).replay))
+returns-clause-replays g c = report_replays c.args.self.now _ (returns-clause-given g c) (subst IsReplayed c.self.view_is (is_replayed (seen_book c.self.inside.machine c.self.inside.journal) c.self.invariant.recorded))
 
 pub returns-clause-sound : goal.returns-clause-sound
 returns-clause-sound g c = report_sound c.args.self.now _ (returns-clause-given g c) (subst (λ (a : SeenBook _). IsSound a.picture) c.self.view_is c.self.invariant.sound)
+
+pub returns-clause-counted : goal.returns-clause-counted
+returns-clause-counted g c = report_counts c.args.self.now _ (returns-clause-given g c) (subst (λ (a : SeenBook _). CountsTakes a.journal) c.self.view_is c.takes.ensures.counted)

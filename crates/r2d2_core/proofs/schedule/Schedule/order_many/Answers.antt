@@ -1,8 +1,7 @@
-use Rattle.std.proofs.Common.{arith, ◌≡◌, ℕ, ◌+◌, ◌*◌, ◌≤◌, ◌∙◌, ap, sym, length, add-one}
+use Rattle.std.proofs.Common.{arith, ◌≡◌, ℕ, ◌+◌, ◌∙◌, ap, sym, length, add-one}
 use Rattle.std.specs.Duration.{as_nanos}
-use Rattle.r2d2_core.specs.Openings.{SeenOpening, opening, with_many}
+use Rattle.r2d2_core.specs.Openings.{opening, with_many}
 use Rattle.r2d2_core.specs.Schedule.{SeenSchedule, joined, with_openings}
-use Rattle.r2d2_core.specs.Heap.{binary_digits}
 use Rattle.r2d2_core.proofs.Scheduling.Openings.{length-with, length-with_many}
 use Rattle.r2d2_core.proofs.Scheduling.Heaps.{one_more_order}
 use Rattle.r2d2_core.proofs.schedule.Schedule.order_many.Goals as goal

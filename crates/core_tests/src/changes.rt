@@ -1,0 +1,281 @@
+// Each field of a report's base and records, changed by itself: the report replays where a second reading says that it does.
+
+use crate::journal::take_all;
+use crate::replays::replays;
+use crate::steps::{admit, begin, close, limits, number, put_back, reap, take, want};
+use r2d2_core::{
+    AwayList, Base, Book, IdList, LendingOrder, Limits, Record, RecordList, Report, RestingList,
+    Step,
+};
+use std::alloc::{AllocError, Global};
+use std::test::Fail;
+use std::time::Duration;
+
+// Counts down to the change that is made.
+#[derive(Drop)]
+struct Countdown {
+    left: Option<usize>,
+}
+
+impl Countdown {
+    fn is_here(&mut self) -> bool {
+        let is_here = self.left == Some(0);
+        self.left = self.left.and_then(|left| left.checked_sub(1));
+        is_here
+    }
+
+    fn count(&mut self, count: u32) -> u32 {
+        if self.is_here() {
+            return count.saturating_add(1);
+        }
+        if self.is_here() {
+            return count.saturating_sub(1);
+        }
+        count
+    }
+
+    fn id(&mut self, id: u64) -> u64 {
+        if self.is_here() {
+            return id.saturating_add(1);
+        }
+        if self.is_here() {
+            return id.saturating_sub(1);
+        }
+        id
+    }
+
+    fn moment(&mut self, moment: Duration) -> Duration {
+        if self.is_here() {
+            return moment.saturating_add(Duration::from_millis(1));
+        }
+        if self.is_here() {
+            return moment.saturating_sub(Duration::from_millis(1));
+        }
+        moment
+    }
+
+    fn flag(&mut self, flag: bool) -> bool {
+        self.is_here() != flag
+    }
+
+    fn record(&mut self, record: Record) -> Record {
+        match record {
+            Record::Taken { at, id, ordered } => Record::Taken {
+                at: self.moment(at),
+                id: self.id(id),
+                ordered: self.count(ordered),
+            },
+            Record::Ordered { at, ordered } => Record::Ordered {
+                at: self.moment(at),
+                ordered: self.count(ordered),
+            },
+            Record::Admitted { at, id } => Record::Admitted {
+                at: self.moment(at),
+                id: self.id(id),
+            },
+            Record::Kept { at, id } => Record::Kept {
+                at: self.moment(at),
+                id: self.id(id),
+            },
+            Record::Closed { at, id, ordered } => Record::Closed {
+                at: self.moment(at),
+                id: self.id(id),
+                ordered: self.count(ordered),
+            },
+            Record::Reaped { at, ordered } => Record::Reaped {
+                at: self.moment(at),
+                ordered: self.count(ordered),
+            },
+            Record::ClosedAll { at } => Record::ClosedAll {
+                at: self.moment(at),
+            },
+        }
+    }
+
+    fn idle(&mut self, alloc: Global, idle: &RestingList) -> Result<RestingList, AllocError> {
+        let mut list = Vec::new(alloc);
+        for (id, birth, since) in idle.as_slice() {
+            list.push((self.id(*id), self.moment(*birth), self.moment(*since)))?;
+        }
+        Ok(RestingList::of(list))
+    }
+
+    fn lent(&mut self, alloc: Global, lent: &AwayList) -> Result<AwayList, AllocError> {
+        let mut list = Vec::new(alloc);
+        for (id, birth) in lent.as_slice() {
+            list.push((self.id(*id), self.moment(*birth)))?;
+        }
+        Ok(AwayList::of(list))
+    }
+
+    fn records(&mut self, alloc: Global, records: &[Record]) -> Result<RecordList, AllocError> {
+        let mut list = Vec::new(alloc);
+        for record in records {
+            list.push(self.record(*record))?;
+        }
+        Ok(RecordList::of(list))
+    }
+
+    fn base(&mut self, alloc: Global, base: &Base) -> Result<Base, AllocError> {
+        let idle = self.idle(alloc, &base.idle)?;
+        let lent = self.lent(alloc, &base.lent)?;
+        Ok(Base {
+            at: self.moment(base.at),
+            idle,
+            lent,
+            connections: self.count(base.connections),
+            pending: self.count(base.pending),
+            closed: self.flag(base.closed),
+        })
+    }
+
+    // A copy of the report with the change, where it is not past all fields.
+    fn report(&mut self, alloc: Global, report: &Report) -> Result<Report, AllocError> {
+        let idle = IdList::of(report.idle.as_slice().to_vec(alloc)?);
+        let lent = IdList::of(report.lent.as_slice().to_vec(alloc)?);
+        let base = self.base(alloc, &report.base)?;
+        let records = self.records(alloc, report.records.as_slice())?;
+        Ok(Report {
+            limits: report.limits,
+            base,
+            records,
+            lost: self.id(report.lost),
+            takes: self.id(report.takes),
+            idle,
+            lent,
+            connections: self.count(report.connections),
+            pending: self.count(report.pending),
+            closed: self.flag(report.closed),
+        })
+    }
+}
+
+// Two connections come in; one is taken, kept, and taken again; the other is reaped; then the pool is closed.
+fn reaped_and_closed() -> [Step<u64>; 12] {
+    [
+        begin(0),
+        begin(0),
+        number(0),
+        number(0),
+        admit(1, 0, 7),
+        admit(2, 1, 8),
+        take(3),
+        put_back(5, 1, 8),
+        put_back(6, 0, 7),
+        reap(32),
+        take(33),
+        close(),
+    ]
+}
+
+// One is ordered by a miss, comes in, is taken, and comes back once the pool is closed.
+fn ordered_and_lost() -> [Step<u64>; 8] {
+    [
+        want(0),
+        begin(1),
+        number(0),
+        admit(2, 0, 7),
+        take(3),
+        want(4),
+        close(),
+        put_back(5, 0, 7),
+    ]
+}
+
+#[derive(Clone, Copy)]
+enum Story {
+    ReapedAndClosed,
+    OrderedAndLost,
+}
+
+impl Story {
+    fn steps(self, alloc: Global) -> Result<Vec<Step<u64>>, AllocError> {
+        match self {
+            Story::ReapedAndClosed => Ok(Vec::from_array(alloc, reaped_and_closed())?),
+            Story::OrderedAndLost => Ok(Vec::from_array(alloc, ordered_and_lost())?),
+        }
+    }
+
+    fn limits(self) -> Option<Limits> {
+        match self {
+            Story::ReapedAndClosed => limits(3, Some(2), Some(100), Some(30), 30_000, 30_000),
+            Story::OrderedAndLost => limits(2, Some(0), None, None, 30_000, 30_000),
+        }
+    }
+
+    // What a book of it reports that keeps so many records.
+    fn report(self, alloc: Global, order: LendingOrder, room: usize) -> Result<Report, Fail> {
+        let limits = self.limits().ok_or("limits")?.with_order(order);
+        let mut book = Book::new(alloc, limits, Duration::ZERO, room)?;
+        take_all(alloc, &mut book, self.steps(alloc)?)?;
+        Ok(book.report()?)
+    }
+}
+
+// The report with that change, if there is one.
+fn changed(alloc: Global, report: &Report, number: usize) -> Result<Option<Report>, AllocError> {
+    let mut countdown = Countdown { left: Some(number) };
+    let report = countdown.report(alloc, report)?;
+    Ok(if countdown.left.is_none() {
+        Some(report)
+    } else {
+        None
+    })
+}
+
+// How many changes left a report that replays, and how many left one that doesn't.
+#[derive(Drop)]
+struct Tally {
+    replaying: u32,
+    others: u32,
+}
+
+impl Tally {
+    // Makes each change of the story's report by itself, and says which is the first that is judged otherwise by the second reading.
+    fn count(
+        &mut self,
+        alloc: Global,
+        story: Story,
+        order: LendingOrder,
+        room: usize,
+    ) -> Result<Option<usize>, Fail> {
+        let made = story.report(alloc, order, room)?;
+        for number in 0..1000 {
+            let Some(report) = changed(alloc, &made, number)? else {
+                return Ok(None);
+            };
+            let does_replay = report.replays()?;
+            if does_replay != replays(alloc, &report)? {
+                return Ok(Some(number));
+            }
+            let count = if does_replay {
+                &mut self.replaying
+            } else {
+                &mut self.others
+            };
+            *count = count.saturating_add(1);
+        }
+        Ok(Some(1000))
+    }
+}
+
+#[test]
+fn each_change_is_judged_as_by_a_second_reading(rt: HostRuntime) -> Result<(), Fail> {
+    let mut tally = Tally {
+        replaying: 0,
+        others: 0,
+    };
+    for story in [Story::ReapedAndClosed, Story::OrderedAndLost] {
+        for order in [LendingOrder::NewestFirst, LendingOrder::OldestFirst] {
+            for room in [0usize, 1, 2, 4, 64] {
+                assert_eq!(rt;
+                    tally.count(rt.alloc(), story, order, room)?,
+                    None,
+                    "at {room}"
+                );
+            }
+        }
+    }
+    assert_eq!(rt; (tally.replaying, tally.others), (329, 295));
+    Ok(())
+}

@@ -1,0 +1,200 @@
+// A book whose takes a ledger counts.
+ghost use Rattle.std.specs.Prelude.{◌≡◌, ◌+◌, ◌<◌, ◌≤◌, ◌-◌, ◌^◌, min, map, length, option_map, string_bytes, vec_len, vec_capacity, IfOk};
+ghost use Rattle.std.specs.Duration.{as_nanos};
+ghost use Rattle.r2d2_core.specs.Seen.{seen_take, seen_returned, seen_released, map_ok};
+ghost use Rattle.r2d2_core.specs.Jobs.{seen_job};
+ghost use Rattle.r2d2_core.specs.Table as table;
+ghost use Rattle.r2d2_core.specs.Picture.{IsSound};
+ghost use Rattle.r2d2_core.specs.Noted.{noted_take, noted_return, noted_reap, noted_close};
+ghost use Rattle.r2d2_core.specs.Reports.{IsReportOf, DoesReplay, HasSoundCounts, CountsItsTakes};
+ghost use Rattle.r2d2.specs.Wakes.{wakes_of_take, wakes_of_return, wakes_of_reap};
+ghost use Rattle.r2d2.specs.Settled.{seen_settled, settle_answer, after_settle, noted_settle, wakes_of_settled};
+ghost use Rattle.r2d2.specs.Counted.{found_by, counted_up_to};
+
+use super::{Outcome, Settled, Wakes, give_back, lend, settle, sweep};
+use r2d2_core::machine::Leftover;
+use r2d2_core::{Book, Job, Refusal, Released, Report, Returned, Take};
+use std::alloc::AllocError;
+use std::marker::Model;
+use std::sync::ledger;
+use std::sync::ledger::{Ledger, Share};
+use std::time::Duration;
+
+/// A book beside the book of a ledger. The ledger's total is the number of the book's takes that found, up to `u64::MAX`.
+///
+/// A take is `lend_counted`, and there is no other one. All else is the book's, and leaves the total.
+#[derive(Drop)]
+pub struct Counted<T, L: Ledger> {
+    book: Book<T>,
+    total: ledger::Book<L>,
+}
+
+impl<T, L: Ledger> Model for Counted<T, L> {
+    ghost use Rattle.std.specs.Prelude.{◌≡◌};
+    ghost use Rattle.r2d2.specs.Counted.{SeenCounted, seen_counted, counted_up_to};
+
+    ghost Value = { SeenCounted T };
+
+    ghost view = { λ c. seen_counted c.book c.total.total };
+
+    ghost invariant = { λ c. c.book.journal.takes ≡ counted_up_to c.total.total };
+}
+
+impl<T, L: Ledger> Counted<T, L> {
+    /// A book of which nothing was taken yet, beside a ledger that counted nothing yet.
+    pub fn new(book: Book<T>, total: ledger::Book<L>) -> Counted<T, L>
+        requires takes { book.journal.takes ≡ 0 }
+        requires total { total.total ≡ 0 }
+        ensures book { result.book ≡ book }
+        ensures total { result.total ≡ 0 }
+    {
+        Counted { book, total }
+    }
+
+    /// The book, to be read.
+    pub fn book(&self) -> &Book<T>
+        ensures value { result.now ≡ self.now.book }
+    {
+        &self.book
+    }
+
+    /// As `give_back`.
+    pub fn give_back(
+        &mut self,
+        now: Duration,
+        id: u64,
+        value: T,
+        broken: bool,
+    ) -> (Result<Returned<T>, (Refusal, T)>, Wakes)
+        ensures answer { map_ok seen_returned result.0 ≡ table.return_answer (as_nanos now) id value broken self.old.book.picture }
+        ensures wakes { result.1 ≡ wakes_of_return (map_ok seen_returned result.0) }
+        ensures after { self.new.book.picture ≡ table.after_return (as_nanos now) id value broken self.old.book.picture }
+        ensures sound { IsSound self.new.book.picture }
+        ensures noted { self.new.book.journal ≡ noted_return (as_nanos now) id (map_ok seen_returned result.0) self.old.book }
+        ensures total { self.new.total ≡ self.old.total }
+    {
+        give_back(&mut self.book, now, id, value, broken)
+    }
+
+    /// As `settle`.
+    pub fn settle(&mut self, now: Duration, outcome: Outcome<T>) -> (Settled<T>, Wakes)
+        ensures answer { seen_settled result.0 ≡ settle_answer (as_nanos now) outcome self.old.book.picture }
+        ensures wakes { result.1 ≡ wakes_of_settled (seen_settled result.0) }
+        ensures after { self.new.book.picture ≡ after_settle (as_nanos now) outcome self.old.book.picture }
+        ensures sound { IsSound self.new.book.picture }
+        ensures noted { self.new.book.journal ≡ noted_settle (as_nanos now) outcome self.old.book }
+        ensures total { self.new.total ≡ self.old.total }
+    {
+        settle(&mut self.book, now, outcome)
+    }
+
+    /// As `sweep`.
+    pub fn sweep(&mut self, now: Duration, out: &mut Vec<Released<T>>) -> (u32, Wakes)
+        requires empty { vec_len out.old ≡ 0 }
+        requires room { self.old.book.picture.on_order.limits.max_size ≤ vec_capacity out.old }
+        ensures released { map seen_released out.new.items ≡ table.reap_closed (as_nanos now) self.old.book.picture }
+        ensures answer { result.0 ≡ table.reap_orders (as_nanos now) self.old.book.picture }
+        ensures wakes { result.1 ≡ wakes_of_reap (length out.new.items) result.0 }
+        ensures after { self.new.book.picture ≡ table.after_reap (as_nanos now) self.old.book.picture }
+        ensures sound { IsSound self.new.book.picture }
+        ensures noted { self.new.book.journal ≡ noted_reap (as_nanos now) (length out.new.items) result.0 self.old.book }
+        ensures total { self.new.total ≡ self.old.total }
+    {
+        sweep(&mut self.book, now, out)
+    }
+
+    /// As `Book::begin`.
+    pub fn begin(&mut self, now: Duration) -> Job
+        ensures answer { seen_job result ≡ table.begin_answer (as_nanos now) self.old.book.picture }
+        ensures after { self.new.book.picture ≡ table.after_begin (as_nanos now) self.old.book.picture }
+        ensures sound { IsSound self.new.book.picture }
+        ensures noted { self.new.book.journal ≡ self.old.book.journal }
+        ensures total { self.new.total ≡ self.old.total }
+    {
+        self.book.begin(now)
+    }
+
+    /// As `Book::number`.
+    pub fn number(&mut self, tries: u32) -> Result<u64, Refusal>
+        ensures answer { result ≡ table.number_answer tries self.old.book.picture }
+        ensures after { self.new.book.picture ≡ table.after_number tries self.old.book.picture }
+        ensures sound { IsSound self.new.book.picture }
+        ensures noted { self.new.book.journal ≡ self.old.book.journal }
+        ensures total { self.new.total ≡ self.old.total }
+    {
+        self.book.number(tries)
+    }
+
+    /// As `Book::take_error`.
+    pub fn take_error(&mut self) -> Option<String>
+        ensures answer { option_map string_bytes result ≡ self.old.book.picture.last_error }
+        ensures after { self.new.book.picture ≡ table.after_take_error self.old.book.picture }
+        ensures sound { IsSound self.new.book.picture }
+        ensures noted { self.new.book.journal ≡ self.old.book.journal }
+        ensures total { self.new.total ≡ self.old.total }
+    {
+        self.book.take_error()
+    }
+
+    /// As `Book::close`.
+    pub fn close(&mut self) -> Leftover<T>
+        ensures answer { result ≡ table.close_answer self.old.book.picture }
+        ensures after { self.new.book.picture ≡ table.after_close self.old.book.picture }
+        ensures sound { IsSound self.new.book.picture }
+        ensures noted { self.new.book.journal ≡ noted_close self.old.book }
+        ensures total { self.new.total ≡ self.old.total }
+    {
+        self.book.close()
+    }
+
+    /// As `Book::report`.
+    pub fn report(&self) -> Result<Report, AllocError>
+        ensures given { IfOk result (λ report. IsReportOf self.now.book report) }
+        ensures replays { IfOk result DoesReplay }
+        ensures sound { IfOk result HasSoundCounts }
+        ensures counted { IfOk result CountsItsTakes }
+    {
+        self.book.report()
+    }
+
+    /// The book's report, where `all` has all parts of the ledger: so its `takes` is what they counted. Nothing changes.
+    pub fn audit(&mut self, all: &mut Share<L>) -> Result<Report, AllocError>
+        requires { all.old.parts ≡ L.parts }
+        ensures given { IfOk result (λ report. IsReportOf self.old.book report) }
+        ensures replays { IfOk result DoesReplay }
+        ensures sound { IfOk result HasSoundCounts }
+        ensures counted { IfOk result CountsItsTakes }
+        ensures takes { IfOk result (λ report. report.takes ≡ counted_up_to all.old.amount) }
+        ensures book { self.new.book ≡ self.old.book }
+        ensures total { self.new.total ≡ self.old.total }
+        ensures amount { all.new.amount ≡ all.old.amount }
+        ensures parts { all.new.parts ≡ all.old.parts }
+    {
+        self.total.audit(all);
+        self.book.report()
+    }
+}
+
+/// As `lend`. A take that found adds one to the share and to the ledger's total; the share has a part at least.
+pub fn lend_counted<T, L: Ledger>(
+    counted: &mut Counted<T, L>,
+    now: Duration,
+    or_order: bool,
+    share: &mut Share<L>,
+) -> (Take<T>, Wakes)
+    requires { 0 < share.old.parts }
+    ensures answer { seen_take result.0 ≡ table.take_answer or_order counted.old.book.picture }
+    ensures wakes { result.1 ≡ wakes_of_take (seen_take result.0) }
+    ensures after { counted.new.book.picture ≡ table.after_take (as_nanos now) or_order counted.old.book.picture }
+    ensures sound { IsSound counted.new.book.picture }
+    ensures noted { counted.new.book.journal ≡ noted_take (as_nanos now) (seen_take result.0) counted.old.book }
+    ensures parts { share.new.parts ≡ share.old.parts }
+    ensures amount { share.new.amount ≡ share.old.amount + found_by (seen_take result.0) }
+    ensures total { counted.new.total ≡ counted.old.total + found_by (seen_take result.0) }
+{
+    let (taken, wakes) = lend(&mut counted.book, now, or_order);
+    if let Take::Found { .. } = &taken {
+        counted.total.add(share, 1);
+    }
+    (taken, wakes)
+}

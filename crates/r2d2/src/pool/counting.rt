@@ -1,0 +1,82 @@
+// The calls of a pool that counts its takes.
+ghost use Rattle.std.specs.Prelude.{◌≡◌, ◌≤◌, ◌<◌, ◌+◌, IfOk, IfErr, IfSome};
+ghost use Rattle.r2d2_core.specs.Reports.{DoesReplay, HasSoundCounts, CountsItsTakes};
+
+use super::{CountedConnection, CountedPool, PoolRuntime};
+use crate::event::HandleEvent;
+use crate::{CustomizeConnection, Error, HandleError, ManageConnection};
+use r2d2_core::Report;
+use std::sync::ledger::{Ledger, Share};
+use std::time::Duration;
+
+impl<
+    M: ManageConnection,
+    H: HandleError<M::Error>,
+    V: HandleEvent + 'static,
+    Z: CustomizeConnection<M::Connection, M::Error>,
+    R: PoolRuntime,
+    L: Ledger + Send + Sync + 'static,
+> CountedPool<M, H, V, Z, R, L> {
+    ghost use Rattle.r2d2.specs.Failures.{IsOfMemory, IsOfMemoryOrTime};
+    ghost use Rattle.r2d2.specs.Counted.{counted_up_to};
+
+    /// As `Pool::get`. Each take adds one to the share, which has a part at least: one where a connection is lent, and
+    /// one for each that was found before it and failed its check, also where the call ends in an error.
+    pub fn get(&self, share: &mut Share<L>) -> Result<CountedConnection<M, H, V, Z, R, L>, Error>
+        requires { 0 < share.old.parts }
+        ensures settings { IfOk result (λ lent. lent.settings ≡ self.now) }
+        ensures refused { IfErr result IsOfMemoryOrTime }
+        ensures parts { share.new.parts ≡ share.old.parts }
+        ensures amount { share.old.amount ≤ share.new.amount }
+        ensures lent { IfOk result (λ _. share.old.amount + 1 ≤ share.new.amount) }
+    {
+        self.get_timeout(self.connection_timeout(), share)
+    }
+
+    /// As `Pool::get_timeout`, and counted as `get`.
+    pub fn get_timeout(
+        &self,
+        timeout: Duration,
+        share: &mut Share<L>,
+    ) -> Result<CountedConnection<M, H, V, Z, R, L>, Error>
+        requires { 0 < share.old.parts }
+        ensures settings { IfOk result (λ lent. lent.settings ≡ self.now) }
+        ensures refused { IfErr result IsOfMemoryOrTime }
+        ensures parts { share.new.parts ≡ share.old.parts }
+        ensures amount { share.old.amount ≤ share.new.amount }
+        ensures lent { IfOk result (λ _. share.old.amount + 1 ≤ share.new.amount) }
+    {
+        self.lend_within(timeout, share)
+    }
+
+    /// As `Pool::try_get`, and counted as `get`.
+    pub fn try_get(
+        &self,
+        share: &mut Share<L>,
+    ) -> Result<Option<CountedConnection<M, H, V, Z, R, L>>, Error>
+        requires { 0 < share.old.parts }
+        ensures settings { IfOk result (λ found. IfSome found (λ lent. lent.settings ≡ self.now)) }
+        ensures refused { IfErr result IsOfMemory }
+        ensures parts { share.new.parts ≡ share.old.parts }
+        ensures amount { share.old.amount ≤ share.new.amount }
+        ensures lent { IfOk result (λ found. IfSome found (λ _. share.old.amount + 1 ≤ share.new.amount)) }
+    {
+        self.lend_idle(share)
+    }
+
+    /// What happened, as `journal` says it, at a moment when `all` has all parts of the ledger: so the report's
+    /// `takes` is what all shares counted, up to `u64::MAX`, whatever threads made the calls. The share is unchanged. The
+    /// error is lack of memory; then nothing has changed.
+    pub fn audit(&self, all: &mut Share<L>) -> Result<Report, Error>
+        requires { all.old.parts ≡ L.parts }
+        ensures takes { IfOk result (λ report. report.takes ≡ counted_up_to all.old.amount) }
+        ensures counted { IfOk result CountsItsTakes }
+        ensures replays { IfOk result DoesReplay }
+        ensures sound { IfOk result HasSoundCounts }
+        ensures refused { IfErr result IsOfMemory }
+        ensures amount { all.new.amount ≡ all.old.amount }
+        ensures parts { all.new.parts ≡ all.old.parts }
+    {
+        self.shared().audit(all).map_err(|_| Error::memory())
+    }
+}

@@ -1,0 +1,90 @@
+-- What a journal does where there is no room for one more record.
+use Rattle.std.proofs.Common.{◌≡◌, ℕ, ◌+◌, ◌-◌, ◌<◌, ◌≤◌, Bool, true, false, cond, List, [], ◌∷◌, ◌++◌, map, length, drop, Option, Some, None, refl, sym, ◌∙◌, ap, subst, arith}
+use Rattle.std.specs.Prelude.{nat_lt, slice_get}
+use Rattle.std.proofs.lemmas.List.{length-map, map-append, length_push, length-drop}
+use Rattle.std.proofs.lemmas.Bool.Decides.{nat_tests}
+use Rattle.circular_buffer.specs.Buffer.{Buffer, buffer, keep_last}
+use Rattle.r2d2_core.specs.declared.journal.record.Record.{Record}
+use Rattle.r2d2_core.specs.Limits.{SeenLimits}
+use Rattle.r2d2_core.specs.Records.{SeenRecord, Taken, Ordered, Admitted, Kept, Closed, Reaped, ClosedAll, seen_record}
+use Rattle.r2d2_core.specs.Bases.{SeenBase, IsLegalBase}
+use Rattle.r2d2_core.specs.Folding.{folded, may_follow, all_follow, admitted_by, AreLegalFrom}
+use Rattle.r2d2_core.specs.Journal.{SeenJournal, one_more, takes_with, with_oldest, with_record}
+use Rattle.r2d2_core.proofs.Recording.Folding.{split, is_lt}
+
+-- a base with room for `max_size` has room for what a record admits
+pub room_for : (limits : SeenLimits) (r : SeenRecord) (b : SeenBase) → IsLegalBase limits b → may_follow limits r b ≡ true → length b.idle + length b.lent + length (admitted_by r) ≤ limits.max_size
+room_for limits (Taken at id n) b legal may = omega (arith, legal.counted, legal.fits)
+room_for limits (Ordered at n) b legal may = omega (arith, legal.counted, legal.fits)
+room_for limits (Admitted at id) b legal may = let some : 0 < b.pending = is_lt 0 b.pending ((split _ _ may).1) in omega (arith, legal.counted, legal.fits, some)
+room_for limits (Kept at id) b legal may = omega (arith, legal.counted, legal.fits)
+room_for limits (Closed at id n) b legal may = omega (arith, legal.counted, legal.fits)
+room_for limits (Reaped at n) b legal may = omega (arith, legal.counted, legal.fits)
+room_for limits (ClosedAll at) b legal may = omega (arith, legal.counted, legal.fits)
+
+-- the oldest record is given up, and folded into the base
+pub record GivesUp (limits : SeenLimits) (b : SeenBase) (items : List Record) (made oldest : Record) (capacity : ℕ) : Type 0 where
+  pub full : nat_lt (length items) capacity ≡ false
+  pub may : may_follow limits (seen_record oldest) b ≡ true
+  pub base : folded limits (seen_record oldest) b ≡ with_oldest limits (map seen_record items ++ seen_record made ∷ []) b
+  pub room : length b.idle + length b.lent + length (admitted_by (seen_record oldest)) ≤ limits.max_size
+
+first_may : (limits : SeenLimits) (b : SeenBase) (items : List Record) (made oldest : Record) → all_follow limits (map seen_record items ++ seen_record made ∷ []) b ≡ true → slice_get (items ++ made ∷ []) 0 ≡ Some oldest
+    → (may_follow limits (seen_record oldest) b ≡ true) × (folded limits (seen_record oldest) b ≡ with_oldest limits (map seen_record items ++ seen_record made ∷ []) b)
+first_may limits b [] made oldest follow is =
+    let same : made ≡ oldest = cc in
+    (subst (λ (r : Record). may_follow limits (seen_record r) b ≡ true) same ((split _ _ follow).0), ap (λ (r : Record). folded limits (seen_record r) b) (sym same))
+first_may limits b (x ∷ items) made oldest follow is =
+    let same : x ≡ oldest = cc in
+    (subst (λ (r : Record). may_follow limits (seen_record r) b ≡ true) same ((split _ _ follow).0), ap (λ (r : Record). folded limits (seen_record r) b) (sym same))
+
+given_by : (has_room : Bool) (given first : Option Record) (oldest : Record) → given ≡ cond has_room None first → given ≡ Some oldest → (has_room ≡ false) × (first ≡ Some oldest)
+given_by true given first oldest e is = absurd cc
+given_by false given first oldest e is = (refl, sym e ∙ is)
+
+pub gives_up : (limits : SeenLimits) (b : SeenBase) (items : List Record) (made oldest : Record) (capacity : ℕ) (given : Option Record) → IsLegalBase limits b
+    → AreLegalFrom limits b (map seen_record items ++ seen_record made ∷ []) → given ≡ cond (nat_lt (length items) capacity) None (slice_get (items ++ made ∷ []) 0) → given ≡ Some oldest
+    → GivesUp limits b items made oldest capacity
+gives_up limits b items made oldest capacity given legal are e is =
+    let g = given_by (nat_lt (length items) capacity) given (slice_get (items ++ made ∷ []) 0) oldest e is in
+    let f = first_may limits b items made oldest are.follow g.1 in
+    record { full = g.0; may = f.0; base = f.1; room = room_for limits (seen_record oldest) b legal f.0 }
+
+-- what is kept where there is no room for more
+without_first : {X Y : Type 0} (f : X → Y) (xs : List X) → map f (drop 1 xs) ≡ drop 1 (map f xs)
+without_first f [] = refl
+without_first f (x ∷ xs) = refl
+
+full_by : (limits : SeenLimits) (b b' : SeenBase) (rs rs' : List SeenRecord) (r : SeenRecord) (room lost takes takes' : ℕ) (has_room : Bool) → nat_lt (length rs) room ≡ has_room → has_room ≡ false
+    → b' ≡ with_oldest limits (rs ++ r ∷ []) b → rs' ≡ drop 1 (rs ++ r ∷ []) → takes' ≡ takes_with r takes
+    → ◌≡◌ {A = SeenJournal} (record { limits = limits; base = b'; records = rs'; room = room; lost = one_more lost; takes = takes' })
+    (with_record r (record { limits = limits; base = b; records = rs; room = room; lost = lost; takes = takes }))
+full_by limits b b' rs rs' r room lost takes takes' has_room e none e1 e2 e3 = rw (e1, e2, e3, e, none) refl
+
+pub full_noted : (limits : SeenLimits) (b b' : SeenBase) (items : List Record) (now : Buffer Record) (made : Record) (capacity lost lost' takes takes' : ℕ) → length items ≤ capacity → nat_lt (length items) capacity ≡ false
+    → now ≡ buffer (keep_last capacity (items ++ made ∷ [])) capacity → b' ≡ with_oldest limits (map seen_record items ++ seen_record made ∷ []) b → lost' ≡ one_more lost → takes' ≡ takes_with (seen_record made) takes
+    → ◌≡◌ {A = SeenJournal} (record { limits = limits; base = b'; records = map seen_record now.items; room = now.capacity; lost = lost'; takes = takes' })
+    (with_record (seen_record made) (record { limits = limits; base = b; records = map seen_record items; room = capacity; lost = lost; takes = takes }))
+full_noted limits b b' items now made capacity lost lost' takes takes' within full is e1 e2 e3 =
+    let long : length items ≡ capacity = grind (arith, nat_tests) in
+    let one : length (items ++ made ∷ []) - capacity ≡ 1 = omega (arith, length_push items made, long) in
+    let kept : map seen_record now.items ≡ drop 1 (map seen_record items ++ seen_record made ∷ []) =
+    ap (λ (l : Buffer Record). map seen_record l.items) is
+    ∙ (ap (λ k. map seen_record (drop k (items ++ made ∷ []))) one
+    ∙ (without_first seen_record (items ++ made ∷ []) ∙ ap (drop 1) (map-append seen_record items (made ∷ [])))) in
+    let room : now.capacity ≡ capacity = ap (λ (l : Buffer Record). l.capacity) is in
+    ap (λ n. record { limits = limits; base = b'; records = map seen_record now.items; room = n; lost = lost'; takes = takes' }) room
+    ∙ (ap (λ n. record { limits = limits; base = b'; records = map seen_record now.items; room = capacity; lost = n; takes = takes' }) e2
+    ∙ full_by limits b b' (map seen_record items) (map seen_record now.items) (seen_record made) capacity lost takes takes' false
+    (ap (λ n. nat_lt n capacity) (length-map items seen_record) ∙ full) refl e1 kept e3)
+
+-- and there are no more than there is room for
+pub kept_within : (items : List Record) (made : Record) (now : Buffer Record) (capacity : ℕ) → now ≡ buffer (keep_last capacity (items ++ made ∷ [])) capacity → (length now.items ≤ now.capacity) × (now.capacity ≡ capacity)
+kept_within items made now capacity is =
+    let all = items ++ made ∷ [] in
+    let size : length now.items ≡ length all - (length all - capacity) = ap (λ (l : Buffer Record). length l.items) is ∙ length-drop (length all - capacity) all in
+    let room : now.capacity ≡ capacity = ap (λ (l : Buffer Record). l.capacity) is in
+    (omega (arith, size, room), room)
+
+pub none_lost : (n : ℕ) → one_more n ≡ 0 → ⊥
+none_lost n e = omega (arith, e)

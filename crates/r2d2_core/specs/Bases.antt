@@ -1,0 +1,60 @@
+-- Bases: what stood before the oldest of some records. They tell no payload. Moments are in nanoseconds.
+use Rattle.std.specs.Prelude.{◌≡◌, ℕ, ◌+◌, ◌≤◌, Bool, true, false, List, [], ◌++◌, length, map}
+use Rattle.std.specs.Duration.{as_nanos}
+use Rattle.std.specs.declared.time.Duration.{Duration}
+use Rattle.std.specs.List.{All}
+use Rattle.std.specs.List.Sorted.{IsNonDecreasingBy}
+use Rattle.r2d2_core.specs.Limits.{SeenLimits, wanted_of}
+use Rattle.r2d2_core.specs.Ids.{copies_of}
+use Rattle.r2d2_core.specs.Connections.{SeenIdleConnection, SeenLentConnection, idle_connection, lent_connection, id_of_idle, id_of_lent, since_of}
+
+-- an idle connection without its payload
+abbrev pub Resting : Type 0
+Resting = SeenIdleConnection (Unit {0})
+
+abbrev pub resting : ℕ → ℕ → ℕ → Resting
+resting id birth since = idle_connection id birth since tt
+
+-- an idle connection as a report has it: id, birth, and since when it is idle
+abbrev pub seen_resting : ℕ × Duration × Duration → Resting
+seen_resting c = resting c.0 (as_nanos c.1) (as_nanos c.2)
+
+-- a lent one: id and birth
+abbrev pub seen_away : ℕ × Duration → SeenLentConnection
+seen_away c = lent_connection c.0 (as_nanos c.1)
+
+pub record SeenBase : Type 0 where
+  -- the moment up to which it tells
+  pub at : ℕ
+  -- the oldest first
+  pub idle : List Resting
+  -- in the order of the takes
+  pub lent : List SeenLentConnection
+  pub connections : ℕ
+  pub pending : ℕ
+  pub closed : Bool
+
+-- that of a pool just made, at a moment: what is wanted is pending
+abbrev pub first_base : SeenLimits → ℕ → SeenBase
+first_base limits now = record { at = now; idle = []; lent = []; connections = 0; pending = wanted_of limits; closed = false }
+
+-- the ids of all that is idle or lent in it
+abbrev pub ids_of : SeenBase → List ℕ
+ids_of b = map id_of_idle b.idle ++ map id_of_lent b.lent
+
+-- what holds of each base of a pool with these limits
+pub record IsLegalBase (limits : SeenLimits) (b : SeenBase) : Type 0 where
+  -- no id stands twice
+  pub apart : (i : ℕ) → copies_of i (ids_of b) ≤ 1
+  -- connections are the idle ones and the lent ones; with the pending ones they are at most `max_size`
+  pub counted : b.connections ≡ length b.idle + length b.lent
+  pub fits : b.connections + b.pending ≤ limits.max_size
+  -- the idle ones stand in the order in which they came to be idle, none after its moment
+  pub is_sorted : IsNonDecreasingBy since_of b.idle
+  pub seen : All (λ c. c.since ≤ b.at) b.idle
+  -- each was admitted before
+  pub born : All (λ c. c.birth ≤ c.since) b.idle
+  pub born_lent : All (λ c. c.birth ≤ b.at) b.lent
+  -- once closed, nothing is idle or pending
+  pub none_idle : b.closed ≡ true → b.idle ≡ []
+  pub none_pending : b.closed ≡ true → b.pending ≡ 0

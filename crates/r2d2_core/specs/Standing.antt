@@ -1,0 +1,64 @@
+-- What a contract sees of a base that is kept in place, and what keeps of its fields.
+use Rattle.std.specs.Prelude.{ℕ, ◌+◌, ◌-◌, true, false, List, [], ◌∷◌, ◌++◌, length}
+use Rattle.std.specs.Duration.{as_nanos}
+use Rattle.r2d2_core.specs.declared.journal.standing.Standing.TheInside.{Inside}
+use Rattle.r2d2_core.specs.Limits.{SeenLimits}
+use Rattle.r2d2_core.specs.Ids.{without}
+use Rattle.r2d2_core.specs.Connections.{SeenLentConnection, lent_connection, id_of_idle, id_of_lent}
+use Rattle.r2d2_core.specs.Bases.{SeenBase, Resting, resting}
+use Rattle.r2d2_core.specs.Folding.{birth_at_rest, birth_away, still_resting, expired_in}
+
+-- the base, and how many may be idle in it, and how many lent
+pub record SeenStanding : Type 0 where
+  pub base : SeenBase
+  pub room : ℕ
+
+abbrev pub standing : SeenBase → ℕ → SeenStanding
+standing b n = record { base = b; room = n }
+
+-- what stands in a pool where nothing is idle or lent
+abbrev pub empty_base : ℕ → ℕ → SeenBase
+empty_base at pending = record { at = at; idle = []; lent = []; connections = 0; pending = pending; closed = false }
+
+module _ {A : Type 0} where
+  abbrev pub base_in : Inside A → SeenBase
+  base_in s = record {
+    at = as_nanos s.at;
+    idle = s.idle.items;
+    lent = s.lent.items;
+    connections = length s.idle.items + length s.lent.items;
+    pending = s.pending;
+    closed = s.closed;
+  }
+
+-- WHAT A RECORD DOES TO A BASE, part by part
+
+abbrev pub with_more : ℕ → SeenBase → SeenBase
+with_more n b = record b { pending = b.pending + n }
+
+abbrev pub with_resting : Resting → SeenBase → SeenBase
+with_resting c b = record b { idle = b.idle ++ c ∷ []; connections = b.connections + 1 }
+
+abbrev pub with_idle : List Resting → SeenBase → SeenBase
+with_idle idle b = record b { idle = idle; connections = length idle + length b.lent }
+
+abbrev pub with_lent : List SeenLentConnection → SeenBase → SeenBase
+with_lent lent b = record b { lent = lent; connections = length b.idle + length lent }
+
+abbrev pub lent_out : ℕ → SeenBase → SeenBase
+lent_out id b = record b { idle = without id_of_idle id b.idle; lent = b.lent ++ lent_connection id (birth_at_rest id b.idle) ∷ [] }
+
+abbrev pub admitted_to : ℕ → SeenBase → SeenBase
+admitted_to id b = record (with_resting (resting id b.at b.at) b) { pending = b.pending - 1 }
+
+abbrev pub kept_in : ℕ → SeenBase → SeenBase
+kept_in id b = record b { idle = b.idle ++ resting id (birth_away id b.lent) b.at ∷ []; lent = without id_of_lent id b.lent }
+
+abbrev pub parted_from : ℕ → SeenBase → SeenBase
+parted_from id b = record b { lent = without id_of_lent id b.lent; connections = b.connections - 1 }
+
+abbrev pub swept_of : SeenLimits → SeenBase → SeenBase
+swept_of limits b = record b { idle = still_resting limits b.at b; connections = b.connections - expired_in limits b.at b }
+
+abbrev pub closed_in : SeenBase → SeenBase
+closed_in b = record b { idle = []; connections = b.connections - length b.idle; pending = 0; closed = true }

@@ -1,0 +1,128 @@
+// Whether a report's records replay to its counts, by the definitions alone.
+ghost use Rattle.std.specs.Prelude.{◌≡◌, ◌+◌, ◌≤◌, ◌↔◌, ◌++◌, ℕ, map, length, IsTrue, OnOk, IfOk};
+ghost use Rattle.r2d2_core.specs.Limits.{seen_limits};
+ghost use Rattle.r2d2_core.specs.Ids.{copies_of};
+ghost use Rattle.r2d2_core.specs.Connections.{id_of_idle, id_of_lent};
+ghost use Rattle.r2d2_core.specs.Records.{seen_record};
+ghost use Rattle.r2d2_core.specs.Bases.{seen_resting, seen_away};
+ghost use Rattle.r2d2_core.specs.Folding.{admitted_in, known_in};
+ghost use Rattle.r2d2_core.specs.Reports.{seen_base, DoesReplay};
+ghost use Rattle.r2d2_core.specs.Auditing.{counts_fit, ShowsCounts};
+
+use super::base::Base;
+use super::record::Record;
+use super::report::Report;
+use super::standing::Standing;
+use crate::schedule::Limits;
+use std::alloc::{AllocError, Allocator};
+use std::time::Duration;
+
+impl<A: Allocator> Report<A> {
+    /// Whether the report is in itself as each report of a book is: its base is one that a pool with its limits may come to, each of
+    /// its records may follow what those before it come to, and what they come to in the end are its ids and counts.
+    ///
+    /// A report that a book made always replays; this finds out whether one is still as it was made. It takes the time of a sort of
+    /// the ids, and beyond that in proportion to its length, with a search among the lent ones for each return; and memory in
+    /// proportion to its length, up to about twice its size. The error comes only where that is refused.
+    pub fn replays(&self) -> Result<bool, AllocError>
+    where
+        A: Copy,
+        ensures { IfOk result (λ answer. IsTrue answer ↔ DoesReplay self.now) }
+    {
+        let alloc = *self.records.allocator();
+        let records = self.records.as_slice();
+        if !has_fitting_counts(&self.base, &self.limits) {
+            return Ok(false);
+        }
+        let mut ids = known_ids(alloc, &self.base, records)?;
+        if !are_apart(&mut ids) {
+            return Ok(false);
+        }
+        let Some(mut standing) = Standing::of(alloc, &self.base, ids.len())? else {
+            return Ok(false);
+        };
+        let follows = standing.follow_all(&self.limits, records);
+        Ok(follows && self.shows(&standing))
+    }
+
+    // Whether the ids and counts are those of what stands.
+    fn shows(&self, standing: &Standing<A>) -> bool
+        ensures { IsTrue result ↔ ShowsCounts standing.now.base self.now }
+    {
+        standing.has_ids(self.idle.as_slice(), self.lent.as_slice())
+            && standing.has_counts(self.connections, self.pending, self.closed)
+    }
+}
+
+// Whether the counts of a base fit one another and the limits.
+fn has_fitting_counts<A: Allocator>(base: &Base<A>, limits: &Limits) -> bool
+    ensures { result ≡ counts_fit (seen_limits limits.now) (seen_base base.now) }
+{
+    let idle = base.idle.as_slice().len();
+    let there = idle + base.lent.as_slice().len();
+    let all = base.connections as u64 + base.pending as u64;
+    base.connections as usize == there
+        && all <= limits.max_size() as u64
+        && (!base.closed || (idle == 0 && base.pending == 0))
+}
+
+// The ids in a base, and those that the records admit.
+fn known_ids<A: Allocator + Copy>(
+    alloc: A,
+    base: &Base<A>,
+    records: &[Record],
+) -> Result<Vec<u64, A>, AllocError>
+    ensures { IfOk result (λ ids. ids.items ≡ known_in (seen_base base.now) (map seen_record records.now)) }
+{
+    let mut ids = Vec::new(alloc);
+    add_resting(&mut ids, base.idle.as_slice())?;
+    add_away(&mut ids, base.lent.as_slice())?;
+    add_admitted(&mut ids, records)?;
+    Ok(ids)
+}
+
+fn add_resting<A: Allocator>(
+    ids: &mut Vec<u64, A>,
+    idle: &[(u64, Duration, Duration)],
+) -> Result<(), AllocError>
+    ensures { OnOk result (ids.new.items ≡ ids.old.items ++ map id_of_idle (map seen_resting idle.now)) }
+{
+    for entry in idle {
+        ids.push(entry.0)?;
+    }
+    Ok(())
+}
+
+fn add_away<A: Allocator>(ids: &mut Vec<u64, A>, lent: &[(u64, Duration)]) -> Result<(), AllocError>
+    ensures { OnOk result (ids.new.items ≡ ids.old.items ++ map id_of_lent (map seen_away lent.now)) }
+{
+    for entry in lent {
+        ids.push(entry.0)?;
+    }
+    Ok(())
+}
+
+fn add_admitted<A: Allocator>(ids: &mut Vec<u64, A>, records: &[Record]) -> Result<(), AllocError>
+    ensures { OnOk result (ids.new.items ≡ ids.old.items ++ admitted_in (map seen_record records.now)) }
+{
+    for record in records {
+        if let Some(id) = record.admitted() {
+            ids.push(id)?;
+        }
+    }
+    Ok(())
+}
+
+// Whether no id stands twice. It puts them in order.
+fn are_apart<A: Allocator>(ids: &mut Vec<u64, A>) -> bool
+    ensures apart { IsTrue result ↔ ((i : ℕ) → copies_of i ids.old.items ≤ 1) }
+    ensures len { length ids.new.items ≡ length ids.old.items }
+{
+    ids.sort_unstable();
+    for place in 1..ids.len() {
+        if ids[place - 1] == ids[place] {
+            return false;
+        }
+    }
+    true
+}

@@ -1,0 +1,283 @@
+// What stood before the oldest of the records that are kept.
+ghost use Rattle.std.specs.Prelude.{◌≡◌, ℕ, ◌+◌, ◌-◌, ◌^◌, ◌==◌, ◌<◌, ◌≤◌, ◌&&◌, not, nat_lt, length, map, IsTrue, IfOk};
+ghost use Rattle.std.specs.Duration.{as_nanos};
+ghost use Rattle.std.specs.List.Sorted.{IsNonDecreasingBy};
+ghost use Rattle.r2d2_core.specs.Limits.{seen_limits, has_reached};
+ghost use Rattle.r2d2_core.specs.Ids.{copies_of};
+ghost use Rattle.r2d2_core.specs.Connections.{id_of_idle, id_of_lent, since_of};
+ghost use Rattle.r2d2_core.specs.Records.{seen_record};
+ghost use Rattle.r2d2_core.specs.Bases.{resting, seen_resting, seen_away, IsLegalBase};
+ghost use Rattle.r2d2_core.specs.Folding.{birth_away, is_next, is_away, tops_up, expired_in, may_follow, folded, admitted_by};
+ghost use Rattle.r2d2_core.specs.Reports.{seen_base};
+ghost use Rattle.r2d2_core.specs.Standing.{standing, empty_base, with_more, lent_out, admitted_to, kept_in, with_resting, parted_from, swept_of, closed_in};
+
+use super::base::{AwayList, Base, RestingList};
+use super::record::Record;
+use crate::machine::idle::{Idle, IdleConnection, reached};
+use crate::machine::is_before;
+use crate::machine::lent::LentConnection;
+use crate::machine::roster::{HasId, Roster};
+use crate::schedule::Limits;
+use std::alloc::{AllocError, Allocator, Global};
+use std::marker::Model;
+use std::time::Duration;
+
+mod auditing;
+
+/// A base that is kept in place: records are folded into it without taking memory.
+#[derive(Drop)]
+pub(crate) struct Standing<A: Allocator = Global> {
+    at: Duration,
+    idle: Idle<(), A>,
+    lent: Roster<LentConnection, A>,
+    pending: u32,
+    closed: bool,
+}
+
+impl<A: Allocator> Model for Standing<A> {
+    ghost use Rattle.std.specs.Prelude.{◌≡◌};
+    ghost use Rattle.r2d2_core.specs.Reports.{seen_base};
+    ghost use Rattle.r2d2_core.specs.Standing.{SeenStanding, standing, base_in};
+
+    ghost Value = { SeenStanding };
+
+    ghost view = { λ s. standing (base_in s) s.idle.room };
+
+    ghost invariant = { λ s. s.lent.room ≡ s.idle.room };
+}
+
+impl<A: Allocator> Standing<A> {
+    /// What stands where nothing is idle or lent, with room for so many connections.
+    pub(crate) fn new(
+        alloc: A,
+        at: Duration,
+        pending: u32,
+        room: usize,
+    ) -> Result<Standing<A>, AllocError>
+    where
+        A: Copy,
+        ensures { IfOk result (λ made. made ≡ standing (empty_base (as_nanos at) pending) room) }
+    {
+        let idle = Idle::new(alloc, room)?;
+        let lent = Roster::new(alloc, room)?;
+        Ok(Standing {
+            at,
+            idle,
+            lent,
+            pending,
+            closed: false,
+        })
+    }
+
+    /// Whether the record may follow what stands; then it is folded in. Where it may not, what stands is of no use any more.
+    pub(crate) fn follow(&mut self, limits: &Limits, made: &Record) -> bool
+        requires legal { IsLegalBase (seen_limits limits.now) self.old.base }
+        requires room { length self.old.base.idle + length self.old.base.lent + length (admitted_by (seen_record made.now)) ≤ self.old.room }
+        ensures may { result ≡ may_follow (seen_limits limits.now) (seen_record made.now) self.old.base }
+        ensures folded { IsTrue result → self.new ≡ standing (folded (seen_limits limits.now) (seen_record made.now) self.old.base) self.old.room }
+    {
+        let at = made.at();
+        if is_before(at, self.at) {
+            return false;
+        }
+        self.at = at;
+        match made {
+            Record::Taken { id, ordered, .. } => {
+                self.lend(limits, *id) && self.order(limits, *ordered)
+            }
+            Record::Ordered { ordered, .. } => self.miss(limits, *ordered),
+            Record::Admitted { id, .. } => self.admit(*id),
+            Record::Kept { id, .. } => self.keep(limits, *id),
+            Record::Closed { id, ordered, .. } => self.part(*id) && self.order(limits, *ordered),
+            Record::Reaped { ordered, .. } => {
+                let closed = self.sweep(limits);
+                self.order(limits, *ordered) && (*ordered > 0 || closed > 0)
+            }
+            Record::ClosedAll { .. } => self.close(),
+        }
+    }
+
+    /// A copy of what stands.
+    pub(crate) fn copied<B: Allocator>(&self, alloc: B) -> Result<Base<B>, AllocError>
+    where
+        B: Copy,
+        requires { self.now.base.connections < 2 ^ 32 }
+        ensures { IfOk result (λ base. seen_base base ≡ self.now.base) }
+    {
+        let idle = self.resting(alloc)?;
+        let lent = self.away(alloc)?;
+        Ok(Base {
+            at: self.at,
+            idle: RestingList::of(idle),
+            lent: AwayList::of(lent),
+            connections: (self.idle.len() + self.lent.len()) as u32,
+            pending: self.pending,
+            closed: self.closed,
+        })
+    }
+
+    // The idle ones, the oldest first.
+    fn resting<B: Allocator>(
+        &self,
+        alloc: B,
+    ) -> Result<Vec<(u64, Duration, Duration), B>, AllocError>
+        ensures { IfOk result (λ list. map seen_resting list.items ≡ self.now.base.idle) }
+    {
+        let count = self.idle.len();
+        let mut list = Vec::with_capacity(alloc, count)?;
+        for place in 0..count {
+            if let Some(entry) = self.idle.get(place) {
+                list.push_reserved((entry.id, entry.birth, entry.since));
+            }
+        }
+        Ok(list)
+    }
+
+    // The lent ones, in the order of their takes.
+    fn away<B: Allocator>(&self, alloc: B) -> Result<Vec<(u64, Duration), B>, AllocError>
+        ensures { IfOk result (λ list. map seen_away list.items ≡ self.now.base.lent) }
+    {
+        let count = self.lent.len();
+        let mut list = Vec::with_capacity(alloc, count)?;
+        for place in 0..count {
+            if let Some(loan) = self.lent.get(place) {
+                list.push_reserved((loan.id(), loan.birth()));
+            }
+        }
+        Ok(list)
+    }
+
+    // Orders so many, where that is what is wanted beside the idle ones, as far as there is room.
+    fn order(&mut self, limits: &Limits, ordered: u32) -> bool
+        requires fits { self.old.base.connections + self.old.base.pending ≤ (seen_limits limits.now).max_size }
+        ensures is { result ≡ (ordered == tops_up (seen_limits limits.now) (length self.old.base.idle) self.old.base.connections self.old.base) }
+        ensures more { IsTrue result → self.new ≡ standing (with_more ordered self.old.base) self.old.room }
+    {
+        let connections = (self.idle.len() + self.lent.len()) as u32;
+        let room = limits.max_size() - connections - self.pending;
+        let wanted = limits.wanted().saturating_sub(self.idle.len() as u32);
+        let due = if self.closed { 0 } else { wanted.min(room) };
+        if ordered != due {
+            return false;
+        }
+        self.pending += ordered;
+        true
+    }
+
+    // Orders one, where none is idle and there is room.
+    fn miss(&mut self, limits: &Limits, ordered: u32) -> bool
+        requires fits { self.old.base.connections + self.old.base.pending ≤ (seen_limits limits.now).max_size }
+        ensures is { result ≡ ((length self.old.base.idle == 0) && ((ordered == 1) && (not self.old.base.closed && nat_lt (self.old.base.connections + self.old.base.pending) (seen_limits limits.now).max_size))) }
+        ensures more { IsTrue result → self.new ≡ standing (with_more ordered self.old.base) self.old.room }
+    {
+        let connections = (self.idle.len() + self.lent.len()) as u32;
+        let is_missed = self.idle.len() == 0 && !self.closed;
+        if !is_missed || ordered != 1 || connections + self.pending >= limits.max_size() {
+            return false;
+        }
+        self.pending += 1;
+        true
+    }
+
+    // Lends the one that is next, where it has the id.
+    fn lend(&mut self, limits: &Limits, id: u64) -> bool
+        requires apart { (i : ℕ) → copies_of i (map id_of_idle self.old.base.idle) ≤ 1 }
+        requires room { length self.old.base.idle + length self.old.base.lent ≤ self.old.room }
+        ensures is { result ≡ is_next (seen_limits limits.now) id self.old.base }
+        ensures less { IsTrue result → length self.new.base.idle ≡ length self.old.base.idle - 1 }
+        ensures lent { IsTrue result → self.new ≡ standing (lent_out id self.old.base) self.old.room }
+    {
+        match self.idle.take(limits.order()) {
+            Some(entry) => {
+                if entry.id != id {
+                    return false;
+                }
+                self.lent.add(LentConnection::new(id, entry.birth));
+                true
+            }
+            None => false,
+        }
+    }
+
+    // Makes the newest idle one of an opening that was pending.
+    fn admit(&mut self, id: u64) -> bool
+        requires room { length self.old.base.idle < self.old.room }
+        ensures is { result ≡ nat_lt 0 self.old.base.pending }
+        ensures admitted { IsTrue result → self.new ≡ standing (admitted_to id self.old.base) self.old.room }
+    {
+        if self.pending == 0 {
+            return false;
+        }
+        self.pending -= 1;
+        self.rest(id, self.at);
+        true
+    }
+
+    // Makes the lent one with the id the newest idle one, where it is not to be closed.
+    fn keep(&mut self, limits: &Limits, id: u64) -> bool
+        requires apart { copies_of id (map id_of_lent self.old.base.lent) ≤ 1 }
+        requires room { length self.old.base.idle + length self.old.base.lent ≤ self.old.room }
+        ensures is { result ≡ (is_away id self.old.base && (not self.old.base.closed && not (has_reached (seen_limits limits.now).max_lifetime (self.old.base.at - birth_away id self.old.base.lent)))) }
+        ensures kept { IsTrue result → self.new ≡ standing (kept_in id self.old.base) self.old.room }
+    {
+        match self.lent.remove(id) {
+            Some(loan) => {
+                let birth = loan.birth();
+                let age = self.at.saturating_sub(birth);
+                if self.closed || reached(limits.max_lifetime(), age) {
+                    return false;
+                }
+                self.rest(id, birth);
+                true
+            }
+            None => false,
+        }
+    }
+
+    // Adds the newest idle one.
+    fn rest(&mut self, id: u64, birth: Duration)
+        requires room { length self.old.base.idle < self.old.room }
+        ensures { self.new ≡ standing (with_resting (resting id (as_nanos birth) self.old.base.at) self.old.base) self.old.room }
+    {
+        self.idle.add(IdleConnection {
+            id,
+            birth,
+            since: self.at,
+            value: (),
+        });
+    }
+
+    // The lent one with the id is gone, if there is one.
+    fn part(&mut self, id: u64) -> bool
+        requires { copies_of id (map id_of_lent self.old.base.lent) ≤ 1 }
+        ensures is { result ≡ is_away id self.old.base }
+        ensures gone { IsTrue result → self.new ≡ standing (parted_from id self.old.base) self.old.room }
+    {
+        self.lent.remove(id).is_some()
+    }
+
+    // The expired ones are gone; answers how many they were.
+    fn sweep(&mut self, limits: &Limits) -> usize
+        requires in_order { IsNonDecreasingBy since_of self.old.base.idle }
+        ensures closed { result ≡ expired_in (seen_limits limits.now) self.old.base.at self.old.base }
+        ensures swept { self.new ≡ standing (swept_of (seen_limits limits.now) self.old.base) self.old.room }
+    {
+        let before = self.idle.len();
+        self.idle.shed(limits, self.at);
+        before - self.idle.len()
+    }
+
+    // Nothing is idle or pending any more, where it was not closed before.
+    fn close(&mut self) -> bool
+        ensures is { result ≡ not self.old.base.closed }
+        ensures closed { IsTrue result → self.new ≡ standing (closed_in self.old.base) self.old.room }
+    {
+        if self.closed {
+            return false;
+        }
+        self.idle.clear();
+        self.pending = 0;
+        self.closed = true;
+        true
+    }
+}
