@@ -1,13 +1,13 @@
 // Each field of a report's base and records, changed by itself: the report replays where a second reading says that it does.
 
 use crate::journal::take_all;
-use crate::replays::replays;
+use crate::replays::{Found, read};
 use crate::steps::{admit, begin, close, limits, number, put_back, reap, take, want};
 use r2d2_core::{
-    AwayList, Base, Book, IdList, LendingOrder, Limits, Record, RecordList, Report, RestingList,
+    AwayList, Base, Book, Fault, IdList, LendingOrder, Limits, Record, RecordList, Report, RestingList,
     Step,
 };
-use std::alloc::{AllocError, Global};
+use std::alloc::{AllocError, Allocator, Global};
 use std::test::Fail;
 use std::time::Duration;
 
@@ -223,6 +223,21 @@ fn changed(alloc: Global, report: &Report, number: usize) -> Result<Option<Repor
     })
 }
 
+fn counts_of<A: Allocator>(base: &Base<A>) -> [usize; 3] {
+    let (idle, lent) = (base.idle.as_slice().len(), base.lent.as_slice().len());
+    [idle, lent, base.pending as usize]
+}
+
+// What the report's own reading finds.
+fn found_first<A: Allocator + Copy>(report: &Report<A>) -> Result<Found, AllocError> {
+    Ok(match report.first_fault()? {
+        None => Found::Sound,
+        Some(Fault::Base) => Found::Base,
+        Some(Fault::Record { place, before }) => Found::Record(place, counts_of(&before)),
+        Some(Fault::Counts { end }) => Found::Counts(counts_of(&end)),
+    })
+}
+
 // How many changes left a report that replays, and how many left one that doesn't.
 #[derive(Drop)]
 struct Tally {
@@ -244,8 +259,9 @@ impl Tally {
             let Some(report) = changed(alloc, &made, number)? else {
                 return Ok(None);
             };
-            let does_replay = report.replays()?;
-            if does_replay != replays(alloc, &report)? {
+            let found = read(alloc, &report)?;
+            let does_replay = found == Found::Sound;
+            if report.replays()? != does_replay || found_first(&report)? != found {
                 return Ok(Some(number));
             }
             let count = if does_replay {

@@ -145,3 +145,33 @@ fn a_replay_that_is_refused_changes_nothing(rt: HostRuntime) -> Result<(), Fail>
     assert!(rt; refused_until > 0 && refused_until < PARTS - 1);
     Ok(())
 }
+
+// A book of up to 32 connections, each of which was lent and came back, time and again, until some are lent for good.
+fn busy(alloc: Global, room: usize) -> Result<Option<Book<u64>>, AllocError> {
+    let Some(limits) = limits(32, None, None, Some(1000), 30_000, 30_000) else {
+        return Ok(None);
+    };
+    let mut book = Book::new(alloc, limits, Duration::ZERO, room)?;
+    for id in 0..32 {
+        open(&mut book, 1, id);
+    }
+    for turn in 0..200 {
+        let _ = book.take(ms(2), true);
+        let _ = book.take(ms(2), true);
+        let _ = book.put_back(ms(3), turn % 32, 0, false);
+    }
+    Ok(Some(book))
+}
+
+#[test]
+fn a_replay_needs_no_more_than_its_report(rt: HostRuntime) -> Result<(), Fail> {
+    for room in [0, 1, 7, 40, 64, 1000] {
+        let book = busy(rt.alloc(), room)?.ok_or("limits")?;
+        let heap = LocalHeap::new(rt.alloc(), 1 << 17)?;
+        let report = book.report_in(&heap)?;
+        let (size, free) = (heap.used(), heap.free());
+        let _rest: Vec<u8, &LocalHeap> = Vec::with_capacity(&heap, free.saturating_sub(size))?;
+        assert_eq!(rt; report.replays(), Ok(true), "{size} bytes at {room}");
+    }
+    Ok(())
+}

@@ -147,6 +147,10 @@ impl Standing {
         Ok(())
     }
 
+    fn counts(&self) -> [usize; 3] {
+        [self.idle.len(), self.lent.len(), self.pending as usize]
+    }
+
     fn admit(&mut self, id: u64) -> Result<(), AllocError> {
         self.is_strange |= self.pending == 0;
         self.pending = self.pending.saturating_sub(1);
@@ -242,18 +246,41 @@ fn has_ids(list: &[Known], ids: &[u64]) -> bool {
     true
 }
 
-// Whether a report's base is one, its records may follow it, and they come to its ids and counts.
-pub(crate) fn replays<A: Allocator>(alloc: Global, report: &Report<A>) -> Result<bool, AllocError> {
+/// What a reading of a report finds first. Where records are legal up to a place, it says how many are idle, lent and pending there.
+#[derive(Clone, Copy, PartialEq, Eq, Debug)]
+pub(crate) enum Found {
+    Sound,
+    Base,
+    Record(usize, [usize; 3]),
+    Counts([usize; 3]),
+}
+
+// Whether a report's base is one, its records may follow it, and they come to its ids and counts; or what is wrong first.
+pub(crate) fn read<A: Allocator>(alloc: Global, report: &Report<A>) -> Result<Found, AllocError> {
     let mut now = Standing::of(alloc, report)?;
-    for record in report.records.as_slice() {
-        now.follow(*record)?;
+    if now.is_strange {
+        return Ok(Found::Base);
     }
-    Ok(
-        !now.is_strange
-            && has_ids(&now.idle, report.idle.as_slice())
-            && has_ids(&now.lent, report.lent.as_slice())
-            && now.connections() == report.connections as usize
-            && now.pending == report.pending
-            && now.closed == report.closed,
-    )
+    for (place, record) in report.records.as_slice().iter().enumerate() {
+        let before = now.counts();
+        now.follow(*record)?;
+        if now.is_strange {
+            return Ok(Found::Record(place, before));
+        }
+    }
+    let is_shown = has_ids(&now.idle, report.idle.as_slice())
+        && has_ids(&now.lent, report.lent.as_slice())
+        && now.connections() == report.connections as usize
+        && now.pending == report.pending
+        && now.closed == report.closed;
+    Ok(if is_shown {
+        Found::Sound
+    } else {
+        Found::Counts(now.counts())
+    })
+}
+
+// Whether it finds nothing wrong.
+pub(crate) fn replays<A: Allocator>(alloc: Global, report: &Report<A>) -> Result<bool, AllocError> {
+    Ok(read(alloc, report)? == Found::Sound)
 }

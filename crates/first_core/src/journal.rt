@@ -1,6 +1,6 @@
 // A book, which is a core with a journal.
 
-use r2d2_core::{Book, Job, Limits};
+use r2d2_core::{Book, Fault, Job, Limits, Report};
 use std::time::Duration;
 
 pub fn printed<R: Print + AllocGlobal>(rt: &R, limits: Limits) -> Result<(), anyhow::Error> {
@@ -21,6 +21,16 @@ pub fn printed<R: Print + AllocGlobal>(rt: &R, limits: Limits) -> Result<(), any
     )?;
     if !report.replays()? {
         println!(rt; "this is no report as a book makes them")?;
+    }
+    say_what_is_wrong(rt, &report)
+}
+
+fn say_what_is_wrong<R: Print>(rt: &R, report: &Report) -> Result<(), anyhow::Error> {
+    match report.first_fault()? {
+        None => println!(rt; "the report replays")?,
+        Some(Fault::Base) => println!(rt; "no pool comes to this base")?,
+        Some(Fault::Record { place, .. }) => println!(rt; "record {place} may not follow")?,
+        Some(Fault::Counts { .. }) => println!(rt; "the counts are others")?,
     }
     Ok(())
 }

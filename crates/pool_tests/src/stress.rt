@@ -1,22 +1,37 @@
-// Many threads over a manager that fails at random: none is served wrongly, nothing is lost, and the journal tells all of it.
+// Many threads over a manager that fails at random: none is served wrongly, nothing is lost, and
+// each report of the journal replays, whatever room there is for records.
 
-use crate::callers::{checkouts, watched};
+use crate::callers::watched;
 use crate::managers::{Blammo, Breaks, Counts, Line, Manager, Value};
-use r2d2::{Builder, ManageConnection};
-use r2d2_core::{Record, Report};
+use r2d2::{Builder, ManageConnection, PlainPool, PoolRuntime};
 use std::alloc::{AllocError, Global};
+use std::process::Abort;
 use std::sync::Arc;
 use std::sync::atomic::{AtomicU64, Ordering};
 use std::test::Fail;
 use std::thread;
+use std::thread::JoinHandle;
 
 const MAX_SIZE: u32 = 8;
 
-/// How many connections are fit for use, those included whose opening goes on, and how many there were at once at most.
+const THREADS: u32 = 16;
+
+/// How often each thread lends.
+const TIMES: u32 = 2_000;
+
+/// How often it lends for each report that it reads.
+const TIMES_A_REPORT: u32 = 200;
+
+/// Room for more records than are made.
+const ROOM_FOR_ALL: usize = 100_000;
+
+/// How many connections are fit for use, those included whose opening goes on, how many there were
+/// at once at most, and how many checks failed.
 #[derive(Drop)]
 struct Fit {
     now: AtomicU64,
     most: AtomicU64,
+    failed_checks: AtomicU64,
 }
 
 impl Fit {
@@ -24,6 +39,7 @@ impl Fit {
         let fit = Fit {
             now: AtomicU64::new(0),
             most: AtomicU64::new(0),
+            failed_checks: AtomicU64::new(0),
         };
         Ok(Arc::new(alloc, fit)?)
     }
@@ -85,7 +101,11 @@ impl ManageConnection for Fickle {
     }
 
     fn is_valid(&self, _line: &mut Line) -> Result<(), Blammo> {
-        if self.goes_bad() { Err(Blammo) } else { Ok(()) }
+        if self.goes_bad() {
+            self.fit.failed_checks.fetch_add(1, Ordering::SeqCst);
+            return Err(Blammo);
+        }
+        Ok(())
     }
 
     fn has_broken(&self, _line: &mut Line) -> bool {
@@ -93,109 +113,128 @@ impl ManageConnection for Fickle {
     }
 }
 
-/// What records come to, where no connection expires and the pool stays open.
+type Stressed<R> = PlainPool<Fickle, R>;
+
+/// What a thread saw: how often it found a connection, and how many of its reports replay.
 #[derive(Drop)]
-struct Replay {
-    idle: Vec<u64>,
-    lent: Vec<u64>,
-    pending: u32,
-    /// A record does not fit what stood before it.
-    is_strange: bool,
+struct Seen {
+    found: u32,
+    replayed: u32,
 }
 
-impl Replay {
-    fn follow(&mut self, record: Record) -> Result<(), AllocError> {
-        match record {
-            Record::Taken { id, ordered, .. } => {
-                self.is_strange |= self.idle.pop() != Some(id);
-                self.lent.push(id)?;
-                self.order(ordered);
-            }
-            Record::Ordered { ordered, .. } => self.order(ordered),
-            Record::Admitted { id, .. } => {
-                self.is_strange |= self.pending == 0;
-                self.pending = self.pending.saturating_sub(1);
-                self.idle.push(id)?;
-            }
-            Record::Kept { id, .. } => {
-                self.return_lent(id);
-                self.idle.push(id)?;
-            }
-            Record::Closed { id, ordered, .. } => {
-                self.return_lent(id);
-                self.order(ordered);
-            }
-            Record::Reaped { .. } | Record::ClosedAll { .. } => self.is_strange = true,
-        }
-        Ok(())
-    }
-
-    fn order(&mut self, ordered: u32) {
-        self.pending = self.pending.saturating_add(ordered);
-    }
-
-    fn return_lent(&mut self, id: u64) {
-        match self.lent.iter().position(|lent| *lent == id) {
-            Some(place) => {
-                self.lent.remove(place);
-            }
-            None => self.is_strange = true,
-        }
-    }
-}
-
-// Whether the records come to the report's ids and counts.
-fn replays(alloc: Global, report: &Report) -> Result<bool, AllocError> {
-    let mut replay = Replay {
-        idle: Vec::new(alloc),
-        lent: Vec::new(alloc),
-        pending: report.limits.wanted(),
-        is_strange: false,
+// Whether the report of this moment replays.
+fn replays<R: PoolRuntime>(pool: &Stressed<R>) -> bool {
+    let Ok(report) = pool.journal() else {
+        return false;
     };
-    for record in report.records.as_slice() {
-        replay.follow(*record)?;
-    }
-    let connections = replay.idle.len().saturating_add(replay.lent.len());
-    Ok(
-        !replay.is_strange
-            && replay.idle.as_slice() == report.idle.as_slice()
-            && replay.lent.as_slice() == report.lent.as_slice()
-            && connections == report.connections as usize
-            && replay.pending == report.pending,
-    )
+    report.replays() == Ok(true)
 }
 
-#[test]
-fn stress(rt: HostRuntime) -> Result<(), Fail> {
+// Lends a connection so many times, and reads a report now and then.
+fn lend_and_read<R: PoolRuntime>(pool: Stressed<R>) -> Seen {
+    let mut found = 0u32;
+    let mut replayed = 0u32;
+    for time in 0..TIMES {
+        if pool.get().is_ok() {
+            found = found.saturating_add(1);
+        }
+        if time % TIMES_A_REPORT == 0 && replays(&pool) {
+            replayed = replayed.saturating_add(1);
+        }
+    }
+    Seen { found, replayed }
+}
+
+// Starts the threads, each by `start`.
+fn start_all<R, S>(rt: R, pool: &Stressed<R>, start: &S) -> Result<Vec<JoinHandle<Seen>>, Fail>
+where
+    R: PoolRuntime,
+    S: Fn(Stressed<R>) -> Result<JoinHandle<Seen>, Fail>,
+    requires { S.IsAlwaysCallable start.now }
+{
+    let mut threads = Vec::new(rt.alloc());
+    for _ in 0..THREADS {
+        threads.push(start(pool.try_clone()?)?)?;
+    }
+    Ok(threads)
+}
+
+// Waits for the threads, and adds up what they saw.
+fn join_all<R: PoolRuntime>(rt: R, threads: Vec<JoinHandle<Seen>>) -> Seen {
+    let mut found = 0u32;
+    let mut replayed = 0u32;
+    for thread in threads {
+        let seen = thread.join(&rt);
+        found = found.saturating_add(seen.found);
+        replayed = replayed.saturating_add(seen.replayed);
+    }
+    Seen { found, replayed }
+}
+
+// The journal at the end, while two more connections are lent: it has as many records as there is
+// room for, and counts each take that found, those included whose check failed.
+fn tells_all<R: Abort + PoolRuntime>(
+    rt: &R,
+    pool: &Stressed<R>,
+    fit: &Fit,
+    room: usize,
+) -> Result<(), Fail> {
+    let _lent = (pool.get()?, pool.get()?);
+    let report = pool.journal()?;
+    assert_eq!(rt; report.replays(), Ok(true), "a room of {room}");
+    assert_eq!(rt; report.lent.as_slice().len(), 2);
+    let found = fit
+        .failed_checks
+        .load(Ordering::SeqCst)
+        .saturating_add(32_002);
+    assert_eq!(rt; report.takes, found, "a room of {room}");
+    let is_whole = report.lost == 0;
+    assert_eq!(rt; is_whole, room == ROOM_FOR_ALL, "a room of {room}");
+    assert!(rt;
+        is_whole || report.records.as_slice().len() == room,
+        "a room of {room}"
+    );
+    Ok(())
+}
+
+// All of it, with a journal of so many records. `start` starts a thread that lends and reads.
+fn stress_with<R, S>(rt: R, room: usize, start: S) -> Result<(), Fail>
+where
+    R: Abort + PoolRuntime,
+    S: Fn(Stressed<R>) -> Result<JoinHandle<Seen>, Fail> + Drop,
+    requires { S.IsAlwaysCallable start }
+{
     let counts = Counts::new(rt.alloc())?;
     let fit = Fit::new(rt.alloc())?;
     let pool = Builder::new()
         .max_size(MAX_SIZE)
         .max_lifetime(None)
         .idle_timeout(None)
-        .journal_room(500_000)
+        .journal_room(room)
         .build(rt, Fickle::new(&counts, &fit)?)?;
-    let mut threads = Vec::new(rt.alloc());
-    for _ in 0..16 {
-        let theirs = pool.try_clone()?;
-        threads.push(thread::spawn(&rt, move || checkouts(theirs, 10_000))?)?;
-    }
-    let mut found = 0u32;
-    for thread in threads {
-        found = found.saturating_add(thread.join(&rt));
-    }
-    assert_eq!(rt; found, 160_000);
+    let threads = start_all(rt, &pool, &start)?;
+    let seen = join_all(rt, threads);
+    assert_eq!(rt;
+        (seen.found, seen.replayed),
+        (32_000, 160),
+        "a room of {room}"
+    );
     assert_eq!(rt; fit.most.load(Ordering::SeqCst), u64::from(MAX_SIZE));
-
-    let lent = (pool.get()?, pool.get()?);
-    let report = pool.journal()?;
-    assert_eq!(rt; report.lost, 0);
-    assert_eq!(rt; report.lent.as_slice().len(), 2);
-    assert!(rt; replays(rt.alloc(), &report)?);
-
+    tells_all(&rt, &pool, &fit, room)?;
     drop(pool);
-    drop(lent);
     assert_eq!(rt; watched(&rt, &counts.managers_dropped, 1, 1000), 1);
     assert_eq!(rt; counts.dropped(), counts.connects.load(Ordering::SeqCst));
+    Ok(())
+}
+
+#[test]
+fn stress(rt: HostRuntime) -> Result<(), Fail> {
+    for room in [0, 1, 7, 64, ROOM_FOR_ALL] {
+        stress_with(
+            rt,
+            room,
+            |pool| Ok(thread::spawn(&rt, move || lend_and_read(pool))?),
+        )?;
+    }
     Ok(())
 }

@@ -3,6 +3,7 @@ use Rattle.std.specs.Prelude.{◌≡◌, ◌≤◌, ◌<◌, ◌^◌, length, ma
 use Rattle.r2d2_core.specs.declared.journal.bounded.Journal.TheInside.{Inside}
 use Rattle.r2d2_core.specs.Limits.{seen_limits}
 use Rattle.r2d2_core.specs.Records.{seen_record}
+use Rattle.r2d2_core.specs.Standing.{rooms}
 use Rattle.r2d2_core.specs.Journal.{SeenJournal, CountsTakes}
 
 module _ {A : Type 0} where
@@ -21,4 +22,4 @@ module _ {A : Type 0} where
     pub bounded : a.records.capacity < 2 ^ 64
     pub counted : CountsTakes (journal_in a)
     -- the base has room for all that it may come to
-    pub has_room : a.standing.room ≡ a.limits.max_size
+    pub has_room : a.standing.room ≡ rooms a.limits.max_size a.limits.max_size

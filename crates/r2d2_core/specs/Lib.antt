@@ -33,3 +33,4 @@ pub mod Noted
 pub mod Steps
 pub mod Reports
 pub mod Auditing
+pub mod Faults

@@ -1,20 +1,26 @@
 -- What a contract sees of a base that is kept in place, and what keeps of its fields.
 use Rattle.std.specs.Prelude.{ℕ, ◌+◌, ◌-◌, true, false, List, [], ◌∷◌, ◌++◌, length}
 use Rattle.std.specs.Duration.{as_nanos}
+use Rattle.r2d2_core.specs.declared.journal.standing.Rooms.{Rooms}
 use Rattle.r2d2_core.specs.declared.journal.standing.Standing.TheInside.{Inside}
 use Rattle.r2d2_core.specs.Limits.{SeenLimits}
 use Rattle.r2d2_core.specs.Ids.{without}
 use Rattle.r2d2_core.specs.Connections.{SeenLentConnection, lent_connection, id_of_idle, id_of_lent}
+use Rattle.r2d2_core.specs.Records.{SeenRecord, Taken, Admitted, Kept}
 use Rattle.r2d2_core.specs.Bases.{SeenBase, Resting, resting}
 use Rattle.r2d2_core.specs.Folding.{birth_at_rest, birth_away, still_resting, expired_in}
 
--- the base, and how many may be idle in it, and how many lent
+-- how many may be idle, and how many lent
+abbrev pub rooms : ℕ → ℕ → Rooms
+rooms idle lent = record { idle = idle; lent = lent }
+
+-- the base, and what it has room for
 pub record SeenStanding : Type 0 where
   pub base : SeenBase
-  pub room : ℕ
+  pub room : Rooms
 
-abbrev pub standing : SeenBase → ℕ → SeenStanding
-standing b n = record { base = b; room = n }
+abbrev pub standing : SeenBase → Rooms → SeenStanding
+standing b room = record { base = b; room = room }
 
 -- what stands in a pool where nothing is idle or lent
 abbrev pub empty_base : ℕ → ℕ → SeenBase
@@ -30,6 +36,28 @@ module _ {A : Type 0} where
     pending = s.pending;
     closed = s.closed;
   }
+
+-- how many come to be idle by a record, and how many come to be lent
+abbrev pub rest_by : SeenRecord → ℕ
+rest_by (Admitted at id) = 1
+rest_by (Kept at id) = 1
+rest_by r = 0
+
+abbrev pub leave_by : SeenRecord → ℕ
+leave_by (Taken at id n) = 1
+leave_by r = 0
+
+abbrev pub rest_in : List SeenRecord → ℕ
+rest_in [] = 0
+rest_in (r ∷ rs) = rest_by r + rest_in rs
+
+abbrev pub leave_in : List SeenRecord → ℕ
+leave_in [] = 0
+leave_in (r ∷ rs) = leave_by r + leave_in rs
+
+-- room for what a base has, and for what records bring
+abbrev pub rooms_for : SeenBase → List SeenRecord → Rooms
+rooms_for b rs = rooms (length b.idle + rest_in rs) (length b.lent + leave_in rs)
 
 -- WHAT A RECORD DOES TO A BASE, part by part
 

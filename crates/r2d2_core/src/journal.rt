@@ -6,6 +6,7 @@ use crate::machine::{Core, Gone, Leftover, Refusal, Released, Returned, Take};
 use crate::schedule::{Job, Limits};
 pub use base::{AwayList, Base, RestingList};
 use bounded::Journal;
+pub use faults::Fault;
 pub use record::Record;
 pub use report::{IdList, RecordList, Report};
 use std::alloc::{AllocError, Allocator, Global};
@@ -14,6 +15,7 @@ use std::time::Duration;
 
 pub mod base;
 pub(crate) mod bounded;
+pub mod faults;
 pub mod record;
 mod replaying;
 pub mod report;

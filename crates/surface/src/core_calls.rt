@@ -1,7 +1,7 @@
 // The core, under the pool's own name.
 ghost use Rattle.std.specs.Prelude.{◌≡◌, ◌<◌, length};
 
-use r2d2::journal::{Book, IdList, Record, RecordList, Report};
+use r2d2::journal::{AwayList, Base, Book, IdList, Record, RecordList, Report, RestingList};
 use r2d2::machine::{Core, Gone, Leftover, Limits, Refusal, Released, Returned, Take};
 use r2d2::reuse::{Comparison, Move, compare, is_in_order};
 use r2d2::run::{Answer, Step, run};
@@ -210,8 +210,67 @@ fn books(rt: HostRuntime) -> Result<(), Fail> {
     assert!(rt; discards_from(&mut book));
     let mut released = Vec::with_capacity(rt.alloc(), book.limits().max_size() as usize)?;
     assert_eq!(rt; book.reap(seconds(9), &mut released), 0);
-    assert_eq!(rt; book.close().count(), 0);
+    assert!(rt; book.close().next().is_none());
     assert!(rt; book.is_closed());
+    Ok(())
+}
+
+// What stands before the first record: nothing but the openings that are wanted.
+fn first_base(alloc: Global, limits: Limits) -> Base {
+    Base {
+        at: Duration::ZERO,
+        idle: RestingList::of(Vec::new(alloc)),
+        lent: AwayList::of(Vec::new(alloc)),
+        connections: 0,
+        pending: limits.wanted(),
+        closed: false,
+    }
+}
+
+// A report as a reader of a log puts it together: of a book that noted nothing yet.
+fn first_report(alloc: Global, limits: Limits) -> Report {
+    Report {
+        limits,
+        base: first_base(alloc, limits),
+        records: RecordList::of(Vec::new(alloc)),
+        lost: 0,
+        takes: 0,
+        idle: IdList::of(Vec::new(alloc)),
+        lent: IdList::of(Vec::new(alloc)),
+        connections: 0,
+        pending: limits.wanted(),
+        closed: false,
+    }
+}
+
+#[test]
+fn bases(rt: HostRuntime) -> Result<(), Fail> {
+    let limits = limits().ok_or("limits")?;
+    assert_eq!(rt; first_report(rt.alloc(), limits).replays(), Ok(true));
+    let mut book: Book<u32> = Book::new(rt.alloc(), limits, Duration::ZERO, 0)?;
+    assert!(rt; opens_and_lends_in(&mut book));
+    let report = book.report()?;
+    assert_eq!(rt; report.replays(), Ok(true));
+    let base: &Base = &report.base;
+    assert_eq!(rt;
+        (base.at, base.connections, base.pending, base.closed),
+        (seconds(1), 1, 1, false)
+    );
+    assert!(rt; base.idle.as_slice() == [(0, Duration::ZERO, seconds(1))].as_slice());
+
+    let _ = book.take(seconds(2), false);
+    let report = book.report()?;
+    assert_eq!(rt; report.replays(), Ok(true));
+    assert!(rt; report.base.lent.as_slice() == [(0, Duration::ZERO)].as_slice());
+    Ok(())
+}
+
+#[test]
+fn lists_of_a_base(rt: HostRuntime) -> Result<(), Fail> {
+    let idle: RestingList = RestingList::of(vec![in rt.alloc(); (1, seconds(1), seconds(2))]?);
+    let lent: AwayList = AwayList::of(vec![in rt.alloc(); (2, seconds(1))]?);
+    assert_eq!(rt; (idle.as_slice().len(), lent.as_slice().len()), (1, 1));
+    assert_eq!(rt; (idle.into_vec().len(), lent.into_vec().len()), (1, 1));
     Ok(())
 }
 

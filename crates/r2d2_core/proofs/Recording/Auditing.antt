@@ -1,28 +1,33 @@
 -- That the tests of a report's audit find what the definitions ask for.
-use Rattle.std.proofs.Common.{◌≡◌, ℕ, zero, suc, length-append, ◌+◌, ◌≤◌, ◌<◌, Bool, true, false, cond, ◌||◌, not, ◌==◌, List, [], ◌∷◌, ◌++◌, map, length, drop, take, append_assoc, get_or, set, length-set, get_or-set_same, get_or-set_other, Option, Some, None, refl, sym, ◌∙◌, ap, subst, arith, add-one}
-use Rattle.std.specs.Prelude.{◌&&◌, nat_le, sum_by}
-use Rattle.std.specs.Prelude.{IsTrue, MatchOption}
+use Rattle.std.proofs.Common.{◌≡◌, ℕ, zero, suc, ◌+◌, ◌≤◌, ◌<◌, Bool, true, false, cond, ◌||◌, not, ◌==◌, List, [], ◌∷◌, ◌++◌, map, length, drop, take, append_assoc, get_or, set, length-set, get_or-set_same, get_or-set_other, Option, Some, None, refl, sym, ◌∙◌, ap, subst, arith, add-one}
+use Rattle.std.specs.Prelude.{◌&&◌, nat_le, sum_by, filter, is_some}
+use Rattle.std.specs.Prelude.{IsTrue, IfOk, MatchOption, Result, Ok, Err}
 use Rattle.std.specs.List.{All, swap}
 use Rattle.std.specs.List.Sorted.{IsNonDecreasingBy, IsPermutation}
-use Rattle.std.proofs.lemmas.List.{drop_all, append-nil}
+use Rattle.std.proofs.lemmas.List.{append-nil, length_push, take_all, take-take}
 use Rattle.std.proofs.lemmas.List.Edits.{swap_is}
 use Rattle.std.proofs.lemmas.List.Sums.{sum_by-set, sum_by-append}
 use Rattle.std.proofs.lemmas.List.Sorted.{IsPermutation-keeps}
-use Rattle.std.proofs.lemmas.Bool.{eq-eqb, eqb-true}
+use Rattle.std.proofs.lemmas.Bool.{eq-eqb, eqb-true, cases_lt}
+use mathlib.Core.Logic.{⊎_elim}
 use Rattle.r2d2_core.specs.declared.journal.record.Record.{Record}
 use Rattle.r2d2_core.specs.declared.journal.record.Record.TheVariants as record_
 use Rattle.r2d2_core.specs.Limits.{SeenLimits}
-use Rattle.r2d2_core.specs.Ids.{copies_of}
-use Rattle.r2d2_core.specs.Connections.{SeenLentConnection, id_of_idle, id_of_lent, since_of}
-use Rattle.r2d2_core.specs.Records.{SeenRecord, Taken, Ordered, Admitted, Kept, Closed, Reaped, ClosedAll}
-use Rattle.r2d2_core.specs.Bases.{SeenBase, Resting, ids_of, IsLegalBase}
-use Rattle.r2d2_core.specs.Folding.{folded, replay, may_follow, all_follow, admitted_by, admitted_in, known_in}
+use Rattle.r2d2_core.specs.Ids.{copies_of, without}
+use Rattle.r2d2_core.specs.Connections.{SeenLentConnection, lent_connection, id_of_idle, id_of_lent, since_of, is_kept}
+use Rattle.r2d2_core.specs.Records.{seen_record, SeenRecord, Taken, Ordered, Admitted, Kept, Closed, Reaped, ClosedAll}
+use Rattle.r2d2_core.specs.Bases.{SeenBase, Resting, resting, ids_of, IsLegalBase}
+use Rattle.r2d2_core.specs.Folding.{birth_at_rest, birth_away, folded, replay, may_follow, all_follow, admitted_by, admitted_in, known_in, AreLegalFrom}
 use Rattle.r2d2_core.specs.declared.journal.report.Report.{Report}
 use Rattle.r2d2_core.specs.Limits.{seen_limits}
-use Rattle.r2d2_core.specs.Standing.{SeenStanding, standing}
-use Rattle.r2d2_core.specs.Reports.{seen_base, DoesReplay}
+use Rattle.r2d2_core.specs.Standing.{SeenStanding, standing, rest_by, leave_by, rest_in, leave_in, rooms_for}
+use Rattle.r2d2_core.specs.Reports.{seen_base, told_in, DoesReplay}
 use Rattle.r2d2_core.specs.Auditing.{counts_fit, are_in_order, are_born, ShowsCounts}
-use Rattle.r2d2_core.proofs.Recording.Folding.{both, split, is_le, legal_folded, known_folded, known_first}
+use Rattle.r2d2_core.specs.declared.journal.standing.Rooms.{Rooms}
+use Rattle.r2d2_core.specs.declared.journal.replaying.Wrong.{Wrong}
+use Rattle.r2d2_core.specs.declared.journal.replaying.Wrong.TheVariants as wrong
+use Rattle.r2d2_core.specs.Faults.{IsWrong, IsFirstWrong, AreApartUpTo}
+use Rattle.r2d2_core.proofs.Recording.Folding.{both, split, is_le, legal_folded, known_folded, known_first, replay-push, follow-push}
 use Rattle.r2d2_core.proofs.Lists.Ids.{copies_of-append}
 use Rattle.r2d2_core.proofs.Recording.Replaying.{le_is}
 
@@ -203,58 +208,91 @@ copies-permutation i xs ys h = IsPermutation-keeps xs (λ (l : List ℕ). copies
 -- RECORDS
 
 -- after so many records
-pub record IsFollowing (limits : SeenLimits) (rs : List SeenRecord) (b : SeenBase) (k : ℕ) (now : SeenBase) (room : ℕ) : Type 0 where
+pub record IsFollowing (limits : SeenLimits) (rs : List SeenRecord) (b : SeenBase) (k : ℕ) (now : SeenBase) (room : Rooms) : Type 0 where
   pub legal : IsLegalBase limits now
   pub apart : (i : ℕ) → copies_of i (known_in now (drop k rs)) ≤ 1
-  pub fits : length now.idle + length now.lent + length (admitted_in (drop k rs)) ≤ room
-  pub may : all_follow limits rs b ≡ all_follow limits (drop k rs) now
-  pub folds : replay limits rs b ≡ replay limits (drop k rs) now
+  pub idle_room : length now.idle + rest_in (drop k rs) ≤ room.idle
+  pub lent_room : length now.lent + leave_in (drop k rs) ≤ room.lent
+  pub may : all_follow limits (take k rs) b ≡ true
+  pub folds : replay limits (take k rs) b ≡ now
 
--- what is idle and lent with a record, and admitted behind it, is what was with it
-pub counted_on : (limits : SeenLimits) (r : SeenRecord) (b : SeenBase) → IsLegalBase limits b → IsLegalBase limits (folded limits r b) → may_follow limits r b ≡ true
-    → (let now = folded limits r b in length now.idle + length now.lent) ≤ length b.idle + length b.lent + length (admitted_by r)
-counted_on limits r b legal legal' may = by r legal' where
-  by : (r : SeenRecord) → IsLegalBase limits (folded limits r b) → (let now = folded limits r b in length now.idle + length now.lent) ≤ length b.idle + length b.lent + length (admitted_by r)
-  by (Taken at id n) h = omega (arith, legal.counted, h.counted)
-  by (Ordered at n) h = omega (arith, legal.counted, h.counted)
-  by (Admitted at id) h = omega (arith, legal.counted, h.counted)
-  by (Kept at id) h = omega (arith, legal.counted, h.counted)
-  by (Closed at id n) h = omega (arith, legal.counted, h.counted)
-  by (Reaped at n) h = omega (arith, legal.counted, h.counted)
-  by (ClosedAll at) h = omega (arith, legal.counted, h.counted)
+fewer_step : {X : Type 0} (c : Bool) (x : X) (xs ws : List X) → length ws ≤ length xs → length (cond c xs (x ∷ ws)) ≤ suc (length xs)
+fewer_step true x xs ws le = omega arith
+fewer_step false x xs ws le = omega (arith, le)
 
-pub following_start : (limits : SeenLimits) (rs : List SeenRecord) (b : SeenBase) (room : ℕ) → IsLegalBase limits b → ((i : ℕ) → copies_of i (known_in b rs) ≤ 1) → length b.idle + length b.lent + length (admitted_in rs) ≤ room → IsFollowing limits rs b 0 b room
-following_start limits rs b room legal apart fits = record { legal = legal; apart = apart; fits = fits; may = refl; folds = refl }
+fewer_without : {X : Type 0} (id_of : X → ℕ) (i : ℕ) (xs : List X) → length (without id_of i xs) ≤ length xs
+fewer_without id_of i [] = omega arith
+fewer_without id_of i (x ∷ xs) = fewer_step (id_of x == i) x xs (without id_of i xs) (fewer_without id_of i xs)
 
-pub following_more : (limits : SeenLimits) (rs : List SeenRecord) (b : SeenBase) (k : ℕ) (now : SeenBase) (room : ℕ) (r : SeenRecord) → drop k rs ≡ r ∷ drop (k + 1) rs → may_follow limits r now ≡ true
+kept_step : {X : Type 0} (c : Bool) (x : X) (xs ws : List X) → length ws ≤ length xs → length (cond c (x ∷ ws) ws) ≤ suc (length xs)
+kept_step true x xs ws le = omega (arith, le)
+kept_step false x xs ws le = omega (arith, le)
+
+fewer_kept : {X : Type 0} (p : X → Bool) (xs : List X) → length (filter p xs) ≤ length xs
+fewer_kept p [] = omega arith
+fewer_kept p (x ∷ xs) = kept_step (p x) x xs (filter p xs) (fewer_kept p xs)
+
+-- so many are idle and lent with a record
+rested : (limits : SeenLimits) (r : SeenRecord) (b : SeenBase) → (let now = folded limits r b in length now.idle) ≤ length b.idle + rest_by r
+rested limits (Taken at id n) b = omega (arith, fewer_without id_of_idle id b.idle)
+rested limits (Ordered at n) b = omega arith
+rested limits (Admitted at id) b = omega (arith, length_push b.idle (resting id at at))
+rested limits (Kept at id) b = omega (arith, length_push b.idle (resting id (birth_away id b.lent) at))
+rested limits (Closed at id n) b = omega arith
+rested limits (Reaped at n) b = omega (arith, fewer_kept (is_kept limits at) b.idle)
+rested limits (ClosedAll at) b = omega arith
+
+left : (limits : SeenLimits) (r : SeenRecord) (b : SeenBase) → (let now = folded limits r b in length now.lent) ≤ length b.lent + leave_by r
+left limits (Taken at id n) b = omega (arith, length_push b.lent (lent_connection id (birth_at_rest id b.idle)))
+left limits (Ordered at n) b = omega arith
+left limits (Admitted at id) b = omega arith
+left limits (Kept at id) b = omega (arith, fewer_without id_of_lent id b.lent)
+left limits (Closed at id n) b = omega (arith, fewer_without id_of_lent id b.lent)
+left limits (Reaped at n) b = omega arith
+left limits (ClosedAll at) b = omega arith
+
+pub following_start : (limits : SeenLimits) (rs : List SeenRecord) (b : SeenBase) (room : Rooms) → IsLegalBase limits b → ((i : ℕ) → copies_of i (known_in b rs) ≤ 1) → room ≡ rooms_for b rs → IsFollowing limits rs b 0 b room
+following_start limits rs b room legal apart is = record {
+  legal = legal;
+  apart = apart;
+  idle_room = omega (arith, ap (λ (r : Rooms). r.idle) is);
+  lent_room = omega (arith, ap (λ (r : Rooms). r.lent) is);
+  may = refl;
+  folds = refl;
+}
+
+pub following_more : (limits : SeenLimits) (rs : List SeenRecord) (b : SeenBase) (k : ℕ) (now : SeenBase) (room : Rooms) (r : SeenRecord) → drop k rs ≡ r ∷ drop (k + 1) rs → take (k + 1) rs ≡ take k rs ++ r ∷ [] → may_follow limits r now ≡ true
     → IsFollowing limits rs b k now room → IsFollowing limits rs b (k + 1) (folded limits r now) room
-following_more limits rs b k now room r next may h =
+following_more limits rs b k now room r next front may h =
     let rest = drop (k + 1) rs in
     let apart : (i : ℕ) → copies_of i (known_in now (r ∷ rest)) ≤ 1 = λ i. subst (λ (l : List SeenRecord). copies_of i (known_in now l) ≤ 1) next (h.apart i) in
-    let fits : length now.idle + length now.lent + length (admitted_in (r ∷ rest)) ≤ room = subst (λ (l : List SeenRecord). length now.idle + length now.lent + length (admitted_in l) ≤ room) next h.fits in
-    let legal = legal_folded limits r now h.legal may (λ i. omega (arith, apart i, known_first i now r rest)) in
+    let idle_room : length now.idle + rest_in (r ∷ rest) ≤ room.idle = subst (λ (l : List SeenRecord). length now.idle + rest_in l ≤ room.idle) next h.idle_room in
+    let lent_room : length now.lent + leave_in (r ∷ rest) ≤ room.lent = subst (λ (l : List SeenRecord). length now.lent + leave_in l ≤ room.lent) next h.lent_room in
     record {
-      legal = legal;
+      legal = legal_folded limits r now h.legal may (λ i. omega (arith, apart i, known_first i now r rest));
       apart = λ i. omega (arith, apart i, known_folded limits r rest now h.legal.apart may i);
-      fits = omega (arith, fits, counted_on limits r now h.legal legal may, length-append (admitted_by r) (admitted_in rest));
-      may = h.may ∙ (ap (λ (l : List SeenRecord). all_follow limits l now) next ∙ ap (λ c. c && all_follow limits rest (folded limits r now)) may);
-      folds = h.folds ∙ ap (λ (l : List SeenRecord). replay limits l now) next;
+      idle_room = omega (arith, idle_room, rested limits r now);
+      lent_room = omega (arith, lent_room, left limits r now);
+      may = ap (λ (l : List SeenRecord). all_follow limits l b) front ∙ (follow-push limits (take k rs) r b ∙ both _ _ h.may (ap (may_follow limits r) h.folds ∙ may));
+      folds = ap (λ (l : List SeenRecord). replay limits l b) front ∙ (replay-push limits (take k rs) r b ∙ ap (folded limits r) h.folds);
     }
 
-pub following_stop : (limits : SeenLimits) (rs : List SeenRecord) (b : SeenBase) (k : ℕ) (now : SeenBase) (room : ℕ) (r : SeenRecord) → drop k rs ≡ r ∷ drop (k + 1) rs → may_follow limits r now ≡ false
-    → IsFollowing limits rs b k now room → all_follow limits rs b ≡ false
-following_stop limits rs b k now room r next may h = h.may ∙ (ap (λ (l : List SeenRecord). all_follow limits l now) next ∙ ap (λ c. c && all_follow limits (drop (k + 1) rs) (folded limits r now)) may)
+pub following_stop : (limits : SeenLimits) (rs : List SeenRecord) (b : SeenBase) (k : ℕ) (now : SeenBase) (room : Rooms) (r : SeenRecord) → take (k + 1) rs ≡ take k rs ++ r ∷ [] → may_follow limits r now ≡ false
+    → IsFollowing limits rs b k now room → all_follow limits (take (k + 1) rs) b ≡ false
+following_stop limits rs b k now room r front may h =
+    ap (λ (l : List SeenRecord). all_follow limits l b) front
+    ∙ (follow-push limits (take k rs) r b
+    ∙ (ap (λ c. c && may_follow limits r (replay limits (take k rs) b)) h.may ∙ (ap (may_follow limits r) h.folds ∙ may)))
 
-pub following_fits : (limits : SeenLimits) (rs : List SeenRecord) (b : SeenBase) (k : ℕ) (now : SeenBase) (room : ℕ) (r : SeenRecord) → drop k rs ≡ r ∷ drop (k + 1) rs → IsFollowing limits rs b k now room
-    → length now.idle + length now.lent + length (admitted_by r) ≤ room
+pub following_fits : (limits : SeenLimits) (rs : List SeenRecord) (b : SeenBase) (k : ℕ) (now : SeenBase) (room : Rooms) (r : SeenRecord) → drop k rs ≡ r ∷ drop (k + 1) rs → IsFollowing limits rs b k now room
+    → (length now.idle + rest_by r ≤ room.idle) × (length now.lent + leave_by r ≤ room.lent)
 following_fits limits rs b k now room r next h =
-    let fits : length now.idle + length now.lent + length (admitted_in (r ∷ drop (k + 1) rs)) ≤ room = subst (λ (l : List SeenRecord). length now.idle + length now.lent + length (admitted_in l) ≤ room) next h.fits in
-    omega (arith, fits, length-append (admitted_by r) (admitted_in (drop (k + 1) rs)))
+    let idle_room : length now.idle + rest_in (r ∷ drop (k + 1) rs) ≤ room.idle = subst (λ (l : List SeenRecord). length now.idle + rest_in l ≤ room.idle) next h.idle_room in
+    let lent_room : length now.lent + leave_in (r ∷ drop (k + 1) rs) ≤ room.lent = subst (λ (l : List SeenRecord). length now.lent + leave_in l ≤ room.lent) next h.lent_room in
+    (omega (arith, idle_room), omega (arith, lent_room))
 
-pub following_end : (limits : SeenLimits) (rs : List SeenRecord) (b : SeenBase) (k : ℕ) (now : SeenBase) (room : ℕ) → length rs ≤ k → IsFollowing limits rs b k now room → (all_follow limits rs b ≡ true) × (replay limits rs b ≡ now)
-following_end limits rs b k now room past h =
-    let none : drop k rs ≡ [] = drop_all k rs past in
-    (h.may ∙ ap (λ (l : List SeenRecord). all_follow limits l now) none, h.folds ∙ ap (λ (l : List SeenRecord). replay limits l now) none)
+pub following_end : (limits : SeenLimits) (rs : List SeenRecord) (b : SeenBase) (k : ℕ) (now : SeenBase) (room : Rooms) → length rs ≤ k → IsFollowing limits rs b k now room → replay limits rs b ≡ now
+following_end limits rs b k now room past h = ap (λ (l : List SeenRecord). replay limits l b) (sym (take_all k rs past)) ∙ h.folds
 
 next_at : {P X : Type 0} (seen : P → X) (xs : List P) (k : ℕ) (d : P) → k < length xs → drop k (map seen xs) ≡ seen (get_or xs k d) ∷ drop (suc k) (map seen xs)
 next_at seen [] k d lt = absurd (omega (arith, lt))
@@ -299,6 +337,21 @@ next_admitted seen (x ∷ xs) (suc k) d lt =
 pub admitted_next : {P : Type 0} (seen : P → SeenRecord) (xs : List P) (k : ℕ) (d : P) (ids : List ℕ) → k < length xs → admitted_by (seen (get_or xs k d)) ≡ ids → admitted_in (take (k + 1) (map seen xs)) ≡ admitted_in (take k (map seen xs)) ++ ids
 admitted_next seen xs k d ids lt e = ap (λ n. admitted_in (take n (map seen xs))) (add-one k) ∙ (next_admitted seen xs k d lt ∙ ap (λ l. admitted_in (take k (map seen xs)) ++ l) e)
 
+rest-push : (rs : List SeenRecord) (r : SeenRecord) → rest_in (rs ++ r ∷ []) ≡ rest_in rs + rest_by r
+rest-push [] r = omega arith
+rest-push (s ∷ rs) r = omega (arith, rest-push rs r)
+
+leave-push : (rs : List SeenRecord) (r : SeenRecord) → leave_in (rs ++ r ∷ []) ≡ leave_in rs + leave_by r
+leave-push [] r = omega arith
+leave-push (s ∷ rs) r = omega (arith, leave-push rs r)
+
+-- what comes with the next of some records
+pub rest_next : {P : Type 0} (seen : P → SeenRecord) (xs : List P) (k : ℕ) (d : P) → k < length xs → rest_in (take (k + 1) (map seen xs)) ≡ rest_in (take k (map seen xs)) + rest_by (seen (get_or xs k d))
+rest_next seen xs k d lt = ap (λ (l : List SeenRecord). rest_in l) (seen_taken seen xs k d lt) ∙ rest-push (take k (map seen xs)) (seen (get_or xs k d))
+
+pub leave_next : {P : Type 0} (seen : P → SeenRecord) (xs : List P) (k : ℕ) (d : P) → k < length xs → leave_in (take (k + 1) (map seen xs)) ≡ leave_in (take k (map seen xs)) + leave_by (seen (get_or xs k d))
+leave_next seen xs k d lt = ap (λ (l : List SeenRecord). leave_in l) (seen_taken seen xs k d lt) ∙ leave-push (take k (map seen xs)) (seen (get_or xs k d))
+
 -- idle ones in order, one by one
 pub order_more : (at last k : ℕ) (cs : List Resting) (c : Resting) (whole : Bool) → drop k cs ≡ c ∷ drop (k + 1) cs → (nat_le c.birth c.since && (nat_le last c.since && nat_le c.since at)) ≡ true
     → whole ≡ are_in_order at last (drop k cs) → whole ≡ are_in_order at c.since (drop (k + 1) cs)
@@ -324,49 +377,126 @@ apart_in xs ys h up i = omega (arith, copies-permutation i xs ys h, apart_rising
 -- THE AUDIT
 
 -- a base is put in place where its moments are in order, and there alone
-abbrev pub IsPut : SeenBase → ℕ → Option SeenStanding → Type 0
+abbrev pub IsPut : SeenBase → Rooms → Option SeenStanding → Type 0
 IsPut b room made = MatchOption made ((are_in_order b.at 0 b.idle && are_born b.at b.lent) ≡ false) (λ there. ((are_in_order b.at 0 b.idle && are_born b.at b.lent) ≡ true) × (there ≡ standing b room))
 
-pub put_there : (b : SeenBase) (room : ℕ) (made : Option SeenStanding) (s : SeenStanding) → made ≡ Some s → IsPut b room made → ((are_in_order b.at 0 b.idle && are_born b.at b.lent) ≡ true) × (s ≡ standing b room)
-put_there b room made s is h = subst (IsPut b room) is h
+-- it is put where it is legal, and there alone
+abbrev pub IsStart : SeenLimits → SeenBase → Rooms → Option SeenStanding → Type 0
+IsStart limits b room made = MatchOption made (IsLegalBase limits b → ⊥) (λ there. IsLegalBase limits b × (there ≡ standing b room))
 
-pub put_none : (limits : SeenLimits) (b : SeenBase) (room : ℕ) (made : Option SeenStanding) → made ≡ None → IsPut b room made → IsLegalBase limits b → ⊥
-put_none limits b room made is h legal = let none = subst (IsPut b room) is h in cc (none, order_in limits b legal)
+pub starts : (limits : SeenLimits) (b : SeenBase) (room : Rooms) (made : Option SeenStanding) → counts_fit limits b ≡ true → ((i : ℕ) → copies_of i (ids_of b) ≤ 1) → IsPut b room made → IsStart limits b room made
+starts limits b room None counts apart none = λ legal. cc (none, order_in limits b legal)
+starts limits b room (Some there) counts apart put = (legal_by limits b counts apart put.0, put.1)
+
+pub no_start : (limits : SeenLimits) (b : SeenBase) → counts_fit limits b ≡ false → IsLegalBase limits b → ⊥
+no_start limits b wrong legal = cc (wrong, counts_of_legal limits b legal)
+
+pub start_there : (limits : SeenLimits) (b : SeenBase) (room : Rooms) (made : Option SeenStanding) (s : SeenStanding) → made ≡ Some s → IsStart limits b room made → IsLegalBase limits b × (s ≡ standing b room)
+start_there limits b room made s is h = subst (IsStart limits b room) is h
+
+pub start_none : (limits : SeenLimits) (b : SeenBase) (room : Rooms) (made : Option SeenStanding) → made ≡ None → IsStart limits b room made → IsLegalBase limits b → ⊥
+start_none limits b room made is h = subst (IsStart limits b room) is h
 
 -- the ids of a base are apart where those that are known are
 pub base_apart : (b : SeenBase) (rs : List SeenRecord) → ((i : ℕ) → copies_of i (known_in b rs) ≤ 1) → (i : ℕ) → copies_of i (ids_of b) ≤ 1
 base_apart b rs apart i = omega (arith, apart i, copies_of-append i (ids_of b) (admitted_in rs))
 
-module _ {B : Type 0} (r : Report B) (b : SeenBase) (follows : Bool) (legal : IsLegalBase (seen_limits r.limits) (seen_base r.base)) (apart : (i : ℕ) → copies_of i (known_in (seen_base r.base) r.records) ≤ 1)
-    (may : follows ≡ all_follow (seen_limits r.limits) r.records (seen_base r.base)) (is : IsTrue follows → b ≡ replay (seen_limits r.limits) r.records (seen_base r.base)) where
-  does : follows ≡ true → ShowsCounts b r → DoesReplay r
-  does all s =
-      let e = is all in
+-- fewer records admit no more
+admitted_before : (i k : ℕ) (rs : List SeenRecord) → copies_of i (admitted_in (take k rs)) ≤ copies_of i (admitted_in rs)
+admitted_before i zero rs = omega arith
+admitted_before i (suc k) [] = omega arith
+admitted_before i (suc k) (r ∷ rs) =
+    omega (arith, admitted_before i k rs, copies_of-append i (admitted_by r) (admitted_in (take k rs)), copies_of-append i (admitted_by r) (admitted_in rs))
+
+pub known_before : (i k : ℕ) (b : SeenBase) (rs : List SeenRecord) → copies_of i (known_in b (take k rs)) ≤ copies_of i (known_in b rs)
+known_before i k b rs = omega (arith, admitted_before i k rs, copies_of-append i (ids_of b) (admitted_in (take k rs)), copies_of-append i (ids_of b) (admitted_in rs))
+
+follow_before : (limits : SeenLimits) (k : ℕ) (rs : List SeenRecord) (b : SeenBase) → all_follow limits rs b ≡ true → all_follow limits (take k rs) b ≡ true
+follow_before limits zero rs b all = refl
+follow_before limits (suc k) [] b all = refl
+follow_before limits (suc k) (r ∷ rs) b all = let f = split _ _ all in both _ _ f.0 (follow_before limits k rs (folded limits r b) f.1)
+
+pub legal_before : (limits : SeenLimits) (k : ℕ) (rs : List SeenRecord) (b : SeenBase) → AreLegalFrom limits b rs → AreLegalFrom limits b (take k rs)
+legal_before limits k rs b are = record {
+  follow = follow_before limits k rs b are.follow;
+  apart = λ i. omega (arith, known_before i k b rs, are.apart i);
+}
+
+-- where all follow, none stops them
+pub follows_all : (limits : SeenLimits) (rs : List SeenRecord) (b : SeenBase) (n : ℕ) → n ≤ length rs → all_follow limits rs b ≡ true → (n < length rs → all_follow limits (take (n + 1) rs) b ≡ false) → n ≡ length rs
+follows_all limits rs b n within all stops = ⊎_elim (λ lt. absurd (cc (stops lt, follow_before limits (n + 1) rs b all))) (λ le. omega (arith, within, le)) (cases_lt n (length rs))
+
+-- ids that are apart, with and without records
+pub apart_same : (b : SeenBase) (rs rs' : List SeenRecord) → rs ≡ rs' → ((i : ℕ) → copies_of i (known_in b rs) ≤ 1) → (i : ℕ) → copies_of i (known_in b rs') ≤ 1
+apart_same b rs rs' e h = subst (λ (l : List SeenRecord). (i : ℕ) → copies_of i (known_in b l) ≤ 1) e h
+
+pub some_records : (b : SeenBase) (rs : List Record) → ((i : ℕ) → copies_of i (known_in b []) ≤ 1) → (((i : ℕ) → copies_of i (known_in b (map seen_record rs)) ≤ 1) → ⊥) → 0 < length rs
+some_records b [] apart twice = absurd (twice apart)
+some_records b (r ∷ rs) apart twice = omega arith
+
+-- what an option has, and what is so where it has none
+pub some_in : {X : Type 0} (N : Type 0) (S : X → Type 0) (o : Option X) (x : X) → o ≡ Some x → MatchOption o N S → S x
+some_in N S o x is h = subst (λ o. MatchOption o N S) is h
+
+pub none_in : {X : Type 0} (N : Type 0) (S : X → Type 0) (o : Option X) → o ≡ None → MatchOption o N S → N
+none_in N S o is h = subst (λ o. MatchOption o N S) is h
+
+pub if_ok : {X E : Type 0} (P Q : X → Type 0) (r : Result X E) → ((x : X) → P x → Q x) → IfOk r P → IfOk r Q
+if_ok P Q (Ok x) f h = f x h
+if_ok P Q (Err e) f h = h
+
+module _ {B : Type 0} (r : Report B) where
+  -- what is wrong does not replay
+  pub wrong_replays : (w : Wrong) → IsWrong w r → DoesReplay r → ⊥
+  wrong_replays wrong.Base none d = none d.base
+  wrong_replays (wrong.Record place) at d = at.wrong (legal_before (seen_limits r.limits) (place + 1) r.records (seen_base r.base) d.legal)
+  wrong_replays wrong.Counts comes d = comes.other (record { idle = d.idle; lent = d.lent; connections = d.connections; pending = d.pending; closed = d.closed })
+
+  pub none_wrong : (found : Option Wrong) (result : Bool) → is_some found ≡ not result → MatchOption found (DoesReplay r) (λ w. IsWrong w r) → (IsTrue result → DoesReplay r) × (DoesReplay r → IsTrue result)
+  none_wrong None true is does = (λ _. does, λ _. refl)
+  none_wrong None false is does = absurd cc
+  none_wrong (Some w) true is at = absurd cc
+  none_wrong (Some w) false is at = (λ t. absurd (cc t), λ d. absurd (wrong_replays w at d))
+
+  -- records that follow, and admit no id twice
+  pub first_wrong_at : (apart followed : ℕ) → IsLegalBase (seen_limits r.limits) (seen_base r.base) → AreApartUpTo r apart → followed ≤ apart → followed < length r.records
+      → all_follow (seen_limits r.limits) (take followed (take apart r.records)) (seen_base r.base) ≡ true
+      → (followed < apart → all_follow (seen_limits r.limits) (take (followed + 1) (take apart r.records)) (seen_base r.base) ≡ false)
+      → IsFirstWrong r followed
+  first_wrong_at apart followed legal upto within here may stops =
+      let limits = seen_limits r.limits in
+      let base = seen_base r.base in
+      let rs = r.records in
+      let front : take followed (take apart rs) ≡ take followed rs = take-take followed apart rs within in
       record {
         base = legal;
-        legal = record { follow = sym may ∙ all; apart = apart };
-        idle = ap (λ (x : SeenBase). map id_of_idle x.idle) (sym e) ∙ s.idle;
-        lent = ap (λ (x : SeenBase). map id_of_lent x.lent) (sym e) ∙ s.lent;
-        connections = ap (λ (x : SeenBase). x.connections) (sym e) ∙ s.connections;
-        pending = ap (λ (x : SeenBase). x.pending) (sym e) ∙ s.pending;
-        closed = ap (λ (x : SeenBase). x.closed) (sym e) ∙ s.closed;
-      }
+        here = here;
+        before = record {
+          follow = subst (λ (l : List SeenRecord). all_follow limits l base ≡ true) front may;
+          apart = λ i. omega (arith, upto.apart i, known_before i followed base (take apart rs), ap (λ (l : List SeenRecord). copies_of i (known_in base l)) front);
+        };
+        wrong = λ are. ⊎_elim (λ lt. before lt are) (λ le. behind le are) (cases_lt followed apart);
+      } where
+        before : followed < apart → AreLegalFrom (seen_limits r.limits) (seen_base r.base) (take (followed + 1) r.records) → ⊥
+        before lt are =
+            let front : take (followed + 1) (take apart r.records) ≡ take (followed + 1) r.records = take-take (followed + 1) apart r.records (omega (arith, lt)) in
+            cc (ap (λ (l : List SeenRecord). all_follow (seen_limits r.limits) l (seen_base r.base)) front, stops lt, are.follow)
+        behind : apart ≤ followed → AreLegalFrom (seen_limits r.limits) (seen_base r.base) (take (followed + 1) r.records) → ⊥
+        behind le are =
+            let same : followed ≡ apart = omega (arith, le, within) in
+            upto.stops (omega (arith, same, here)) (subst (λ n. (i : ℕ) → copies_of i (known_in (seen_base r.base) (take (n + 1) r.records)) ≤ 1) same are.apart)
 
-  shows : DoesReplay r → ShowsCounts b r
-  shows d =
-      let e = is (may ∙ d.legal.follow) in
+  -- all follow
+  pub all_legal : (apart followed : ℕ) → AreApartUpTo r apart → followed ≤ apart → length r.records ≤ followed → all_follow (seen_limits r.limits) (take followed (take apart r.records)) (seen_base r.base) ≡ true
+      → AreLegalFrom (seen_limits r.limits) (seen_base r.base) r.records
+  all_legal apart followed upto within past may =
+      let rs = r.records in
+      let some : take apart rs ≡ rs = take_all apart rs (omega (arith, within, past)) in
+      let all : take followed (take apart rs) ≡ rs = ap (take followed) some ∙ take_all followed rs past in
       record {
-        idle = ap (λ (x : SeenBase). map id_of_idle x.idle) e ∙ d.idle;
-        lent = ap (λ (x : SeenBase). map id_of_lent x.lent) e ∙ d.lent;
-        connections = ap (λ (x : SeenBase). x.connections) e ∙ d.connections;
-        pending = ap (λ (x : SeenBase). x.pending) e ∙ d.pending;
-        closed = ap (λ (x : SeenBase). x.closed) e ∙ d.closed;
+        follow = subst (λ (l : List SeenRecord). all_follow (seen_limits r.limits) l (seen_base r.base) ≡ true) all may;
+        apart = λ i. subst (λ (l : List SeenRecord). copies_of i (known_in (seen_base r.base) l) ≤ 1) some (upto.apart i);
       }
 
-  -- where all follow, the audit says whether what stands in the end is what the report shows
-  pub answers_shown : (shown result : Bool) → follows ≡ true → result ≡ shown → (IsTrue shown → ShowsCounts b r) × (ShowsCounts b r → IsTrue shown) → (IsTrue result → DoesReplay r) × (DoesReplay r → IsTrue result)
-  answers_shown shown result all same found = (λ t. does all (found.0 (sym same ∙ t)), λ d. same ∙ found.1 (shows d))
-
-  -- and where one does not, it says no
-  pub answers_no : (result : Bool) → follows ≡ false → result ≡ false → (IsTrue result → DoesReplay r) × (DoesReplay r → IsTrue result)
-  answers_no result none same = (λ t. absurd (cc (same, t)), λ d. absurd (cc (none, may, d.legal.follow)))
+  pub does : IsLegalBase (seen_limits r.limits) (seen_base r.base) → AreLegalFrom (seen_limits r.limits) (seen_base r.base) r.records → ShowsCounts (told_in r) r → DoesReplay r
+  does base legal s = record { base = base; legal = legal; idle = s.idle; lent = s.lent; connections = s.connections; pending = s.pending; closed = s.closed }

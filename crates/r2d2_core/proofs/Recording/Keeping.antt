@@ -1,6 +1,6 @@
 -- What a journal does where there is no room for one more record.
 use Rattle.std.proofs.Common.{◌≡◌, ℕ, ◌+◌, ◌-◌, ◌<◌, ◌≤◌, Bool, true, false, cond, List, [], ◌∷◌, ◌++◌, map, length, drop, Option, Some, None, refl, sym, ◌∙◌, ap, subst, arith}
-use Rattle.std.specs.Prelude.{nat_lt, slice_get}
+use Rattle.std.specs.Prelude.{nat_lt, slice_get, is_some}
 use Rattle.std.proofs.lemmas.List.{length-map, map-append, length_push, length-drop}
 use Rattle.std.proofs.lemmas.Bool.Decides.{nat_tests}
 use Rattle.circular_buffer.specs.Buffer.{Buffer, buffer, keep_last}
@@ -8,26 +8,47 @@ use Rattle.r2d2_core.specs.declared.journal.record.Record.{Record}
 use Rattle.r2d2_core.specs.Limits.{SeenLimits}
 use Rattle.r2d2_core.specs.Records.{SeenRecord, Taken, Ordered, Admitted, Kept, Closed, Reaped, ClosedAll, seen_record}
 use Rattle.r2d2_core.specs.Bases.{SeenBase, IsLegalBase}
-use Rattle.r2d2_core.specs.Folding.{folded, may_follow, all_follow, admitted_by, AreLegalFrom}
+use Rattle.r2d2_core.specs.Connections.{SeenLentConnection, birth_in}
+use Rattle.r2d2_core.specs.Folding.{is_next, folded, may_follow, all_follow, AreLegalFrom}
+use Rattle.r2d2_core.specs.Standing.{rest_by, leave_by}
 use Rattle.r2d2_core.specs.Journal.{SeenJournal, one_more, takes_with, with_oldest, with_record}
-use Rattle.r2d2_core.proofs.Recording.Folding.{split, is_lt}
+use Rattle.r2d2_core.proofs.Recording.Folding.{split, is_lt, next_is}
+use Rattle.r2d2_core.proofs.Lists.Lending.{length-still_idle}
 
--- a base with room for `max_size` has room for what a record admits
-pub room_for : (limits : SeenLimits) (r : SeenRecord) (b : SeenBase) → IsLegalBase limits b → may_follow limits r b ≡ true → length b.idle + length b.lent + length (admitted_by r) ≤ limits.max_size
-room_for limits (Taken at id n) b legal may = omega (arith, legal.counted, legal.fits)
-room_for limits (Ordered at n) b legal may = omega (arith, legal.counted, legal.fits)
-room_for limits (Admitted at id) b legal may = let some : 0 < b.pending = is_lt 0 b.pending ((split _ _ may).1) in omega (arith, legal.counted, legal.fits, some)
-room_for limits (Kept at id) b legal may = omega (arith, legal.counted, legal.fits)
-room_for limits (Closed at id n) b legal may = omega (arith, legal.counted, legal.fits)
-room_for limits (Reaped at n) b legal may = omega (arith, legal.counted, legal.fits)
-room_for limits (ClosedAll at) b legal may = omega (arith, legal.counted, legal.fits)
+-- what is away is one of the lent ones, and what is next one of the idle ones
+away_some : (id : ℕ) (lent : List SeenLentConnection) → is_some (birth_in id lent) ≡ true → 0 < length lent
+away_some id [] is = absurd cc
+away_some id (l ∷ ls) is = omega arith
+
+next_some : (limits : SeenLimits) (id : ℕ) (b : SeenBase) → is_next limits id b ≡ true → 0 < length b.idle
+next_some limits id b is = let n = next_is limits id b is in omega (arith, length-still_idle limits.order b.idle n.c n.next)
+
+-- a base with room for `max_size`, idle and lent, has room for what a record brings
+rest_room : (limits : SeenLimits) (r : SeenRecord) (b : SeenBase) → IsLegalBase limits b → may_follow limits r b ≡ true → length b.idle + rest_by r ≤ limits.max_size
+rest_room limits (Taken at id n) b legal may = omega (arith, legal.counted, legal.fits)
+rest_room limits (Ordered at n) b legal may = omega (arith, legal.counted, legal.fits)
+rest_room limits (Admitted at id) b legal may = let some : 0 < b.pending = is_lt 0 b.pending ((split _ _ may).1) in omega (arith, legal.counted, legal.fits, some)
+rest_room limits (Kept at id) b legal may = let some = away_some id b.lent ((split _ _ ((split _ _ may).1)).0) in omega (arith, legal.counted, legal.fits, some)
+rest_room limits (Closed at id n) b legal may = omega (arith, legal.counted, legal.fits)
+rest_room limits (Reaped at n) b legal may = omega (arith, legal.counted, legal.fits)
+rest_room limits (ClosedAll at) b legal may = omega (arith, legal.counted, legal.fits)
+
+leave_room : (limits : SeenLimits) (r : SeenRecord) (b : SeenBase) → IsLegalBase limits b → may_follow limits r b ≡ true → length b.lent + leave_by r ≤ limits.max_size
+leave_room limits (Taken at id n) b legal may = let some = next_some limits id b ((split _ _ ((split _ _ may).1)).0) in omega (arith, legal.counted, legal.fits, some)
+leave_room limits (Ordered at n) b legal may = omega (arith, legal.counted, legal.fits)
+leave_room limits (Admitted at id) b legal may = omega (arith, legal.counted, legal.fits)
+leave_room limits (Kept at id) b legal may = omega (arith, legal.counted, legal.fits)
+leave_room limits (Closed at id n) b legal may = omega (arith, legal.counted, legal.fits)
+leave_room limits (Reaped at n) b legal may = omega (arith, legal.counted, legal.fits)
+leave_room limits (ClosedAll at) b legal may = omega (arith, legal.counted, legal.fits)
 
 -- the oldest record is given up, and folded into the base
 pub record GivesUp (limits : SeenLimits) (b : SeenBase) (items : List Record) (made oldest : Record) (capacity : ℕ) : Type 0 where
   pub full : nat_lt (length items) capacity ≡ false
   pub may : may_follow limits (seen_record oldest) b ≡ true
   pub base : folded limits (seen_record oldest) b ≡ with_oldest limits (map seen_record items ++ seen_record made ∷ []) b
-  pub room : length b.idle + length b.lent + length (admitted_by (seen_record oldest)) ≤ limits.max_size
+  pub idle_room : length b.idle + rest_by (seen_record oldest) ≤ limits.max_size
+  pub lent_room : length b.lent + leave_by (seen_record oldest) ≤ limits.max_size
 
 first_may : (limits : SeenLimits) (b : SeenBase) (items : List Record) (made oldest : Record) → all_follow limits (map seen_record items ++ seen_record made ∷ []) b ≡ true → slice_get (items ++ made ∷ []) 0 ≡ Some oldest
     → (may_follow limits (seen_record oldest) b ≡ true) × (folded limits (seen_record oldest) b ≡ with_oldest limits (map seen_record items ++ seen_record made ∷ []) b)
@@ -48,7 +69,7 @@ pub gives_up : (limits : SeenLimits) (b : SeenBase) (items : List Record) (made 
 gives_up limits b items made oldest capacity given legal are e is =
     let g = given_by (nat_lt (length items) capacity) given (slice_get (items ++ made ∷ []) 0) oldest e is in
     let f = first_may limits b items made oldest are.follow g.1 in
-    record { full = g.0; may = f.0; base = f.1; room = room_for limits (seen_record oldest) b legal f.0 }
+    record { full = g.0; may = f.0; base = f.1; idle_room = rest_room limits (seen_record oldest) b legal f.0; lent_room = leave_room limits (seen_record oldest) b legal f.0 }
 
 -- what is kept where there is no room for more
 without_first : {X Y : Type 0} (f : X → Y) (xs : List X) → map f (drop 1 xs) ≡ drop 1 (map f xs)

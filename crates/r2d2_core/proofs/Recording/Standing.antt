@@ -10,7 +10,8 @@ use Rattle.r2d2_core.specs.Lending.{lent_next, still_idle}
 use Rattle.r2d2_core.specs.Connections.{SeenLentConnection, lent_connection, id_of_idle, is_expired, is_kept}
 use Rattle.r2d2_core.specs.Bases.{SeenBase, Resting}
 use Rattle.r2d2_core.specs.Folding.{birth_at_rest}
-use Rattle.r2d2_core.specs.Standing.{standing, lent_out, swept_of}
+use Rattle.r2d2_core.specs.declared.journal.standing.Rooms.{Rooms}
+use Rattle.r2d2_core.specs.Standing.{standing, rooms, lent_out, swept_of}
 use Rattle.r2d2_core.proofs.Lists.Lending.{found-next, without-next, length-still_idle}
 
 abbrev base_with : ℕ → List Resting → List SeenLentConnection → ℕ → ℕ → Bool → SeenBase
@@ -23,7 +24,7 @@ abbrev pub birth_of : Resting → ℕ
 birth_of c = c.birth
 
 -- the next one is lent
-pub lends : (o : LendingOrder) (at pending : ℕ) (closed : Bool) (idle : List Resting) (lent : List SeenLentConnection) (room id birth : ℕ) (c : Resting) → ((i : ℕ) → copies_of i (map id_of_idle idle) ≤ 1)
+pub lends : (o : LendingOrder) (at pending : ℕ) (closed : Bool) (idle : List Resting) (lent : List SeenLentConnection) (room : Rooms) (id birth : ℕ) (c : Resting) → ((i : ℕ) → copies_of i (map id_of_idle idle) ≤ 1)
     → lent_next o idle ≡ Some c → c.id ≡ id → birth ≡ c.birth
     → (let l = lent_connection id birth in standing (base_with at (still_idle o idle) (lent ++ l ∷ []) (length (still_idle o idle) + length (lent ++ l ∷ [])) pending closed) room
     ≡ standing (lent_out id (base_with at idle lent (length idle + length lent) pending closed)) room)
@@ -39,14 +40,14 @@ lends o at pending closed idle lent room id birth c apart next is born_then =
     (omega (arith, length-still_idle o idle c next, length_push lent l)))
 
 -- the expired ones are gone
-pub sweeps : (limits : SeenLimits) (at pending : ℕ) (closed : Bool) (idle : List Resting) (lent : List SeenLentConnection) (room : ℕ) (now : SeenRoster Resting) → now ≡ roster (filter (is_kept limits at) idle) room
+pub sweeps : (limits : SeenLimits) (at pending : ℕ) (closed : Bool) (idle : List Resting) (lent : List SeenLentConnection) (room lent_room : ℕ) (now : SeenRoster Resting) → now ≡ roster (filter (is_kept limits at) idle) room
     → length now.items + length (filter (is_expired limits at) idle) ≡ length idle
-    → standing (base_with at now.items lent (length now.items + length lent) pending closed) now.room ≡ standing (swept_of limits (base_with at idle lent (length idle + length lent) pending closed)) room
-sweeps limits at pending closed idle lent room now is count =
+    → standing (base_with at now.items lent (length now.items + length lent) pending closed) (rooms now.room lent_room) ≡ standing (swept_of limits (base_with at idle lent (length idle + length lent) pending closed)) (rooms room lent_room)
+sweeps limits at pending closed idle lent room lent_room now is count =
     let kept : now.items ≡ filter (is_kept limits at) idle = ap (λ (r : SeenRoster Resting). r.items) is in
     let same : now.room ≡ room = ap (λ (r : SeenRoster Resting). r.room) is in
-    ap (standing _) same
-    ∙ ap (λ b. standing b room) (same_base at pending closed now.items (filter (is_kept limits at) idle) lent lent _ (length idle + length lent - length (filter (is_expired limits at) idle)) kept refl (omega (arith, count)))
+    ap (λ n. standing (base_with at now.items lent (length now.items + length lent) pending closed) (rooms n lent_room)) same
+    ∙ ap (λ b. standing b (rooms room lent_room)) (same_base at pending closed now.items (filter (is_kept limits at) idle) lent lent _ (length idle + length lent - length (filter (is_expired limits at) idle)) kept refl (omega (arith, count)))
 
 -- a lent one is its id and its birth
 pub same_loan : (l : SeenLentConnection) (id birth : ℕ) → id ≡ l.id → birth ≡ l.birth → lent_connection id birth ≡ l

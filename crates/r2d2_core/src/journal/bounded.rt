@@ -10,7 +10,7 @@ ghost use Rattle.r2d2_core.specs.Reports.{seen_base};
 
 use super::base::Base;
 use super::record::Record;
-use super::standing::Standing;
+use super::standing::{Rooms, Standing};
 use crate::schedule::Limits;
 use circular_buffer::HeapCircularBuffer;
 use std::alloc::{AllocError, Allocator, Global};
@@ -52,7 +52,12 @@ impl<A: Allocator> Journal<A> {
         A: Copy,
         ensures { IfOk result (λ journal. journal ≡ first_journal (seen_limits limits) (as_nanos now) room) }
     {
-        let standing = Standing::new(alloc, now, limits.wanted(), limits.max_size() as usize)?;
+        let most = limits.max_size() as usize;
+        let both = Rooms {
+            idle: most,
+            lent: most,
+        };
+        let standing = Standing::new(alloc, now, limits.wanted(), both)?;
         let records = HeapCircularBuffer::with_capacity(alloc, room)?;
         Ok(Journal {
             limits,

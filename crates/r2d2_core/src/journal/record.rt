@@ -1,5 +1,5 @@
 // What a step did to a pool.
-ghost use Rattle.std.specs.Prelude.{◌≡◌, ◌∷◌, [], option_map, IfSome, IfNone};
+ghost use Rattle.std.specs.Prelude.{◌≡◌, ◌≤◌, ◌∷◌, [], option_map, IfSome, IfNone};
 ghost use Rattle.std.specs.Duration.{as_nanos};
 
 use crate::machine::{Gone, Refusal, Returned, Take};
@@ -30,6 +30,7 @@ impl Record {
     ghost use Rattle.r2d2_core.specs.Seen.{seen_take, seen_returned, seen_gone, map_ok};
     ghost use Rattle.r2d2_core.specs.Records.{seen_record};
     ghost use Rattle.r2d2_core.specs.Folding.{moment_in, admitted_by};
+    ghost use Rattle.r2d2_core.specs.Standing.{rest_by, leave_by};
     ghost use Rattle.r2d2_core.specs.Recorded.{record_of_take, record_of_admission, record_of_return, record_of_check, record_of_reap, record_of_close};
 
     /// The moment of the record.
@@ -55,6 +56,28 @@ impl Record {
         match self {
             Record::Admitted { id, .. } => Some(*id),
             _ => None,
+        }
+    }
+
+    /// How many come to be idle by the record.
+    pub(crate) fn rests(&self) -> usize
+        ensures is { result ≡ rest_by (seen_record self.now) }
+        ensures few { result ≤ 1 }
+    {
+        match self {
+            Record::Admitted { .. } | Record::Kept { .. } => 1,
+            _ => 0,
+        }
+    }
+
+    /// How many come to be lent by the record.
+    pub(crate) fn leaves(&self) -> usize
+        ensures is { result ≡ leave_by (seen_record self.now) }
+        ensures few { result ≤ 1 }
+    {
+        match self {
+            Record::Taken { .. } => 1,
+            _ => 0,
         }
     }
 

@@ -1,48 +1,121 @@
 // Whether a report's records replay to its counts, by the definitions alone.
-ghost use Rattle.std.specs.Prelude.{◌≡◌, ◌+◌, ◌≤◌, ◌↔◌, ◌++◌, ℕ, map, length, IsTrue, OnOk, IfOk};
+ghost use Rattle.std.specs.Prelude.{◌≡◌, ◌≤◌, ◌↔◌, ◌++◌, ℕ, map, length, IsTrue, OnOk, IfOk, MatchOption};
 ghost use Rattle.r2d2_core.specs.Limits.{seen_limits};
 ghost use Rattle.r2d2_core.specs.Ids.{copies_of};
 ghost use Rattle.r2d2_core.specs.Connections.{id_of_idle, id_of_lent};
 ghost use Rattle.r2d2_core.specs.Records.{seen_record};
-ghost use Rattle.r2d2_core.specs.Bases.{seen_resting, seen_away};
+ghost use Rattle.r2d2_core.specs.Bases.{seen_resting, seen_away, ids_of, IsLegalBase};
 ghost use Rattle.r2d2_core.specs.Folding.{admitted_in, known_in};
 ghost use Rattle.r2d2_core.specs.Reports.{seen_base, DoesReplay};
 ghost use Rattle.r2d2_core.specs.Auditing.{counts_fit, ShowsCounts};
+ghost use Rattle.r2d2_core.specs.Standing.{standing, rooms_for};
+ghost use Rattle.r2d2_core.specs.Faults.{HasWrongBase, IsWrong, AreApartUpTo};
 
 use super::base::Base;
 use super::record::Record;
 use super::report::Report;
-use super::standing::Standing;
+use super::standing::{Rooms, Standing};
 use crate::schedule::Limits;
 use std::alloc::{AllocError, Allocator};
 use std::time::Duration;
+
+/// What is wrong first in a report that does not replay.
+#[derive(Clone, Copy)]
+pub(crate) enum Wrong {
+    /// Its base.
+    Base,
+    /// The record at this place.
+    Record(usize),
+    /// Its ids or counts.
+    Counts,
+}
 
 impl<A: Allocator> Report<A> {
     /// Whether the report is in itself as each report of a book is: its base is one that a pool with its limits may come to, each of
     /// its records may follow what those before it come to, and what they come to in the end are its ids and counts.
     ///
     /// A report that a book made always replays; this finds out whether one is still as it was made. It takes the time of a sort of
-    /// the ids, and beyond that in proportion to its length, with a search among the lent ones for each return; and memory in
-    /// proportion to its length, up to about twice its size. The error comes only where that is refused.
+    /// the ids, and beyond that in proportion to its length, with a search among the lent ones for each return; and never more memory
+    /// at a time than the lists of the report take. The error comes only where that is refused. `first_fault` says what is wrong.
     pub fn replays(&self) -> Result<bool, AllocError>
     where
         A: Copy,
         ensures { IfOk result (λ answer. IsTrue answer ↔ DoesReplay self.now) }
     {
-        let alloc = *self.records.allocator();
+        Ok(self.first_wrong()?.is_none())
+    }
+
+    /// What is wrong first in the report; None where it replays.
+    pub(crate) fn first_wrong(&self) -> Result<Option<Wrong>, AllocError>
+    where
+        A: Copy,
+        ensures { IfOk result (λ found. MatchOption found (DoesReplay self.now) (λ wrong. IsWrong wrong self.now)) }
+    {
         let records = self.records.as_slice();
-        if !has_fitting_counts(&self.base, &self.limits) {
-            return Ok(false);
-        }
-        let mut ids = known_ids(alloc, &self.base, records)?;
-        if !are_apart(&mut ids) {
-            return Ok(false);
-        }
-        let Some(mut standing) = Standing::of(alloc, &self.base, ids.len())? else {
-            return Ok(false);
+        let Some(apart) = self.count_apart()? else {
+            return Ok(Some(Wrong::Base));
         };
-        let follows = standing.follow_all(&self.limits, records);
-        Ok(follows && self.shows(&standing))
+        let Some(mut standing) = self.start(&records[..apart])? else {
+            return Ok(Some(Wrong::Base));
+        };
+        let followed = standing.follow_all(&self.limits, &records[..apart]);
+        if followed < records.len() {
+            return Ok(Some(Wrong::Record(followed)));
+        }
+        if !self.shows(&standing) {
+            return Ok(Some(Wrong::Counts));
+        }
+        Ok(None)
+    }
+
+    // How many records admit no id that was there before. None where ids of the base are the same.
+    fn count_apart(&self) -> Result<Option<usize>, AllocError>
+    where
+        A: Copy,
+        ensures { IfOk result (λ found. MatchOption found (HasWrongBase self.now) (λ count. AreApartUpTo self.now count)) }
+    {
+        let records = self.records.as_slice();
+        if self.are_apart(records)? {
+            return Ok(Some(records.len()));
+        }
+        if !self.are_apart(&records[..0])? {
+            return Ok(None);
+        }
+        let mut apart = 0;
+        let mut twice = records.len();
+        'halving: while twice - apart > 1 {
+            let middle = apart + (twice - apart) / 2;
+            if self.are_apart(&records[..middle])? {
+                apart = middle;
+            } else {
+                twice = middle;
+            }
+        }
+        Ok(Some(apart))
+    }
+
+    // Whether the ids of the base, and those that the records admit, are apart.
+    fn are_apart(&self, records: &[Record]) -> Result<bool, AllocError>
+    where
+        A: Copy,
+        ensures { IfOk result (λ answer. IsTrue answer ↔ ((i : ℕ) → copies_of i (known_in (seen_base self.now.base) (map seen_record records.now)) ≤ 1)) }
+    {
+        let mut ids = known_ids(*self.records.allocator(), &self.base, records)?;
+        Ok(are_apart(&mut ids))
+    }
+
+    /// What stands at the base, with room for what the records bring. None where the base is not legal.
+    pub(crate) fn start(&self, records: &[Record]) -> Result<Option<Standing<A>>, AllocError>
+    where
+        A: Copy,
+        requires apart { (i : ℕ) → copies_of i (ids_of (seen_base self.now.base)) ≤ 1 }
+        ensures { IfOk result (λ made. MatchOption made (HasWrongBase self.now) (λ there. IsLegalBase (seen_limits self.now.limits) (seen_base self.now.base) × (there ≡ standing (seen_base self.now.base) (rooms_for (seen_base self.now.base) (map seen_record records.now))))) }
+    {
+        if !has_fitting_counts(&self.base, &self.limits) {
+            return Ok(None);
+        }
+        let room = Rooms::of(&self.base, records);
+        Standing::of(*self.records.allocator(), &self.base, room)
     }
 
     // Whether the ids and counts are those of what stands.
@@ -74,11 +147,18 @@ fn known_ids<A: Allocator + Copy>(
 ) -> Result<Vec<u64, A>, AllocError>
     ensures { IfOk result (λ ids. ids.items ≡ known_in (seen_base base.now) (map seen_record records.now)) }
 {
-    let mut ids = Vec::new(alloc);
+    let mut ids = Vec::with_capacity(alloc, most_ids(base, records))?;
     add_resting(&mut ids, base.idle.as_slice())?;
     add_away(&mut ids, base.lent.as_slice())?;
     add_admitted(&mut ids, records)?;
     Ok(ids)
+}
+
+// As many as there can be.
+fn most_ids<A: Allocator>(base: &Base<A>, records: &[Record]) -> usize {
+    let there = base.idle.as_slice().len().saturating_add(base.lent.as_slice().len());
+    let admitted = records.iter().filter(|record| record.admitted().is_some()).count();
+    there.saturating_add(admitted)
 }
 
 fn add_resting<A: Allocator>(

@@ -7,9 +7,9 @@ ghost use Rattle.r2d2_core.specs.Ids.{copies_of};
 ghost use Rattle.r2d2_core.specs.Connections.{id_of_idle, id_of_lent, since_of};
 ghost use Rattle.r2d2_core.specs.Records.{seen_record};
 ghost use Rattle.r2d2_core.specs.Bases.{resting, seen_resting, seen_away, IsLegalBase};
-ghost use Rattle.r2d2_core.specs.Folding.{birth_away, is_next, is_away, tops_up, expired_in, may_follow, folded, admitted_by};
+ghost use Rattle.r2d2_core.specs.Folding.{birth_away, is_next, is_away, tops_up, expired_in, may_follow, folded};
 ghost use Rattle.r2d2_core.specs.Reports.{seen_base};
-ghost use Rattle.r2d2_core.specs.Standing.{standing, empty_base, with_more, lent_out, admitted_to, kept_in, with_resting, parted_from, swept_of, closed_in};
+ghost use Rattle.r2d2_core.specs.Standing.{standing, rooms_for, rest_by, leave_by, empty_base, with_more, lent_out, admitted_to, kept_in, with_resting, parted_from, swept_of, closed_in};
 
 use super::base::{AwayList, Base, RestingList};
 use super::record::Record;
@@ -24,6 +24,28 @@ use std::time::Duration;
 
 mod auditing;
 
+/// How many connections there is room for.
+#[derive(Clone, Copy)]
+pub(crate) struct Rooms {
+    pub(crate) idle: usize,
+    pub(crate) lent: usize,
+}
+
+impl Rooms {
+    /// Room for what a base has, and for what the records bring.
+    pub(crate) fn of<A: Allocator>(base: &Base<A>, records: &[Record]) -> Rooms
+        ensures { result ≡ rooms_for (seen_base base.now) (map seen_record records.now) }
+    {
+        let mut idle = base.idle.as_slice().len();
+        let mut lent = base.lent.as_slice().len();
+        for record in records {
+            idle += record.rests();
+            lent += record.leaves();
+        }
+        Rooms { idle, lent }
+    }
+}
+
 /// A base that is kept in place: records are folded into it without taking memory.
 #[derive(Drop)]
 pub(crate) struct Standing<A: Allocator = Global> {
@@ -35,31 +57,27 @@ pub(crate) struct Standing<A: Allocator = Global> {
 }
 
 impl<A: Allocator> Model for Standing<A> {
-    ghost use Rattle.std.specs.Prelude.{◌≡◌};
-    ghost use Rattle.r2d2_core.specs.Reports.{seen_base};
-    ghost use Rattle.r2d2_core.specs.Standing.{SeenStanding, standing, base_in};
+    ghost use Rattle.r2d2_core.specs.Standing.{SeenStanding, standing, base_in, rooms};
 
     ghost Value = { SeenStanding };
 
-    ghost view = { λ s. standing (base_in s) s.idle.room };
-
-    ghost invariant = { λ s. s.lent.room ≡ s.idle.room };
+    ghost view = { λ s. standing (base_in s) (rooms s.idle.room s.lent.room) };
 }
 
 impl<A: Allocator> Standing<A> {
-    /// What stands where nothing is idle or lent, with room for so many connections.
+    /// What stands where nothing is idle or lent, with room for so many.
     pub(crate) fn new(
         alloc: A,
         at: Duration,
         pending: u32,
-        room: usize,
+        room: Rooms,
     ) -> Result<Standing<A>, AllocError>
     where
         A: Copy,
         ensures { IfOk result (λ made. made ≡ standing (empty_base (as_nanos at) pending) room) }
     {
-        let idle = Idle::new(alloc, room)?;
-        let lent = Roster::new(alloc, room)?;
+        let idle = Idle::new(alloc, room.idle)?;
+        let lent = Roster::new(alloc, room.lent)?;
         Ok(Standing {
             at,
             idle,
@@ -72,7 +90,8 @@ impl<A: Allocator> Standing<A> {
     /// Whether the record may follow what stands; then it is folded in. Where it may not, what stands is of no use any more.
     pub(crate) fn follow(&mut self, limits: &Limits, made: &Record) -> bool
         requires legal { IsLegalBase (seen_limits limits.now) self.old.base }
-        requires room { length self.old.base.idle + length self.old.base.lent + length (admitted_by (seen_record made.now)) ≤ self.old.room }
+        requires idle_room { length self.old.base.idle + rest_by (seen_record made.now) ≤ self.old.room.idle }
+        requires lent_room { length self.old.base.lent + leave_by (seen_record made.now) ≤ self.old.room.lent }
         ensures may { result ≡ may_follow (seen_limits limits.now) (seen_record made.now) self.old.base }
         ensures folded { IsTrue result → self.new ≡ standing (folded (seen_limits limits.now) (seen_record made.now) self.old.base) self.old.room }
     {
@@ -182,7 +201,7 @@ impl<A: Allocator> Standing<A> {
     // Lends the one that is next, where it has the id.
     fn lend(&mut self, limits: &Limits, id: u64) -> bool
         requires apart { (i : ℕ) → copies_of i (map id_of_idle self.old.base.idle) ≤ 1 }
-        requires room { length self.old.base.idle + length self.old.base.lent ≤ self.old.room }
+        requires room { length self.old.base.lent < self.old.room.lent }
         ensures is { result ≡ is_next (seen_limits limits.now) id self.old.base }
         ensures less { IsTrue result → length self.new.base.idle ≡ length self.old.base.idle - 1 }
         ensures lent { IsTrue result → self.new ≡ standing (lent_out id self.old.base) self.old.room }
@@ -201,7 +220,7 @@ impl<A: Allocator> Standing<A> {
 
     // Makes the newest idle one of an opening that was pending.
     fn admit(&mut self, id: u64) -> bool
-        requires room { length self.old.base.idle < self.old.room }
+        requires room { length self.old.base.idle < self.old.room.idle }
         ensures is { result ≡ nat_lt 0 self.old.base.pending }
         ensures admitted { IsTrue result → self.new ≡ standing (admitted_to id self.old.base) self.old.room }
     {
@@ -216,7 +235,7 @@ impl<A: Allocator> Standing<A> {
     // Makes the lent one with the id the newest idle one, where it is not to be closed.
     fn keep(&mut self, limits: &Limits, id: u64) -> bool
         requires apart { copies_of id (map id_of_lent self.old.base.lent) ≤ 1 }
-        requires room { length self.old.base.idle + length self.old.base.lent ≤ self.old.room }
+        requires room { length self.old.base.idle < self.old.room.idle }
         ensures is { result ≡ (is_away id self.old.base && (not self.old.base.closed && not (has_reached (seen_limits limits.now).max_lifetime (self.old.base.at - birth_away id self.old.base.lent)))) }
         ensures kept { IsTrue result → self.new ≡ standing (kept_in id self.old.base) self.old.room }
     {
@@ -236,7 +255,7 @@ impl<A: Allocator> Standing<A> {
 
     // Adds the newest idle one.
     fn rest(&mut self, id: u64, birth: Duration)
-        requires room { length self.old.base.idle < self.old.room }
+        requires room { length self.old.base.idle < self.old.room.idle }
         ensures { self.new ≡ standing (with_resting (resting id (as_nanos birth) self.old.base.at) self.old.base) self.old.room }
     {
         self.idle.add(IdleConnection {

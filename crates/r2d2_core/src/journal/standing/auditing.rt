@@ -1,17 +1,17 @@
 // An audit of a report: its base is put in place, follows the records, and is compared with the counts.
-ghost use Rattle.std.specs.Prelude.{◌≡◌, ◌↔◌, ◌+◌, ◌≤◌, ◌&&◌, nat_le, ℕ, [], true, false, map, length, IsTrue, IfOk, MatchOption};
+ghost use Rattle.std.specs.Prelude.{◌≡◌, ◌↔◌, ◌+◌, ◌<◌, ◌≤◌, ◌&&◌, nat_le, ℕ, [], true, false, map, length, take, IsTrue, IfOk, MatchOption};
 ghost use Rattle.std.specs.Duration.{as_nanos};
 ghost use Rattle.r2d2_core.specs.Limits.{seen_limits};
 ghost use Rattle.r2d2_core.specs.Ids.{copies_of};
 ghost use Rattle.r2d2_core.specs.Connections.{id_of_idle, id_of_lent};
 ghost use Rattle.r2d2_core.specs.Records.{seen_record};
 ghost use Rattle.r2d2_core.specs.Bases.{seen_resting, seen_away, IsLegalBase};
-ghost use Rattle.r2d2_core.specs.Folding.{replay, all_follow, admitted_in, known_in};
+ghost use Rattle.r2d2_core.specs.Folding.{replay, all_follow, known_in};
 ghost use Rattle.r2d2_core.specs.Reports.{seen_base};
-ghost use Rattle.r2d2_core.specs.Standing.{standing, with_idle, with_lent};
+ghost use Rattle.r2d2_core.specs.Standing.{standing, rooms_for, with_idle, with_lent};
 ghost use Rattle.r2d2_core.specs.Auditing.{are_in_order, are_born};
 
-use super::Standing;
+use super::{Rooms, Standing};
 use crate::journal::base::Base;
 use crate::journal::record::Record;
 use crate::machine::idle::IdleConnection;
@@ -31,16 +31,17 @@ fn are_in_a_row(birth: Duration, last: Duration, since: Duration, at: Duration) 
 }
 
 impl<A: Allocator> Standing<A> {
-    /// What a base says, with room for so many connections. None where the moments of its connections are in no order.
+    /// What a base says, with room for so many. None where the moments of its connections are in no order.
     pub(crate) fn of(
         alloc: A,
         base: &Base<A>,
-        room: usize,
+        room: Rooms,
     ) -> Result<Option<Standing<A>>, AllocError>
     where
         A: Copy,
         requires counted { base.now.connections ≡ length base.now.idle + length base.now.lent }
-        requires room { length base.now.idle + length base.now.lent ≤ room }
+        requires idle_room { length base.now.idle ≤ room.idle }
+        requires lent_room { length base.now.lent ≤ room.lent }
         ensures { IfOk result (λ made. MatchOption made
             ((are_in_order (as_nanos base.now.at) 0 base.now.idle && are_born (as_nanos base.now.at) base.now.lent) ≡ false)
             (λ there. ((are_in_order (as_nanos base.now.at) 0 base.now.idle && are_born (as_nanos base.now.at) base.now.lent) ≡ true) × (there ≡ standing (seen_base base.now) room))) }
@@ -56,7 +57,7 @@ impl<A: Allocator> Standing<A> {
     // Puts idle ones in place, where their moments are in order.
     fn put_idle(&mut self, idle: &[(u64, Duration, Duration)]) -> bool
         requires empty { self.old.base.idle ≡ [] }
-        requires room { length idle.now ≤ self.old.room }
+        requires room { length idle.now ≤ self.old.room.idle }
         ensures is { result ≡ are_in_order self.old.base.at 0 (map seen_resting idle.now) }
         ensures put { IsTrue result → self.new ≡ standing (with_idle (map seen_resting idle.now) self.old.base) self.old.room }
     {
@@ -80,7 +81,7 @@ impl<A: Allocator> Standing<A> {
     // Puts lent ones in place, where their moments are in order.
     fn put_lent(&mut self, lent: &[(u64, Duration)]) -> bool
         requires empty { self.old.base.lent ≡ [] }
-        requires room { length lent.now ≤ self.old.room }
+        requires room { length lent.now ≤ self.old.room.lent }
         ensures is { result ≡ are_born self.old.base.at (map seen_away lent.now) }
         ensures put { IsTrue result → self.new ≡ standing (with_lent (map seen_away lent.now) self.old.base) self.old.room }
     {
@@ -94,20 +95,24 @@ impl<A: Allocator> Standing<A> {
         true
     }
 
-    /// Whether each record may follow what those before it come to; then all are folded in.
-    pub(crate) fn follow_all(&mut self, limits: &Limits, records: &[Record]) -> bool
+    /// How many records follow one another from what stands; where that is all of them, they are folded in.
+    pub(crate) fn follow_all(&mut self, limits: &Limits, records: &[Record]) -> usize
         requires legal { IsLegalBase (seen_limits limits.now) self.old.base }
         requires apart { (i : ℕ) → copies_of i (known_in self.old.base (map seen_record records.now)) ≤ 1 }
-        requires room { length self.old.base.idle + length self.old.base.lent + length (admitted_in (map seen_record records.now)) ≤ self.old.room }
-        ensures may { result ≡ all_follow (seen_limits limits.now) (map seen_record records.now) self.old.base }
-        ensures folded { IsTrue result → self.new ≡ standing (replay (seen_limits limits.now) (map seen_record records.now) self.old.base) self.old.room }
+        requires room { self.old.room ≡ rooms_for self.old.base (map seen_record records.now) }
+        ensures within { result ≤ length records.now }
+        ensures may { all_follow (seen_limits limits.now) (take result (map seen_record records.now)) self.old.base ≡ true }
+        ensures stops { result < length records.now → all_follow (seen_limits limits.now) (take (result + 1) (map seen_record records.now)) self.old.base ≡ false }
+        ensures folded { result ≡ length records.now → self.new ≡ standing (replay (seen_limits limits.now) (map seen_record records.now) self.old.base) self.old.room }
     {
+        let mut followed = 0;
         for made in records {
             if !self.follow(limits, made) {
-                return false;
+                return followed;
             }
+            followed += 1;
         }
-        true
+        followed
     }
 
     /// Whether the idle ones and the lent ones have these ids, in their order.

@@ -6,12 +6,13 @@ use Rattle.r2d2_core.specs.Bases.{IsLegalBase}
 use Rattle.r2d2_core.specs.Folding.{AreLegalFrom}
 use Rattle.r2d2_core.specs.Journal.{SeenJournal, added, with_noted}
 use Rattle.r2d2_core.specs.JournalParts.{journal_in}
+use Rattle.r2d2_core.specs.declared.journal.standing.Rooms.{Rooms}
 use Rattle.r2d2_core.specs.Standing.{SeenStanding}
 use Rattle.r2d2_core.proofs.Recording.Keeping.{gives_up, full_noted, kept_within, none_lost}
 use Rattle.r2d2_core.proofs.journal.bounded.Journal.note.Goals as goal
 
-pub follow-requires-clause-room : goal.follow-requires-clause-room
-follow-requires-clause-room g c =
+pub follow-requires-clause-idle_room : goal.follow-requires-clause-idle_room
+follow-requires-clause-idle_room g c =
     let s = c.self.inside in
     let made = c.in-Some.made in
     let legal : IsLegalBase (seen_limits s.limits) s.standing.base = subst (λ (l : SeenJournal). IsLegalBase l.limits l.base) (sym c.self.view_is) c.requires.legal in
@@ -19,7 +20,18 @@ follow-requires-clause-room g c =
     subst (λ m. AreLegalFrom (seen_limits s.limits) s.standing.base (added (option_map seen_record m) (map seen_record s.records.items))) c.in-Some.is
     (subst (λ (l : SeenJournal). AreLegalFrom l.limits l.base (added (option_map seen_record c.args.made) l.records)) (sym c.self.view_is) c.requires.follow) in
     let up = gives_up (seen_limits s.limits) s.standing.base s.records.items made c.in-Some-push_back.oldest s.records.capacity c.push_back.result legal are c.push_back.ensures.value c.in-Some-push_back.is in
-    omega (arith, up.room, c.self.invariant.has_room)
+    omega (arith, up.idle_room, ap (λ (r : Rooms). r.idle) c.self.invariant.has_room)
+
+pub follow-requires-clause-lent_room : goal.follow-requires-clause-lent_room
+follow-requires-clause-lent_room g c =
+    let s = c.self.inside in
+    let made = c.in-Some.made in
+    let legal : IsLegalBase (seen_limits s.limits) s.standing.base = subst (λ (l : SeenJournal). IsLegalBase l.limits l.base) (sym c.self.view_is) c.requires.legal in
+    let are : AreLegalFrom (seen_limits s.limits) s.standing.base (map seen_record s.records.items ++ seen_record made ∷ []) =
+    subst (λ m. AreLegalFrom (seen_limits s.limits) s.standing.base (added (option_map seen_record m) (map seen_record s.records.items))) c.in-Some.is
+    (subst (λ (l : SeenJournal). AreLegalFrom l.limits l.base (added (option_map seen_record c.args.made) l.records)) (sym c.self.view_is) c.requires.follow) in
+    let up = gives_up (seen_limits s.limits) s.standing.base s.records.items made c.in-Some-push_back.oldest s.records.capacity c.push_back.result legal are c.push_back.ensures.value c.in-Some-push_back.is in
+    omega (arith, up.lent_room, ap (λ (r : Rooms). r.lent) c.self.invariant.has_room)
 
 pub invariant_of-self : goal.invariant_of-self
 invariant_of-self g c =

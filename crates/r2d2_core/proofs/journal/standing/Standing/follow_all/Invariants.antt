@@ -8,4 +8,5 @@ abbrev pub invariant-loop-made : goal.invariant-loop-made
 invariant-loop-made g l = record {
   following : IsFollowing (seen_limits l.limits) (map seen_record l.records) l.fn.self.base l.made-index l.self.base l.self.room;
   room : l.self.room ≡ l.fn.self.room;
+  followed : l.followed ≡ l.made-index;
 }

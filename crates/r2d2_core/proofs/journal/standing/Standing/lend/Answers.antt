@@ -3,7 +3,7 @@ use Rattle.std.specs.Duration.{as_nanos}
 use Rattle.r2d2_core.specs.Ids.{copies_of}
 use Rattle.r2d2_core.specs.Lending.{lent_next}
 use Rattle.r2d2_core.specs.Connections.{id_of_idle}
-use Rattle.r2d2_core.specs.Standing.{SeenStanding}
+use Rattle.r2d2_core.specs.Standing.{SeenStanding, rooms}
 use Rattle.r2d2_core.proofs.Lists.Lending.{length-still_idle}
 use Rattle.r2d2_core.proofs.Recording.Standing.{lends, birth_of}
 use Rattle.r2d2_core.proofs.journal.standing.Standing.lend.Goals as goal
@@ -23,4 +23,4 @@ returns-else-entry-id-clause-lent g c =
     let is : c.in-Some.entry.id ≡ c.args.id = cc in
     let apart : (i : ℕ) → copies_of i (map id_of_idle s.idle.items) ≤ 1 = subst (λ (v : SeenStanding). (i : ℕ) → copies_of i (map id_of_idle v.base.idle) ≤ 1) (sym c.self.view_is) c.requires.apart in
     rw (← c.self.view_is, c.take.ensures.others, c.add.ensures, c.new.ensures)
-    (lends c.order.result (as_nanos s.at) s.pending s.closed s.idle.items s.lent.items s.idle.room c.args.id (as_nanos c.entry.inside.birth) c.in-Some.entry apart next is birth)
+    (lends c.order.result (as_nanos s.at) s.pending s.closed s.idle.items s.lent.items (rooms s.idle.room s.lent.room) c.args.id (as_nanos c.entry.inside.birth) c.in-Some.entry apart next is birth)

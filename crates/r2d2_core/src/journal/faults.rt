@@ -1,0 +1,68 @@
+// What is wrong in a report, and what stood before it.
+ghost use Rattle.std.specs.Prelude.{◌≡◌, ◌≤◌, length, take, IfOk, MatchOption};
+ghost use Rattle.r2d2_core.specs.Limits.{seen_limits};
+ghost use Rattle.r2d2_core.specs.Bases.{IsLegalBase};
+ghost use Rattle.r2d2_core.specs.Folding.{replay, AreLegalFrom};
+ghost use Rattle.r2d2_core.specs.Reports.{seen_base, DoesReplay};
+ghost use Rattle.r2d2_core.specs.Faults.{IsFault};
+
+use super::base::Base;
+use super::replaying::Wrong;
+use super::report::Report;
+use std::alloc::{AllocError, Allocator, Global};
+
+/// What is wrong first in a report that does not replay.
+#[derive(Drop)]
+pub enum Fault<A: Allocator = Global> {
+    /// The base is none that a pool with the report's limits may come to.
+    Base,
+    /// The record at `place`, counted from 0, may not follow `before`, to which the records before it come.
+    Record { place: usize, before: Base<A> },
+    /// Each record may follow those before it, but what they come to, `end`, is not what the report shows.
+    Counts { end: Base<A> },
+}
+
+impl<A: Allocator> Report<A> {
+    /// What is wrong first in the report, and what stood there. None exactly where it replays.
+    ///
+    /// It takes the time and the memory of `replays`, or a few times as much where something is wrong. The error comes only where
+    /// memory is refused.
+    pub fn first_fault(&self) -> Result<Option<Fault<A>>, AllocError>
+    where
+        A: Copy,
+        ensures { IfOk result (λ found. MatchOption found (DoesReplay self.now) (λ fault. IsFault fault self.now)) }
+    {
+        let Some(wrong) = self.first_wrong()? else {
+            return Ok(None);
+        };
+        let fault = match wrong {
+            Wrong::Base => Fault::Base,
+            Wrong::Record(place) => Fault::Record {
+                place,
+                before: self.after(place)?,
+            },
+            Wrong::Counts => Fault::Counts {
+                end: self.after(self.records.as_slice().len())?,
+            },
+        };
+        Ok(Some(fault))
+    }
+
+    // What so many records come to, where they are legal.
+    fn after(&self, count: usize) -> Result<Base<A>, AllocError>
+    where
+        A: Copy,
+        requires within { count ≤ length self.now.records }
+        requires base { IsLegalBase (seen_limits self.now.limits) (seen_base self.now.base) }
+        requires legal { AreLegalFrom (seen_limits self.now.limits) (seen_base self.now.base) (take count self.now.records) }
+        ensures { IfOk result (λ base. seen_base base ≡ replay (seen_limits self.now.limits) (take count self.now.records) (seen_base self.now.base)) }
+    {
+        let records = &self.records.as_slice()[..count];
+        let Some(mut standing) = self.start(records)? else {
+            unreachable!();
+        };
+        standing.follow_all(&self.limits, records);
+        let _max_size = self.limits.max_size();
+        standing.copied(*self.records.allocator())
+    }
+}
