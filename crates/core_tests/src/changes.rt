@@ -4,8 +4,8 @@ use crate::journal::take_all;
 use crate::replays::{Found, read};
 use crate::steps::{admit, begin, close, limits, number, put_back, reap, take, want};
 use r2d2_core::{
-    AwayList, Base, Book, Fault, IdList, LendingOrder, Limits, Record, RecordList, Report, RestingList,
-    Step,
+    AwayList, Base, Book, Fault, IdList, LendingOrder, Limits, Record, RecordList, Report,
+    RestingList, Step,
 };
 use std::alloc::{AllocError, Allocator, Global};
 use std::test::Fail;

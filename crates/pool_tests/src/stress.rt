@@ -17,10 +17,10 @@ const MAX_SIZE: u32 = 8;
 const THREADS: u32 = 16;
 
 /// How often each thread lends.
-const TIMES: u32 = 2_000;
+const TIMES: u32 = 1_000;
 
 /// How often it lends for each report that it reads.
-const TIMES_A_REPORT: u32 = 200;
+const TIMES_A_REPORT: u32 = 100;
 
 /// Room for more records than are made.
 const ROOM_FOR_ALL: usize = 100_000;
@@ -186,7 +186,7 @@ fn tells_all<R: Abort + PoolRuntime>(
     let found = fit
         .failed_checks
         .load(Ordering::SeqCst)
-        .saturating_add(32_002);
+        .saturating_add(16_002);
     assert_eq!(rt; report.takes, found, "a room of {room}");
     let is_whole = report.lost == 0;
     assert_eq!(rt; is_whole, room == ROOM_FOR_ALL, "a room of {room}");
@@ -216,7 +216,7 @@ where
     let seen = join_all(rt, threads);
     assert_eq!(rt;
         (seen.found, seen.replayed),
-        (32_000, 160),
+        (16_000, 160),
         "a room of {room}"
     );
     assert_eq!(rt; fit.most.load(Ordering::SeqCst), u64::from(MAX_SIZE));

@@ -1,7 +1,7 @@
 // The core, under the pool's own name.
 ghost use Rattle.std.specs.Prelude.{◌≡◌, ◌<◌, length};
 
-use r2d2::journal::{AwayList, Base, Book, IdList, Record, RecordList, Report, RestingList};
+use r2d2::journal::{AwayList, Base, Book, Fault, IdList, Record, RecordList, Report, RestingList};
 use r2d2::machine::{Core, Gone, Leftover, Limits, Refusal, Released, Returned, Take};
 use r2d2::reuse::{Comparison, Move, compare, is_in_order};
 use r2d2::run::{Answer, Step, run};
@@ -262,6 +262,26 @@ fn bases(rt: HostRuntime) -> Result<(), Fail> {
     let report = book.report()?;
     assert_eq!(rt; report.replays(), Ok(true));
     assert!(rt; report.base.lent.as_slice() == [(0, Duration::ZERO)].as_slice());
+    Ok(())
+}
+
+#[test]
+fn faults(rt: HostRuntime) -> Result<(), Fail> {
+    let limits = limits().ok_or("limits")?;
+    let mut report = first_report(rt.alloc(), limits);
+    assert!(rt; report.first_fault()?.is_none());
+    report.connections = 1;
+    assert!(rt; matches!(report.first_fault()?, Some(Fault::Counts { .. })));
+    // Nothing is lent that could come back.
+    let kept = Record::Kept {
+        at: seconds(1),
+        id: 0,
+    };
+    report.records = RecordList::of(vec![in rt.alloc(); kept]?);
+    assert!(rt; matches!(report.first_fault()?, Some(Fault::Record { place: 0, .. })));
+    // More are on order than there may be.
+    report.base.pending = 3;
+    assert!(rt; matches!(report.first_fault()?, Some(Fault::Base)));
     Ok(())
 }
 

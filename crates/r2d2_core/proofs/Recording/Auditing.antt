@@ -481,6 +481,7 @@ module _ {B : Type 0} (r : Report B) where
         before lt are =
             let front : take (followed + 1) (take apart r.records) ≡ take (followed + 1) r.records = take-take (followed + 1) apart r.records (omega (arith, lt)) in
             cc (ap (λ (l : List SeenRecord). all_follow (seen_limits r.limits) l (seen_base r.base)) front, stops lt, are.follow)
+
         behind : apart ≤ followed → AreLegalFrom (seen_limits r.limits) (seen_base r.base) (take (followed + 1) r.records) → ⊥
         behind le are =
             let same : followed ≡ apart = omega (arith, le, within) in

@@ -156,8 +156,15 @@ fn known_ids<A: Allocator + Copy>(
 
 // As many as there can be.
 fn most_ids<A: Allocator>(base: &Base<A>, records: &[Record]) -> usize {
-    let there = base.idle.as_slice().len().saturating_add(base.lent.as_slice().len());
-    let admitted = records.iter().filter(|record| record.admitted().is_some()).count();
+    let there = base
+        .idle
+        .as_slice()
+        .len()
+        .saturating_add(base.lent.as_slice().len());
+    let admitted = records
+        .iter()
+        .filter(|record| record.admitted().is_some())
+        .count();
     there.saturating_add(admitted)
 }
 

@@ -1,4 +1,4 @@
-use Rattle.std.proofs.Common.{◌≡◌, ◌≤◌, ◌<◌, ◌-◌, ℕ, length, map, take}
+use Rattle.std.proofs.Common.{◌≤◌, ◌<◌, ◌-◌, ℕ, length, map, take}
 use Rattle.r2d2_core.specs.Ids.{copies_of}
 use Rattle.r2d2_core.specs.Records.{seen_record}
 use Rattle.r2d2_core.specs.Folding.{known_in}

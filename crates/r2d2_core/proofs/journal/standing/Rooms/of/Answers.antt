@@ -1,4 +1,4 @@
-use Rattle.std.proofs.Common.{◌+◌, arith}
+use Rattle.std.proofs.Common.{arith}
 use Rattle.r2d2_core.specs.Records.{seen_record}
 use Rattle.r2d2_core.proofs.Recording.Auditing.{some_record, rest_next, leave_next}
 use Rattle.r2d2_core.proofs.journal.standing.Rooms.of.Goals as goal

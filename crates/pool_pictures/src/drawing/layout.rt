@@ -1,0 +1,159 @@
+// Where the parts of a picture lie. All places and lengths are in tenths of a unit of the picture.
+ghost use Rattle.std.specs.Prelude.{◌+◌, ◌≤◌};
+
+use crate::scale::Scale;
+use crate::story::Story;
+use std::fmt;
+use std::time::Duration;
+
+/// How wide a picture is.
+pub(super) const WIDTH: u32 = 12_000;
+
+/// What is left free at the left of the texts.
+pub(super) const MARGIN: u32 = 240;
+
+// What is left free at the right of the plot, for the names of limits.
+const RIGHT: u32 = 1500;
+
+pub(super) const LEGEND: u32 = 930;
+
+const BAND_TOP: u32 = 1250;
+
+const BAND_HEIGHT: u32 = 1000;
+
+// From the band to the lanes, with the labels of the axis between them.
+const AXIS_HEIGHT: u32 = 400;
+
+// What is left free below the lanes.
+const FOOT: u32 = 360;
+
+/// A number of tenths, written with its decimal.
+#[derive(Clone, Copy)]
+pub(super) struct Tenths(pub(super) u32);
+
+impl fmt::Display for Tenths {
+    fn fmt<W: fmt::Write>(&self, f: &mut fmt::Formatter<W>) -> fmt::Result {
+        let (whole, tenth) = (self.0 / 10, self.0 % 10);
+        if tenth == 0 {
+            write!(f, "{whole}")
+        } else {
+            write!(f, "{whole}.{tenth}")
+        }
+    }
+}
+
+/// How high a lane is, and what stands in it.
+#[derive(Clone, Copy)]
+pub(super) struct Pitch {
+    pub(super) lane: u32,
+    /// How thick the bar of a lent stretch is.
+    pub(super) bar: u32,
+    /// How thick the line of an idle stretch is.
+    pub(super) line: u32,
+    /// How far a mark reaches from its middle.
+    pub(super) mark: u32,
+    /// Whether an id has room.
+    pub(super) has_id: bool,
+}
+
+impl Pitch {
+    // Fewer lanes are higher.
+    fn of(lanes: usize) -> Pitch {
+        let (lane, bar, line, mark) = if lanes <= 40 {
+            (200, 110, 25, 45)
+        } else if lanes <= 100 {
+            (130, 80, 20, 36)
+        } else if lanes <= 250 {
+            (60, 40, 12, 24)
+        } else {
+            (30, 22, 8, 14)
+        };
+        Pitch {
+            lane,
+            bar,
+            line,
+            mark,
+            has_id: lane >= 130,
+        }
+    }
+}
+
+/// Where everything lies: the plot from `left` to `right`, and the places of the scale in it.
+#[derive(Clone, Copy)]
+pub(super) struct Layout {
+    pub(super) left: u32,
+    pub(super) right: u32,
+    pub(super) pitch: Pitch,
+    pub(super) height: u32,
+    pub(super) scale: Scale,
+    ghost within: { left + scale.width ≤ right },
+}
+
+impl Layout {
+    /// A picture with so many lanes, whose ids have so many digits at most.
+    pub(super) fn of(story: &Story, lanes: usize, digits: u32) -> Layout {
+        let pitch = Pitch::of(lanes);
+        let names = digits.saturating_mul(70).saturating_add(100);
+        let left = MARGIN + names.clamp(560, 3000);
+        let right = WIDTH - RIGHT;
+        let lanes = u32::try_from(lanes).unwrap_or(u32::MAX);
+        let height = lanes
+            .saturating_mul(pitch.lane)
+            .saturating_add(BAND_TOP + BAND_HEIGHT + AXIS_HEIGHT + FOOT);
+        Layout {
+            left,
+            right,
+            pitch,
+            height,
+            scale: Scale::of(story, right - left),
+        }
+    }
+
+    /// The place of a moment from left to right.
+    pub(super) fn x(&self, moment: Duration) -> u32
+        ensures begins { self.now.left ≤ result }
+        ensures ends { result ≤ self.now.right }
+    {
+        self.left + self.scale.place(moment)
+    }
+
+    /// The place of what is so many nanoseconds after the beginning.
+    pub(super) fn x_of(&self, nanos: u128) -> u32
+        ensures begins { self.now.left ≤ result }
+        ensures ends { result ≤ self.now.right }
+    {
+        self.left + self.scale.place_of(nanos)
+    }
+
+    pub(super) fn band_top(&self) -> u32 {
+        BAND_TOP
+    }
+
+    pub(super) fn band_bottom(&self) -> u32 {
+        BAND_TOP + BAND_HEIGHT
+    }
+
+    /// The height of a count in the band, whose full height is that of `top`.
+    pub(super) fn level(&self, count: u32, top: u32) -> u32 {
+        let height = u64::from(count.min(top)).saturating_mul(u64::from(BAND_HEIGHT));
+        let height = u32::try_from(height / u64::from(top.max(1))).unwrap_or(BAND_HEIGHT);
+        self.band_bottom().saturating_sub(height)
+    }
+
+    pub(super) fn lanes_top(&self) -> u32 {
+        BAND_TOP + BAND_HEIGHT + AXIS_HEIGHT
+    }
+
+    pub(super) fn lanes_bottom(&self) -> u32 {
+        self.height.saturating_sub(FOOT)
+    }
+
+    /// The middle of the lane of this number, counted from 0.
+    pub(super) fn lane(&self, number: usize) -> u32 {
+        let number = u32::try_from(number).unwrap_or(u32::MAX);
+        number
+            .saturating_mul(self.pitch.lane)
+            .saturating_add(self.lanes_top())
+            .saturating_add(self.pitch.lane / 2)
+    }
+}

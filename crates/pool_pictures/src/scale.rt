@@ -1,0 +1,58 @@
+// Where a moment lies in a picture.
+ghost use Rattle.std.specs.Prelude.{◌≡◌, ◌≤◌};
+
+use crate::story::Story;
+use std::time::Duration;
+
+/// A picture's time from left to right: the moments of a story on the places 0 to `width`.
+#[derive(Clone, Copy)]
+pub(crate) struct Scale {
+    // The first moment and the length, in nanoseconds.
+    from: u128,
+    span: u128,
+    pub(crate) width: u32,
+}
+
+impl Scale {
+    /// The scale of a story. One that is over as it begins lies at 0.
+    pub(crate) fn of(story: &Story, width: u32) -> Scale
+        ensures { result.width ≡ width }
+    {
+        Scale {
+            from: story.from.as_nanos(),
+            span: story.length().as_nanos(),
+            width,
+        }
+    }
+
+    /// The place of a moment; one before the story lies at 0, one after it at `width`.
+    pub(crate) fn place(&self, moment: Duration) -> u32
+        ensures { result ≤ self.now.width }
+    {
+        self.place_of(moment.as_nanos().saturating_sub(self.from))
+    }
+
+    /// The place of what is so many nanoseconds after the beginning.
+    pub(crate) fn place_of(&self, nanos: u128) -> u32
+        ensures { result ≤ self.now.width }
+    {
+        let offset = nanos.min(self.span);
+        let place = offset.saturating_mul(u128::from(self.width)) / self.span.max(1);
+        u32::try_from(place).unwrap_or(u32::MAX).min(self.width)
+    }
+
+    /// How many places there are.
+    pub(crate) fn columns(&self) -> usize {
+        (self.width as usize).saturating_add(1)
+    }
+
+    /// The length of the story in nanoseconds.
+    pub(crate) fn span(&self) -> u128 {
+        self.span
+    }
+
+    /// Whether times are counted from a beginning that is not the making of the pool.
+    pub(crate) fn begins_late(&self) -> bool {
+        self.from > 0
+    }
+}

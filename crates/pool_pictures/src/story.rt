@@ -1,0 +1,286 @@
+// The story of a report: what became of each connection, and how many there were.
+ghost use Rattle.std.specs.Prelude.{◌≡◌, ◌+◌, ◌-◌, ◌^◌, ◌<◌, min, IfOk};
+ghost use Rattle.std.specs.Duration.{as_nanos};
+ghost use Rattle.r2d2_core.specs.Records.{seen_record};
+ghost use Rattle.r2d2_core.specs.Folding.{moment_in};
+ghost use Rattle.r2d2_core.specs.Limits.{has_reached};
+
+use r2d2_core::{Limits, Record, Report};
+use std::alloc::{AllocError, Allocator, Global};
+use std::time::Duration;
+use telling::Teller;
+
+mod telling;
+
+/// How a connection came into the story.
+#[derive(Clone, Copy, PartialEq, Eq, Debug)]
+pub enum Coming {
+    /// It was idle in the base.
+    Resting,
+    /// It was lent in the base.
+    Away,
+    /// It was admitted by a record.
+    Admitted,
+}
+
+/// What a connection was for a while.
+#[derive(Clone, Copy, PartialEq, Eq, Debug)]
+pub enum Use {
+    Idle,
+    /// A caller had it, or its check was running.
+    Lent,
+}
+
+/// A while in which a connection was the same. Its moments, like all of a story's, are counted from
+/// the making of the pool.
+#[derive(Clone, Copy, PartialEq, Eq, Debug)]
+pub struct Stretch {
+    pub what: Use,
+    pub from: Duration,
+    pub to: Duration,
+}
+
+/// Why a connection went.
+#[derive(Clone, Copy, PartialEq, Eq, Debug)]
+pub enum Cause {
+    /// It was closed at its return, or its check failed.
+    Closed,
+    /// It was idle for too long or too old, and a reap closed it.
+    Reaped,
+    /// It was idle when the pool was closed.
+    ClosedAll,
+}
+
+/// When and why a connection went.
+#[derive(Clone, Copy, PartialEq, Eq, Debug)]
+pub struct Ending {
+    pub at: Duration,
+    pub cause: Cause,
+}
+
+/// What became of one connection.
+#[derive(Drop)]
+pub struct Life {
+    pub id: u64,
+    /// When it was admitted, which may be before the story begins.
+    pub birth: Duration,
+    pub coming: Coming,
+    /// What it was, one while after the other. The first of a connection that was idle in the base
+    /// begins when it came to be idle.
+    pub stretches: Vec<Stretch>,
+    /// None where it is there at the end.
+    pub ending: Option<Ending>,
+}
+
+/// How many connections there were from a moment on.
+#[derive(Clone, Copy, PartialEq, Eq, Debug)]
+pub struct Counts {
+    pub at: Duration,
+    pub idle: u32,
+    /// The idle and the lent ones.
+    pub connections: u32,
+    /// Openings that were ordered and not admitted.
+    pub pending: u32,
+}
+
+/// One of the counts.
+#[derive(Clone, Copy, PartialEq, Eq, Debug)]
+pub enum Series {
+    Connections,
+    Idle,
+    Pending,
+}
+
+impl Series {
+    /// What it is called.
+    pub fn name(self) -> &'static str {
+        match self {
+            Series::Connections => "connections",
+            Series::Idle => "idle",
+            Series::Pending => "pending",
+        }
+    }
+}
+
+impl Counts {
+    /// One of them.
+    pub fn of(&self, series: Series) -> u32 {
+        match series {
+            Series::Connections => self.connections,
+            Series::Idle => self.idle,
+            Series::Pending => self.pending,
+        }
+    }
+
+    /// The connections and the pending openings together, which are never more than `max_size`.
+    pub fn all(&self) -> u32
+        ensures { result ≡ min (self.now.connections + self.now.pending) (2 ^ 32 - 1) }
+    {
+        self.connections.saturating_add(self.pending)
+    }
+}
+
+/// What a report tells, from the moment of its base to that of its newest record.
+#[derive(Drop)]
+pub struct Story {
+    pub limits: Limits,
+    /// The moment of the base.
+    pub from: Duration,
+    /// The moment of the newest record; where there is none, that of the base.
+    pub to: Duration,
+    /// The connections: those that were idle in the base, those that were lent in it, and then the
+    /// others as they were admitted.
+    pub lives: Vec<Life>,
+    /// The counts of the base, and those after each record.
+    pub counts: Vec<Counts>,
+    /// How many records came before the base.
+    pub lost: u64,
+    /// Whether the pool is closed at the end.
+    pub closed: bool,
+    /// The moment at which a record closed it.
+    pub closing: Option<Duration>,
+}
+
+impl Life {
+    // A connection of which no end is known yet.
+    fn begun(
+        alloc: Global,
+        id: u64,
+        birth: Duration,
+        coming: Coming,
+        first: Stretch,
+    ) -> Result<Life, AllocError> {
+        let mut stretches = Vec::new(alloc);
+        stretches.push(first)?;
+        Ok(Life {
+            id,
+            birth,
+            coming,
+            stretches,
+            ending: None,
+        })
+    }
+
+    /// What it was last, and since when.
+    pub fn latest(&self) -> Option<Stretch> {
+        self.stretches.last().copied()
+    }
+
+    /// Whether it is lent, or idle, at the end of the story.
+    pub fn is_still(&self, what: Use) -> bool {
+        self.ending.is_none() && self.latest().is_some_and(|last| last.what == what)
+    }
+
+    // What it was last went on until then.
+    fn reach(&mut self, at: Duration) {
+        if let Some(last) = self.stretches.last_mut() {
+            last.to = at;
+        }
+    }
+
+    // From then on it is something else.
+    fn turn(&mut self, what: Use, at: Duration) -> Result<(), AllocError> {
+        self.reach(at);
+        let next = Stretch {
+            what,
+            from: at,
+            to: at,
+        };
+        Ok(self.stretches.push(next)?)
+    }
+
+    fn end(&mut self, at: Duration, cause: Cause) {
+        self.reach(at);
+        self.ending = Some(Ending { at, cause });
+    }
+
+    // Whether a reap at that moment closes it, if it is idle.
+    fn is_expired(&self, limits: &Limits, at: Duration) -> bool {
+        let Some(last) = self.latest() else {
+            return false;
+        };
+        let rest = at.saturating_sub(last.from);
+        let age = at.saturating_sub(self.birth);
+        reaches(limits.idle_timeout(), rest) || reaches(limits.max_lifetime(), age)
+    }
+}
+
+// The limit is set, and the length of time has reached it.
+fn reaches(limit: Option<Duration>, length: Duration) -> bool
+    ensures { result ≡ has_reached limit (as_nanos length) }
+{
+    match limit {
+        Some(limit) => limit.as_nanos() <= length.as_nanos(),
+        None => false,
+    }
+}
+
+impl Story {
+    ghost use Rattle.r2d2_core.specs.Limits.{seen_limits};
+    ghost use Rattle.r2d2_core.specs.Reports.{seen_base};
+
+    /// What the report tells. A report that does not replay is told as far as it goes: a record of
+    /// a connection that is not there is left out, and a moment that falls is raised. The error
+    /// comes only where memory is refused.
+    pub fn of<A: Allocator>(alloc: Global, report: &Report<A>) -> Result<Story, AllocError>
+        ensures limits { IfOk result (λ s. seen_limits s.limits ≡ seen_limits report.now.limits) }
+        ensures begins { IfOk result (λ s. as_nanos s.from ≡ (seen_base report.now.base).at) }
+        ensures lost { IfOk result (λ s. s.lost ≡ report.now.lost) }
+    {
+        let mut teller = Teller::of(alloc, report)?;
+        for record in report.records.as_slice() {
+            teller.follow(*record)?;
+        }
+        Ok(teller.told(report))
+    }
+
+    /// How long it lasts.
+    pub fn length(&self) -> Duration
+        ensures { as_nanos result ≡ as_nanos self.now.to - as_nanos self.now.from }
+    {
+        self.to.saturating_sub(self.from)
+    }
+
+    /// The counts at the end.
+    pub fn last_counts(&self) -> Option<Counts> {
+        self.counts.last().copied()
+    }
+
+    /// The most connections and pending openings that there ever were together.
+    pub fn most(&self) -> u32 {
+        let mut most = 0;
+        for counts in self.counts.iter() {
+            most = most.max(counts.all());
+        }
+        most
+    }
+
+    /// The count at which a band of counts is full: `max_size`, or where that is more than four
+    /// times as much as there ever was, the most that there was.
+    pub fn top(&self) -> u32
+        ensures { 0 < result }
+    {
+        let size = self.limits.max_size();
+        let most = self.most().max(1);
+        if size / 4 > most {
+            most
+        } else {
+            size.max(most)
+        }
+    }
+}
+
+/// The moment of a record.
+pub fn moment_of(made: Record) -> Duration
+    ensures { as_nanos result ≡ moment_in (seen_record made) }
+{
+    match made {
+        Record::Taken { at, .. }
+        | Record::Ordered { at, .. }
+        | Record::Admitted { at, .. }
+        | Record::Kept { at, .. }
+        | Record::Closed { at, .. }
+        | Record::Reaped { at, .. }
+        | Record::ClosedAll { at } => at,
+    }
+}

@@ -1,0 +1,248 @@
+// How a story is told: the records of a report, one by one.
+ghost use Rattle.std.specs.Prelude.{◌≡◌};
+
+use super::{Cause, Coming, Counts, Life, Story, Stretch, Use, moment_of};
+use r2d2_core::{Base, Limits, Record, Report};
+use std::alloc::{AllocError, Allocator, Global};
+use std::collections::{BTreeMap, BTreeSet};
+use std::time::Duration;
+
+/// A story so far.
+#[derive(Drop)]
+pub(super) struct Teller {
+    alloc: Global,
+    limits: Limits,
+    now: Duration,
+    lives: Vec<Life>,
+    counts: Vec<Counts>,
+    // The place in `lives` of each connection that is there, by its id.
+    places: BTreeMap<u64, usize>,
+    // The places of the idle ones.
+    idle: BTreeSet<usize>,
+    pending: u32,
+    closed: bool,
+    closing: Option<Duration>,
+}
+
+impl Teller {
+    /// What the base of a report says.
+    pub(super) fn of<A: Allocator>(
+        alloc: Global,
+        report: &Report<A>,
+    ) -> Result<Teller, AllocError> {
+        let base = &report.base;
+        let mut teller = Teller {
+            alloc,
+            limits: report.limits,
+            now: base.at,
+            lives: Vec::new(alloc),
+            counts: Vec::new(alloc),
+            places: BTreeMap::new(alloc),
+            idle: BTreeSet::new(alloc),
+            pending: base.pending,
+            closed: base.closed,
+            closing: None,
+        };
+        teller.meet_resting(base)?;
+        teller.meet_away(base)?;
+        teller.count()?;
+        Ok(teller)
+    }
+
+    fn meet_resting<A: Allocator>(&mut self, base: &Base<A>) -> Result<(), AllocError> {
+        for (id, birth, since) in base.idle.as_slice() {
+            let from = (*since).min(base.at);
+            self.meet(*id, (*birth).min(from), Coming::Resting, from)?;
+        }
+        Ok(())
+    }
+
+    fn meet_away<A: Allocator>(&mut self, base: &Base<A>) -> Result<(), AllocError> {
+        for (id, birth) in base.lent.as_slice() {
+            self.meet(*id, (*birth).min(base.at), Coming::Away, base.at)?;
+        }
+        Ok(())
+    }
+
+    // A connection that was not there before. One that is there already is left as it is.
+    fn meet(
+        &mut self,
+        id: u64,
+        birth: Duration,
+        coming: Coming,
+        from: Duration,
+    ) -> Result<(), AllocError> {
+        if self.places.contains_key(&id) {
+            return Ok(());
+        }
+        let what = match coming {
+            Coming::Away => Use::Lent,
+            Coming::Resting | Coming::Admitted => Use::Idle,
+        };
+        let place = self.lives.len();
+        let first = Stretch {
+            what,
+            from,
+            to: self.now,
+        };
+        self.lives
+            .push(Life::begun(self.alloc, id, birth, coming, first)?)?;
+        self.places.insert(id, place)?;
+        if what == Use::Idle {
+            self.idle.insert(place)?;
+        }
+        Ok(())
+    }
+
+    // The place of the connection that is there, and is idle or lent as is said.
+    fn place_of(&self, id: u64, what: Use) -> Option<usize> {
+        let place = *self.places.get(&id)?;
+        if self.idle.contains(&place) == (what == Use::Idle) {
+            Some(place)
+        } else {
+            None
+        }
+    }
+
+    fn lend(&mut self, id: u64) -> Result<(), AllocError> {
+        if let Some(place) = self.place_of(id, Use::Idle)
+            && let Some(life) = self.lives.get_mut(place)
+        {
+            life.turn(Use::Lent, self.now)?;
+            self.idle.remove(&place);
+        }
+        Ok(())
+    }
+
+    fn keep(&mut self, id: u64) -> Result<(), AllocError> {
+        if let Some(place) = self.place_of(id, Use::Lent)
+            && let Some(life) = self.lives.get_mut(place)
+        {
+            life.turn(Use::Idle, self.now)?;
+            self.idle.insert(place)?;
+        }
+        Ok(())
+    }
+
+    fn part(&mut self, id: u64) {
+        if let Some(place) = self.place_of(id, Use::Lent) {
+            self.end(place, Cause::Closed);
+        }
+    }
+
+    fn end(&mut self, place: usize, cause: Cause) {
+        if let Some(life) = self.lives.get_mut(place) {
+            life.end(self.now, cause);
+            self.places.remove(&life.id);
+        }
+        self.idle.remove(&place);
+    }
+
+    // The places of the idle ones that a reap closes now.
+    fn expired(&self) -> Result<Vec<usize>, AllocError> {
+        let mut expired = Vec::new(self.alloc);
+        for place in self.idle.iter() {
+            if let Some(life) = self.lives.get(*place)
+                && life.is_expired(&self.limits, self.now)
+            {
+                expired.push(*place)?;
+            }
+        }
+        Ok(expired)
+    }
+
+    fn reap(&mut self) -> Result<(), AllocError> {
+        for place in self.expired()? {
+            self.end(place, Cause::Reaped);
+        }
+        Ok(())
+    }
+
+    fn close(&mut self) -> Result<(), AllocError> {
+        let mut left = Vec::new(self.alloc);
+        for place in self.idle.iter() {
+            left.push(*place)?;
+        }
+        for place in left {
+            self.end(place, Cause::ClosedAll);
+        }
+        self.pending = 0;
+        if !self.closed {
+            self.closing = Some(self.now);
+        }
+        self.closed = true;
+        Ok(())
+    }
+
+    fn order(&mut self, ordered: u32) {
+        self.pending = self.pending.saturating_add(ordered);
+    }
+
+    fn admit(&mut self, id: u64) -> Result<(), AllocError> {
+        self.pending = self.pending.saturating_sub(1);
+        let now = self.now;
+        self.meet(id, now, Coming::Admitted, now)
+    }
+
+    // Notes how many there are now.
+    fn count(&mut self) -> Result<(), AllocError> {
+        let counts = Counts {
+            at: self.now,
+            idle: capped(self.idle.len()),
+            connections: capped(self.places.len()),
+            pending: self.pending,
+        };
+        Ok(self.counts.push(counts)?)
+    }
+
+    /// What the next record tells.
+    pub(super) fn follow(&mut self, record: Record) -> Result<(), AllocError> {
+        self.now = self.now.max(moment_of(record));
+        match record {
+            Record::Taken { id, ordered, .. } => {
+                self.lend(id)?;
+                self.order(ordered);
+            }
+            Record::Ordered { ordered, .. } => self.order(ordered),
+            Record::Admitted { id, .. } => self.admit(id)?,
+            Record::Kept { id, .. } => self.keep(id)?,
+            Record::Closed { id, ordered, .. } => {
+                self.part(id);
+                self.order(ordered);
+            }
+            Record::Reaped { ordered, .. } => {
+                self.reap()?;
+                self.order(ordered);
+            }
+            Record::ClosedAll { .. } => self.close()?,
+        }
+        self.count()
+    }
+
+    /// The whole story of the report.
+    pub(super) fn told<A: Allocator>(mut self, report: &Report<A>) -> Story
+        ensures limits { result.limits ≡ report.now.limits }
+        ensures begins { result.from ≡ report.now.base.at }
+        ensures lost { result.lost ≡ report.now.lost }
+    {
+        for life in self.lives.iter_mut() {
+            if life.ending.is_none() {
+                life.reach(self.now);
+            }
+        }
+        Story {
+            limits: report.limits,
+            from: report.base.at,
+            to: self.now,
+            lives: self.lives,
+            counts: self.counts,
+            lost: report.lost,
+            closed: self.closed,
+            closing: self.closing,
+        }
+    }
+}
+
+fn capped(count: usize) -> u32 {
+    u32::try_from(count).unwrap_or(u32::MAX)
+}

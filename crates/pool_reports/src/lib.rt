@@ -1,0 +1,19 @@
+//! Reports of a pool's journal as text, and what is wrong with one, in words.
+//!
+//! [`to_json`] writes a report as one line of JSON, and [`from_json`] reads it again, in another
+//! program and at another time.
+#![tactic(auto)]
+
+pub mod error;
+mod nanoseconds;
+mod reading;
+pub mod verdict;
+mod writing;
+
+pub use error::{FromJsonError, Place, Wanted};
+pub use reading::from_json;
+pub use verdict::{BaseReason, CountsReason, RecordReason, Verdict, audit};
+pub use writing::to_json;
+
+/// The version of the text that [`to_json`] writes, and the only one that [`from_json`] reads.
+pub const VERSION: u64 = 1;

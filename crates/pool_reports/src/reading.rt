@@ -1,0 +1,269 @@
+// A report read from JSON.
+
+use crate::VERSION;
+use crate::error::{FromJsonError, Place, Wanted};
+use found::{Found, Object};
+use r2d2_core::{
+    AwayList, Base, IdList, LendingOrder, Limits, Record, RecordList, Report, RestingList,
+};
+use serde_json::Value;
+use std::alloc::Global;
+use std::time::Duration;
+
+mod found;
+
+const REPORT_FIELDS: [&str; 11] = [
+    "version",
+    "limits",
+    "base",
+    "records",
+    "lost",
+    "takes",
+    "idle",
+    "lent",
+    "connections",
+    "pending",
+    "closed",
+];
+
+const LIMITS_FIELDS: [&str; 7] = [
+    "max_size",
+    "min_idle",
+    "max_lifetime",
+    "idle_timeout",
+    "connection_timeout",
+    "reap_every",
+    "order",
+];
+
+const BASE_FIELDS: [&str; 6] = ["at", "idle", "lent", "connections", "pending", "closed"];
+
+/// The report that a text of JSON says, as [`to_json`](crate::to_json) writes it. White space and
+/// the order of the fields do not matter; where a field stands twice, the last one counts.
+///
+/// It takes the memory of the text as a tree of `Value`s, and of the report. The error says what is
+/// wrong, and where: `records[17].id: not a whole number up to 18446744073709551615`. Whether the
+/// report is one of a pool is not asked here: `Report::replays` tells.
+pub fn from_json(alloc: Global, text: &str) -> Result<Report, FromJsonError> {
+    let value = Value::from_str(alloc, text)?;
+    let found = Found::new(&value, Place::report());
+    read_version(found.object()?)?;
+    read_report(alloc, found.object_of(alloc, &REPORT_FIELDS)?)
+}
+
+// Other versions may have other fields, so this one comes first.
+fn read_version(report: Object<'_>) -> Result<(), FromJsonError> {
+    let version = report.field("version")?.number()?;
+    if version != VERSION {
+        return Err(FromJsonError::Version(version));
+    }
+    Ok(())
+}
+
+// What a report counts.
+#[derive(Clone, Copy)]
+struct Counts {
+    lost: u64,
+    takes: u64,
+    connections: u32,
+    pending: u32,
+    closed: bool,
+}
+
+fn read_counts(report: Object<'_>) -> Result<Counts, FromJsonError> {
+    Ok(Counts {
+        lost: report.field("lost")?.number()?,
+        takes: report.field("takes")?.number()?,
+        connections: report.field("connections")?.count()?,
+        pending: report.field("pending")?.count()?,
+        closed: report.field("closed")?.flag()?,
+    })
+}
+
+fn read_report(alloc: Global, report: Object<'_>) -> Result<Report, FromJsonError> {
+    let limits = read_limits(alloc, report)?;
+    let counts = read_counts(report)?;
+    let base = read_base(alloc, report)?;
+    let records = read_records(alloc, report)?;
+    let idle = read_ids(alloc, report, "idle")?;
+    let lent = read_ids(alloc, report, "lent")?;
+    Ok(Report {
+        limits,
+        base,
+        records,
+        lost: counts.lost,
+        takes: counts.takes,
+        idle,
+        lent,
+        connections: counts.connections,
+        pending: counts.pending,
+        closed: counts.closed,
+    })
+}
+
+fn read_limits(alloc: Global, report: Object<'_>) -> Result<Limits, FromJsonError> {
+    let limits = report.named("limits")?.object_of(alloc, &LIMITS_FIELDS)?;
+    let max_size = limits.field("max_size")?.count()?;
+    let min_idle = limits.field("min_idle")?.count_or_null()?;
+    let max_lifetime = limits.field("max_lifetime")?.nanoseconds_or_null()?;
+    let idle_timeout = limits.field("idle_timeout")?.nanoseconds_or_null()?;
+    let connection_timeout = limits.field("connection_timeout")?.nanoseconds()?;
+    let reap_every = limits.field("reap_every")?.nanoseconds()?;
+    let order = read_order(limits.field("order")?)?;
+    Limits::of(
+        max_size,
+        min_idle,
+        max_lifetime,
+        idle_timeout,
+        connection_timeout,
+        reap_every,
+    )
+    .map(|limits| limits.with_order(order))
+    .ok_or(FromJsonError::Limits)
+}
+
+fn read_order(found: Found<'_>) -> Result<LendingOrder, FromJsonError> {
+    match found.text(Wanted::Order)? {
+        "newest_first" => Ok(LendingOrder::NewestFirst),
+        "oldest_first" => Ok(LendingOrder::OldestFirst),
+        _ => Err(found.is_not(Wanted::Order)),
+    }
+}
+
+fn read_base(alloc: Global, report: Object<'_>) -> Result<Base, FromJsonError> {
+    let base = report.named("base")?.object_of(alloc, &BASE_FIELDS)?;
+    let idle = read_resting(alloc, base.field("idle")?.items()?)?;
+    let lent = read_away(alloc, base.field("lent")?.items()?)?;
+    Ok(Base {
+        at: base.field("at")?.nanoseconds()?,
+        idle,
+        lent,
+        connections: base.field("connections")?.count()?,
+        pending: base.field("pending")?.count()?,
+        closed: base.field("closed")?.flag()?,
+    })
+}
+
+fn read_resting(alloc: Global, items: &[Value]) -> Result<RestingList, FromJsonError> {
+    let mut list = Vec::with_capacity(alloc, items.len())?;
+    for (number, value) in items.iter().enumerate() {
+        list.push(read_idle(Found::new(value, Place::item_of("base.idle", number)))?)?;
+    }
+    Ok(RestingList::of(list))
+}
+
+// An idle connection: id, birth, and since when it is idle.
+fn read_idle(found: Found<'_>) -> Result<(u64, Duration, Duration), FromJsonError> {
+    match found.items()? {
+        [id, birth, since] => Ok((
+            found.item(0, id).number()?,
+            found.item(1, birth).nanoseconds()?,
+            found.item(2, since).nanoseconds()?,
+        )),
+        _ => Err(found.is_not(Wanted::ListOf(3))),
+    }
+}
+
+fn read_away(alloc: Global, items: &[Value]) -> Result<AwayList, FromJsonError> {
+    let mut list = Vec::with_capacity(alloc, items.len())?;
+    for (number, value) in items.iter().enumerate() {
+        list.push(read_lent(Found::new(value, Place::item_of("base.lent", number)))?)?;
+    }
+    Ok(AwayList::of(list))
+}
+
+// A lent connection: id and birth.
+fn read_lent(found: Found<'_>) -> Result<(u64, Duration), FromJsonError> {
+    match found.items()? {
+        [id, birth] => Ok((
+            found.item(0, id).number()?,
+            found.item(1, birth).nanoseconds()?,
+        )),
+        _ => Err(found.is_not(Wanted::ListOf(2))),
+    }
+}
+
+fn read_ids(
+    alloc: Global,
+    report: Object<'_>,
+    name: &'static str,
+) -> Result<IdList, FromJsonError> {
+    let items = report.field(name)?.items()?;
+    let mut list = Vec::with_capacity(alloc, items.len())?;
+    for (number, value) in items.iter().enumerate() {
+        list.push(Found::new(value, Place::item_of(name, number)).number()?)?;
+    }
+    Ok(IdList::of(list))
+}
+
+fn read_records(alloc: Global, report: Object<'_>) -> Result<RecordList, FromJsonError> {
+    let items = report.field("records")?.items()?;
+    let mut list = Vec::with_capacity(alloc, items.len())?;
+    for (number, value) in items.iter().enumerate() {
+        let found = Found::new(value, Place::item_of("records", number));
+        list.push(read_record(alloc, found)?)?;
+    }
+    Ok(RecordList::of(list))
+}
+
+fn read_record(alloc: Global, found: Found<'_>) -> Result<Record, FromJsonError> {
+    let kind = found.object()?.field("kind")?;
+    match kind.text(Wanted::Kind)? {
+        "taken" => {
+            let record = found.object_of(alloc, &["kind", "at", "id", "ordered"])?;
+            Ok(Record::Taken {
+                at: record.at()?,
+                id: record.id()?,
+                ordered: record.ordered()?,
+            })
+        }
+        "ordered" => {
+            let record = found.object_of(alloc, &["kind", "at", "ordered"])?;
+            Ok(Record::Ordered {
+                at: record.at()?,
+                ordered: record.ordered()?,
+            })
+        }
+        "admitted" => {
+            let record = found.object_of(alloc, &["kind", "at", "id"])?;
+            Ok(Record::Admitted {
+                at: record.at()?,
+                id: record.id()?,
+            })
+        }
+        _ => read_ending(alloc, found, kind),
+    }
+}
+
+// A record of a connection that came back, or of connections that are gone.
+fn read_ending(alloc: Global, found: Found<'_>, kind: Found<'_>) -> Result<Record, FromJsonError> {
+    match kind.text(Wanted::Kind)? {
+        "kept" => {
+            let record = found.object_of(alloc, &["kind", "at", "id"])?;
+            Ok(Record::Kept {
+                at: record.at()?,
+                id: record.id()?,
+            })
+        }
+        "closed" => {
+            let record = found.object_of(alloc, &["kind", "at", "id", "ordered"])?;
+            Ok(Record::Closed {
+                at: record.at()?,
+                id: record.id()?,
+                ordered: record.ordered()?,
+            })
+        }
+        "reaped" => {
+            let record = found.object_of(alloc, &["kind", "at", "ordered"])?;
+            Ok(Record::Reaped {
+                at: record.at()?,
+                ordered: record.ordered()?,
+            })
+        }
+        "closed_all" => {
+            let record = found.object_of(alloc, &["kind", "at"])?;
+            Ok(Record::ClosedAll { at: record.at()? })
+        }
+        _ => Err(kind.is_not(Wanted::Kind)),
+    }
+}

@@ -1,0 +1,284 @@
+// Why a record may not follow what stood before it.
+ghost use Rattle.std.specs.Prelude.{◌≡◌};
+ghost use Rattle.std.specs.Duration.{as_nanos};
+ghost use Rattle.r2d2_core.specs.Limits.{seen_limits, has_reached};
+ghost use Rattle.r2d2_core.specs.Records.{seen_record};
+ghost use Rattle.r2d2_core.specs.Reports.{seen_base};
+ghost use Rattle.r2d2_core.specs.Folding.{moment_in, tops_up};
+
+use r2d2_core::{Base, LendingOrder, Limits, Record};
+use std::alloc::Allocator;
+use std::fmt;
+use std::time::Duration;
+
+/// Why a record may not follow what stood before it.
+#[derive(Clone, Copy, Debug, PartialEq, Eq)]
+pub enum RecordReason {
+    /// It is the first one, and its moment is before that of the base.
+    BeforeBase,
+    /// Its moment is before that of the record before it.
+    BeforeLast,
+    /// The id is taken, but none is idle.
+    NoneIdle(u64),
+    /// The id is taken, but another is lent next.
+    NotNext { id: u64, next: u64 },
+    /// So many were ordered, and another number was due.
+    Ordered { ordered: u32, due: u32 },
+    /// One was ordered alone, as where none is idle, but the connection of this id is idle.
+    OrderedThoughIdle(u64),
+    /// One was ordered alone, but the pool is closed.
+    OrderedThoughClosed,
+    /// One was ordered alone, but there are as many as `max_size` already.
+    OrderedThoughFull(u32),
+    /// The id is admitted, but no opening was pending.
+    NonePending(u64),
+    /// The id is admitted, but there was one of that id before.
+    AdmittedTwice(u64),
+    /// The id is kept, but it is not lent.
+    KeptThoughNotLent(u64),
+    /// The id is kept, but the pool is closed.
+    KeptThoughClosed(u64),
+    /// The id is kept, but its age has reached `max_lifetime`.
+    KeptThoughOld(u64),
+    /// The id is closed, but it is not lent.
+    ClosedThoughNotLent(u64),
+    /// A reap closed none and ordered none, which makes no record.
+    NothingReaped,
+    /// The pool is closed, but it was closed before.
+    ClosedTwice,
+}
+
+impl fmt::Display for RecordReason {
+    fn fmt<W: fmt::Write>(&self, f: &mut fmt::Formatter<W>) -> fmt::Result {
+        match self {
+            RecordReason::BeforeBase => write!(f, "its moment is before that of the base"),
+            RecordReason::BeforeLast => {
+                write!(f, "its moment is before that of the record before it")
+            }
+            RecordReason::NoneIdle(id) => {
+                write!(f, "connection {id} is taken, but none is idle")
+            }
+            RecordReason::NotNext { id, next } => {
+                write!(
+                    f,
+                    "connection {id} is taken, but connection {next} is lent next"
+                )
+            }
+            RecordReason::Ordered { ordered, due } => {
+                write!(f, "{} ordered where {} due", Were(*ordered), Were(*due))
+            }
+            RecordReason::OrderedThoughIdle(id) => {
+                write!(f, "one is ordered alone, but connection {id} is idle")
+            }
+            RecordReason::OrderedThoughClosed => {
+                write!(f, "one is ordered alone, but the pool is closed")
+            }
+            RecordReason::OrderedThoughFull(max_size) => write!(
+                f,
+                "one is ordered alone, but there are {max_size} already, which is max_size"
+            ),
+            RecordReason::NonePending(id) => {
+                write!(f, "connection {id} is admitted, but no opening was pending")
+            }
+            RecordReason::AdmittedTwice(id) => write!(
+                f,
+                "connection {id} is admitted, but there was one of that id before"
+            ),
+            RecordReason::KeptThoughNotLent(id) => {
+                write!(f, "connection {id} is kept, but it is not lent")
+            }
+            RecordReason::KeptThoughClosed(id) => {
+                write!(f, "connection {id} is kept, but the pool is closed")
+            }
+            RecordReason::KeptThoughOld(id) => write!(
+                f,
+                "connection {id} is kept, but its age has reached max_lifetime"
+            ),
+            RecordReason::ClosedThoughNotLent(id) => {
+                write!(f, "connection {id} is closed, but it is not lent")
+            }
+            RecordReason::NothingReaped => {
+                write!(
+                    f,
+                    "a reap that closed none and ordered none makes no record"
+                )
+            }
+            RecordReason::ClosedTwice => {
+                write!(f, "the pool is closed, but it was closed before")
+            }
+        }
+    }
+}
+
+// A number of openings, with its verb.
+#[derive(Clone, Copy)]
+struct Were(u32);
+
+impl fmt::Display for Were {
+    fn fmt<W: fmt::Write>(&self, f: &mut fmt::Formatter<W>) -> fmt::Result {
+        match self.0 {
+            1 => write!(f, "1 was"),
+            count => write!(f, "{count} were"),
+        }
+    }
+}
+
+/// Why the record may not follow what stood before it, or the base if it is the first. It has to be
+/// one that may not.
+pub(super) fn reason<A: Allocator>(
+    limits: &Limits,
+    before: &Base<A>,
+    record: &Record,
+    is_first: bool,
+) -> RecordReason {
+    let at = moment_of(record);
+    if at.as_nanos() < before.at.as_nanos() {
+        return if is_first {
+            RecordReason::BeforeBase
+        } else {
+            RecordReason::BeforeLast
+        };
+    }
+    match record {
+        Record::Taken { id, ordered, .. } => of_taken(limits, before, *id, *ordered),
+        Record::Ordered { ordered, .. } => of_ordered(limits, before, *ordered),
+        Record::Admitted { id, .. } if before.pending == 0 => RecordReason::NonePending(*id),
+        Record::Admitted { id, .. } => RecordReason::AdmittedTwice(*id),
+        Record::Kept { id, .. } => of_kept(before, *id),
+        Record::Closed { id, ordered, .. } => of_closed(limits, before, *id, *ordered),
+        Record::Reaped { ordered, .. } => of_reaped(limits, before, at, *ordered),
+        Record::ClosedAll { .. } => RecordReason::ClosedTwice,
+    }
+}
+
+fn moment_of(record: &Record) -> Duration
+    ensures { as_nanos result ≡ moment_in (seen_record record.now) }
+{
+    match record {
+        Record::Taken { at, .. }
+        | Record::Ordered { at, .. }
+        | Record::Admitted { at, .. }
+        | Record::Kept { at, .. }
+        | Record::Closed { at, .. }
+        | Record::Reaped { at, .. }
+        | Record::ClosedAll { at } => *at,
+    }
+}
+
+fn of_taken<A: Allocator>(
+    limits: &Limits,
+    before: &Base<A>,
+    id: u64,
+    ordered: u32,
+) -> RecordReason {
+    match next_of(limits, before) {
+        None => RecordReason::NoneIdle(id),
+        Some(next) if next != id => RecordReason::NotNext { id, next },
+        Some(_) => {
+            let idle = before.idle.as_slice().len().saturating_sub(1);
+            let due = due(limits, before, idle, before.connections);
+            RecordReason::Ordered { ordered, due }
+        }
+    }
+}
+
+// The id of the idle connection that is lent next.
+fn next_of<A: Allocator>(limits: &Limits, before: &Base<A>) -> Option<u64> {
+    let idle = before.idle.as_slice();
+    let next = match limits.order() {
+        LendingOrder::NewestFirst => idle.last(),
+        LendingOrder::OldestFirst => idle.first(),
+    };
+    next.map(|entry| entry.0)
+}
+
+fn of_ordered<A: Allocator>(limits: &Limits, before: &Base<A>, ordered: u32) -> RecordReason {
+    if let Some(id) = next_of(limits, before) {
+        return RecordReason::OrderedThoughIdle(id);
+    }
+    if before.closed {
+        return RecordReason::OrderedThoughClosed;
+    }
+    if before.connections as u64 + before.pending as u64 >= limits.max_size() as u64 {
+        return RecordReason::OrderedThoughFull(limits.max_size());
+    }
+    RecordReason::Ordered { ordered, due: 1 }
+}
+
+fn of_kept<A: Allocator>(before: &Base<A>, id: u64) -> RecordReason {
+    if !is_lent(before, id) {
+        RecordReason::KeptThoughNotLent(id)
+    } else if before.closed {
+        RecordReason::KeptThoughClosed(id)
+    } else {
+        RecordReason::KeptThoughOld(id)
+    }
+}
+
+fn is_lent<A: Allocator>(before: &Base<A>, id: u64) -> bool {
+    before.lent.as_slice().iter().any(|loan| loan.0 == id)
+}
+
+fn of_closed<A: Allocator>(
+    limits: &Limits,
+    before: &Base<A>,
+    id: u64,
+    ordered: u32,
+) -> RecordReason {
+    if !is_lent(before, id) {
+        return RecordReason::ClosedThoughNotLent(id);
+    }
+    let idle = before.idle.as_slice().len();
+    let due = due(limits, before, idle, before.connections.saturating_sub(1));
+    RecordReason::Ordered { ordered, due }
+}
+
+fn of_reaped<A: Allocator>(
+    limits: &Limits,
+    before: &Base<A>,
+    at: Duration,
+    ordered: u32,
+) -> RecordReason {
+    let idle = before.idle.as_slice();
+    let expired = idle
+        .iter()
+        .filter(|entry| is_expired(limits, at, entry.1, entry.2))
+        .count();
+    let closed = u32::try_from(expired).unwrap_or(u32::MAX);
+    let left = before.connections.saturating_sub(closed);
+    let due = due(limits, before, idle.len().saturating_sub(expired), left);
+    if due == ordered {
+        RecordReason::NothingReaped
+    } else {
+        RecordReason::Ordered { ordered, due }
+    }
+}
+
+fn is_expired(limits: &Limits, at: Duration, birth: Duration, since: Duration) -> bool {
+    reached(limits.idle_timeout(), at.saturating_sub(since))
+        || reached(limits.max_lifetime(), at.saturating_sub(birth))
+}
+
+fn reached(limit: Option<Duration>, length: Duration) -> bool
+    ensures { result ≡ has_reached limit (as_nanos length) }
+{
+    match limit {
+        Some(limit) => limit.as_nanos() <= length.as_nanos(),
+        None => false,
+    }
+}
+
+// What is to be ordered where so many are idle, and so many connected.
+fn due<A: Allocator>(limits: &Limits, before: &Base<A>, idle: usize, connections: u32) -> u32
+    ensures { result ≡ tops_up (seen_limits limits.now) idle connections (seen_base before.now) }
+{
+    if before.closed {
+        return 0;
+    }
+    let room = limits
+        .max_size()
+        .saturating_sub(connections)
+        .saturating_sub(before.pending);
+    let wanted = (limits.wanted() as usize).saturating_sub(idle);
+    wanted.min(room as usize) as u32
+}

@@ -1,0 +1,222 @@
+// A report written as a line of JSON.
+
+use crate::VERSION;
+use crate::nanoseconds::Nanoseconds;
+use r2d2_core::{Base, LendingOrder, Limits, Record, Report};
+use serde::{Described, Serialize, Serializer};
+use std::alloc::{AllocError, Allocator, Global};
+use std::time::Duration;
+
+/// The report as one object of JSON, on one line without a line feed. `docs/POOL-AUDIT.md` lists
+/// its fields.
+///
+/// Moments and lengths of time are whole nanoseconds: numbers where they are below 2^64, and
+/// strings of digits above. What [`from_json`](crate::from_json) makes of the line is this report.
+/// The error comes only where memory is refused.
+pub fn to_json<A: Allocator>(alloc: Global, report: &Report<A>) -> Result<String, AllocError> {
+    let written = ReportText {
+        version: VERSION,
+        limits: LimitsText::of(&report.limits),
+        base: BaseText::of(&report.base),
+        records: RecordTexts(report.records.as_slice()),
+        lost: report.lost,
+        takes: report.takes,
+        idle: report.idle.as_slice(),
+        lent: report.lent.as_slice(),
+        connections: report.connections,
+        pending: report.pending,
+        closed: report.closed,
+    };
+    // Nothing else fails: each part has a text.
+    serde_json::to_string(alloc, &written).map_err(|_| AllocError)
+}
+
+#[derive(Drop, Serialize)]
+struct ReportText<'a> {
+    version: u64,
+    limits: LimitsText,
+    base: BaseText<'a>,
+    records: RecordTexts<'a>,
+    lost: u64,
+    takes: u64,
+    idle: &'a [u64],
+    lent: &'a [u64],
+    connections: u32,
+    pending: u32,
+    closed: bool,
+}
+
+#[derive(Clone, Copy, Serialize)]
+#[serde(rename_all = "snake_case")]
+enum OrderText {
+    NewestFirst,
+    OldestFirst,
+}
+
+#[derive(Drop, Serialize)]
+struct LimitsText {
+    max_size: u32,
+    min_idle: Option<u32>,
+    max_lifetime: Option<Nanoseconds>,
+    idle_timeout: Option<Nanoseconds>,
+    connection_timeout: Nanoseconds,
+    reap_every: Nanoseconds,
+    order: OrderText,
+}
+
+impl LimitsText {
+    fn of(limits: &Limits) -> LimitsText {
+        LimitsText {
+            max_size: limits.max_size(),
+            min_idle: limits.min_idle(),
+            max_lifetime: limits.max_lifetime().map(Nanoseconds),
+            idle_timeout: limits.idle_timeout().map(Nanoseconds),
+            connection_timeout: Nanoseconds(limits.connection_timeout()),
+            reap_every: Nanoseconds(limits.reap_every()),
+            order: match limits.order() {
+                LendingOrder::NewestFirst => OrderText::NewestFirst,
+                LendingOrder::OldestFirst => OrderText::OldestFirst,
+            },
+        }
+    }
+}
+
+#[derive(Drop, Serialize)]
+struct BaseText<'a> {
+    at: Nanoseconds,
+    idle: RestingTexts<'a>,
+    lent: AwayTexts<'a>,
+    connections: u32,
+    pending: u32,
+    closed: bool,
+}
+
+impl<'a> BaseText<'a> {
+    fn of<A: Allocator>(base: &'a Base<A>) -> BaseText<'a> {
+        BaseText {
+            at: Nanoseconds(base.at),
+            idle: RestingTexts(base.idle.as_slice()),
+            lent: AwayTexts(base.lent.as_slice()),
+            connections: base.connections,
+            pending: base.pending,
+            closed: base.closed,
+        }
+    }
+}
+
+// The idle connections of a base.
+#[derive(Clone, Copy)]
+struct RestingTexts<'a>(&'a [(u64, Duration, Duration)]);
+
+impl Described for RestingTexts<'_> {}
+
+impl Serialize for RestingTexts<'_> {
+    fn serialize<S: Serializer>(&self, out: &mut S) -> Result<(), S::Error> {
+        out.begin_seq(Some(self.0.len()))?;
+        for (id, birth, since) in self.0 {
+            (*id, Nanoseconds(*birth), Nanoseconds(*since)).serialize(out)?;
+        }
+        out.end_seq()
+    }
+}
+
+// The lent connections of a base.
+#[derive(Clone, Copy)]
+struct AwayTexts<'a>(&'a [(u64, Duration)]);
+
+impl Described for AwayTexts<'_> {}
+
+impl Serialize for AwayTexts<'_> {
+    fn serialize<S: Serializer>(&self, out: &mut S) -> Result<(), S::Error> {
+        out.begin_seq(Some(self.0.len()))?;
+        for (id, birth) in self.0 {
+            (*id, Nanoseconds(*birth)).serialize(out)?;
+        }
+        out.end_seq()
+    }
+}
+
+#[derive(Clone, Copy)]
+struct RecordTexts<'a>(&'a [Record]);
+
+impl Described for RecordTexts<'_> {}
+
+impl Serialize for RecordTexts<'_> {
+    fn serialize<S: Serializer>(&self, out: &mut S) -> Result<(), S::Error> {
+        out.begin_seq(Some(self.0.len()))?;
+        for record in self.0 {
+            RecordText::of(*record).serialize(out)?;
+        }
+        out.end_seq()
+    }
+}
+
+#[derive(Clone, Copy, Serialize)]
+#[serde(tag = "kind", rename_all = "snake_case")]
+enum RecordText {
+    Taken {
+        at: Nanoseconds,
+        id: u64,
+        ordered: u32,
+    },
+    Ordered {
+        at: Nanoseconds,
+        ordered: u32,
+    },
+    Admitted {
+        at: Nanoseconds,
+        id: u64,
+    },
+    Kept {
+        at: Nanoseconds,
+        id: u64,
+    },
+    Closed {
+        at: Nanoseconds,
+        id: u64,
+        ordered: u32,
+    },
+    Reaped {
+        at: Nanoseconds,
+        ordered: u32,
+    },
+    ClosedAll {
+        at: Nanoseconds,
+    },
+}
+
+impl RecordText {
+    fn of(record: Record) -> RecordText {
+        match record {
+            Record::Taken { at, id, ordered } => RecordText::Taken {
+                at: Nanoseconds(at),
+                id,
+                ordered,
+            },
+            Record::Ordered { at, ordered } => RecordText::Ordered {
+                at: Nanoseconds(at),
+                ordered,
+            },
+            Record::Admitted { at, id } => RecordText::Admitted {
+                at: Nanoseconds(at),
+                id,
+            },
+            Record::Kept { at, id } => RecordText::Kept {
+                at: Nanoseconds(at),
+                id,
+            },
+            Record::Closed { at, id, ordered } => RecordText::Closed {
+                at: Nanoseconds(at),
+                id,
+                ordered,
+            },
+            Record::Reaped { at, ordered } => RecordText::Reaped {
+                at: Nanoseconds(at),
+                ordered,
+            },
+            Record::ClosedAll { at } => RecordText::ClosedAll {
+                at: Nanoseconds(at),
+            },
+        }
+    }
+}
