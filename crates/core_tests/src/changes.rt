@@ -1,6 +1,5 @@
 // Each field of a report's base and records, changed by itself: the report replays where a second reading says that it does.
 
-use crate::journal::take_all;
 use crate::replays::{Found, read};
 use crate::steps::{admit, begin, close, limits, number, put_back, reap, take, want};
 use r2d2_core::{
@@ -207,7 +206,9 @@ impl Story {
     fn report(self, alloc: Global, order: LendingOrder, room: usize) -> Result<Report, Fail> {
         let limits = self.limits().ok_or("limits")?.with_order(order);
         let mut book = Book::new(alloc, limits, Duration::ZERO, room)?;
-        take_all(alloc, &mut book, self.steps(alloc)?)?;
+        for step in self.steps(alloc)? {
+            book.answer(alloc, step)?;
+        }
         Ok(book.report()?)
     }
 }

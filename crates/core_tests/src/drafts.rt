@@ -8,7 +8,7 @@ use std::alloc::{AllocError, Global};
 use std::time::Duration;
 
 /// A step. Of a text its number is kept: its decimal digits are the text.
-#[derive(Clone, Copy, PartialEq, Debug)]
+#[derive(Clone, Copy)]
 pub(crate) enum Draft {
     Take {
         now: Duration,

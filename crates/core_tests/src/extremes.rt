@@ -1,6 +1,7 @@
 // What no line of a script can say: the greatest moment, which is no whole number of milliseconds, and the last ids.
 
-use crate::machine::lines_of;
+use crate::checks::{legal, listed, same};
+use crate::machine::{Machine, lines_of};
 use crate::steps::{admit, begin, fail, ms, number, put_back, sized, take};
 use pool_lines::program::line::Line;
 use r2d2_core::run::run;
@@ -9,7 +10,6 @@ use r2d2_core::{Book, Core, Limits, Step};
 use std::alloc::{AllocError, Global};
 use std::process::Abort;
 use std::str;
-use std::test::Fail;
 use std::time::Duration;
 
 // The lines of the steps, and a look at the state.
@@ -22,28 +22,54 @@ fn lines(alloc: Global, steps: Vec<Step<u64>>) -> Result<Vec<Line>, AllocError> 
     Ok(lines)
 }
 
-// A core and a book of those limits, whose ids begin at the first one, answer the steps so.
-fn answers<R: Abort + AllocGlobal, const N: usize>(
+fn by_a_core<R: Abort + AllocGlobal>(
     rt: &R,
     limits: Limits,
     first_id: u64,
-    steps: [Step<u64>; N],
+    steps: Vec<Step<u64>>,
+) -> Vec<u8> {
+    let core = Core::<u64>::with_first_id(rt.alloc(), limits, Duration::ZERO, first_id);
+    let mut core = core.expect(rt, "a core");
+    let lines = lines(rt.alloc(), steps).expect(rt, "lines");
+    lines_of(rt.alloc(), &mut core, lines).expect(rt, "answers")
+}
+
+fn by_a_book<R: Abort + AllocGlobal>(
+    rt: &R,
+    limits: Limits,
+    first_id: u64,
+    steps: Vec<Step<u64>>,
+) -> Vec<u8> {
+    let book = Book::<u64>::with_first_id(rt.alloc(), limits, Duration::ZERO, first_id, 0);
+    let mut book = book.expect(rt, "a book");
+    let lines = lines(rt.alloc(), steps).expect(rt, "lines");
+    lines_of(rt.alloc(), &mut book, lines).expect(rt, "answers")
+}
+
+// A core and a book of those limits, whose ids begin at the first one, answer the steps so.
+fn answers<R: Abort + AllocGlobal>(
+    rt: &R,
+    limits: Option<Limits>,
+    first_id: u64,
+    steps: Vec<Step<u64>>,
     wanted: &str,
-) -> Result<(), Fail> {
-    let alloc = rt.alloc();
-    let now = Duration::ZERO;
-    let steps = Vec::from_array(alloc, steps)?;
-    let mut core: Core<u64> = Core::with_first_id(alloc, limits, now, first_id)?;
-    let by_a_core = lines_of(alloc, &mut core, lines(alloc, steps.clone()?)?)?;
-    assert_eq!(rt; str::from_utf8(by_a_core.as_slice())?, wanted);
-    let mut book: Book<u64> = Book::with_first_id(alloc, limits, now, first_id, 0)?;
-    let by_a_book = lines_of(alloc, &mut book, lines(alloc, steps)?)?;
-    assert_eq!(rt; str::from_utf8(by_a_book.as_slice())?, wanted);
-    Ok(())
+) {
+    let limits = legal(rt, limits);
+    let again = steps.clone().expect(rt, "a list");
+    says(rt, by_a_core(rt, limits, first_id, steps), wanted);
+    says(rt, by_a_book(rt, limits, first_id, again), wanted);
+}
+
+fn says<R: Abort>(rt: &R, written: Vec<u8>, wanted: &str) {
+    same(
+        rt,
+        str::from_utf8(written.as_slice()).expect(rt, "a text"),
+        wanted,
+    );
 }
 
 #[test]
-fn uses_ids_up(rt: HostRuntime) -> Result<(), Fail> {
+fn uses_ids_up(rt: HostRuntime) {
     let steps = [
         begin(0),
         begin(0),
@@ -54,15 +80,15 @@ fn uses_ids_up(rt: HostRuntime) -> Result<(), Fail> {
     ];
     answers(
         &rt,
-        sized(2).ok_or("limits")?,
+        sized(2),
         u64::MAX - 1,
-        steps,
+        listed(&rt, steps),
         "open 0\nopen 0\nnumbered 18446744073709551614\nrefused IdsUsedUp\nretry 400\nwait 400\nstate 0 0 2\n",
-    )
+    );
 }
 
 #[test]
-fn stops_at_the_greatest_moment(rt: HostRuntime) -> Result<(), Fail> {
+fn stops_at_the_greatest_moment(rt: HostRuntime) {
     let now = Duration::MAX;
     let failing = Step::Fail {
         now,
@@ -71,22 +97,22 @@ fn stops_at_the_greatest_moment(rt: HostRuntime) -> Result<(), Fail> {
     };
     answers(
         &rt,
-        sized(1).ok_or("limits")?,
+        sized(1),
         0,
-        [Step::Begin { now }, failing, Step::Begin { now }],
+        listed(&rt, [Step::Begin { now }, failing, Step::Begin { now }]),
         "open 0\nretry 18446744073709551615999.999999\nopen 1\nstate 0 0 1\n",
-    )?;
+    );
     answers(
         &rt,
-        Limits::of(1, None, Some(ms(1)), None, ms(1000), now).ok_or("limits")?,
+        Limits::of(1, None, Some(ms(1)), None, ms(1000), now),
         0,
-        [Step::Begin { now }, begin(0), begin(0)],
+        listed(&rt, [Step::Begin { now }, begin(0), begin(0)]),
         "open 0\nreap\nreap\nstate 0 0 1\n",
-    )
+    );
 }
 
 #[test]
-fn lengths_up_to_the_greatest_moment(rt: HostRuntime) -> Result<(), Fail> {
+fn lengths_up_to_the_greatest_moment(rt: HostRuntime) {
     let now = Duration::MAX;
     let second = ms(1000);
     let back = Step::PutBack {
@@ -97,41 +123,47 @@ fn lengths_up_to_the_greatest_moment(rt: HostRuntime) -> Result<(), Fail> {
     };
     answers(
         &rt,
-        Limits::of(1, None, Some(now), None, second, second).ok_or("limits")?,
+        Limits::of(1, None, Some(now), None, second, second),
         0,
-        [begin(0), number(0), admit(0, 0, 7), take(0), back],
+        listed(&rt, [begin(0), number(0), admit(0, 0, 7), take(0), back]),
         "open 0\nnumbered 0\nadmitted\ntaken 0 7 ordered 0\ngone 0 age 18446744073709551615999.999999 ordered 1\nstate 0 0 1\n",
-    )?;
+    );
     answers(
         &rt,
-        Limits::of(1, None, None, Some(now), second, second).ok_or("limits")?,
+        Limits::of(1, None, None, Some(now), second, second),
         0,
-        [
-            begin(0),
-            number(0),
-            admit(1, 0, 7),
-            Step::Reap { now },
-            take(0),
-        ],
+        listed(
+            &rt,
+            [
+                begin(0),
+                number(0),
+                admit(1, 0, 7),
+                Step::Reap { now },
+                take(0),
+            ],
+        ),
         "open 0\nnumbered 0\nadmitted\nreaped ordered 0\ntaken 0 7 ordered 0\nstate 1 0 0\n",
-    )?;
+    );
     answers(
         &rt,
-        Limits::of(1, None, None, Some(now), second, second).ok_or("limits")?,
+        Limits::of(1, None, None, Some(now), second, second),
         0,
-        [
-            begin(0),
-            number(0),
-            admit(0, 0, 7),
-            Step::Reap { now },
-            take(0),
-        ],
+        listed(
+            &rt,
+            [
+                begin(0),
+                number(0),
+                admit(0, 0, 7),
+                Step::Reap { now },
+                take(0),
+            ],
+        ),
         "open 0\nnumbered 0\nadmitted\nreaped 0 ordered 1\nempty ordered 0\nstate 0 0 1\n",
-    )
+    );
 }
 
 #[test]
-fn the_greatest_numbers_of_strangers(rt: HostRuntime) -> Result<(), Fail> {
+fn the_greatest_numbers_of_strangers(rt: HostRuntime) {
     let bad = Step::FailCheck {
         now: ms(0),
         id: u64::MAX,
@@ -148,23 +180,24 @@ fn the_greatest_numbers_of_strangers(rt: HostRuntime) -> Result<(), Fail> {
     ];
     answers(
         &rt,
-        sized(1).ok_or("limits")?,
+        sized(1),
         0,
-        steps,
+        listed(&rt, steps),
         "open 0\nrefused NoOpening\nrefused NoOpening\nnumbered 0\nrefused NotNumbered\nrefused NotLent\nrefused NotLent\nstate 0 0 1\n",
-    )
+    );
+}
+
+// How many answers there are to no steps at all, and what is connected, idle and pending.
+fn without_steps<R: Abort + AllocGlobal>(rt: &R) -> (usize, (u32, u32, u32)) {
+    let limits = legal(rt, sized(3));
+    let ran = run::<u64>(rt.alloc(), limits, ms(5), Vec::new(rt.alloc()));
+    let (core, answers) = ran.expect(rt, "a run");
+    (answers.len(), core.state())
 }
 
 #[test]
-fn no_steps_at_all(rt: HostRuntime) -> Result<(), Fail> {
-    let limits = sized(3).ok_or("limits")?;
-    let (core, answers) = run::<u64>(rt.alloc(), limits, ms(5), Vec::new(rt.alloc()))?;
-    assert_eq!(rt; answers.len(), 0);
-    assert_eq!(rt;
-        (core.connections(), core.idle(), core.pending()),
-        (0, 0, 3)
-    );
-    Ok(())
+fn no_steps_at_all(rt: HostRuntime) {
+    same(&rt, without_steps(&rt), (0, (0, 0, 3)));
 }
 
 #[test]

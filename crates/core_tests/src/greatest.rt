@@ -1,29 +1,34 @@
 // The greatest pool that a heap has room for.
 
+use crate::checks::{legal, same};
+use crate::machine::Machine;
 use crate::steps::{ms, sized};
 use linked_list_allocator::LocalHeap;
-use r2d2_core::{Core, Limits, Take};
-use std::alloc::{AllocError, Global};
-use std::test::Fail;
+use r2d2_core::{Core, Take};
+use std::process::Abort;
 
 const MEBIBYTE: usize = 1 << 20;
 
-// Whether a heap of 1 MiB has room for a core of those limits.
-fn has_room(alloc: Global, limits: Limits) -> Result<bool, AllocError> {
-    let heap = LocalHeap::new(alloc, MEBIBYTE)?;
-    Ok(Core::<u64, &LocalHeap>::new(&heap, limits, ms(0)).is_ok())
+fn heap<R: Abort + AllocGlobal>(rt: &R) -> LocalHeap {
+    LocalHeap::new(rt.alloc(), MEBIBYTE).expect(rt, "a heap")
+}
+
+// Whether a heap of 1 MiB has room for a core of that size.
+fn has_room<R: Abort + AllocGlobal>(rt: &R, size: u32) -> bool {
+    let heap = heap(rt);
+    Core::<u64, &LocalHeap>::new(&heap, legal(rt, sized(size)), ms(0)).is_ok()
 }
 
 // The greatest `max_size` for which there is room, one binary digit after the other. A connection takes a byte at least.
-fn greatest_size(alloc: Global) -> Result<u32, Fail> {
+fn greatest_size<R: Abort + AllocGlobal>(rt: &R) -> u32 {
     let mut greatest = 0u32;
     for place in 0..20u32 {
         let size = greatest | 0x8_0000 >> place;
-        if has_room(alloc, sized(size).ok_or("limits")?)? {
+        if has_room(rt, size) {
             greatest = size;
         }
     }
-    Ok(greatest)
+    greatest
 }
 
 // Opens so many connections.
@@ -47,22 +52,22 @@ fn take_all(core: &mut Core<u64, &LocalHeap>, count: u32) -> u32 {
     found
 }
 
-#[test]
-fn the_greatest_pool_of_a_heap(rt: HostRuntime) -> Result<(), Fail> {
-    let greatest = greatest_size(rt.alloc())?;
-    assert!(rt; greatest > 1000, "{greatest}");
-    let one_more = sized(greatest.saturating_add(1)).ok_or("limits")?;
-    assert!(rt; !has_room(rt.alloc(), one_more)?);
+// Whether a take finds none and orders none.
+fn is_all_lent(core: &mut Core<u64, &LocalHeap>) -> bool {
+    matches!(core.take(ms(2), true), Take::Empty { ordered: 0 })
+}
 
-    let heap = LocalHeap::new(rt.alloc(), MEBIBYTE)?;
-    let limits = sized(greatest).ok_or("limits")?;
-    let mut core = Core::new(&heap, limits, ms(0))?;
+#[test]
+fn the_greatest_pool_of_a_heap(rt: HostRuntime) {
+    let greatest = greatest_size(&rt);
+    assert!(rt; greatest > 1000, "{greatest}");
+    assert!(rt; !has_room(&rt, greatest.saturating_add(1)));
+
+    let heap = heap(&rt);
+    let core = Core::<u64, &LocalHeap>::new(&heap, legal(&rt, sized(greatest)), ms(0));
+    let mut core = core.expect(&rt, "a core");
     open_all(&mut core, greatest);
-    assert_eq!(rt; take_all(&mut core, greatest), greatest);
-    assert_eq!(rt;
-        (core.connections(), core.idle(), core.pending()),
-        (greatest, 0, 0)
-    );
-    assert!(rt; matches!(core.take(ms(2), true), Take::Empty { ordered: 0 }));
-    Ok(())
+    same(&rt, take_all(&mut core, greatest), greatest);
+    same(&rt, core.state(), (greatest, 0, 0));
+    assert!(rt; is_all_lent(&mut core));
 }

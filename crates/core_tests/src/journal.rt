@@ -1,24 +1,12 @@
 // The journal of a book, and what it reports.
 
-use crate::replays::replays;
+use crate::checks::{book_of, is_replayed, legal, listed, report_of, same, same_at, take_all};
 use crate::steps::{admit, begin, close, limits, ms, number, put_back, reap, sized, take, want};
 use linked_list_allocator::LocalHeap;
-use r2d2_core::{Book, IdList, Record, RecordList, Report, Step};
-use std::alloc::{AllocError, Allocator, Global};
-use std::test::Fail;
+use r2d2_core::{Book, IdList, Limits, Record, RecordList, Report, Step};
+use std::alloc::Global;
+use std::process::Abort;
 use std::time::Duration;
-
-// Takes the steps by a book.
-pub(crate) fn take_all<A: Allocator>(
-    alloc: Global,
-    book: &mut Book<u64, A>,
-    steps: Vec<Step<u64>>,
-) -> Result<(), AllocError> {
-    for step in steps {
-        book.answer(alloc, step)?;
-    }
-    Ok(())
-}
 
 // One connection comes in, is taken, and comes back.
 pub(crate) fn one_kept() -> [Step<u64>; 5] {
@@ -32,15 +20,14 @@ pub(crate) fn one_kept() -> [Step<u64>; 5] {
 }
 
 // What a book with room for so many records reports of it.
-fn report_of_one_kept(alloc: Global, room: usize) -> Result<Report, Fail> {
-    let limits = sized(1).ok_or("limits")?;
-    let mut book = Book::new(alloc, limits, Duration::ZERO, room)?;
-    take_all(alloc, &mut book, Vec::from_array(alloc, one_kept())?)?;
-    Ok(book.report()?)
+fn report_of_one_kept<R: Abort + AllocGlobal>(rt: &R, room: usize) -> Report {
+    let mut book = book_of(rt, legal(rt, sized(1)), room);
+    take_all(rt, &mut book, listed(rt, one_kept()));
+    report_of(rt, &book)
 }
 
 #[test]
-fn keeps_the_newest_records(rt: HostRuntime) -> Result<(), Fail> {
+fn keeps_the_newest_records(rt: HostRuntime) {
     let all = [
         Record::Admitted { at: ms(1), id: 0 },
         Record::Taken {
@@ -51,54 +38,45 @@ fn keeps_the_newest_records(rt: HostRuntime) -> Result<(), Fail> {
         Record::Kept { at: ms(3), id: 0 },
     ];
     for (room, lost) in [(4usize, 0u64), (3, 0), (2, 1), (1, 2), (0, 3)] {
-        let report = report_of_one_kept(rt.alloc(), room)?;
+        let report = report_of_one_kept(&rt, room);
         let first = all.len() - all.len().min(room);
-        assert_eq!(rt; report.records.as_slice(), &all[first..], "at {room}");
-        assert_eq!(rt; report.lost, lost, "at {room}");
-        assert_eq!(rt; report.idle.as_slice(), &[0u64][..], "at {room}");
+        same_at(&rt, room, report.records.as_slice(), &all[first..]);
+        same_at(&rt, room, report.lost, lost);
+        same_at(&rt, room, report.idle.as_slice(), &[0u64][..]);
     }
-    let report = report_of_one_kept(rt.alloc(), 3)?;
-    assert_eq!(rt;
-        counts(rt.alloc(), &report)?.as_str(),
-        "1 0 1 0 false, lost 0, true"
-    );
-    Ok(())
+    let report = report_of_one_kept(&rt, 3);
+    same(&rt, standing(&report), (1, 0, 0));
+    same(&rt, counts(&rt, &report), (1, 0, false, true));
 }
 
 // Two connections come in and are closed by a reap; then there is one miss.
-fn two_reaped(alloc: Global) -> Result<Book<u64>, Fail> {
-    let limits = limits(2, None, None, Some(1000), 30_000, 30_000).ok_or("limits")?;
-    let mut book = Book::new(alloc, limits, Duration::ZERO, 4)?;
+fn two_reaped<R: Abort + AllocGlobal>(rt: &R) -> Book<u64> {
+    let limits = legal(rt, limits(2, None, None, Some(1000), 30_000, 30_000));
+    let mut book = book_of(rt, limits, 4);
     let opening = [begin(0), begin(0), number(0), number(0)];
     let admitting = [admit(0, 0, 70), admit(0, 1, 71)];
     let reaping = [reap(999), reap(1000), want(1001)];
-    take_all(alloc, &mut book, Vec::from_array(alloc, opening)?)?;
-    take_all(alloc, &mut book, Vec::from_array(alloc, admitting)?)?;
-    take_all(alloc, &mut book, Vec::from_array(alloc, reaping)?)?;
-    Ok(book)
+    take_all(rt, &mut book, listed(rt, opening));
+    take_all(rt, &mut book, listed(rt, admitting));
+    take_all(rt, &mut book, listed(rt, reaping));
+    book
 }
 
-// What a report shows beside its records, and whether those come to it.
-fn counts(alloc: Global, report: &Report) -> Result<String, AllocError> {
-    let mut text = String::new(alloc);
-    let idle = report.idle.as_slice().len();
-    let lent = report.lent.as_slice().len();
-    let connections = report.connections;
-    let pending = report.pending;
-    let closed = report.closed;
-    let lost = report.lost;
-    let whole = replays(alloc, report)?;
-    write!(
-        text,
-        "{idle} {lent} {connections} {pending} {closed}, lost {lost}, {whole}"
-    )?;
-    Ok(text)
+// How many a report shows as idle and lent, and how many records were lost.
+fn standing(report: &Report) -> (usize, usize, u64) {
+    let (idle, lent) = (report.idle.as_slice().len(), report.lent.as_slice().len());
+    (idle, lent, report.lost)
+}
+
+// How many it shows as connected and pending, whether it is closed, and whether its records come to what it shows.
+fn counts<R: Abort + AllocGlobal>(rt: &R, report: &Report) -> (u32, u32, bool, bool) {
+    let (connections, pending) = (report.connections, report.pending);
+    (connections, pending, report.closed, is_replayed(rt, report))
 }
 
 #[test]
-fn reports_what_a_reap_did(rt: HostRuntime) -> Result<(), Fail> {
-    let alloc = rt.alloc();
-    let report = two_reaped(alloc)?.report()?;
+fn reports_what_a_reap_did(rt: HostRuntime) {
+    let report = report_of(&rt, &two_reaped(&rt));
     let all = [
         Record::Admitted { at: ms(0), id: 0 },
         Record::Admitted { at: ms(0), id: 1 },
@@ -107,87 +85,94 @@ fn reports_what_a_reap_did(rt: HostRuntime) -> Result<(), Fail> {
             ordered: 2,
         },
     ];
-    assert_eq!(rt; report.records.as_slice(), &all[..]);
-    assert_eq!(rt;
-        counts(alloc, &report)?.as_str(),
-        "0 0 0 2 false, lost 0, true"
-    );
-    Ok(())
+    same(&rt, report.records.as_slice(), &all[..]);
+    same(&rt, standing(&report), (0, 0, 0));
+    same(&rt, counts(&rt, &report), (0, 2, false, true));
 }
 
 #[test]
-fn reports_what_a_close_did(rt: HostRuntime) -> Result<(), Fail> {
-    let alloc = rt.alloc();
-    let mut book = two_reaped(alloc)?;
-    take_all(
-        alloc,
-        &mut book,
-        Vec::from_array(alloc, [close(), close()])?,
-    )?;
-    let report = book.report()?;
+fn reports_what_a_close_did(rt: HostRuntime) {
+    let mut book = two_reaped(&rt);
+    take_all(&rt, &mut book, listed(&rt, [close(), close()]));
+    let report = report_of(&rt, &book);
     let last = Record::ClosedAll { at: ms(1001) };
-    assert_eq!(rt; report.records.as_slice().len(), 4);
-    assert_eq!(rt; report.records.as_slice().last(), Some(&last));
-    assert_eq!(rt;
-        counts(alloc, &report)?.as_str(),
-        "0 0 0 0 true, lost 0, true"
-    );
-    Ok(())
+    same(&rt, report.records.as_slice().len(), 4);
+    same(&rt, report.records.as_slice().last(), Some(&last));
+    same(&rt, standing(&report), (0, 0, 0));
+    same(&rt, counts(&rt, &report), (0, 0, true, true));
 }
 
 #[test]
-fn a_list_of_ids_is_given_back(rt: HostRuntime) -> Result<(), Fail> {
-    let ids = IdList::of(Vec::from_array(rt.alloc(), [3u64, 5])?);
-    assert_eq!(rt; ids.as_slice(), &[3u64, 5][..]);
-    assert_eq!(rt; ids.into_vec().as_slice(), &[3u64, 5][..]);
-    Ok(())
+fn a_list_of_ids_is_given_back(rt: HostRuntime) {
+    let ids = IdList::of(Vec::from_array(rt.alloc(), [3u64, 5]).expect(&rt, "a list"));
+    same(&rt, ids.as_slice(), &[3u64, 5][..]);
+    same(&rt, ids.into_vec().as_slice(), &[3u64, 5][..]);
 }
 
 // A report with other counts than its records come to is found out.
 #[test]
-fn finds_a_report_that_does_not_replay(rt: HostRuntime) -> Result<(), Fail> {
-    let alloc = rt.alloc();
-    let mut report = report_of_one_kept(alloc, 3)?;
-    assert!(rt; replays(alloc, &report)?);
+fn finds_a_report_that_does_not_replay(rt: HostRuntime) {
+    let mut report = report_of_one_kept(&rt, 3);
+    assert!(rt; is_replayed(&rt, &report));
     report.pending = 1;
-    assert!(rt; !replays(alloc, &report)?);
+    assert!(rt; !is_replayed(&rt, &report));
     report.pending = 0;
-    report.records = RecordList::of(Vec::new(alloc));
-    assert!(rt; !replays(alloc, &report)?);
-    Ok(())
+    report.records = RecordList::of(Vec::new(rt.alloc()));
+    assert!(rt; !is_replayed(&rt, &report));
+}
+
+fn heap<R: Abort + AllocGlobal>(rt: &R) -> LocalHeap {
+    LocalHeap::new(rt.alloc(), 8192).expect(rt, "a heap")
+}
+
+// A book with all that it left of its heap.
+fn beside_all<'a, R: Abort>(
+    rt: &R,
+    heap: &'a LocalHeap,
+    limits: Limits,
+) -> (Book<u64, &'a LocalHeap>, Vec<u8, &'a LocalHeap>) {
+    let book = Book::<u64, &LocalHeap>::new(heap, limits, Duration::ZERO, 16).expect(rt, "a book");
+    let rest = Vec::<u8, &LocalHeap>::with_capacity(heap, heap.free()).expect(rt, "the rest");
+    (book, rest)
+}
+
+// What the book reports in other memory, where it can't be in its own.
+fn report_elsewhere<R: Abort + AllocGlobal>(rt: &R, book: &Book<u64, &LocalHeap>) -> Report {
+    assert!(rt; book.report().is_err());
+    book.report_in(rt.alloc()).expect(rt, "a report")
 }
 
 // Where the heap has no more room, a report is refused; with other memory it is made.
 #[test]
-fn a_report_takes_memory(rt: HostRuntime) -> Result<(), Fail> {
-    let alloc = rt.alloc();
-    let limits = sized(1).ok_or("limits")?;
-    let heap = LocalHeap::new(alloc, 8192)?;
-    let mut book: Book<u64, &LocalHeap> = Book::new(&heap, limits, Duration::ZERO, 16)?;
-    let _rest: Vec<u8, &LocalHeap> = Vec::with_capacity(&heap, heap.free())?;
-    take_all(alloc, &mut book, Vec::from_array(alloc, one_kept())?)?;
-    assert!(rt; book.report().is_err());
-    let report = book.report_in(alloc)?;
-    assert_eq!(rt; report.records.as_slice().len(), 3);
-    assert!(rt; replays(alloc, &report)?);
-    Ok(())
+fn a_report_takes_memory(rt: HostRuntime) {
+    let heap = heap(&rt);
+    let (mut book, _rest) = beside_all(&rt, &heap, legal(&rt, sized(1)));
+    take_all(&rt, &mut book, listed(&rt, one_kept()));
+    let report = report_elsewhere(&rt, &book);
+    same(&rt, report.records.as_slice().len(), 3);
+    assert!(rt; is_replayed(&rt, &report));
+}
+
+fn is_refused(alloc: Global, limits: Limits, room: usize) -> bool {
+    Book::<u64>::new(alloc, limits, Duration::ZERO, room).is_err()
+}
+
+fn is_refused_on(heap: &LocalHeap, limits: Limits, room: usize) -> bool {
+    Book::<u64, &LocalHeap>::new(heap, limits, Duration::ZERO, room).is_err()
+}
+
+fn is_made_from_an_id_on(heap: &LocalHeap, limits: Limits) -> bool {
+    Book::<u64, &LocalHeap>::with_first_id(heap, limits, Duration::ZERO, 5, 0).is_ok()
 }
 
 #[test]
-fn a_huge_room_is_refused_at_the_making(rt: HostRuntime) -> Result<(), Fail> {
-    let alloc = rt.alloc();
-    let limits = sized(1).ok_or("limits")?;
+fn a_huge_room_is_refused_at_the_making(rt: HostRuntime) {
+    let limits = legal(&rt, sized(1));
     for room in [usize::MAX, 1 << 60, 1 << 50] {
-        assert!(rt;
-            Book::<u64>::new(alloc, limits, Duration::ZERO, room).is_err(),
-            "at {room}"
-        );
+        assert!(rt; is_refused(rt.alloc(), limits, room), "at {room}");
     }
-    let heap = LocalHeap::new(alloc, 8192)?;
-    assert!(rt; Book::<u64, &LocalHeap>::new(&heap, limits, Duration::ZERO, 1000).is_err());
-    assert_eq!(rt; heap.used(), 0);
-    assert!(rt;
-        Book::<u64, &LocalHeap>::with_first_id(&heap, limits, Duration::ZERO, 5, 0).is_ok()
-    );
-    Ok(())
+    let heap = heap(&rt);
+    assert!(rt; is_refused_on(&heap, limits, 1000));
+    same(&rt, heap.used(), 0);
+    assert!(rt; is_made_from_an_id_on(&heap, limits));
 }

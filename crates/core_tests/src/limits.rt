@@ -1,47 +1,58 @@
 // What limits say of themselves.
 
+use crate::checks::{book_of, core_of, legal, same};
 use crate::steps::{limits, ms, sized};
-use r2d2_core::{Book, Core, LendingOrder};
-use std::test::Fail;
+use r2d2_core::{LendingOrder, Limits};
+use std::process::Abort;
+use std::time::Duration;
 
-#[test]
-fn gives_back_what_they_were_made_of(rt: HostRuntime) -> Result<(), Fail> {
-    let limits = limits(5, Some(2), Some(40_000), Some(1000), 700, 30).ok_or("limits")?;
-    assert_eq!(rt; limits.max_size(), 5);
-    assert_eq!(rt; limits.min_idle(), Some(2));
-    assert_eq!(rt; limits.max_lifetime(), Some(ms(40_000)));
-    assert_eq!(rt; limits.idle_timeout(), Some(ms(1000)));
-    assert_eq!(rt; limits.connection_timeout(), ms(700));
-    assert_eq!(rt; limits.reap_every(), ms(30));
-    assert_eq!(rt; limits.wanted(), 2);
-    assert_eq!(rt; limits.order(), LendingOrder::NewestFirst);
-    Ok(())
+// The size, the number that is to be idle, and how many are wanted.
+fn sizes(limits: Limits) -> (u32, Option<u32>, u32) {
+    (limits.max_size(), limits.min_idle(), limits.wanted())
+}
+
+// The longest age, and the longest idle time.
+fn longest(limits: Limits) -> (Option<Duration>, Option<Duration>) {
+    (limits.max_lifetime(), limits.idle_timeout())
+}
+
+// The timeout of a connection, and the time from reap to reap.
+fn waits(limits: Limits) -> (Duration, Duration) {
+    (limits.connection_timeout(), limits.reap_every())
 }
 
 #[test]
-fn wants_all_idle_where_no_number_is_given(rt: HostRuntime) -> Result<(), Fail> {
-    let limits = sized(5).ok_or("limits")?;
-    assert_eq!(rt; limits.min_idle(), None);
-    assert_eq!(rt; limits.max_lifetime(), None);
-    assert_eq!(rt; limits.idle_timeout(), None);
-    assert_eq!(rt; limits.wanted(), 5);
-    Ok(())
+fn gives_back_what_they_were_made_of(rt: HostRuntime) {
+    let limits = legal(&rt, limits(5, Some(2), Some(40_000), Some(1000), 700, 30));
+    same(&rt, sizes(limits), (5, Some(2), 2));
+    same(&rt, longest(limits), (Some(ms(40_000)), Some(ms(1000))));
+    same(&rt, waits(limits), (ms(700), ms(30)));
+    same(&rt, limits.order(), LendingOrder::NewestFirst);
 }
 
 #[test]
-fn a_core_and_a_book_keep_their_limits(rt: HostRuntime) -> Result<(), Fail> {
-    let limits = limits(5, Some(2), None, None, 700, 30).ok_or("limits")?;
-    let limits = limits.with_order(LendingOrder::OldestFirst);
-    let core: Core<u64> = Core::new(rt.alloc(), limits, ms(0))?;
-    let book: Book<u64> = Book::new(rt.alloc(), limits, ms(0), 1)?;
-    for kept in [core.limits(), book.limits()] {
-        assert_eq!(rt; kept.max_size(), 5);
-        assert_eq!(rt; kept.min_idle(), Some(2));
-        assert_eq!(rt; kept.connection_timeout(), ms(700));
-        assert_eq!(rt; kept.reap_every(), ms(30));
-        assert_eq!(rt; kept.order(), LendingOrder::OldestFirst);
+fn wants_all_idle_where_no_number_is_given(rt: HostRuntime) {
+    let limits = legal(&rt, sized(5));
+    same(&rt, sizes(limits), (5, None, 5));
+    same(&rt, longest(limits), (None, None));
+}
+
+// The limits that a core says, and a book.
+fn kept<R: Abort + AllocGlobal>(rt: &R, limits: Limits) -> [Limits; 2] {
+    [
+        core_of(rt, limits).limits(),
+        book_of(rt, limits, 1).limits(),
+    ]
+}
+
+#[test]
+fn a_core_and_a_book_keep_their_limits(rt: HostRuntime) {
+    let limits = legal(&rt, limits(5, Some(2), None, None, 700, 30));
+    for kept in kept(&rt, limits.with_order(LendingOrder::OldestFirst)) {
+        same(&rt, sizes(kept), (5, Some(2), 2));
+        same(&rt, waits(kept), (ms(700), ms(30)));
+        same(&rt, kept.order(), LendingOrder::OldestFirst);
     }
-    Ok(())
 }
 
 #[test]

@@ -4,10 +4,11 @@
 
 #[cfg(test)]
 mod bases;
-#[cfg(test)]
 mod caller;
 #[cfg(test)]
 mod changes;
+#[cfg(test)]
+mod checks;
 #[cfg(test)]
 mod closing;
 #[cfg(test)]

@@ -77,7 +77,7 @@ impl Past {
 }
 
 /// An idle connection.
-#[derive(Clone, Copy, PartialEq, Debug)]
+#[derive(Clone, Copy)]
 pub(crate) struct Idle {
     pub(crate) id: u64,
     birth: Duration,
@@ -127,7 +127,9 @@ impl History {
     }
 
     pub(crate) fn is_closed(&self) -> bool {
-        self.past.iter().any(|past| past.draft == Draft::Close)
+        self.past
+            .iter()
+            .any(|past| matches!(past.draft, Draft::Close))
     }
 
     // IDLE AND LENT

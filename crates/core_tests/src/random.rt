@@ -1,17 +1,18 @@
 // Steps at random, from fixed seeds: what `run` and a book answer is what the plain reading answers, what a book shows is what it
 // shows, and each report replays.
 
+use crate::checks::legal;
 use crate::drafts::{Draft, limits, next_draft};
 use crate::plain::History;
 use crate::replays::replays;
 use crate::said::Said;
 use linked_list_allocator::LocalHeap;
 use r2d2_core::run::run;
-use r2d2_core::{Book, Limits, Report};
+use r2d2_core::{Answer, Book, Limits, Report};
 use rand_core::SeedableRng;
 use rand_pcg::Pcg32;
 use std::alloc::{AllocError, Allocator, Global};
-use std::test::Fail;
+use std::process::Abort;
 use std::time::Duration;
 
 const HISTORIES: u64 = 2500;
@@ -50,31 +51,37 @@ fn made_up(
     })
 }
 
-// The first step that `run` answers otherwise.
-fn first_unlike_by_run(alloc: Global, story: &Story) -> Result<Option<Draft>, AllocError> {
+// What `run` answers to the steps.
+fn answers_of(alloc: Global, story: &Story) -> Result<Vec<Answer<u64>>, AllocError> {
     let mut steps = Vec::new(alloc);
     for draft in story.drafts.iter() {
         steps.push(draft.step(alloc)?)?;
     }
     let (_core, answers) = run(alloc, story.limits, story.made, steps)?;
-    for ((draft, answer), wanted) in story.drafts.iter().zip(answers).zip(story.answers.iter()) {
+    Ok(answers)
+}
+
+// The place of the first step that `run` answers otherwise.
+fn first_unlike_by_run(alloc: Global, story: &Story) -> Result<Option<usize>, AllocError> {
+    let answers = answers_of(alloc, story)?;
+    for (place, (answer, wanted)) in answers.into_iter().zip(story.answers.iter()).enumerate() {
         if Said::of(alloc, answer)? != *wanted {
-            return Ok(Some(*draft));
+            return Ok(Some(place));
         }
     }
     Ok(None)
 }
 
-// The first step that the book answers otherwise.
+// The place of the first step that the book answers otherwise.
 fn first_unlike_by_book<A: Allocator>(
     alloc: Global,
     story: &Story,
     book: &mut Book<u64, A>,
-) -> Result<Option<Draft>, AllocError> {
-    for (draft, wanted) in story.drafts.iter().zip(story.answers.iter()) {
+) -> Result<Option<usize>, AllocError> {
+    for (place, (draft, wanted)) in story.drafts.iter().zip(story.answers.iter()).enumerate() {
         let answer = book.answer(alloc, draft.step(alloc)?)?;
         if Said::of(alloc, answer)? != *wanted {
-            return Ok(Some(*draft));
+            return Ok(Some(place));
         }
     }
     Ok(None)
@@ -104,20 +111,32 @@ fn shows(alloc: Global, history: &History, book: &Book<u64>) -> Result<bool, All
     )
 }
 
+fn story_of<R: Abort + AllocGlobal>(rt: &R, seed: u64, made: Duration) -> Story {
+    let mut rng = Pcg32::seed_from_u64(seed);
+    let limits = legal(rt, limits(&mut rng));
+    made_up(rt.alloc(), &mut rng, limits, made).expect(rt, "a story")
+}
+
+// Both answer as the plain reading, at each step.
+fn both_answer<R: Abort + AllocGlobal>(rt: &R, seed: u64, story: &Story) {
+    let unlike = first_unlike_by_run(rt.alloc(), story).expect(rt, "answers");
+    assert_eq!(rt; unlike, None, "by run, of {seed}");
+    let book = Book::<u64>::new(rt.alloc(), story.limits, story.made, STEPS);
+    let mut book = book.expect(rt, "a book");
+    let unlike = first_unlike_by_book(rt.alloc(), story, &mut book).expect(rt, "answers");
+    assert_eq!(rt; unlike, None, "by a book, of {seed}");
+    assert!(rt;
+        shows(rt.alloc(), &story.history, &book).expect(rt, "a report"),
+        "of {seed}"
+    );
+}
+
 #[test]
-fn a_hundred_thousand_steps(rt: HostRuntime) -> Result<(), Fail> {
-    let alloc = rt.alloc();
+fn a_hundred_thousand_steps(rt: HostRuntime) {
     for seed in 0..HISTORIES {
-        let mut rng = Pcg32::seed_from_u64(seed);
-        let limits = limits(&mut rng).ok_or("limits")?;
-        let made = Duration::from_millis(seed);
-        let story = made_up(alloc, &mut rng, limits, made)?;
-        assert_eq!(rt; first_unlike_by_run(alloc, &story)?, None);
-        let mut book = Book::new(alloc, limits, made, STEPS)?;
-        assert_eq!(rt; first_unlike_by_book(alloc, &story, &mut book)?, None);
-        assert!(rt; shows(alloc, &story.history, &book)?);
+        let story = story_of(&rt, seed, Duration::from_millis(seed));
+        both_answer(&rt, seed, &story);
     }
-    Ok(())
 }
 
 // Whether each report replays that a book with room for so many records makes, step by step.
@@ -133,34 +152,32 @@ fn replays_at_each_step(alloc: Global, story: &Story, room: usize) -> Result<boo
 }
 
 #[test]
-fn each_report_replays_whatever_was_dropped(rt: HostRuntime) -> Result<(), Fail> {
-    let alloc = rt.alloc();
+fn each_report_replays_whatever_was_dropped(rt: HostRuntime) {
     for seed in 0..200 {
-        let mut rng = Pcg32::seed_from_u64(seed);
-        let limits = limits(&mut rng).ok_or("limits")?;
-        let story = made_up(alloc, &mut rng, limits, Duration::from_millis(seed))?;
+        let story = story_of(&rt, seed, Duration::from_millis(seed));
         for room in [0usize, 1, 7, 64] {
-            assert!(rt;
-                replays_at_each_step(alloc, &story, room)?,
-                "{seed} at {room}"
-            );
+            let does_replay = replays_at_each_step(rt.alloc(), &story, room);
+            assert!(rt; does_replay.expect(&rt, "reports"), "{seed} at {room}");
         }
     }
-    Ok(())
+}
+
+// A book that has no more memory answers as the plain reading, at each step.
+fn a_full_book_answers<R: Abort + AllocGlobal>(rt: &R, seed: u64, story: &Story) {
+    let heap = LocalHeap::new(rt.alloc(), 1 << 14).expect(rt, "a heap");
+    let book = Book::<u64, &LocalHeap>::new(&heap, story.limits, story.made, STEPS);
+    let mut book = book.expect(rt, "a book");
+    let rest = Vec::<u8, &LocalHeap>::with_capacity(&heap, heap.free());
+    let _rest = rest.expect(rt, "the rest");
+    assert_eq!(rt; heap.free(), 0);
+    let unlike = first_unlike_by_book(rt.alloc(), story, &mut book).expect(rt, "answers");
+    assert_eq!(rt; unlike, None, "of {seed}");
 }
 
 #[test]
-fn a_book_needs_no_memory_after_its_making(rt: HostRuntime) -> Result<(), Fail> {
-    let alloc = rt.alloc();
+fn a_book_needs_no_memory_after_its_making(rt: HostRuntime) {
     for seed in 0..50 {
-        let mut rng = Pcg32::seed_from_u64(seed);
-        let limits = limits(&mut rng).ok_or("limits")?;
-        let story = made_up(alloc, &mut rng, limits, Duration::ZERO)?;
-        let heap = LocalHeap::new(alloc, 1 << 14)?;
-        let mut book: Book<u64, &LocalHeap> = Book::new(&heap, limits, Duration::ZERO, STEPS)?;
-        let _rest: Vec<u8, &LocalHeap> = Vec::with_capacity(&heap, heap.free())?;
-        assert_eq!(rt; heap.free(), 0);
-        assert_eq!(rt; first_unlike_by_book(alloc, &story, &mut book)?, None);
+        let story = story_of(&rt, seed, Duration::ZERO);
+        a_full_book_answers(&rt, seed, &story);
     }
-    Ok(())
 }

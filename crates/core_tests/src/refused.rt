@@ -1,18 +1,19 @@
 // Each request for memory refused in turn: on heaps that grow, until one is large enough.
 
+use crate::checks::{book_of, legal, report_of, same, same_at};
 use crate::steps::{limits, ms};
 use linked_list_allocator::LocalHeap;
 use r2d2_core::schedule::Schedule;
 use r2d2_core::{Book, Core, Limits, Report};
-use std::alloc::{AllocError, Allocator, Global};
-use std::test::Fail;
+use std::alloc::Allocator;
+use std::process::Abort;
 use std::time::Duration;
 
 // A heap of 16 bytes more each time has room for one request more at last.
 const PARTS: usize = 160;
 
 /// What is made.
-#[derive(Clone, Copy, Debug)]
+#[derive(Clone, Copy)]
 enum Maker {
     Schedule,
     Core,
@@ -21,50 +22,64 @@ enum Maker {
     BookFromId,
 }
 
-// Whether there was room to make it in so many bytes, and how many are in use when it is gone.
-fn made_in(
-    alloc: Global,
-    maker: Maker,
-    limits: Limits,
-    size: usize,
-) -> Result<(bool, usize), AllocError> {
-    let heap = LocalHeap::new(alloc, size)?;
+fn small<R: Abort>(rt: &R) -> Limits {
+    legal(rt, limits(2, None, None, Some(1000), 30_000, 30_000))
+}
+
+fn heap<R: Abort + AllocGlobal>(rt: &R, size: usize) -> LocalHeap {
+    LocalHeap::new(rt.alloc(), size).expect(rt, "a heap")
+}
+
+// Whether there is room to make it on the heap.
+fn is_made_on(heap: &LocalHeap, maker: Maker, limits: Limits) -> bool {
     let now = Duration::ZERO;
-    let is_made = match maker {
-        Maker::Schedule => Schedule::new(&heap, limits, now).is_ok(),
-        Maker::Core => Core::<u64, &LocalHeap>::new(&heap, limits, now).is_ok(),
-        Maker::CoreFromId => Core::<u64, &LocalHeap>::with_first_id(&heap, limits, now, 9).is_ok(),
-        Maker::Book => Book::<u64, &LocalHeap>::new(&heap, limits, now, 8).is_ok(),
+    match maker {
+        Maker::Schedule => Schedule::new(heap, limits, now).is_ok(),
+        Maker::Core => Core::<u64, &LocalHeap>::new(heap, limits, now).is_ok(),
+        Maker::CoreFromId => Core::<u64, &LocalHeap>::with_first_id(heap, limits, now, 9).is_ok(),
+        Maker::Book => Book::<u64, &LocalHeap>::new(heap, limits, now, 8).is_ok(),
         Maker::BookFromId => {
-            Book::<u64, &LocalHeap>::with_first_id(&heap, limits, now, 9, 8).is_ok()
+            Book::<u64, &LocalHeap>::with_first_id(heap, limits, now, 9, 8).is_ok()
         }
-    };
-    Ok((is_made, heap.used()))
+    }
+}
+
+// Whether there was room to make it in so many bytes, and how many are in use when it is gone.
+fn made_in<R: Abort + AllocGlobal>(rt: &R, maker: Maker, size: usize) -> (bool, usize) {
+    let heap = heap(rt, size);
+    let is_made = is_made_on(&heap, maker, small(rt));
+    (is_made, heap.used())
+}
+
+// The last part that was refused, after all before it, where there are such parts and larger ones are not.
+fn is_refused_up_to<R: Abort>(rt: &R, refused_until: usize) {
+    assert!(rt;
+        refused_until > 0 && refused_until < PARTS - 1,
+        "{refused_until}"
+    );
+}
+
+// Makes it on heaps that grow.
+fn grows<R: Abort + AllocGlobal>(rt: &R, maker: Maker) {
+    let mut refused_until = 0;
+    for part in 1..PARTS {
+        let (is_made, left) = made_in(rt, maker, part * 16);
+        same_at(rt, part, left, 0);
+        if !is_made {
+            same_at(rt, part, refused_until, part - 1);
+            refused_until = part;
+        }
+    }
+    is_refused_up_to(rt, refused_until);
 }
 
 #[test]
-fn nothing_is_made_where_memory_is_refused(rt: HostRuntime) -> Result<(), Fail> {
-    let limits = limits(2, None, None, Some(1000), 30_000, 30_000).ok_or("limits")?;
-    let makers = [
-        Maker::Schedule,
-        Maker::Core,
-        Maker::CoreFromId,
-        Maker::Book,
-        Maker::BookFromId,
-    ];
-    for maker in makers {
-        let mut refused_until = 0;
-        for part in 1..PARTS {
-            let (is_made, left) = made_in(rt.alloc(), maker, limits, part * 16)?;
-            assert_eq!(rt; left, 0, "{maker:?} at {part}");
-            if !is_made {
-                assert_eq!(rt; refused_until, part - 1, "{maker:?} at {part}");
-                refused_until = part;
-            }
-        }
-        assert!(rt; refused_until > 0 && refused_until < PARTS - 1, "{maker:?}");
-    }
-    Ok(())
+fn nothing_is_made_where_memory_is_refused(rt: HostRuntime) {
+    grows(&rt, Maker::Schedule);
+    grows(&rt, Maker::Core);
+    grows(&rt, Maker::CoreFromId);
+    grows(&rt, Maker::Book);
+    grows(&rt, Maker::BookFromId);
 }
 
 // Opens a connection.
@@ -75,18 +90,22 @@ fn open(book: &mut Book<u64>, now: u64, value: u64) {
     }
 }
 
+// Takes one, and gives it back.
+fn lend(book: &mut Book<u64>, now: u64, id: u64, broken: bool) {
+    let _ = book.take(ms(now), true);
+    let _ = book.put_back(ms(now.saturating_add(1)), id, 71, broken);
+}
+
 // A book in which something is idle, something lent, and something was closed.
-fn lived(alloc: Global, limits: Limits) -> Result<Book<u64>, AllocError> {
-    let mut book: Book<u64> = Book::new(alloc, limits, Duration::ZERO, 8)?;
+fn lived<R: Abort + AllocGlobal>(rt: &R) -> Book<u64> {
+    let mut book = book_of(rt, small(rt), 8);
     open(&mut book, 1, 70);
     open(&mut book, 2, 71);
-    let _ = book.take(ms(3), true);
-    let _ = book.put_back(ms(4), 1, 71, false);
-    let _ = book.take(ms(5), true);
-    let _ = book.put_back(ms(6), 1, 71, true);
+    lend(&mut book, 3, 1, false);
+    lend(&mut book, 5, 1, true);
     open(&mut book, 7, 72);
     let _ = book.take(ms(8), true);
-    Ok(book)
+    book
 }
 
 fn are_the_same<A: Allocator, B: Allocator>(one: &Report<A>, other: &Report<B>) -> bool {
@@ -98,60 +117,88 @@ fn are_the_same<A: Allocator, B: Allocator>(one: &Report<A>, other: &Report<B>) 
         && one.closed == other.closed
 }
 
-#[test]
-fn a_report_that_is_refused_changes_nothing(rt: HostRuntime) -> Result<(), Fail> {
-    let limits = limits(2, None, None, Some(1000), 30_000, 30_000).ok_or("limits")?;
-    let book = lived(rt.alloc(), limits)?;
-    let before = book.report()?;
-    assert_eq!(rt; before.idle.as_slice().len(), 1);
-    assert_eq!(rt; before.lent.as_slice().len(), 1);
-    assert_eq!(rt; before.records.as_slice().len(), 8);
-    let mut refused_until = 0;
-    for part in 1..PARTS {
-        let heap = LocalHeap::new(rt.alloc(), part * 16)?;
-        match book.report_in(&heap) {
-            Ok(report) => assert!(rt; are_the_same(&report, &before), "at {part}"),
-            Err(_) => {
-                assert_eq!(rt; (refused_until, heap.used()), (part - 1, 0), "at {part}");
-                refused_until = part;
-            }
+// Whether there is room for the report in so many bytes. Then it is as before; else nothing is left of it.
+fn is_reported_in<R: Abort + AllocGlobal>(
+    rt: &R,
+    book: &Book<u64>,
+    before: &Report,
+    part: usize,
+) -> bool {
+    let heap = heap(rt, part.saturating_mul(16));
+    match book.report_in(&heap) {
+        Ok(report) => {
+            assert!(rt; are_the_same(&report, before), "at {part}");
+            true
         }
-        assert!(rt; are_the_same(&book.report()?, &before), "at {part}");
+        Err(_) => {
+            same_at(rt, part, heap.used(), 0);
+            false
+        }
     }
-    assert!(rt; refused_until > 0 && refused_until < PARTS - 1);
-    Ok(())
+}
+
+fn lengths(report: &Report) -> (usize, usize, usize) {
+    (
+        report.idle.as_slice().len(),
+        report.lent.as_slice().len(),
+        report.records.as_slice().len(),
+    )
 }
 
 #[test]
-fn a_replay_that_is_refused_changes_nothing(rt: HostRuntime) -> Result<(), Fail> {
-    let limits = limits(2, None, None, Some(1000), 30_000, 30_000).ok_or("limits")?;
-    let book = lived(rt.alloc(), limits)?;
+fn a_report_that_is_refused_changes_nothing(rt: HostRuntime) {
+    let book = lived(&rt);
+    let before = report_of(&rt, &book);
+    same(&rt, lengths(&before), (1, 1, 8));
     let mut refused_until = 0;
     for part in 1..PARTS {
-        let heap = LocalHeap::new(rt.alloc(), 8192)?;
-        let report = book.report_in(&heap)?;
-        let rest = heap.free().saturating_sub(part * 16);
-        let _rest: Vec<u8, &LocalHeap> = Vec::with_capacity(&heap, rest)?;
-        let used = heap.used();
-        match report.replays() {
-            Ok(does_replay) => assert!(rt; does_replay, "at {part}"),
-            Err(_) => {
-                assert_eq!(rt; refused_until, part - 1, "at {part}");
-                refused_until = part;
-            }
+        if !is_reported_in(&rt, &book, &before, part) {
+            same_at(&rt, part, refused_until, part - 1);
+            refused_until = part;
         }
-        assert_eq!(rt; heap.used(), used, "at {part}");
+        assert!(rt; are_the_same(&report_of(&rt, &book), &before), "at {part}");
     }
-    assert!(rt; refused_until > 0 && refused_until < PARTS - 1);
-    Ok(())
+    is_refused_up_to(&rt, refused_until);
+}
+
+// Whether a report has room to replay where so many bytes are left beside it. Then it does replay, and leaves nothing.
+fn is_replayed_in<R: Abort + AllocGlobal>(rt: &R, book: &Book<u64>, part: usize) -> bool {
+    let heap = heap(rt, 8192);
+    let report = book.report_in(&heap).expect(rt, "a report");
+    let rest = Vec::<u8, &LocalHeap>::with_capacity(
+        &heap,
+        heap.free().saturating_sub(part.saturating_mul(16)),
+    );
+    let _rest = rest.expect(rt, "the rest");
+    let used = heap.used();
+    let does_replay = report.replays();
+    same_at(rt, part, heap.used(), used);
+    match does_replay {
+        Ok(does_replay) => {
+            assert!(rt; does_replay, "at {part}");
+            true
+        }
+        Err(_) => false,
+    }
+}
+
+#[test]
+fn a_replay_that_is_refused_changes_nothing(rt: HostRuntime) {
+    let book = lived(&rt);
+    let mut refused_until = 0;
+    for part in 1..PARTS {
+        if !is_replayed_in(&rt, &book, part) {
+            same_at(&rt, part, refused_until, part - 1);
+            refused_until = part;
+        }
+    }
+    is_refused_up_to(&rt, refused_until);
 }
 
 // A book of up to 32 connections, each of which was lent and came back, time and again, until some are lent for good.
-fn busy(alloc: Global, room: usize) -> Result<Option<Book<u64>>, AllocError> {
-    let Some(limits) = limits(32, None, None, Some(1000), 30_000, 30_000) else {
-        return Ok(None);
-    };
-    let mut book = Book::new(alloc, limits, Duration::ZERO, room)?;
+fn busy<R: Abort + AllocGlobal>(rt: &R, room: usize) -> Book<u64> {
+    let limits = legal(rt, limits(32, None, None, Some(1000), 30_000, 30_000));
+    let mut book = book_of(rt, limits, room);
     for id in 0..32 {
         open(&mut book, 1, id);
     }
@@ -160,18 +207,22 @@ fn busy(alloc: Global, room: usize) -> Result<Option<Book<u64>>, AllocError> {
         let _ = book.take(ms(2), true);
         let _ = book.put_back(ms(3), turn % 32, 0, false);
     }
-    Ok(Some(book))
+    book
+}
+
+// Whether a report of the book replays where no more is left than it has itself.
+fn replays_beside<R: Abort + AllocGlobal>(rt: &R, book: &Book<u64>) -> bool {
+    let heap = heap(rt, 1 << 17);
+    let report = book.report_in(&heap).expect(rt, "a report");
+    let (size, free) = (heap.used(), heap.free());
+    let rest = Vec::<u8, &LocalHeap>::with_capacity(&heap, free.saturating_sub(size));
+    let _rest = rest.expect(rt, "the rest");
+    report.replays().expect(rt, "a replay")
 }
 
 #[test]
-fn a_replay_needs_no_more_than_its_report(rt: HostRuntime) -> Result<(), Fail> {
+fn a_replay_needs_no_more_than_its_report(rt: HostRuntime) {
     for room in [0, 1, 7, 40, 64, 1000] {
-        let book = busy(rt.alloc(), room)?.ok_or("limits")?;
-        let heap = LocalHeap::new(rt.alloc(), 1 << 17)?;
-        let report = book.report_in(&heap)?;
-        let (size, free) = (heap.used(), heap.free());
-        let _rest: Vec<u8, &LocalHeap> = Vec::with_capacity(&heap, free.saturating_sub(size))?;
-        assert_eq!(rt; report.replays(), Ok(true), "{size} bytes at {room}");
+        assert!(rt; replays_beside(&rt, &busy(&rt, room)), "at {room}");
     }
-    Ok(())
 }

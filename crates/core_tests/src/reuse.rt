@@ -1,9 +1,10 @@
 // Newest-first and oldest-first beside other choices. Moments are in milliseconds. No clause says that `compare` answers where memory is
 // there; each of these calls does.
 
+use crate::checks::same;
 use r2d2_core::reuse::{Move, compare, is_in_order};
 use std::alloc::{AllocError, Global};
-use std::test::Fail;
+use std::process::Abort;
 use std::time::Duration;
 
 fn ms(moment: u64) -> Duration {
@@ -11,19 +12,20 @@ fn ms(moment: u64) -> Duration {
 }
 
 // What is expired where the newest is lent first, where the oldest is, and by the picks.
-fn compared(
-    alloc: Global,
+fn compared<R: Abort + AllocGlobal>(
+    rt: &R,
     idle: &[Duration],
     moves: &[Move],
     picks: &[usize],
     now: u64,
     limit: u64,
-) -> Result<Option<(usize, usize, usize)>, Fail> {
-    if !is_in_order(idle) {
-        return Err(Fail::from("idle is in order"));
-    }
-    let answer = compare(alloc, idle, moves, picks, ms(now), ms(limit))?;
-    Ok(answer.map(|c| (c.newest_first, c.oldest_first, c.other)))
+) -> Option<(usize, usize, usize)> {
+    assert!(rt; is_in_order(idle));
+    let answer = compare(rt.alloc(), idle, moves, picks, ms(now), ms(limit)).expect(
+        rt,
+        "an answer",
+    );
+    answer.map(|c| (c.newest_first, c.oldest_first, c.other))
 }
 
 #[test]
@@ -35,52 +37,57 @@ fn a_list_in_order_never_falls(rt: HostRuntime) {
 }
 
 #[test]
-fn worked_rows(rt: HostRuntime) -> Result<(), Fail> {
-    let alloc = rt.alloc();
-
+fn worked_rows(rt: HostRuntime) {
     let idle = [ms(0), ms(10), ms(20)];
     let moves = [Move::Take(ms(25)), Move::Add(ms(26))];
-    assert_eq!(rt;
-        compared(alloc, &idle, &moves, &[0], 110, 100)?,
-        Some((2, 1, 1))
+    same(
+        &rt,
+        compared(&rt, &idle, &moves, &[0], 110, 100),
+        Some((2, 1, 1)),
     );
-    assert_eq!(rt; compared(alloc, &idle, &moves, &[], 110, 100)?, None);
-    assert_eq!(rt; compared(alloc, &idle, &moves, &[3], 110, 100)?, None);
+    same(&rt, compared(&rt, &idle, &moves, &[], 110, 100), None);
+    same(&rt, compared(&rt, &idle, &moves, &[3], 110, 100), None);
 
     // A take on an empty list uses no pick.
-    assert_eq!(rt;
-        compared(alloc, &[], &[Move::Take(ms(5))], &[], 10, 1)?,
-        Some((0, 0, 0))
+    same(
+        &rt,
+        compared(&rt, &[], &[Move::Take(ms(5))], &[], 10, 1),
+        Some((0, 0, 0)),
     );
 
     // Moments that run backwards count as the latest so far, and a pick that is left over is ignored.
     let idle = [ms(0), ms(100)];
-    assert_eq!(rt;
-        compared(alloc, &idle, &[Move::Add(ms(50))], &[9], 150, 50)?,
-        Some((3, 3, 3))
+    same(
+        &rt,
+        compared(&rt, &idle, &[Move::Add(ms(50))], &[9], 150, 50),
+        Some((3, 3, 3)),
     );
-    assert_eq!(rt; compared(alloc, &idle, &[], &[], 40, 100)?, Some((1, 1, 1)));
-    Ok(())
+    same(
+        &rt,
+        compared(&rt, &idle, &[], &[], 40, 100),
+        Some((1, 1, 1)),
+    );
 }
 
 // Two of three are lent. Whether the oldest of all stays is for the picks to say.
 #[test]
-fn other_choices_lie_between(rt: HostRuntime) -> Result<(), Fail> {
+fn other_choices_lie_between(rt: HostRuntime) {
     let idle = [ms(0), ms(10), ms(20)];
     let moves = [Move::Take(ms(25)), Move::Take(ms(25))];
-    assert_eq!(rt;
-        compared(rt.alloc(), &idle, &moves, &[0, 1], 110, 100)?,
-        Some((1, 0, 1))
+    same(
+        &rt,
+        compared(&rt, &idle, &moves, &[0, 1], 110, 100),
+        Some((1, 0, 1)),
     );
-    assert_eq!(rt;
-        compared(rt.alloc(), &idle, &moves, &[1, 0], 110, 100)?,
-        Some((1, 0, 0))
+    same(
+        &rt,
+        compared(&rt, &idle, &moves, &[1, 0], 110, 100),
+        Some((1, 0, 0)),
     );
-    Ok(())
 }
 
 #[test]
-fn the_oldest_first_is_strictly_behind(rt: HostRuntime) -> Result<(), Fail> {
+fn the_oldest_first_is_strictly_behind(rt: HostRuntime) {
     let idle = [ms(0), ms(10), ms(20), ms(30), ms(40)];
     let moves = [
         Move::Take(ms(50)),
@@ -89,15 +96,16 @@ fn the_oldest_first_is_strictly_behind(rt: HostRuntime) -> Result<(), Fail> {
         Move::Add(ms(80)),
     ];
     // To pick the first place each time is to lend the oldest.
-    assert_eq!(rt;
-        compared(rt.alloc(), &idle, &moves, &[0, 0], 110, 80)?,
-        Some((4, 2, 2))
+    same(
+        &rt,
+        compared(&rt, &idle, &moves, &[0, 0], 110, 80),
+        Some((4, 2, 2)),
     );
-    assert_eq!(rt;
-        compared(rt.alloc(), &idle, &moves, &[0, 3], 110, 80)?,
-        Some((4, 2, 3))
+    same(
+        &rt,
+        compared(&rt, &idle, &moves, &[0, 3], 110, 80),
+        Some((4, 2, 3)),
     );
-    Ok(())
 }
 
 // The first `size` of five moments.
@@ -170,36 +178,54 @@ fn picks_of(
     Ok(picks)
 }
 
-#[test]
-fn no_other_choice_is_beyond_the_two(rt: HostRuntime) -> Result<(), Fail> {
-    let alloc = rt.alloc();
-    let mut equal: u64 = 0;
-    let mut between: u64 = 0;
-    for size in 0..6 {
-        let idle = idle_of(alloc, size)?;
-        for code in 1..128 {
-            let moves = moves_of(alloc, code)?;
-            for way in 0..ways_of(size, &moves) {
-                let picks = picks_of(alloc, size, &moves, way)?;
-                for limit in [10, 30, 50, 70, 90] {
-                    let answer = compared(alloc, &idle, &moves, &picks, 100, limit)?;
-                    let (newest_first, oldest_first, other) = answer.ok_or(
-                        "each take has its pick",
-                    )?;
-                    assert!(rt;
-                        oldest_first <= other && other <= newest_first,
-                        "beyond at {size} idle, moves {code}, way {way}, limit {limit}"
-                    );
-                    if oldest_first < other && other < newest_first {
-                        between = between.saturating_add(1);
-                    } else if oldest_first == newest_first {
-                        equal = equal.saturating_add(1);
-                    }
-                }
+// How often the three came to the same, and how often the picks lay between the two.
+#[derive(Drop)]
+struct Tally {
+    equal: u64,
+    between: u64,
+}
+
+impl Tally {
+    // Goes through the ways in which the moves of this code can pick, and through some limits.
+    fn count<R: Abort + AllocGlobal>(&mut self, rt: &R, size: usize, code: u32) {
+        let idle = idle_of(rt.alloc(), size).expect(rt, "idle ones");
+        let moves = moves_of(rt.alloc(), code).expect(rt, "moves");
+        for way in 0..ways_of(size, &moves) {
+            let picks = picks_of(rt.alloc(), size, &moves, way).expect(rt, "picks");
+            for limit in [10, 30, 50, 70, 90] {
+                let answer = compared(rt, &idle, &moves, &picks, 100, limit);
+                let is_between = self.add(answer.expect(rt, "each take has its pick"));
+                assert!(rt;
+                    is_between,
+                    "beyond at {size} idle, moves {code}, way {way}, limit {limit}"
+                );
             }
         }
     }
-    assert!(rt; between > 0);
-    assert!(rt; equal > 0);
-    Ok(())
+
+    // Whether the picks are not beyond the two.
+    fn add(&mut self, expired: (usize, usize, usize)) -> bool {
+        let (newest_first, oldest_first, other) = expired;
+        if oldest_first < other && other < newest_first {
+            self.between = self.between.saturating_add(1);
+        } else if oldest_first == newest_first {
+            self.equal = self.equal.saturating_add(1);
+        }
+        oldest_first <= other && other <= newest_first
+    }
+}
+
+#[test]
+fn no_other_choice_is_beyond_the_two(rt: HostRuntime) {
+    let mut tally = Tally {
+        equal: 0,
+        between: 0,
+    };
+    for size in 0..6 {
+        for code in 1..128 {
+            tally.count(&rt, size, code);
+        }
+    }
+    assert!(rt; tally.between > 0);
+    assert!(rt; tally.equal > 0);
 }

@@ -4,7 +4,7 @@ use r2d2_core::{Answer, Gone, Job, Refusal, Released, Returned, Take};
 use std::alloc::{AllocError, Allocator, Global};
 use std::time::Duration;
 
-#[derive(PartialEq, Debug, Drop)]
+#[derive(PartialEq, Drop)]
 pub(crate) enum Said {
     Found {
         id: u64,

@@ -1,8 +1,9 @@
 // A schedule by itself.
 
+use crate::checks::{legal, same};
 use crate::steps::ms;
 use r2d2_core::{Job, Limits, Schedule};
-use std::test::Fail;
+use std::process::Abort;
 
 fn idling() -> Option<Limits> {
     Limits::of(2, None, None, Some(ms(1000)), ms(30_000), ms(400))
@@ -13,50 +14,62 @@ fn sized(max_size: u32) -> Option<Limits> {
     Limits::of(max_size, None, None, None, ms(30_000), ms(400))
 }
 
-#[test]
-fn hands_out_what_is_due_first(rt: HostRuntime) -> Result<(), Fail> {
-    let limits = idling().ok_or("limits")?;
-    let mut schedule = Schedule::new(rt.alloc(), limits, ms(0))?;
-    assert_eq!(rt; limits.max_size(), 2);
-    schedule.order_uncounted(ms(500), 1);
-    assert_eq!(rt; schedule.len(), 1);
-    schedule.order_uncounted(ms(300), 2);
-    assert_eq!(rt; schedule.len(), 2);
-    assert_eq!(rt; schedule.next_uncounted(ms(299)), Job::Wait(ms(300)));
-    assert_eq!(rt; schedule.next_uncounted(ms(600)), Job::Open { tries: 2 });
-    assert_eq!(rt; schedule.next_uncounted(ms(600)), Job::Reap);
-    assert_eq!(rt; schedule.len(), 1);
-    assert_eq!(rt; schedule.next_uncounted(ms(600)), Job::Open { tries: 1 });
-    assert_eq!(rt; schedule.next_uncounted(ms(600)), Job::Wait(ms(800)));
-    Ok(())
+// A schedule with openings, of each when it is due and how often it failed, ordered one after the other.
+fn schedule_of<R: Abort + AllocGlobal>(
+    rt: &R,
+    limits: Option<Limits>,
+    ordered: &[(u64, u32)],
+) -> Schedule {
+    let limits = legal(rt, limits);
+    let size = limits.max_size();
+    let mut schedule = Schedule::new(rt.alloc(), limits, ms(0)).expect(rt, "a schedule");
+    for place in 0..ordered.len() {
+        let (due, tries) = ordered[place];
+        assert!(rt; schedule.len() as usize == place && schedule.len() < size);
+        schedule.order_uncounted(ms(due), tries);
+    }
+    schedule
+}
+
+fn next(schedule: &mut Schedule, now: u64) -> Job {
+    schedule.next_uncounted(ms(now))
 }
 
 #[test]
-fn hands_out_what_was_ordered_backwards(rt: HostRuntime) -> Result<(), Fail> {
-    let limits = sized(100).ok_or("limits")?;
-    let mut schedule = Schedule::new(rt.alloc(), limits, ms(0))?;
-    assert_eq!(rt; limits.max_size(), 100);
+fn hands_out_what_is_due_first(rt: HostRuntime) {
+    let mut schedule = schedule_of(&rt, idling(), &[(500, 1), (300, 2)]);
+    same(&rt, schedule.len(), 2);
+    same(&rt, next(&mut schedule, 299), Job::Wait(ms(300)));
+    same(&rt, next(&mut schedule, 600), Job::Open { tries: 2 });
+    same(&rt, next(&mut schedule, 600), Job::Reap);
+    same(&rt, schedule.len(), 1);
+    same(&rt, next(&mut schedule, 600), Job::Open { tries: 1 });
+    same(&rt, next(&mut schedule, 600), Job::Wait(ms(800)));
+}
+
+// A hundred openings, each due before the last one and tried once more.
+fn backwards() -> [(u64, u32); 100] {
+    let mut ordered = [(0, 0); 100];
     for i in 0..100u32 {
-        assert_eq!(rt; schedule.len(), i);
-        schedule.order_uncounted(ms(1000 - u64::from(i)), i);
+        ordered[i as usize] = (1000 - u64::from(i), i);
     }
-    assert_eq!(rt; schedule.len(), 100);
-    assert_eq!(rt; schedule.next_uncounted(ms(900)), Job::Wait(ms(901)));
-    for i in 0..100u32 {
-        assert_eq!(rt;
-            schedule.next_uncounted(ms(901 + u64::from(i))),
-            Job::Open { tries: 99 - i }
-        );
-    }
-    assert_eq!(rt; schedule.next_uncounted(ms(2000)), Job::Nothing);
-    Ok(())
+    ordered
 }
 
 #[test]
-fn hands_out_the_least_tries_of_one_moment_first(rt: HostRuntime) -> Result<(), Fail> {
-    let limits = sized(9).ok_or("limits")?;
-    let mut schedule = Schedule::new(rt.alloc(), limits, ms(0))?;
-    assert_eq!(rt; limits.max_size(), 9);
+fn hands_out_what_was_ordered_backwards(rt: HostRuntime) {
+    let mut schedule = schedule_of(&rt, sized(100), &backwards());
+    same(&rt, schedule.len(), 100);
+    same(&rt, next(&mut schedule, 900), Job::Wait(ms(901)));
+    for i in 0..100u32 {
+        let job = next(&mut schedule, 901 + u64::from(i));
+        same(&rt, job, Job::Open { tries: 99 - i });
+    }
+    same(&rt, next(&mut schedule, 2000), Job::Nothing);
+}
+
+#[test]
+fn hands_out_the_least_tries_of_one_moment_first(rt: HostRuntime) {
     let ordered = [
         (7, 3),
         (7, 1),
@@ -68,26 +81,17 @@ fn hands_out_the_least_tries_of_one_moment_first(rt: HostRuntime) -> Result<(), 
         (5, 4),
         (7, 2),
     ];
-    for i in 0..9 {
-        let (due, tries) = ordered[i];
-        assert!(rt; schedule.len() < 9);
-        schedule.order_uncounted(ms(due), tries);
-    }
+    let mut schedule = schedule_of(&rt, sized(9), &ordered);
     for tries in [4, 8, 9, 0, 1, 1, 2, 2, 3] {
-        assert_eq!(rt; schedule.next_uncounted(ms(7)), Job::Open { tries });
+        same(&rt, next(&mut schedule, 7), Job::Open { tries });
     }
-    assert_eq!(rt; schedule.len(), 0);
-    Ok(())
+    same(&rt, schedule.len(), 0);
 }
 
 #[test]
-fn forgets_all_at_a_clear(rt: HostRuntime) -> Result<(), Fail> {
-    let limits = idling().ok_or("limits")?;
-    let mut schedule = Schedule::new(rt.alloc(), limits, ms(0))?;
-    assert_eq!(rt; limits.max_size(), 2);
-    schedule.order_uncounted(ms(300), 0);
+fn forgets_all_at_a_clear(rt: HostRuntime) {
+    let mut schedule = schedule_of(&rt, idling(), &[(300, 0)]);
     schedule.clear();
-    assert_eq!(rt; schedule.len(), 0);
-    assert_eq!(rt; schedule.next_uncounted(ms(1000)), Job::Nothing);
-    Ok(())
+    same(&rt, schedule.len(), 0);
+    same(&rt, next(&mut schedule, 1000), Job::Nothing);
 }

@@ -1,11 +1,10 @@
 // Reaps after the idle connections have turned round and round.
 
-use crate::journal::take_all;
+use crate::checks::{book_of, legal, listed, report_of, same, take_all};
 use crate::steps::{admit, begin, limits, ms, number};
 use r2d2_core::{Book, Released, Take};
 use std::alloc::{AllocError, Global};
-use std::test::Fail;
-use std::time::Duration;
+use std::process::Abort;
 
 // Takes so many at the moment, and gives them back: at even moments the one that was lent first comes back first, at odd ones
 // last. It answers how many came back.
@@ -34,17 +33,20 @@ fn lend_and_return(
 }
 
 // The ids of those that a reap closes.
-fn closed_by_a_reap(alloc: Global, book: &mut Book<u64>, now: u64) -> Result<Vec<u64>, AllocError> {
+fn closed_by_a_reap<R: Abort + AllocGlobal>(rt: &R, book: &mut Book<u64>, now: u64) -> Vec<u64> {
     let room = book.limits().max_size() as usize;
-    let mut released: Vec<Released<u64>> = Vec::with_capacity(alloc, room)?;
+    let mut released: Vec<Released<u64>> = Vec::with_capacity(rt.alloc(), room).expect(rt, "room");
     book.reap(ms(now), &mut released);
-    released.iter().map(|closed| closed.id).collect(alloc)
+    released
+        .iter()
+        .map(|closed| closed.id)
+        .collect(rt.alloc())
+        .expect(rt, "ids")
 }
 
-// Three connections, of which one, two or three at a time are lent and given back, a thousand in all.
-fn after_a_thousand_returns(alloc: Global) -> Result<Book<u64>, Fail> {
-    let limits = limits(3, None, None, Some(600), 30_000, 30_000).ok_or("limits")?;
-    let mut book = Book::new(alloc, limits, Duration::ZERO, 0)?;
+fn three<R: Abort + AllocGlobal>(rt: &R) -> Book<u64> {
+    let limits = legal(rt, limits(3, None, None, Some(600), 30_000, 30_000));
+    let mut book = book_of(rt, limits, 0);
     let opening = [
         begin(0),
         begin(0),
@@ -54,38 +56,52 @@ fn after_a_thousand_returns(alloc: Global) -> Result<Book<u64>, Fail> {
         number(0),
     ];
     let admitting = [admit(0, 0, 70), admit(0, 1, 71), admit(0, 2, 72)];
-    take_all(alloc, &mut book, Vec::from_array(alloc, opening)?)?;
-    take_all(alloc, &mut book, Vec::from_array(alloc, admitting)?)?;
+    take_all(rt, &mut book, listed(rt, opening));
+    take_all(rt, &mut book, listed(rt, admitting));
+    book
+}
+
+// Of the three one, two or three at a time are lent and given back, a thousand in all.
+fn return_a_thousand<R: Abort + AllocGlobal>(rt: &R, book: &mut Book<u64>) {
     let mut left = 1000u64;
     for now in 1..=500u64 {
         let count = (1 + now % 3).min(left);
-        let returned = lend_and_return(alloc, &mut book, now, count)?;
+        let returned = lend_and_return(rt.alloc(), book, now, count).expect(rt, "returns");
         left = left.saturating_sub(returned);
     }
-    if left > 0 {
-        return Err("not a thousand".into());
-    }
-    Ok(book)
+    assert_eq!(rt; left, 0);
+}
+
+fn idle_ids<R: Abort + AllocGlobal>(rt: &R, book: &Book<u64>) -> Vec<u64> {
+    report_of(rt, book)
+        .idle
+        .as_slice()
+        .to_vec(rt.alloc())
+        .expect(rt, "ids")
+}
+
+fn idle_and_pending(book: &Book<u64>) -> (u32, u32) {
+    (book.idle(), book.pending())
 }
 
 // The newest is lent first, and a return is the newest: so 1 is idle since 497, and 0 and then 2 since 500.
 #[test]
-fn reaps_after_a_thousand_returns(rt: HostRuntime) -> Result<(), Fail> {
-    let alloc = rt.alloc();
-    let mut book = after_a_thousand_returns(alloc)?;
-    assert_eq!(rt; book.report()?.idle.as_slice(), &[1u64, 0, 2][..]);
-    let none: Vec<u64> = closed_by_a_reap(alloc, &mut book, 1096)?;
-    assert!(rt; none.is_empty());
-    assert_eq!(rt; book.report()?.idle.as_slice(), &[1u64, 0, 2][..]);
-    assert_eq!(rt;
-        closed_by_a_reap(alloc, &mut book, 1097)?.as_slice(),
-        &[1u64][..]
+fn reaps_after_a_thousand_returns(rt: HostRuntime) {
+    let mut book = three(&rt);
+    return_a_thousand(&rt, &mut book);
+    same(&rt, idle_ids(&rt, &book).as_slice(), &[1u64, 0, 2][..]);
+    assert!(rt; closed_by_a_reap(&rt, &mut book, 1096).is_empty());
+    same(&rt, idle_ids(&rt, &book).as_slice(), &[1u64, 0, 2][..]);
+    same(
+        &rt,
+        closed_by_a_reap(&rt, &mut book, 1097).as_slice(),
+        &[1u64][..],
     );
-    assert_eq!(rt; book.report()?.idle.as_slice(), &[0u64, 2][..]);
-    assert_eq!(rt;
-        closed_by_a_reap(alloc, &mut book, 1100)?.as_slice(),
-        &[0u64, 2][..]
+    same(&rt, idle_ids(&rt, &book).as_slice(), &[0u64, 2][..]);
+    same(
+        &rt,
+        closed_by_a_reap(&rt, &mut book, 1100).as_slice(),
+        &[0u64, 2][..],
     );
-    assert_eq!(rt; (book.idle(), book.pending()), (0, 3));
-    Ok(())
+    same(&rt, idle_and_pending(&book), (0, 3));
 }

@@ -2,7 +2,10 @@
 //! wrong with it on standard output.
 #![tactic(auto)]
 
-use audit_lines::program::{self, Fault, Form};
+mod lines;
+mod told;
+
+use lines::{Fault, Form};
 use std::env;
 use std::io::{self, BufWriter, ErrorKind};
 use std::process::ExitCode;
@@ -49,5 +52,5 @@ fn form<R: Env + AllocGlobal>(rt: &R) -> Result<Option<Form>, Fault> {
 
 fn serve(rt: HostRuntime, form: Form) -> Result<bool, Fault> {
     let mut output = BufWriter::new(rt.alloc(), io::writer(&rt)).map_err(|_| Fault::Memory)?;
-    program::serve(rt.alloc(), form, rt.reader(), &mut output)
+    lines::serve(rt.alloc(), form, rt.reader(), &mut output)
 }

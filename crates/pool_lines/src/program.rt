@@ -16,8 +16,6 @@ use std::time::Duration;
 
 pub mod answer;
 pub mod line;
-#[cfg(test)]
-mod tests;
 
 /// Why the program stops before the end of its input.
 #[derive(Clone, Copy, Debug, PartialEq, Eq)]

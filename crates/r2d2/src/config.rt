@@ -138,8 +138,6 @@ impl<H: fmt::Debug, V: fmt::Debug, Z: fmt::Debug> fmt::Debug for Config<H, V, Z>
 #[derive(Drop)]
 pub struct Builder<M, H = NopErrorHandler, V = NopEventHandler, Z = NopConnectionCustomizer> {
     config: Config<H, V, Z>,
-    /// The id of the first connection.
-    first_id: u64,
     manager: PhantomData<M>,
 }
 
@@ -189,7 +187,6 @@ impl<M: ManageConnection> Default for Builder<M> {
                 event_handler: NopEventHandler,
                 connection_customizer: NopConnectionCustomizer,
             },
-            first_id: 0,
             manager: PhantomData,
         }
     }
@@ -312,38 +309,15 @@ impl<
         self
     }
 
-    /// The time from one look for expired connections to the next. The default is 30 seconds. It has to be positive.
-    /// It is for tests.
-    pub(crate) fn reaper_rate(mut self, reaper_rate: Duration) -> Self
-        requires { 0 < as_nanos reaper_rate }
-        ensures { result ≡ record self { reaper_rate = reaper_rate } }
-    {
-        self.config.reaper_rate = reaper_rate;
-        self
-    }
-
-    /// The id of the first connection that the pool opens. The default is 0. It is for tests.
-    pub(crate) fn first_id(mut self, first_id: u64) -> Self
-        ensures { result ≡ self }
-    {
-        self.first_id = first_id;
-        self
-    }
-
     /// What is told of each error of the manager and of the customizer. The default, `NopErrorHandler`, drops each in
     /// silence, so that only a caller's timeout tells why no connection opens. `LoggingErrorHandler` writes each to a
     /// log.
     pub fn error_handler<G: HandleError<M::Error>>(self, handler: G) -> Builder<M, G, V, Z>
         ensures { result ≡ with_error_handler handler self }
     {
-        let Builder {
-            config,
-            first_id,
-            manager,
-        } = self;
+        let Builder { config, manager } = self;
         Builder {
             config: config.with_error_handler(handler),
-            first_id,
             manager,
         }
     }
@@ -352,14 +326,9 @@ impl<
     pub fn event_handler<W: HandleEvent + 'static>(self, handler: W) -> Builder<M, H, W, Z>
         ensures { result ≡ with_event_handler handler self }
     {
-        let Builder {
-            config,
-            first_id,
-            manager,
-        } = self;
+        let Builder { config, manager } = self;
         Builder {
             config: config.with_event_handler(handler),
-            first_id,
             manager,
         }
     }
@@ -371,28 +340,19 @@ impl<
     ) -> Builder<M, H, V, Y>
         ensures { result ≡ with_customizer customizer self }
     {
-        let Builder {
-            config,
-            first_id,
-            manager,
-        } = self;
+        let Builder { config, manager } = self;
         Builder {
             config: config.with_customizer(customizer),
-            first_id,
             manager,
         }
     }
 
-    /// The settings alone, and the id of the first connection.
-    pub(crate) fn into_parts(self) -> (Config<H, V, Z>, u64)
-        ensures { result.0 ≡ self }
+    /// The settings alone.
+    pub(crate) fn into_config(self) -> Config<H, V, Z>
+        ensures { result ≡ self }
     {
-        let Builder {
-            config,
-            first_id,
-            ..
-        } = self;
-        (config, first_id)
+        let Builder { config, .. } = self;
+        config
     }
 
     /// The limits that building would use, with the lending order; None exactly where `min_idle` is above `max_size`. It is the last test to

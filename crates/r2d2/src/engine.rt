@@ -12,7 +12,7 @@ ghost use Rattle.r2d2.specs.Settled.{seen_settled, settle_answer, after_settle, 
 mod counted;
 
 pub use crate::payload::{Payload, open};
-pub use counted::{Counted, lend_counted};
+pub use counted::{Counted, Counter, NoCount, Takes, Tied, Ties, lend_counted};
 use r2d2_core::{Book, Gone, Refusal, Released, Returned, Take};
 use std::alloc::Allocator;
 use std::time::Duration;

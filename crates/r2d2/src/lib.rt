@@ -142,6 +142,3 @@ pub trait CustomizeConnection<C: Drop, E>: fmt::Debug + Send + Sync + Drop + 'st
 pub struct NopConnectionCustomizer;
 
 impl<C: Drop, E> CustomizeConnection<C, E> for NopConnectionCustomizer {}
-
-#[cfg(test)]
-mod tests;

@@ -4,13 +4,14 @@ ghost use Rattle.std.specs.Arc.{arc_value};
 ghost use Rattle.r2d2_core.specs.Reports.{DoesReplay, HasSoundCounts, CountsItsTakes};
 
 use self::closing::Closer;
-use self::guarded::{Counting, Keeps, Plain};
 use self::lent::AnyConnection;
-use self::locking::Shared;
+use self::locking::SharedOf;
 pub use self::state::State;
 use crate::config::{Builder, Config};
+use crate::engine::{NoCount, Takes, Ties};
 use crate::event::{HandleEvent, NopEventHandler};
 use crate::hooks::Hooks;
+use crate::payload::PayloadOf;
 use crate::{
     CustomizeConnection, Error, HandleError, ManageConnection, NopConnectionCustomizer,
     NopErrorHandler,
@@ -48,40 +49,40 @@ impl<R: Clock + Threads + Wait + AllocGlobal + Copy + Send + Sync + 'static> Poo
 /// `M` opens connections, `H` handles errors, `V` events, `Z` changes connections as they come and go, and `R` is the
 /// runtime; a `PlainPool<M, R>` is one without handlers. The pool closes when the last `Pool` over its state and the
 /// last lent connection are dropped.
-pub type Pool<M, H, V, Z, R> = AnyPool<Plain<M>, M, Config<H, V, Z>, R>;
+pub type Pool<M, H, V, Z, R> = AnyPool<NoCount, M, Config<H, V, Z>, R>;
 
 /// A connection that a pool lent: it derefs to yours. It goes back to the pool when it is dropped, and keeps the pool
 /// alive until then.
-pub type PooledConnection<M, H, V, Z, R> = AnyConnection<Plain<M>, M, Config<H, V, Z>, R>;
+pub type PooledConnection<M, H, V, Z, R> = AnyConnection<NoCount, M, Config<H, V, Z>, R>;
 
 /// A pool that counts its takes: each take adds one to the share of a ledger that its caller brings. It is made by
 /// `Builder::build_counted`, and `audit` says how many takes all shares counted.
-pub type CountedPool<M, H, V, Z, R, L> = AnyPool<Counting<M, L>, M, Config<H, V, Z>, R>;
+pub type CountedPool<M, H, V, Z, R, L> = AnyPool<Takes<L>, M, Config<H, V, Z>, R>;
 
 /// A connection that a counted pool lent, otherwise as a `PooledConnection`.
-pub type CountedConnection<M, H, V, Z, R, L> = AnyConnection<Counting<M, L>, M, Config<H, V, Z>, R>;
+pub type CountedConnection<M, H, V, Z, R, L> = AnyConnection<Takes<L>, M, Config<H, V, Z>, R>;
 
 /// A pool whose handlers and customizer do nothing: what `Builder::new()` builds, unless one of them is set.
 pub type PlainPool<M, R> = Pool<M, NopErrorHandler, NopEventHandler, NopConnectionCustomizer, R>;
 
-/// A pool of connections, whatever its lock guards.
+/// A pool of connections, whatever counts its takes.
 #[derive(Drop)]
-pub struct AnyPool<B: Keeps<M>, M: ManageConnection, K: Hooks<M>, R: PoolRuntime> {
-    closer: Arc<Closer<B, M, K, R>>,
+pub struct AnyPool<C: Ties, M: ManageConnection, K: Hooks<M>, R: PoolRuntime> {
+    closer: Arc<Closer<PayloadOf<M>, C, M, K, R>>,
 }
 
 // Contracts see a pool as its settings: what its lock holds, other threads change.
-impl<B: Keeps<M>, M: ManageConnection, K: Hooks<M>, R: PoolRuntime> Model for AnyPool<B, M, K, R> {
+impl<C: Ties, M: ManageConnection, K: Hooks<M>, R: PoolRuntime> Model for AnyPool<C, M, K, R> {
     ghost Value = { K };
 
     ghost view = { λ p. (arc_value (arc_value p.closer).shared).hooks };
 }
 
-impl<B: Keeps<M>, M: ManageConnection, K: Hooks<M>, R: PoolRuntime> AnyPool<B, M, K, R> {
+impl<C: Ties, M: ManageConnection, K: Hooks<M>, R: PoolRuntime> AnyPool<C, M, K, R> {
     ghost use Rattle.r2d2.specs.Failures.{IsOfMemory};
 
     // What it shares with its workers and with what it lends.
-    fn shared(&self) -> &Shared<B, M, K, R>
+    fn shared(&self) -> &SharedOf<C, M, K, R>
         ensures { result.now.hooks ≡ self.now }
     {
         &self.closer.shared
@@ -106,7 +107,7 @@ impl<B: Keeps<M>, M: ManageConnection, K: Hooks<M>, R: PoolRuntime> AnyPool<B, M
     }
 
     /// Another pool over the same connections, for another thread. The error is lack of memory.
-    pub fn try_clone(&self) -> Result<AnyPool<B, M, K, R>, Error>
+    pub fn try_clone(&self) -> Result<AnyPool<C, M, K, R>, Error>
         ensures settings { IfOk result (λ pool. pool ≡ self.now) }
         ensures refused { IfErr result IsOfMemory }
     {
@@ -117,13 +118,13 @@ impl<B: Keeps<M>, M: ManageConnection, K: Hooks<M>, R: PoolRuntime> AnyPool<B, M
 
 // What the settings say.
 impl<
-    B: Keeps<M>,
+    C: Ties,
     M: ManageConnection,
     H: HandleError<M::Error>,
     V: HandleEvent + 'static,
     Z: CustomizeConnection<M::Connection, M::Error>,
     R: PoolRuntime,
-> AnyPool<B, M, Config<H, V, Z>, R> {
+> AnyPool<C, M, Config<H, V, Z>, R> {
     /// How many connections there are at most.
     pub fn max_size(&self) -> u32
         ensures { result ≡ self.now.max_size }
@@ -231,12 +232,8 @@ impl<M: ManageConnection, R: PoolRuntime> PlainPool<M, R> {
     }
 }
 
-impl<
-    B: Keeps<M>,
-    M: ManageConnection + fmt::Debug,
-    K: Hooks<M> + fmt::Debug,
-    R: PoolRuntime,
-> fmt::Debug for AnyPool<B, M, K, R> {
+impl<C: Ties, M: ManageConnection + fmt::Debug, K: Hooks<M> + fmt::Debug, R: PoolRuntime> fmt::Debug
+    for AnyPool<C, M, K, R> {
     fn fmt<W: fmt::Write>(&self, f: &mut fmt::Formatter<W>) -> fmt::Result {
         let shared = &self.closer.shared;
         f.debug_struct("Pool")
@@ -246,6 +243,3 @@ impl<
             .finish()
     }
 }
-
-#[cfg(test)]
-mod tests;

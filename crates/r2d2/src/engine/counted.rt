@@ -1,15 +1,16 @@
 // A book whose takes a ledger counts.
-ghost use Rattle.std.specs.Prelude.{◌≡◌, ◌+◌, ◌<◌, ◌≤◌, ◌-◌, ◌^◌, min, map, length, option_map, string_bytes, vec_len, vec_capacity, IfOk};
+ghost use Rattle.std.specs.Prelude.{ℕ, ⊤, ◌≡◌, ◌+◌, ◌*◌, ◌<◌, ◌≤◌, map, length, option_map, string_bytes, vec_len, vec_capacity, IfOk};
 ghost use Rattle.std.specs.Duration.{as_nanos};
 ghost use Rattle.r2d2_core.specs.Seen.{seen_take, seen_returned, seen_released, map_ok};
 ghost use Rattle.r2d2_core.specs.Jobs.{seen_job};
 ghost use Rattle.r2d2_core.specs.Table as table;
 ghost use Rattle.r2d2_core.specs.Picture.{IsSound};
 ghost use Rattle.r2d2_core.specs.Noted.{noted_take, noted_return, noted_reap, noted_close};
+ghost use Rattle.r2d2_core.specs.Journal.{one_more};
 ghost use Rattle.r2d2_core.specs.Reports.{IsReportOf, DoesReplay, HasSoundCounts, CountsItsTakes};
 ghost use Rattle.r2d2.specs.Wakes.{wakes_of_take, wakes_of_return, wakes_of_reap};
 ghost use Rattle.r2d2.specs.Settled.{seen_settled, settle_answer, after_settle, noted_settle, wakes_of_settled};
-ghost use Rattle.r2d2.specs.Counted.{found_by, counted_up_to};
+ghost use Rattle.r2d2.specs.Counted.{found_by, counted_up_to, counted_where};
 
 use super::{Outcome, Settled, Wakes, give_back, lend, settle, sweep};
 use r2d2_core::machine::Leftover;
@@ -20,24 +21,125 @@ use std::sync::ledger;
 use std::sync::ledger::{Ledger, Share};
 use std::time::Duration;
 
-/// A book beside the book of a ledger. The ledger's total is the number of the book's takes that found, up to `u64::MAX`.
-///
-/// A take is `lend_counted`, and there is no other one. All else is the book's, and leaves the total.
-#[derive(Drop)]
-pub struct Counted<T, L: Ledger> {
-    book: Book<T>,
-    total: ledger::Book<L>,
+/// What stands beside a book, and is tied to the count of its takes.
+pub trait Ties: Drop {
+    // Whether it stands at a count of takes.
+    ghost stands_at: { Self → ℕ → Type 0 };
 }
 
-impl<T, L: Ledger> Model for Counted<T, L> {
-    ghost use Rattle.std.specs.Prelude.{◌≡◌};
-    ghost use Rattle.r2d2.specs.Counted.{SeenCounted, seen_counted, counted_up_to};
+/// What counts the takes of a book that found, each with a tally.
+pub trait Counter: Ties {
+    /// What a take is counted with.
+    type Tally;
 
-    ghost Value = { SeenCounted T };
+    // The tally's right to count, what it counted, and by how much a take that finds raises that.
+    ghost parts: { Self.Tally → ℕ };
 
-    ghost view = { λ c. seen_counted c.book c.total.total };
+    ghost amount: { Self.Tally → ℕ };
 
-    ghost invariant = { λ c. c.book.journal.takes ≡ counted_up_to c.total.total };
+    ghost per_take: { ℕ };
+
+    // At what it stands after one more.
+    ghost counts: { Self → Self → Type 0 };
+
+    /// Counts a take.
+    fn count(&mut self, tally: &mut Self::Tally)
+        requires { 0 < parts tally.old }
+        ensures parts { parts tally.new ≡ parts tally.old }
+        ensures amount { amount tally.new ≡ amount tally.old + per_take }
+        ensures counts { counts self.old self.new }
+        ensures stands { (takes : ℕ) → Self.stands_at self.old takes → Self.stands_at self.new (one_more takes) };
+}
+
+/// Counts nothing.
+#[derive(Drop)]
+pub struct NoCount;
+
+impl Ties for NoCount {
+    ghost stands_at = { λ _ _. ⊤ };
+}
+
+impl Counter for NoCount {
+    type Tally = ();
+
+    ghost parts = { λ _. 1 };
+
+    ghost amount = { λ _. 0 };
+
+    ghost per_take = { 0 };
+
+    ghost counts = { λ _ _. ⊤ };
+
+    fn count(&mut self, _tally: &mut ()) {}
+}
+
+/// Counts in the book of a ledger: a take adds one to the share that it brings, and to the ledger's total.
+#[derive(Drop)]
+pub struct Takes<L: Ledger> {
+    book: ledger::Book<L>,
+}
+
+// Contracts see it as the ledger's total.
+impl<L: Ledger> Model for Takes<L> {
+    ghost use Rattle.std.specs.Prelude.{ℕ};
+
+    ghost Value = { ℕ };
+
+    ghost view = { λ t. t.book.total };
+}
+
+impl<L: Ledger> Ties for Takes<L> {
+    ghost stands_at = { λ total takes. takes ≡ counted_up_to total };
+}
+
+impl<L: Ledger> Counter for Takes<L> {
+    type Tally = Share<L>;
+
+    ghost parts = { λ share. share.parts };
+
+    ghost amount = { λ share. share.amount };
+
+    ghost per_take = { 1 };
+
+    ghost counts = { λ old new. new ≡ old + 1 };
+
+    fn count(&mut self, tally: &mut Share<L>) {
+        self.book.add(tally, 1);
+    }
+}
+
+/// A book beside what counts its takes: the counter stands at the number of the book's takes that found.
+///
+/// A take is `lend`, and there is no other one. All else is the book's, and leaves the counter.
+#[derive(Drop)]
+pub struct Tied<T, C: Ties> {
+    book: Book<T>,
+    total: C,
+}
+
+impl<T, C: Ties> Model for Tied<T, C> {
+    ghost use Rattle.r2d2.specs.Counted.{SeenCounted, seen_counted};
+
+    ghost Value = { SeenCounted T C };
+
+    ghost view = { λ c. seen_counted c.book c.total };
+
+    ghost invariant = { λ c. C.stands_at c.total c.book.journal.takes };
+}
+
+/// A book beside the book of a ledger. The ledger's total is the number of the book's takes that found, up to `u64::MAX`.
+pub type Counted<T, L> = Tied<T, Takes<L>>;
+
+impl<T> Tied<T, NoCount> {
+    /// A book whose takes nothing counts.
+    pub fn plain(book: Book<T>) -> Tied<T, NoCount>
+        ensures book { result.book ≡ book }
+    {
+        Tied {
+            book,
+            total: NoCount,
+        }
+    }
 }
 
 impl<T, L: Ledger> Counted<T, L> {
@@ -48,9 +150,31 @@ impl<T, L: Ledger> Counted<T, L> {
         ensures book { result.book ≡ book }
         ensures total { result.total ≡ 0 }
     {
-        Counted { book, total }
+        Tied {
+            book,
+            total: Takes { book: total },
+        }
     }
 
+    /// The book's report, where `all` has all parts of the ledger: so its `takes` is what they counted. Nothing changes.
+    pub fn audit(&mut self, all: &mut Share<L>) -> Result<Report, AllocError>
+        requires { all.old.parts ≡ L.parts }
+        ensures given { IfOk result (λ report. IsReportOf self.old.book report) }
+        ensures replays { IfOk result DoesReplay }
+        ensures sound { IfOk result HasSoundCounts }
+        ensures counted { IfOk result CountsItsTakes }
+        ensures takes { IfOk result (λ report. report.takes ≡ counted_up_to all.old.amount) }
+        ensures book { self.new.book ≡ self.old.book }
+        ensures total { self.new.total ≡ self.old.total }
+        ensures amount { all.new.amount ≡ all.old.amount }
+        ensures parts { all.new.parts ≡ all.old.parts }
+    {
+        self.total.book.audit(all);
+        self.book.report()
+    }
+}
+
+impl<T, C: Ties> Tied<T, C> {
     /// The book, to be read.
     pub fn book(&self) -> &Book<T>
         ensures value { result.now ≡ self.now.book }
@@ -156,22 +280,26 @@ impl<T, L: Ledger> Counted<T, L> {
     {
         self.book.report()
     }
+}
 
-    /// The book's report, where `all` has all parts of the ledger: so its `takes` is what they counted. Nothing changes.
-    pub fn audit(&mut self, all: &mut Share<L>) -> Result<Report, AllocError>
-        requires { all.old.parts ≡ L.parts }
-        ensures given { IfOk result (λ report. IsReportOf self.old.book report) }
-        ensures replays { IfOk result DoesReplay }
-        ensures sound { IfOk result HasSoundCounts }
-        ensures counted { IfOk result CountsItsTakes }
-        ensures takes { IfOk result (λ report. report.takes ≡ counted_up_to all.old.amount) }
-        ensures book { self.new.book ≡ self.old.book }
-        ensures total { self.new.total ≡ self.old.total }
-        ensures amount { all.new.amount ≡ all.old.amount }
-        ensures parts { all.new.parts ≡ all.old.parts }
+impl<T, C: Counter> Tied<T, C> {
+    /// As `lend` of a book. A take that found is counted with the tally, which has a part at least.
+    pub fn lend(&mut self, now: Duration, or_order: bool, tally: &mut C::Tally) -> (Take<T>, Wakes)
+        requires { 0 < C.parts tally.old }
+        ensures answer { seen_take result.0 ≡ table.take_answer or_order self.old.book.picture }
+        ensures wakes { result.1 ≡ wakes_of_take (seen_take result.0) }
+        ensures after { self.new.book.picture ≡ table.after_take (as_nanos now) or_order self.old.book.picture }
+        ensures sound { IsSound self.new.book.picture }
+        ensures noted { self.new.book.journal ≡ noted_take (as_nanos now) (seen_take result.0) self.old.book }
+        ensures parts { C.parts tally.new ≡ C.parts tally.old }
+        ensures amount { C.amount tally.new ≡ C.amount tally.old + found_by (seen_take result.0) * C.per_take }
+        ensures total { counted_where C.counts (seen_take result.0) self.old.total self.new.total }
     {
-        self.total.audit(all);
-        self.book.report()
+        let (taken, wakes) = lend(&mut self.book, now, or_order);
+        if let Take::Found { .. } = &taken {
+            self.total.count(tally);
+        }
+        (taken, wakes)
     }
 }
 
@@ -192,9 +320,5 @@ pub fn lend_counted<T, L: Ledger>(
     ensures amount { share.new.amount ≡ share.old.amount + found_by (seen_take result.0) }
     ensures total { counted.new.total ≡ counted.old.total + found_by (seen_take result.0) }
 {
-    let (taken, wakes) = lend(&mut counted.book, now, or_order);
-    if let Take::Found { .. } = &taken {
-        counted.total.add(share, 1);
-    }
-    (taken, wakes)
+    counted.lend(now, or_order, share)
 }

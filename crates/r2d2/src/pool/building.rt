@@ -5,11 +5,10 @@ ghost use Rattle.std.specs.Arc.{arc_value};
 ghost use Rattle.r2d2.specs.Failures.{IsOfMemoryOrThreads};
 
 use super::closing::Closer;
-use super::guarded::{Counting, Guarded, Keeps, Plain};
-use super::locking::Shared;
+use super::locking::{Shared, SharedOf};
 use super::{AnyPool, CountedPool, Pool, PoolRuntime};
 use crate::config::{Builder, Config};
-use crate::engine::Counted;
+use crate::engine::{Counted, Tied, Ties};
 use crate::event::HandleEvent;
 use crate::hooks::Hooks;
 use crate::payload::PayloadOf;
@@ -57,7 +56,7 @@ impl<
         ensures refused { IfErr result IsOfMemoryOrThreads }
     {
         let (config, book, lists) = self.prepare(rt.alloc()).map_err(|_| Error::memory())?;
-        open_pool(rt, Plain { book }, config, manager, lists)
+        open_pool(rt, Tied::plain(book), config, manager, lists)
     }
 
     /// Makes a pool whose takes are counted, and is otherwise as `build_unchecked`.
@@ -76,8 +75,7 @@ impl<
         ensures refused { IfErr result IsOfMemoryOrThreads }
     {
         let (config, book, lists) = self.prepare(rt.alloc()).map_err(|_| Error::memory())?;
-        let counted = Counted::new(book, total);
-        open_pool(rt, Counting { counted }, config, manager, lists)
+        open_pool(rt, Counted::new(book, total), config, manager, lists)
     }
 
     // The settings, a book in which nothing has happened, and a list for each worker.
@@ -89,10 +87,9 @@ impl<
         let Some(limits) = self.limits() else {
             unreachable!()
         };
-        let (config, first_id) = self.into_parts();
+        let config = self.into_config();
         let lists = reap_lists(alloc, config.thread_pool, limits.max_size())?;
-        let room = config.journal_room;
-        let book = Book::with_first_id(alloc, limits, Duration::ZERO, first_id, room)?;
+        let book = Book::new(alloc, limits, Duration::ZERO, config.journal_room)?;
         Ok((config, book, lists))
     }
 }
@@ -105,13 +102,13 @@ type Prepared<M, H, V, Z> = (
 );
 
 // The pool over what its lock is to guard, with a worker for each list.
-fn open_pool<B: Keeps<M> + Send + 'static, M: ManageConnection, K: Hooks<M>, R: PoolRuntime>(
+fn open_pool<C: Ties + Send + 'static, M: ManageConnection, K: Hooks<M>, R: PoolRuntime>(
     rt: R,
-    guarded: B,
+    guarded: Tied<PayloadOf<M>, C>,
     hooks: K,
     manager: M,
     lists: Vec<Vec<Released<PayloadOf<M>>>>,
-) -> Result<AnyPool<B, M, K, R>, Error>
+) -> Result<AnyPool<C, M, K, R>, Error>
     ensures settings { IfOk result (λ pool. pool ≡ hooks) }
     ensures refused { IfErr result IsOfMemoryOrThreads }
 {
@@ -150,12 +147,12 @@ fn reap_lists<P: Drop>(
 }
 
 // The state that workers, pools and lent connections share.
-fn shared_state<B: Guarded, M: Drop, K: Drop, R: PoolRuntime>(
+fn shared_state<P: Drop, C: Ties, M: Drop, K: Drop, R: PoolRuntime>(
     rt: R,
-    guarded: B,
+    guarded: Tied<P, C>,
     hooks: K,
     manager: M,
-) -> Result<Arc<Closer<B, M, K, R>>, AllocError>
+) -> Result<Arc<Closer<P, C, M, K, R>>, AllocError>
     ensures { IfOk result (λ closer. (arc_value (arc_value closer).shared).hooks ≡ hooks) }
 {
     let made = Instant::now(&rt).ok();
@@ -173,8 +170,8 @@ fn shared_state<B: Guarded, M: Drop, K: Drop, R: PoolRuntime>(
 }
 
 // Starts a worker for each list, in a thread of its own.
-fn start_workers<B: Keeps<M> + Send + 'static, M: ManageConnection, K: Hooks<M>, R: PoolRuntime>(
-    closer: &Arc<Closer<B, M, K, R>>,
+fn start_workers<C: Ties + Send + 'static, M: ManageConnection, K: Hooks<M>, R: PoolRuntime>(
+    closer: &Arc<Closer<PayloadOf<M>, C, M, K, R>>,
     lists: Vec<Vec<Released<PayloadOf<M>>>>,
 ) -> Result<(), Error>
     ensures refused { IfErr result IsOfMemoryOrThreads }
@@ -189,8 +186,8 @@ fn start_workers<B: Keeps<M> + Send + 'static, M: ManageConnection, K: Hooks<M>,
 }
 
 // Starts a worker; false where its thread can't be started.
-fn start<B: Keeps<M> + Send + 'static, M: ManageConnection, K: Hooks<M>, R: PoolRuntime>(
-    shared: Arc<Shared<B, M, K, R>>,
+fn start<C: Ties + Send + 'static, M: ManageConnection, K: Hooks<M>, R: PoolRuntime>(
+    shared: Arc<SharedOf<C, M, K, R>>,
     expired: Vec<Released<PayloadOf<M>>>,
 ) -> bool {
     let rt = shared.rt;
@@ -198,8 +195,8 @@ fn start<B: Keeps<M> + Send + 'static, M: ManageConnection, K: Hooks<M>, R: Pool
 }
 
 // The whole life of a worker.
-fn work<B: Keeps<M>, M: ManageConnection, K: Hooks<M>, R: PoolRuntime>(
-    shared: Arc<Shared<B, M, K, R>>,
+fn work<C: Ties, M: ManageConnection, K: Hooks<M>, R: PoolRuntime>(
+    shared: Arc<SharedOf<C, M, K, R>>,
     expired: Vec<Released<PayloadOf<M>>>,
 ) {
     shared.work(expired);

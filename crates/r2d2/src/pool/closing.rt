@@ -1,20 +1,20 @@
 // How a pool ends.
 
-use super::guarded::Guarded;
 use super::locking::Shared;
+use crate::engine::{Tied, Ties};
 use std::rt::Clock;
 use std::sync::{Arc, Wait};
 
 /// What pools and lent connections hold: where the last of them goes, the pool is closed.
-pub struct Closer<B: Guarded, M: Drop, K: Drop, R: Clock + Wait + Drop> {
-    pub(super) shared: Arc<Shared<B, M, K, R>>,
+pub struct Closer<P: Drop, C: Ties, M: Drop, K: Drop, R: Clock + Wait + Drop> {
+    pub(super) shared: Arc<Shared<Tied<P, C>, M, K, R>>,
 }
 
-impl<B: Guarded, M: Drop, K: Drop, R: Clock + Wait + Drop> Drop for Closer<B, M, K, R> {
-    // Closes the book, drops what was idle, without events, and tells the workers.
+impl<P: Drop, C: Ties, M: Drop, K: Drop, R: Clock + Wait + Drop> Drop for Closer<P, C, M, K, R> {
+    // Closes the book, and drops what was idle, without events. The workers end even where such a drop does not.
     fn drop(self) {
+        // Modelled in model/waiting.pml: keep both alike.
         let Closer { shared } = self;
         drop(shared.close());
-        shared.workers.notify_all();
     }
 }

@@ -3,12 +3,11 @@ ghost use Rattle.std.specs.Prelude.{◌≡◌, ◌≤◌, ◌<◌, ◌+◌, IfOk
 ghost use Rattle.std.specs.Arc.{arc_value};
 
 use super::closing::Closer;
-use super::guarded::Keeps;
 use super::lent::{AnyConnection, Lent};
-use super::locking::Shared;
+use super::locking::SharedOf;
 use super::returning::TakesBack;
 use super::{AnyPool, PoolRuntime};
-use crate::engine::{Outcome, Settled};
+use crate::engine::{Counter, Outcome, Settled, Ties};
 use crate::error::text_of;
 use crate::hooks::Hooks;
 use crate::payload::PayloadOf;
@@ -17,22 +16,23 @@ use r2d2_core::Released;
 use std::sync::Arc;
 use std::time::Duration;
 
-impl<B: Keeps<M>, M: ManageConnection, K: Hooks<M>, R: PoolRuntime> AnyPool<B, M, K, R> {
+impl<C: Counter, M: ManageConnection, K: Hooks<M>, R: PoolRuntime> AnyPool<C, M, K, R> {
     ghost use Rattle.r2d2.specs.Failures.{IsOfMemory, IsOfMemoryOrTime};
 
     /// Lends a connection that passed its check, and waits for one at most so long.
     pub(super) fn lend_within(
         &self,
         timeout: Duration,
-        tally: &mut B::Tally,
-    ) -> Result<AnyConnection<B, M, K, R>, Error>
-        requires { 0 < B.parts tally.old }
+        tally: &mut C::Tally,
+    ) -> Result<AnyConnection<C, M, K, R>, Error>
+        requires { 0 < C.parts tally.old }
         ensures settings { IfOk result (λ lent. lent.settings ≡ self.now) }
         ensures refused { IfErr result IsOfMemoryOrTime }
-        ensures parts { B.parts tally.new ≡ B.parts tally.old }
-        ensures amount { B.amount tally.old ≤ B.amount tally.new }
-        ensures lent { IfOk result (λ _. B.amount tally.old + B.per_take ≤ B.amount tally.new) }
+        ensures parts { C.parts tally.new ≡ C.parts tally.old }
+        ensures amount { C.amount tally.old ≤ C.amount tally.new }
+        ensures lent { IfOk result (λ _. C.amount tally.old + C.per_take ≤ C.amount tally.new) }
     {
+        // Modelled in model/waiting.pml: keep both alike.
         let shared = self.shared();
         let start = shared.moment();
         let closer = Arc::try_clone(&self.closer).map_err(|_| Error::memory())?;
@@ -56,15 +56,16 @@ impl<B: Keeps<M>, M: ManageConnection, K: Hooks<M>, R: PoolRuntime> AnyPool<B, M
     /// Lends a connection that is idle and passed its check; None where none is idle.
     pub(super) fn lend_idle(
         &self,
-        tally: &mut B::Tally,
-    ) -> Result<Option<AnyConnection<B, M, K, R>>, Error>
-        requires { 0 < B.parts tally.old }
+        tally: &mut C::Tally,
+    ) -> Result<Option<AnyConnection<C, M, K, R>>, Error>
+        requires { 0 < C.parts tally.old }
         ensures settings { IfOk result (λ found. IfSome found (λ lent. lent.settings ≡ self.now)) }
         ensures refused { IfErr result IsOfMemory }
-        ensures parts { B.parts tally.new ≡ B.parts tally.old }
-        ensures amount { B.amount tally.old ≤ B.amount tally.new }
-        ensures lent { IfOk result (λ found. IfSome found (λ _. B.amount tally.old + B.per_take ≤ B.amount tally.new)) }
+        ensures parts { C.parts tally.new ≡ C.parts tally.old }
+        ensures amount { C.amount tally.old ≤ C.amount tally.new }
+        ensures lent { IfOk result (λ found. IfSome found (λ _. C.amount tally.old + C.per_take ≤ C.amount tally.new)) }
     {
+        // Modelled in model/waiting.pml: keep both alike.
         let shared = self.shared();
         let start = shared.moment();
         let closer = Arc::try_clone(&self.closer).map_err(|_| Error::memory())?;
@@ -80,7 +81,7 @@ impl<B: Keeps<M>, M: ManageConnection, K: Hooks<M>, R: PoolRuntime> AnyPool<B, M
     }
 }
 
-impl<B: Keeps<M>, M: ManageConnection, K: Hooks<M>, R: PoolRuntime> Shared<B, M, K, R> {
+impl<C: Ties, M: ManageConnection, K: Hooks<M>, R: PoolRuntime> SharedOf<C, M, K, R> {
     /// The connection, where it need not be checked, or its check finds it sound. Else it is closed.
     fn if_sound(&self, mut lent: Lent<PayloadOf<M>>) -> Option<Lent<PayloadOf<M>>> {
         if self.hooks.test_on_check_out() {
@@ -94,6 +95,7 @@ impl<B: Keeps<M>, M: ManageConnection, K: Hooks<M>, R: PoolRuntime> Shared<B, M,
 
     // Closes a connection whose check failed.
     fn close_unsound(&self, lent: Lent<PayloadOf<M>>, error: M::Error) {
+        // Modelled in model/waiting.pml: keep both alike.
         let text = text_of(self.rt.alloc(), &error);
         self.hooks.error(error);
         let Lent { id, payload: value } = lent;
@@ -106,10 +108,10 @@ impl<B: Keeps<M>, M: ManageConnection, K: Hooks<M>, R: PoolRuntime> Shared<B, M,
     /// Hands a connection to its caller, whose call began at `start`, and tells of it.
     fn check_out(
         &self,
-        closer: Arc<Closer<B, M, K, R>>,
+        closer: Arc<Closer<PayloadOf<M>, C, M, K, R>>,
         start: Duration,
         lent: Lent<PayloadOf<M>>,
-    ) -> AnyConnection<B, M, K, R>
+    ) -> AnyConnection<C, M, K, R>
         ensures { result.settings ≡ (arc_value (arc_value closer).shared).hooks }
     {
         let lent_at = self.moment();

@@ -3,8 +3,8 @@ ghost use Rattle.std.specs.Prelude.{◌≡◌};
 
 use super::PoolRuntime;
 use super::closing::Closer;
-use super::guarded::{Guarded, Keeps};
 use super::returning::TakesBack;
+use crate::engine::Ties;
 use crate::hooks::Hooks;
 use crate::payload::PayloadOf;
 use crate::{Extensions, ManageConnection};
@@ -39,17 +39,17 @@ impl<P> Lent<P> {
     }
 }
 
-/// A connection that a pool lent, whatever its lock guards.
-pub struct AnyConnection<B: Keeps<M>, M: ManageConnection, K: Hooks<M>, R: PoolRuntime> {
-    pub(super) closer: Arc<Closer<B, M, K, R>>,
+/// A connection that a pool lent, whatever counts its takes.
+pub struct AnyConnection<C: Ties, M: ManageConnection, K: Hooks<M>, R: PoolRuntime> {
+    pub(super) closer: Arc<Closer<PayloadOf<M>, C, M, K, R>>,
     /// When it was lent.
     pub(super) lent_at: Duration,
     pub(super) lent: Lent<PayloadOf<M>>,
 }
 
 // Contracts see a lent connection as what can be reached through it, the settings of its pool, and how it was lent.
-impl<B: Keeps<M>, M: ManageConnection, K: Hooks<M>, R: PoolRuntime> Model
-    for AnyConnection<B, M, K, R> {
+impl<C: Ties, M: ManageConnection, K: Hooks<M>, R: PoolRuntime> Model
+    for AnyConnection<C, M, K, R> {
     ghost use Rattle.std.specs.Arc.{arc_value};
     ghost use Rattle.r2d2.specs.Lent.{SeenConnection};
 
@@ -58,7 +58,7 @@ impl<B: Keeps<M>, M: ManageConnection, K: Hooks<M>, R: PoolRuntime> Model
     ghost view = { λ l. record { connection = l.lent.payload.connection; extensions = l.lent.payload.extensions; settings = (arc_value (arc_value l.closer).shared).hooks; id = l.lent.id; lent_at = l.lent_at } };
 }
 
-impl<B: Keeps<M>, M: ManageConnection, K: Hooks<M>, R: PoolRuntime> AnyConnection<B, M, K, R> {
+impl<C: Ties, M: ManageConnection, K: Hooks<M>, R: PoolRuntime> AnyConnection<C, M, K, R> {
     ghost use Rattle.std.specs.Borrow.{sem, Lends};
     ghost use Rattle.r2d2.specs.contracts.extensions.Extensions.{the_row as extensions_row};
     ghost use Rattle.r2d2.specs.contracts.pool.lent.AnyConnection.{the_row};
@@ -74,14 +74,14 @@ impl<B: Keeps<M>, M: ManageConnection, K: Hooks<M>, R: PoolRuntime> AnyConnectio
     /// The same, to be changed.
     pub fn extensions_mut(this: &mut Self) -> &mut Extensions<M::Extension>
         ensures value { result.now ≡ this.old.extensions }
-        ensures* writes_back { sem 𝓛 (Lends (the_row B.row M.row K.row R.row B.Tally.row M.Connection.row M.Error.row M.Extension.row M.Extension.Kind.row K.Customizer.row B.Guarded M.Error.Display M.Extension.Extension M.Extension.Kind.PartialEq K.Customizer.Debug ⟦<Global as Allocator>⟧ ⟦<Global as Clone>⟧) (extensions_row M.Extension.row M.Extension.Kind.row M.Extension.Extension M.Extension.Kind.PartialEq) this.entry result (λ w. record this.old { extensions = w })) }
+        ensures* writes_back { sem 𝓛 (Lends (the_row C.row M.row K.row R.row M.Connection.row M.Error.row M.Extension.row M.Extension.Kind.row K.Customizer.row C.Ties M.Error.Display M.Extension.Extension M.Extension.Kind.PartialEq K.Customizer.Debug ⟦<Global as Allocator>⟧ ⟦<Global as Clone>⟧) (extensions_row M.Extension.row M.Extension.Kind.row M.Extension.Extension M.Extension.Kind.PartialEq) this.entry result (λ w. record this.old { extensions = w })) }
     {
         &mut this.lent.payload.extensions
     }
 }
 
-impl<B: Keeps<M>, M: ManageConnection, K: Hooks<M>, R: PoolRuntime> Deref
-    for AnyConnection<B, M, K, R> {
+impl<C: Ties, M: ManageConnection, K: Hooks<M>, R: PoolRuntime> Deref
+    for AnyConnection<C, M, K, R> {
     type Target = M::Connection;
 
     ghost deref_gives = { λ lent connection. connection ≡ lent.connection };
@@ -91,8 +91,8 @@ impl<B: Keeps<M>, M: ManageConnection, K: Hooks<M>, R: PoolRuntime> Deref
     }
 }
 
-impl<B: Keeps<M>, M: ManageConnection, K: Hooks<M>, R: PoolRuntime> DerefMut
-    for AnyConnection<B, M, K, R> {
+impl<C: Ties, M: ManageConnection, K: Hooks<M>, R: PoolRuntime> DerefMut
+    for AnyConnection<C, M, K, R> {
     ghost use Rattle.std.specs.Borrow.{sem, Lends};
     ghost use Rattle.r2d2.specs.contracts.pool.lent.AnyConnection.{the_row};
 
@@ -100,14 +100,14 @@ impl<B: Keeps<M>, M: ManageConnection, K: Hooks<M>, R: PoolRuntime> DerefMut
 
     fn deref_mut(&mut self) -> &mut M::Connection
         ensures value { result.now ≡ self.old.connection }
-        ensures* writes_back { sem 𝓛 (Lends (the_row B.row M.row K.row R.row B.Tally.row M.Connection.row M.Error.row M.Extension.row M.Extension.Kind.row K.Customizer.row B.Guarded M.Error.Display M.Extension.Extension M.Extension.Kind.PartialEq K.Customizer.Debug ⟦<Global as Allocator>⟧ ⟦<Global as Clone>⟧) M.Connection.row self.entry result (λ w. record self.old { connection = w })) }
+        ensures* writes_back { sem 𝓛 (Lends (the_row C.row M.row K.row R.row M.Connection.row M.Error.row M.Extension.row M.Extension.Kind.row K.Customizer.row C.Ties M.Error.Display M.Extension.Extension M.Extension.Kind.PartialEq K.Customizer.Debug ⟦<Global as Allocator>⟧ ⟦<Global as Clone>⟧) M.Connection.row self.entry result (λ w. record self.old { connection = w })) }
     {
         &mut self.lent.payload.connection
     }
 }
 
-impl<B: Keeps<M>, M: ManageConnection, K: Hooks<M>, R: PoolRuntime> fmt::Debug
-    for AnyConnection<B, M, K, R>
+impl<C: Ties, M: ManageConnection, K: Hooks<M>, R: PoolRuntime> fmt::Debug
+    for AnyConnection<C, M, K, R>
 where
     M::Connection: fmt::Debug,
 {
@@ -116,8 +116,7 @@ where
     }
 }
 
-impl<B: Keeps<M>, M: ManageConnection, K: Hooks<M>, R: PoolRuntime> Drop
-    for AnyConnection<B, M, K, R> {
+impl<C: Ties, M: ManageConnection, K: Hooks<M>, R: PoolRuntime> Drop for AnyConnection<C, M, K, R> {
     // Puts the connection back, and only then lets the pool go.
     fn drop(self) {
         let AnyConnection {

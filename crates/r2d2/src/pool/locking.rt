@@ -1,11 +1,11 @@
 // The lock of a pool, and each step that is made under it.
-ghost use Rattle.std.specs.Prelude.{◌≡◌, ◌≤◌, ◌<◌, ◌+◌, MatchOption, IfOk};
+ghost use Rattle.std.specs.Prelude.{◌≤◌, IfOk};
 ghost use Rattle.r2d2_core.specs.Reports.{DoesReplay, HasSoundCounts, CountsItsTakes};
 
 use super::State;
-use super::guarded::Guarded;
 use super::lent::Lent;
-use crate::engine::{Outcome, Settled, Wakes};
+use crate::engine::{Outcome, Settled, Tied, Ties, Wakes};
+use crate::payload::PayloadOf;
 use r2d2_core::machine::Leftover;
 use r2d2_core::{Refusal, Report, Returned};
 use std::alloc::AllocError;
@@ -28,6 +28,9 @@ pub struct Shared<B, M, K, R> {
     pub(super) rt: R,
 }
 
+/// What a pool shares, whose payload is its manager's.
+pub type SharedOf<C, M, K, R> = Shared<Tied<PayloadOf<M>, C>, M, K, R>;
+
 impl<B, M, K, R> Shared<B, M, K, R> {
     /// The time since the pool was made; zero where the clock can't be read.
     pub(super) fn moment(&self) -> Duration
@@ -42,6 +45,7 @@ impl<B, M, K, R> Shared<B, M, K, R> {
 
     /// Wakes those for whom a step left something.
     pub(super) fn wake(&self, wakes: Wakes) {
+        // Modelled in model/waiting.pml: keep both alike.
         if wakes.caller {
             self.callers.notify_one();
         }
@@ -50,35 +54,28 @@ impl<B, M, K, R> Shared<B, M, K, R> {
         }
     }
 
-    // Makes a step: takes the lock, reads the moment, calls, lets the lock go, wakes. What the call did to the tally is known after it; what it did
-    // to the book, nobody can say.
-    fn step<T, X, F: FnOnce(&mut B, Duration, &mut T) -> (X, Wakes)>(
-        &self,
-        tally: &mut T,
-        call: F,
-    ) -> X
+    // Makes a step: takes the lock, reads the moment, calls, lets the lock go, wakes. What the call did to the book, nobody can say after it.
+    fn step<X, F: FnOnce(&mut B, Duration) -> (X, Wakes)>(&self, call: F) -> X
     where
         R: Clock + Wait,
-        requires { (b : _) (now : _) (t : _) → t.now ≡ tally.old → F.pre call b now t }
-        ensures { (b : _) × (now : _) × (t : _) × (w : _) × (b' : _) × (t' : _) × F.post call b now t (result, w) b' t' × (t.now ≡ tally.old) × (t'.now ≡ tally.new) }
+        requires { (b : _) (now : _) → F.pre call b now }
+        ensures { (b : _) × (now : _) × (w : _) × (b' : _) × F.post call b now (result, w) b' }
     {
+        // Modelled in model/waiting.pml: keep both alike.
         let mut guarded = self.guarded.lock(&self.rt);
-        let (answer, wakes) = call(&mut guarded, self.moment(), tally);
+        let (answer, wakes) = call(&mut guarded, self.moment());
         drop(guarded);
         self.wake(wakes);
         answer
     }
 }
 
-impl<B: Guarded, M, K, R: Clock + Wait> Shared<B, M, K, R> {
+impl<P: Drop, C: Ties, M, K, R: Clock + Wait> Shared<Tied<P, C>, M, K, R> {
     /// The counts.
     pub(super) fn state(&self) -> State
         ensures { result.idle_connections ≤ result.connections }
     {
-        self.step(
-            &mut (),
-            |guarded, _now, _| (State::of(guarded.book()), Wakes::nobody()),
-        )
+        self.step(|guarded, _now| (State::of(guarded.book()), Wakes::nobody()))
     }
 
     /// What the book reports.
@@ -87,51 +84,34 @@ impl<B: Guarded, M, K, R: Clock + Wait> Shared<B, M, K, R> {
         ensures sound { IfOk result HasSoundCounts }
         ensures counted { IfOk result CountsItsTakes }
     {
-        self.step(
-            &mut (),
-            |guarded, _now, _| (guarded.book().report(), Wakes::nobody()),
-        )
-    }
-
-    /// Takes the idle connection that is lent next, if there is one, and orders none.
-    pub(super) fn lend_now(&self, tally: &mut B::Tally) -> Option<Lent<B::Payload>>
-        requires { 0 < B.parts tally.old }
-        ensures parts { B.parts tally.new ≡ B.parts tally.old }
-        ensures amount { MatchOption result (B.amount tally.new ≡ B.amount tally.old) (λ _. B.amount tally.new ≡ B.amount tally.old + B.per_take) }
-    {
-        self.step(tally, |guarded, now, tally| guarded.lend(now, false, tally))
+        self.step(|guarded, _now| (guarded.book().report(), Wakes::nobody()))
     }
 
     /// Puts a lent connection back. One that is closed, or refused, comes back.
     pub(super) fn put_back(
         &self,
-        lent: Lent<B::Payload>,
+        lent: Lent<P>,
         broken: bool,
-    ) -> Result<Returned<B::Payload>, (Refusal, B::Payload)> {
-        self.step(
-            &mut (),
-            |guarded, now, _| guarded.put_back(now, lent, broken),
-        )
+    ) -> Result<Returned<P>, (Refusal, P)> {
+        self.step(|guarded, now| guarded.put_back(now, lent, broken))
     }
 
     /// Gives an opened connection its id.
     pub(super) fn number(&self, tries: u32) -> Result<u64, Refusal> {
-        self.step(
-            &mut (),
-            |guarded, _now, _| (guarded.number(tries), Wakes::nobody()),
-        )
+        self.step(|guarded, _now| (guarded.number(tries), Wakes::nobody()))
     }
 
     /// Tells the book of an outcome.
-    pub(super) fn settle(&self, outcome: Outcome<B::Payload>) -> Settled<B::Payload> {
-        self.step(&mut (), |guarded, now, _| guarded.settle(now, outcome))
+    pub(super) fn settle(&self, outcome: Outcome<P>) -> Settled<P> {
+        self.step(|guarded, now| guarded.settle(now, outcome))
     }
 
-    /// Closes the book, and hands over what was idle.
-    pub(super) fn close(&self) -> Leftover<B::Payload> {
-        self.step(
-            &mut (),
-            |guarded, _now, _| (guarded.close(), Wakes::nobody()),
-        )
+    /// Closes the book, tells the workers, and hands over what was idle.
+    pub(super) fn close(&self) -> Leftover<P> {
+        let wakes = Wakes {
+            caller: false,
+            workers: true,
+        };
+        self.step(|guarded, _now| (guarded.close(), wakes))
     }
 }

@@ -1,18 +1,18 @@
 // How workers open connections.
 
 use super::PoolRuntime;
-use super::guarded::Keeps;
-use super::locking::Shared;
+use super::locking::SharedOf;
 use crate::ManageConnection;
-use crate::engine::Outcome;
+use crate::engine::{Outcome, Ties};
 use crate::error::text_of;
 use crate::hooks::Hooks;
 use crate::payload::{Payload, PayloadOf, open};
 use r2d2_core::Refusal;
 
-impl<B: Keeps<M>, M: ManageConnection, K: Hooks<M>, R: PoolRuntime> Shared<B, M, K, R> {
+impl<C: Ties, M: ManageConnection, K: Hooks<M>, R: PoolRuntime> SharedOf<C, M, K, R> {
     /// One opening, after so many failures. The lock is not held while the manager and the customizer are called.
     pub(super) fn open(&self, tries: u32) {
+        // Modelled in model/waiting.pml: keep both alike.
         match open(&self.manager, self.hooks.customizer()) {
             Ok(connection) => self.admit(tries, connection),
             Err(error) => {
@@ -25,6 +25,7 @@ impl<B: Keeps<M>, M: ManageConnection, K: Hooks<M>, R: PoolRuntime> Shared<B, M,
 
     // Gives an opened connection its id, tells of it, and admits it.
     fn admit(&self, tries: u32, connection: M::Connection) {
+        // Modelled in model/waiting.pml: keep both alike.
         match self.number(tries) {
             Ok(id) => {
                 self.hooks.acquire(id);

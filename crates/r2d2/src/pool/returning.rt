@@ -1,10 +1,10 @@
 // How a lent connection comes back, and how those are released that the pool closed.
 
 use super::PoolRuntime;
-use super::guarded::Keeps;
 use super::lent::Lent;
-use super::locking::Shared;
+use super::locking::SharedOf;
 use crate::ManageConnection;
+use crate::engine::Ties;
 use crate::hooks::Hooks;
 use crate::payload::{Payload, PayloadOf};
 use r2d2_core::{Released, Returned};
@@ -19,9 +19,10 @@ pub(super) trait TakesBack<P> {
     fn release(&self, released: Released<P>);
 }
 
-impl<B: Keeps<M>, M: ManageConnection, K: Hooks<M>, R: PoolRuntime> TakesBack<PayloadOf<M>>
-    for Shared<B, M, K, R> {
+impl<C: Ties, M: ManageConnection, K: Hooks<M>, R: PoolRuntime> TakesBack<PayloadOf<M>>
+    for SharedOf<C, M, K, R> {
     fn take_back(&self, lent_at: Duration, mut lent: Lent<PayloadOf<M>>) {
+        // Modelled in model/waiting.pml: keep both alike.
         let id = lent.id;
         self.hooks.check_in(id, lent_at, self.moment());
         let broken = self.manager.has_broken(&mut lent.payload.connection);
@@ -38,7 +39,7 @@ impl<B: Keeps<M>, M: ManageConnection, K: Hooks<M>, R: PoolRuntime> TakesBack<Pa
     }
 }
 
-impl<B: Keeps<M>, M: ManageConnection, K: Hooks<M>, R: PoolRuntime> Shared<B, M, K, R> {
+impl<C: Ties, M: ManageConnection, K: Hooks<M>, R: PoolRuntime> SharedOf<C, M, K, R> {
     /// Releases what a reap closed, and empties the list.
     pub(super) fn release_all(&self, expired: &mut Vec<Released<PayloadOf<M>>>) {
         for released in expired.drain(..) {

@@ -1,5 +1,4 @@
-use Rattle.std.proofs.Common.{refl}
 use Rattle.r2d2.proofs.pool.locking.Shared.step.Goals as goal
 
 pub returns : goal.returns
-returns g c = (_, _, _, c.call-answer.result.1, _, _, c.call-answer.ensures, refl, refl)
+returns g c = (_, _, c.call-answer.result.1, _, c.call-answer.ensures)

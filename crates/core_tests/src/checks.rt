@@ -1,0 +1,63 @@
+// What the tests call. None of it has a contract, so that a test is proved without those of the core; and each stops the test where
+// it fails.
+
+use crate::replays::replays;
+use r2d2_core::{Book, Core, Limits, Report, Step};
+use std::alloc::Allocator;
+use std::fmt::Debug;
+use std::process::Abort;
+use std::time::Duration;
+
+pub(crate) fn same<R: Abort, T: PartialEq + Debug + Drop>(rt: &R, given: T, wanted: T) {
+    assert_eq!(rt; given, wanted);
+}
+
+// The same in a row of its number.
+pub(crate) fn same_at<R: Abort, T: PartialEq + Debug + Drop>(
+    rt: &R,
+    number: usize,
+    given: T,
+    wanted: T,
+) {
+    assert_eq!(rt; given, wanted, "at {number}");
+}
+
+pub(crate) fn legal<R: Abort>(rt: &R, limits: Option<Limits>) -> Limits {
+    limits.expect(rt, "limits")
+}
+
+pub(crate) fn core_of<R: Abort + AllocGlobal>(rt: &R, limits: Limits) -> Core<u64> {
+    Core::<u64>::new(rt.alloc(), limits, Duration::ZERO).expect(rt, "a core")
+}
+
+// A book that keeps so many records.
+pub(crate) fn book_of<R: Abort + AllocGlobal>(rt: &R, limits: Limits, room: usize) -> Book<u64> {
+    Book::<u64>::new(rt.alloc(), limits, Duration::ZERO, room).expect(rt, "a book")
+}
+
+pub(crate) fn listed<R: Abort + AllocGlobal, const N: usize>(
+    rt: &R,
+    steps: [Step<u64>; N],
+) -> Vec<Step<u64>> {
+    Vec::from_array(rt.alloc(), steps).expect(rt, "a list")
+}
+
+// Takes the steps by a book.
+pub(crate) fn take_all<R: Abort + AllocGlobal, A: Allocator>(
+    rt: &R,
+    book: &mut Book<u64, A>,
+    steps: Vec<Step<u64>>,
+) {
+    for step in steps {
+        book.answer(rt.alloc(), step).expect(rt, "an answer");
+    }
+}
+
+pub(crate) fn report_of<R: Abort>(rt: &R, book: &Book<u64>) -> Report {
+    book.report().expect(rt, "a report")
+}
+
+// Whether the report replays by the second reading.
+pub(crate) fn is_replayed<R: Abort + AllocGlobal>(rt: &R, report: &Report) -> bool {
+    replays(rt.alloc(), report).expect(rt, "a replay")
+}

@@ -1,0 +1,79 @@
+//! First programs with the pool, its reports and its core, one after another: a module for each,
+//! and here the first one, threads that share a pool. With the argument `text`, `svg` or `html` it
+//! draws the script on standard input in their place.
+#![tactic(auto)]
+
+mod choices;
+mod handlers;
+mod journal;
+mod pool_uses;
+mod rounds;
+mod service;
+mod settings;
+mod starting;
+mod stories;
+
+use r2d2::{Builder, ManageConnection, PlainPool, PoolRuntime};
+use std::alloc::AllocError;
+use std::process::ExitCode;
+use std::{env, thread};
+
+/// Opens connections that are numbers.
+#[derive(Drop)]
+pub struct Numbers;
+
+impl ManageConnection for Numbers {
+    type Connection = u32;
+
+    type Error = AllocError;
+
+    type Extension = ();
+
+    fn connect(&self) -> Result<u32, AllocError> {
+        Ok(7)
+    }
+
+    fn is_valid(&self, _connection: &mut u32) -> Result<(), AllocError> {
+        Ok(())
+    }
+
+    fn has_broken(&self, _connection: &mut u32) -> bool {
+        false
+    }
+}
+
+fn main(rt: HostRuntime) -> Result<ExitCode, anyhow::Error> {
+    if let Some(word) = env::args(&rt)?.nth(1) {
+        return stories::drawn(&rt, word.as_str());
+    }
+    let pool = Builder::new().max_size(15).build(rt, Numbers)?;
+    let mut threads = Vec::new(rt.alloc());
+    for _ in 0..20 {
+        let pool = pool.try_clone()?;
+        threads.push(thread::spawn(&rt, move || found(pool))?)?;
+    }
+    let mut served = 0u32;
+    for thread in threads {
+        if thread.join(&rt).is_some() {
+            served = served.saturating_add(1);
+        }
+    }
+    println!(rt; "{served} threads found a connection")?;
+    println!(rt; "{:?}", pool.state())?;
+
+    handlers::counted(rt)?;
+    handlers::printed(rt)?;
+    settings::tried(rt)?;
+    starting::waited_for(rt)?;
+    service::audited(rt)?;
+    rounds::gone(&rt)?;
+    choices::compared(&rt)?;
+    stories::told(&rt)?;
+    Ok(ExitCode::SUCCESS)
+}
+
+// What a thread does with the pool. The connection goes back to the pool at the end.
+fn found<R: PoolRuntime>(pool: PlainPool<Numbers, R>) -> Option<u32> {
+    let connection = pool.get().ok()?;
+    Some(*connection)
+}

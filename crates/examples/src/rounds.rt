@@ -1,0 +1,35 @@
+// The core alone: one connection on its round.
+
+use crate::journal;
+use anyhow::anyhow;
+use r2d2_core::{Core, Job, Limits, Take};
+use std::time::Duration;
+
+pub fn gone<R: Print + AllocGlobal>(rt: &R) -> Result<(), anyhow::Error> {
+    let second = Duration::from_secs(1);
+    // At most 10 connections, 2 of them wanted idle; closed when idle for ten minutes, or half an
+    // hour old.
+    let limits = Limits::of(
+        10,
+        Some(2),
+        Some(second * 1800),
+        Some(second * 600),
+        second * 30,
+        second * 30,
+    )
+    .ok_or_else(|| anyhow!("limits that no core can have"))?;
+    let mut core = Core::new(rt.alloc(), limits, Duration::ZERO)?;
+
+    // A worker asks what to do, opens a connection, and hands it in.
+    if let Job::Open { tries } = core.begin(Duration::ZERO) {
+        if let Ok(id) = core.number(tries) {
+            core.admit(Duration::ZERO, id, "a connection").ok();
+        }
+    }
+    // A caller takes it. If none were idle, an opening would be ordered.
+    match core.take(second, true) {
+        Take::Found { value, ordered, .. } => println!(rt; "lent {value}, and {ordered} ordered")?,
+        Take::Empty { ordered } => println!(rt; "none idle, and {ordered} ordered")?,
+    }
+    journal::printed(rt, limits)
+}

@@ -1,0 +1,63 @@
+// A service that writes what its pool did into its log, as a line of JSON from time to time, and an
+// audit of that log.
+
+use crate::Numbers;
+use pool_reports::{audit, from_json, to_json};
+use r2d2::{Builder, PlainPool, PoolRuntime};
+use std::alloc::Global;
+
+pub fn audited<R: PoolRuntime + Print>(rt: R) -> Result<(), anyhow::Error> {
+    let log = serve(rt)?;
+    for line in log.as_str().lines() {
+        println!(rt; "{}", judge(rt.alloc(), line)?)?;
+    }
+    // Somebody has changed the first id of the log.
+    if let Some((front, back)) = log.as_str().split_once(r#""id":0"#) {
+        let changed = format!(in rt.alloc(); r#"{front}"id":5{back}"#)?;
+        let first = changed.as_str().lines().next().unwrap_or("");
+        println!(rt; "{}", judge(rt.alloc(), first)?)?;
+    }
+    Ok(())
+}
+
+// Answers thirty requests, and gives the log.
+fn serve<R: PoolRuntime>(rt: R) -> Result<String, anyhow::Error> {
+    let mut log = String::new(rt.alloc());
+    let pool = Builder::new()
+        .max_size(1)
+        .journal_room(32)
+        .build(rt, Numbers)?;
+    for request in 1u32..31 {
+        answer(&pool)?;
+        if request % 10 == 0 {
+            write_journal(rt.alloc(), &pool, &mut log)?;
+        }
+    }
+    Ok(log)
+}
+
+// What a request is for. The connection goes back to the pool at the end.
+fn answer<R: PoolRuntime>(pool: &PlainPool<Numbers, R>) -> Result<u32, anyhow::Error> {
+    let connection = pool.get()?;
+    Ok(*connection)
+}
+
+// Writes a line into the log: what stood, what happened since, and what there is now.
+fn write_journal<R: PoolRuntime>(
+    alloc: Global,
+    pool: &PlainPool<Numbers, R>,
+    log: &mut String,
+) -> Result<(), anyhow::Error> {
+    let report = pool.journal()?;
+    log.push_str(to_json(alloc, &report)?.as_str())?;
+    log.push('\n')?;
+    Ok(())
+}
+
+// What there is to say of a line of the log, perhaps much later and elsewhere.
+fn judge(alloc: Global, line: &str) -> Result<String, anyhow::Error> {
+    let report = from_json(alloc, line)?;
+    let verdict = audit(alloc, &report)?;
+    let (takes, lost) = (report.takes, report.lost);
+    Ok(format!(in alloc; "{takes} takes, {lost} records in the base: {verdict}")?)
+}

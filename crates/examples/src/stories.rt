@@ -1,0 +1,115 @@
+// A script of steps, as `pool-steps` reads them, that a book takes; and a picture of what the book
+// reports then: as text, as SVG or as a page.
+
+use pool_lines::program::Fault;
+use pool_lines::program::line::{Line, limits};
+use pool_pictures::{html, svg, text};
+use r2d2_core::{Book, Report};
+use std::alloc::{AllocError, Global};
+use std::io;
+use std::process::ExitCode;
+use std::time::Duration;
+
+// Two connections; one is lent and kept.
+const SCRIPT: &str = "limits 2 1 - 100 30000 30000
+begin 0
+number 0
+admit 10 0 7
+take 20
+begin 20
+number 0
+admit 30 1 8
+return 40 0 7
+reap 130
+close
+";
+
+/// What is written.
+#[derive(Clone, Copy)]
+enum Kind {
+    Text,
+    Svg,
+    Html,
+}
+
+impl Kind {
+    fn of(word: &str) -> Option<Kind> {
+        match word {
+            "text" => Some(Kind::Text),
+            "svg" => Some(Kind::Svg),
+            "html" => Some(Kind::Html),
+            _ => None,
+        }
+    }
+
+    fn picture(self, alloc: Global, report: &Report) -> Result<String, AllocError> {
+        match self {
+            Kind::Text => text(alloc, report),
+            Kind::Svg => svg(alloc, report),
+            Kind::Html => html(alloc, report),
+        }
+    }
+}
+
+// The lines of a script that say something: none that are empty or begin with `#`.
+fn said(alloc: Global, script: &str) -> Result<Vec<&str>, AllocError> {
+    let mut lines = Vec::new(alloc);
+    for line in script.lines() {
+        if !line.is_empty() && !line.starts_with('#') {
+            lines.push(line)?;
+        }
+    }
+    Ok(lines)
+}
+
+// What a book reports that took the steps of a script, with room for each of its records.
+fn report(alloc: Global, script: &str) -> Result<Report, Fault> {
+    let lines = said(alloc, script)?;
+    let Some((first, steps)) = lines.split_first() else {
+        return Err(Fault::NotAStep(1));
+    };
+    let mut book = Book::new(
+        alloc,
+        limits(first.as_bytes())?,
+        Duration::ZERO,
+        steps.len(),
+    )?;
+    for (number, line) in (2..u64::MAX).zip(steps) {
+        match Line::read(alloc, line.as_bytes())? {
+            Some(Line::Step(step)) => drop(book.answer(alloc, step)?),
+            Some(Line::State) => {}
+            None => return Err(Fault::NotAStep(number)),
+        }
+    }
+    Ok(book.report()?)
+}
+
+// Draws a script that is there.
+pub fn told<R: Print + AllocGlobal>(rt: &R) -> Result<(), anyhow::Error> {
+    let report = report(rt.alloc(), SCRIPT)?;
+    print!(rt; "{}", text(rt.alloc(), &report)?)?;
+    Ok(())
+}
+
+// Draws the script on standard input, and answers the status to end with.
+pub fn drawn<R: Input + Print + Eprint + AllocGlobal>(
+    rt: &R,
+    word: &str,
+) -> Result<ExitCode, anyhow::Error> {
+    let Some(kind) = Kind::of(word) else {
+        eprintln!(rt; "examples: text, svg or html")?;
+        return Ok(ExitCode::from(5));
+    };
+    let script = io::read_to_string(rt.alloc(), rt.reader())?;
+    match report(rt.alloc(), script.as_str()) {
+        Ok(report) => {
+            let picture = kind.picture(rt.alloc(), &report)?;
+            print!(rt; "{picture}")?;
+            Ok(ExitCode::SUCCESS)
+        }
+        Err(fault) => {
+            eprintln!(rt; "{fault}")?;
+            Ok(ExitCode::from(fault.status()))
+        }
+    }
+}

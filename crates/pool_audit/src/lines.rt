@@ -1,0 +1,187 @@
+// Reports in, verdicts out.
+ghost use Rattle.std.specs.Prelude.{◌≡◌};
+ghost use Rattle.pool_audit.specs.Faults.{status_of};
+
+use crate::told;
+use pool_reports::{FromJsonError, Verdict, audit, from_json};
+use r2d2_core::Report;
+use std::alloc::{AllocError, AllocFailed, Global};
+use std::error::Error;
+use std::io::{BufRead, BufReader, BufWriter, ErrorKind, Read, Write};
+use std::{fmt, str};
+
+/// How the verdict on a report is written.
+#[derive(Clone, Copy, Debug, PartialEq, Eq)]
+pub enum Form {
+    /// In words: `line 3: replays`.
+    Words,
+    /// As JSON: `{"line":3,"replays":true}`.
+    Json,
+    /// In words, with a timeline of the report below.
+    Text,
+    /// As a picture of the report alone, as SVG.
+    Svg,
+    /// As a page about the report alone.
+    Html,
+}
+
+impl Form {
+    /// The form that an argument of the program asks for.
+    pub fn of(word: &str) -> Option<Form> {
+        match word {
+            "--json" => Some(Form::Json),
+            "--text" => Some(Form::Text),
+            "--svg" => Some(Form::Svg),
+            "--html" => Some(Form::Html),
+            _ => None,
+        }
+    }
+}
+
+/// Why the program stops before the end of its input.
+#[derive(Debug, Drop, PartialEq, Eq)]
+pub enum Fault {
+    /// The line of this number, counted from 1, is no report.
+    NoReport { line: u64, why: FromJsonError },
+    /// The line of this number is not UTF-8.
+    NotUtf8(u64),
+    /// Memory was refused.
+    Memory,
+    /// A read failed.
+    Read,
+    /// A write failed.
+    Write,
+}
+
+impl Fault {
+    /// The status that the program ends with.
+    pub fn status(&self) -> u8
+        ensures { result ≡ status_of self.now }
+    {
+        match self {
+            Fault::Memory => 2,
+            Fault::Read | Fault::Write => 3,
+            Fault::NoReport { .. } | Fault::NotUtf8(_) => 6,
+        }
+    }
+}
+
+impl fmt::Display for Fault {
+    fn fmt<W: fmt::Write>(&self, f: &mut fmt::Formatter<W>) -> fmt::Result {
+        match self {
+            Fault::NoReport { line, why } => write!(f, "line {line}: {why}"),
+            Fault::NotUtf8(line) => write!(f, "line {line}: not UTF-8"),
+            Fault::Memory => write!(f, "out of memory"),
+            Fault::Read => write!(f, "read failed"),
+            Fault::Write => write!(f, "write failed"),
+        }
+    }
+}
+
+impl Error for Fault {}
+
+impl From<AllocError> for Fault {
+    fn from(_: AllocError) -> Fault {
+        Fault::Memory
+    }
+}
+
+impl<T: Drop> From<AllocFailed<T>> for Fault {
+    fn from(_: AllocFailed<T>) -> Fault {
+        Fault::Memory
+    }
+}
+
+/// Audits the report on each line of the input, and writes a line on each: whether all replay.
+/// Lines of white space alone are left out, and counted.
+///
+/// It stops at the first fault. What it found on the lines before was written by then: where that
+/// failed, the fault is the failed write.
+pub fn serve<R: Read + Drop, W: Write + Drop>(
+    alloc: Global,
+    form: Form,
+    input: R,
+    output: &mut BufWriter<W>,
+) -> Result<bool, Fault> {
+    let mut input = BufReader::new(alloc, input).map_err(|_| Fault::Memory)?;
+    let outcome = audit_lines(alloc, form, &mut input, output);
+    flush(output)?;
+    outcome
+}
+
+fn audit_lines<R: Read + Drop, W: Write + Drop>(
+    alloc: Global,
+    form: Form,
+    input: &mut BufReader<R>,
+    output: &mut BufWriter<W>,
+) -> Result<bool, Fault> {
+    // A loop has a bound. No input has so many lines; std's readers give up so too.
+    let too_many_lines = Fault::Read;
+    let mut all_replay = true;
+    let mut line = Vec::new(alloc);
+    for number in 1..u64::MAX {
+        send_before_waiting(input, output)?;
+        if !next_line(input, &mut line)? {
+            return Ok(all_replay);
+        }
+        if !line.as_slice().trim_ascii().is_empty() {
+            all_replay &= audit_line(alloc, form, number, line.as_slice(), output)?;
+        }
+    }
+    Err(too_many_lines)
+}
+
+// Writes what there is to say of the report on a line, and says whether it replays.
+fn audit_line<W: Write + Drop>(
+    alloc: Global,
+    form: Form,
+    number: u64,
+    line: &[u8],
+    output: &mut BufWriter<W>,
+) -> Result<bool, Fault> {
+    let report = report_on(alloc, number, line)?;
+    let verdict = audit(alloc, &report)?;
+    let told = told::of(alloc, form, number, &report, verdict)?;
+    match output.write_all(told.as_bytes()) {
+        Ok(()) => Ok(verdict == Verdict::Replays),
+        Err(_) => Err(Fault::Write),
+    }
+}
+
+fn report_on(alloc: Global, number: u64, line: &[u8]) -> Result<Report, Fault> {
+    let Ok(text) = str::from_utf8(line) else {
+        return Err(Fault::NotUtf8(number));
+    };
+    match from_json(alloc, text) {
+        Ok(report) => Ok(report),
+        Err(FromJsonError::Memory) => Err(Fault::Memory),
+        Err(why) => Err(Fault::NoReport { line: number, why }),
+    }
+}
+
+// With no whole line at hand the next read may wait, so what was found so far goes out before it.
+fn send_before_waiting<R: Read + Drop, W: Write + Drop>(
+    input: &BufReader<R>,
+    output: &mut BufWriter<W>,
+) -> Result<(), Fault> {
+    if input.buffer().contains(&b'\n') {
+        return Ok(());
+    }
+    flush(output)
+}
+
+// Reads the next line in place of the last one. Says whether there was one.
+fn next_line<R: BufRead>(input: &mut R, line: &mut Vec<u8>) -> Result<bool, Fault> {
+    line.clear();
+    let count = input
+        .read_until(b'\n', line)
+        .map_err(|error| match error.kind() {
+            ErrorKind::OutOfMemory => Fault::Memory,
+            _ => Fault::Read,
+        })?;
+    Ok(count != 0)
+}
+
+fn flush<W: Write + Drop>(output: &mut BufWriter<W>) -> Result<(), Fault> {
+    output.flush().map_err(|_| Fault::Write)
+}

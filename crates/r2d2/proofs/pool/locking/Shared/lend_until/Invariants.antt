@@ -1,6 +1,0 @@
-use Rattle.std.proofs.Common.{◌≡◌}
-use Rattle.r2d2.proofs.pool.locking.Shared.lend_until.Given as goal
-
--- what was missed was not counted
-abbrev pub invariant-loop : goal.invariant-loop
-invariant-loop g l = (g.B.Guarded.parts l.tally ≡ g.B.Guarded.parts l.initial.tally) × (g.B.Guarded.amount l.tally ≡ g.B.Guarded.amount l.initial.tally)

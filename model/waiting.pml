@@ -1,0 +1,350 @@
+/* Who waits in a pool, and who wakes whom: the code of crates/r2d2/src/pool, as Spin can look at all of its
+   interleavings. Each step names the function that it stands for. `tools/model` runs it, over a table of sizes and
+   with each of the wrong bodies that stand here as switches. docs/POOL-RULES.md tells what is found.
+
+   A step under the lock is one atomic block, and the wakes that follow it are blocks of their own, since the lock is
+   free by then. Callers make any number of calls, openings fail any number of times, connections come back sound or
+   broken: nothing is counted, so Spin's search ends with all that can happen in a pool of these sizes. */
+
+#ifndef SIZE
+#define SIZE 1            /* max_size */
+#endif
+#ifndef WANTED
+#define WANTED 0          /* min_idle */
+#endif
+#ifndef CALLERS
+#define CALLERS 2
+#endif
+#ifndef WORKERS
+#define WORKERS 1
+#endif
+#ifndef IMPATIENT
+#define IMPATIENT 0       /* so many callers, the first ones, may give up any wait, or wake for no reason */
+#endif
+#ifndef TRYING
+#define TRYING 0          /* so many, the last ones, call `try_get` */
+#endif
+#ifndef CALLERS_STAY
+#define CALLERS_STAY 0    /* so many, the last ones, may stay for good with their connection, or in a callback */
+#endif
+#ifndef WORKERS_STAY
+#define WORKERS_STAY 0    /* so many workers, the first ones, may stay for good in a callback */
+#endif
+#ifndef FAILURES
+#define FAILURES 0        /* 1: openings may fail */
+#endif
+#ifndef CHECKS
+#define CHECKS 0          /* 1: what was taken may fail its check */
+#endif
+#ifndef REAPS
+#define REAPS 0           /* 1: connections expire */
+#endif
+#ifndef BUILD
+#define BUILD 0           /* 1: the first caller is `build` before the others have the pool; 2: and may give up */
+#endif
+
+/* The steps after which somebody is woken, so that a wake can be left out: -DNO_CALLER_AFTER=KEPT */
+#define KEPT 1            /* a return that was kept */
+#define CLOSED 2          /* a return that was closed */
+#define CHECK 3           /* a failed check */
+#define REAP 4
+#define ADMISSION 5
+#define GIVING_UP 6
+#define MISS 7            /* a take that found none */
+#define TAKE 8            /* a take that found one */
+#define FAILURE 9         /* a failed opening */
+#define CLOSE 10          /* the last drop */
+#ifndef NO_CALLER_AFTER
+#define NO_CALLER_AFTER 0
+#endif
+#ifndef NO_WORKERS_AFTER
+#define NO_WORKERS_AFTER 0
+#endif
+
+/* The book: what the core counts. */
+byte idle, lent;
+byte due = WANTED;        /* scheduled openings that are due */
+byte later;               /* scheduled openings that are not due yet */
+byte in_work;             /* openings that a worker has, until they are admitted */
+bool reap_due, closed;
+#define pending (due + later + in_work)
+#define connections (idle + lent)
+#define room (SIZE - connections - pending)
+
+/* The two variables. Who waits at one is awake again as soon as its place here says so. */
+bool waiting[CALLERS];
+#define AWAKE 0
+#define NOTHING 1         /* rests until it is woken */
+#define UNTIL 2           /* or until the first moment that something falls due */
+byte resting[WORKERS];
+
+byte holders = CALLERS;   /* those who hold the pool */
+bool built = (BUILD == 0);
+hidden byte ordered, k;   /* for use inside one step alone */
+
+/* What is proved of each step of the book, as a test of this model. */
+inline sound() {
+  assert(connections + pending <= SIZE);
+  assert(closed || idle + pending >= WANTED || connections + pending == SIZE)
+}
+
+/* OnOrder::top_up. Pending openings take from the room, and not from what is wanted. */
+inline top_up() {
+  ordered = (closed || idle >= WANTED -> 0 : (WANTED - idle < room -> WANTED - idle : room));
+  due = due + ordered;
+  sound()
+}
+
+/* Shared::wake, of a caller: `notify_one`, which wakes any one of those who wait. */
+inline wake_caller(step) {
+  if
+  :: step != NO_CALLER_AFTER && waiting[0] -> waiting[0] = false
+#if CALLERS > 1
+  :: step != NO_CALLER_AFTER && waiting[1] -> waiting[1] = false
+#endif
+#if CALLERS > 2
+  :: step != NO_CALLER_AFTER && waiting[2] -> waiting[2] = false
+#endif
+#if CALLERS > 3
+  :: step != NO_CALLER_AFTER && waiting[3] -> waiting[3] = false
+#endif
+  :: else
+  fi
+}
+
+/* Shared::wake, of the workers: `notify_all`. */
+inline wake_workers(step) {
+  if
+  :: step != NO_WORKERS_AFTER ->
+     for (k : 0 .. WORKERS - 1) { resting[k] = AWAKE }
+  :: else
+  fi
+}
+
+#define IS_IMPATIENT (_pid < IMPATIENT)
+#define IS_TRYING (_pid >= CALLERS - TRYING)
+#define MAY_STAY (_pid >= CALLERS - CALLERS_STAY)
+
+/* AnyPool::lend_within and lend_idle, the drop of what was lent, and the drop of the pool. */
+active [CALLERS] proctype caller() {
+  bool orders;            /* the step just made has ordered openings */
+#if BUILD
+  if
+  :: _pid == 0 ->
+building: /* Shared::wait_for: it looks, and waits again, until there are as many as are wanted */
+     atomic {
+       if
+       :: connections >= WANTED -> built = true; goto calls
+       :: else -> waiting[_pid] = true
+       fi
+     };
+     if
+     :: !waiting[_pid] -> goto building
+     :: BUILD == 2 -> waiting[_pid] = false; holders = 1; goto let_go  /* `build` drops the pool that nobody else has */
+     fi
+  :: else ->
+     if :: built :: closed -> goto gone fi
+  fi;
+#endif
+
+calls: /* between two calls */
+  if
+  :: goto look
+  :: goto let_go
+  fi;
+
+look: /* Shared::lend_until; Shared::lend_now of a `try_get`, where a miss changes nothing */
+#ifdef WAKES_BEFORE_THE_STEP
+  atomic { wake_workers(MISS) };
+#endif
+  atomic {
+    if
+    :: idle > 0 -> idle--; lent++; top_up(); orders = ordered > 0; goto took
+    :: idle == 0 && IS_TRYING -> goto calls
+    :: idle == 0 && !IS_TRYING ->
+       ordered = (room > 0 -> 1 : 0);
+       due = due + ordered;
+       sound();
+       /* Woken while the lock is still held, and then the wait lets it go: nobody can step in between. */
+#if !defined(WAKES_BEFORE_THE_STEP) && !defined(WAKES_AFTER_THE_WAIT)
+       if :: ordered > 0 -> wake_workers(MISS) :: else fi;
+#endif
+#ifdef WAITS_AFTER_UNLOCKING
+       goto unlocked
+#else
+       waiting[_pid] = true;
+       goto asleep
+#endif
+    fi
+  };
+
+#ifdef WAITS_AFTER_UNLOCKING
+unlocked:
+  waiting[_pid] = true;
+#endif
+
+asleep: /* Condvar::wait_timeout: who is impatient may be told of a timeout whether or not it was woken */
+end_asleep:
+  if
+  :: !waiting[_pid] -> goto woken
+  :: IS_IMPATIENT -> waiting[_pid] = false; goto woken
+  :: IS_IMPATIENT -> waiting[_pid] = false; goto gives_up
+  fi;
+
+woken:
+#ifdef WAKES_AFTER_THE_WAIT
+  atomic { wake_workers(MISS) };
+#endif
+  goto look;
+
+gives_up: /* Shared::lend_until, which has taken the latest error and let the lock go */
+  atomic {
+#ifdef PASSES_ON_ONLY_WHERE_ONE_IS_IDLE
+    if :: idle > 0 -> wake_caller(GIVING_UP) :: else fi
+#else
+    wake_caller(GIVING_UP)
+#endif
+  };
+  goto calls;
+
+took: /* Shared::wake, after a take that found */
+  if :: orders -> atomic { orders = false; wake_workers(TAKE) } :: else fi;
+
+has: /* Shared::if_sound, then the caller's own use, then Shared::take_back */
+  if
+  :: MAY_STAY -> goto stays
+  :: atomic { CHECKS -> lent--; top_up(); orders = ordered > 0 };    /* Shared::settle, of one that is unsound */
+     atomic { wake_caller(CHECK) };
+     if :: orders -> atomic { orders = false; wake_workers(CHECK) } :: else fi;
+     if :: MAY_STAY -> goto stays :: true fi;                       /* Shared::release */
+     goto look
+  :: atomic { lent--; idle++; sound() };                            /* Shared::put_back, kept */
+     atomic { wake_caller(KEPT) }
+  :: atomic { lent--; top_up(); orders = ordered > 0 };              /* Shared::put_back, closed */
+     atomic { wake_caller(CLOSED) };
+     if :: orders -> atomic { orders = false; wake_workers(CLOSED) } :: else fi;
+     if :: MAY_STAY -> goto stays :: true fi                        /* Shared::release */
+  fi;
+  goto calls;
+
+stays: /* for good */
+end_stays:
+  false;
+
+let_go: /* Closer::drop, where it was the last one, and Shared::close */
+  atomic {
+    holders--;
+    if :: holders > 0 -> goto gone :: else fi
+  };
+  atomic { idle = 0; due = 0; later = 0; in_work = 0; reap_due = false; closed = true };   /* Shared::close */
+#ifdef DROPS_BEFORE_IT_WAKES
+  if :: MAY_STAY -> goto stays :: true fi;
+#endif
+  atomic { wake_workers(CLOSE) };
+  if :: MAY_STAY -> goto stays :: true fi;   /* Closer::drop: what was idle is dropped */
+gone:
+  skip
+}
+
+#define PLACE (_pid - CALLERS)
+#define WORKER_MAY_STAY (PLACE < WORKERS_STAY)
+
+/* Shared::work */
+active [WORKERS] proctype worker() {
+  bool orders, closes;    /* what the reap just made has done */
+begins: /* Tied::begin; what is closed has nothing due any more */
+  atomic {
+    if
+    :: closed -> goto ended
+    :: due > 0 -> due--; in_work++; goto opens
+    :: reap_due ->                                                  /* Tied::reap, under the same lock */
+       reap_due = false;
+       do
+       :: idle > 0 -> idle--; closes = true
+       :: break
+       od;
+       top_up(); orders = ordered > 0;
+       goto reaped
+    :: !closed && due == 0 && !reap_due ->
+#ifdef RESTS_AFTER_UNLOCKING
+       goto unlocked
+#else
+       resting[PLACE] = (later > 0 || REAPS -> UNTIL : NOTHING);
+       goto rests
+#endif
+    fi
+  };
+
+#ifdef RESTS_AFTER_UNLOCKING
+unlocked:
+  resting[PLACE] = (later > 0 || REAPS -> UNTIL : NOTHING);
+  goto rests;
+#endif
+
+opens: /* Shared::open: the manager, the customizer, and the event between the number and the admission */
+  if
+  :: WORKER_MAY_STAY -> goto stays
+  :: atomic {                                                       /* Shared::settle, of one that was opened */
+       if :: closed -> goto begins :: else -> in_work--; idle++; sound() fi
+     };
+     atomic { wake_caller(ADMISSION) }
+  :: FAILURES ->
+     atomic {                                                       /* Shared::settle, of one that failed */
+       if :: closed -> goto begins :: else -> in_work--; later++; sound() fi
+     };
+     atomic { wake_workers(FAILURE) };
+     if :: WORKER_MAY_STAY -> goto stays :: true fi                 /* the handler of errors */
+  fi;
+  goto begins;
+
+reaped: /* Shared::wake, then Shared::release_all */
+  if :: closes -> atomic { closes = false; wake_caller(REAP) } :: else fi;
+  if :: orders -> atomic { orders = false; wake_workers(REAP) } :: else fi;
+  if :: WORKER_MAY_STAY -> goto stays :: true fi;
+  goto begins;
+
+rests: /* Condvar::wait and wait_timeout */
+end_rests:
+  resting[PLACE] == AWAKE;
+  goto begins;
+
+stays:
+end_stays:
+  false;
+
+ended:
+  skip
+}
+
+/* Time goes on: the opening that is due first falls due, or the next reap does. Nobody who rests until a moment rests
+   longer than until then, so all of them wake. */
+inline wake_those_whose_moment_it_is() {
+  for (k : 0 .. WORKERS - 1) {
+    if :: resting[k] == UNTIL -> resting[k] = AWAKE :: else fi
+  }
+}
+
+active proctype clock() {
+end_before_the_last_reap:
+  do
+  :: atomic { later > 0 -> later--; due++; wake_those_whose_moment_it_is() }
+  :: atomic { REAPS && !closed && !reap_due -> reap_due = true; wake_those_whose_moment_it_is() }
+  :: REAPS -> break       /* the next reap lies beyond all that is looked at */
+  od;
+end_after_it:
+  do
+  :: atomic { later > 0 -> later--; due++; wake_those_whose_moment_it_is() }
+  od
+}
+
+/* Where nobody can go on any more: no caller sleeps unless all connections are with those who stay for good, and no
+   worker rests while an opening is due, or once the pool is closed. */
+active proctype judge() {
+  byte asleep;
+  atomic {
+    timeout ->
+    for (k : 0 .. CALLERS - 1) { asleep = asleep + waiting[k] };
+    assert(asleep == 0 || (built && idle == 0 && due == 0 && (lent + in_work == SIZE || asleep <= in_work)));
+    for (k : 0 .. WORKERS - 1) { assert(resting[k] == AWAKE || (!closed && due == 0)) }
+  }
+}

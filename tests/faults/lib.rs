@@ -1,0 +1,19 @@
+//! Tests of a pool whose manager and customizer answer by a script, whose clock cannot be read, or whose memory is refused.
+#![tactic(auto)]
+
+#[cfg(test)]
+mod clocks;
+#[cfg(test)]
+mod in_turn;
+#[cfg(test)]
+mod lives;
+#[cfg(test)]
+mod passing_on;
+#[cfg(test)]
+mod patience;
+#[cfg(test)]
+mod play;
+#[cfg(test)]
+mod refused;
+#[cfg(test)]
+mod scripts;

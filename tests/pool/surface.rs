@@ -1,0 +1,8 @@
+// Each public name of `r2d2`, called from outside: that it is there, and succeeds on its happy path.
+
+mod core_calls;
+mod counted_calls;
+mod engine_calls;
+mod pool_calls;
+mod pool_uses;
+mod user_types;

@@ -1,0 +1,210 @@
+// Books that are driven here: by few words, or at random from fixed seeds.
+
+use r2d2_core::{Book, Job, LendingOrder, Limits, Report, Step, Take};
+use rand_core::{Rng, SeedableRng};
+use rand_pcg::Pcg32;
+use std::alloc::{AllocError, Global};
+use std::test::Fail;
+use std::time::Duration;
+
+pub(crate) fn ms(n: u64) -> Duration {
+    Duration::from_millis(n)
+}
+
+// Limits of a pool of so many, with so many wanted idle, and lengths of time in milliseconds.
+pub(crate) fn limits(
+    max_size: u32,
+    min_idle: u32,
+    max_lifetime: Option<u64>,
+    idle_timeout: Option<u64>,
+) -> Option<Limits> {
+    Limits::of(
+        max_size,
+        Some(min_idle),
+        max_lifetime.map(|n| Duration::from_millis(n)),
+        idle_timeout.map(|n| Duration::from_millis(n)),
+        ms(30_000),
+        ms(30_000),
+    )
+}
+
+/// A book with the ids that were numbered and not admitted, and those that it lent.
+#[derive(Drop)]
+pub(crate) struct Driven {
+    alloc: Global,
+    book: Book<u64>,
+    numbered: Vec<u64>,
+    lent: Vec<u64>,
+}
+
+// The one at this place of a list, counted round; it leaves the list.
+fn pick(list: &mut Vec<u64>, place: u32) -> Option<u64> {
+    let count = list.len();
+    if count == 0 {
+        return None;
+    }
+    Some(list.remove(place as usize % count))
+}
+
+impl Driven {
+    // A book whose first id is this one.
+    pub(crate) fn new(
+        alloc: Global,
+        limits: Limits,
+        now: Duration,
+        first: u64,
+        room: usize,
+    ) -> Result<Driven, AllocError> {
+        Ok(Driven {
+            alloc,
+            book: Book::with_first_id(alloc, limits, now, first, room)?,
+            numbered: Vec::new(alloc),
+            lent: Vec::new(alloc),
+        })
+    }
+
+    // Begins the next opening that is due, and numbers it.
+    fn number(&mut self, now: Duration) -> Option<u64> {
+        let Job::Open { tries } = self.book.begin(now) else {
+            return None;
+        };
+        self.book.number(tries).ok()
+    }
+
+    fn admit(&mut self, now: Duration, id: u64) {
+        self.book.admit(now, id, id).ok();
+    }
+
+    // Opens and admits the next connection that is due.
+    pub(crate) fn open(&mut self, now: Duration) {
+        if let Some(id) = self.number(now) {
+            self.admit(now, id);
+        }
+    }
+
+    pub(crate) fn take(&mut self, now: Duration, or_order: bool) -> Result<(), AllocError> {
+        if let Take::Found { id, .. } = self.book.take(now, or_order) {
+            self.lent.push(id)?;
+        }
+        Ok(())
+    }
+
+    // Puts the lent one at this place back, counted round.
+    pub(crate) fn put_back(&mut self, now: Duration, place: u32, broken: bool) {
+        if let Some(id) = pick(&mut self.lent, place) {
+            self.book.put_back(now, id, id, broken).ok();
+        }
+    }
+
+    fn fail_check(&mut self, now: Duration, place: u32) {
+        if let Some(id) = pick(&mut self.lent, place) {
+            self.book.fail_check(now, id, None).ok();
+        }
+    }
+
+    pub(crate) fn reap(&mut self, now: Duration) -> Result<(), AllocError> {
+        self.book.answer(self.alloc, Step::Reap { now })?;
+        Ok(())
+    }
+
+    pub(crate) fn close(&mut self) {
+        let _left = self.book.close();
+    }
+
+    pub(crate) fn report(&self) -> Result<Report, AllocError> {
+        self.book.report()
+    }
+
+    // One step at random. Openings are admitted in any order, some steps after they began.
+    fn stir(&mut self, rng: &mut Pcg32, now: Duration) -> Result<(), AllocError> {
+        let place = rng.next_u32();
+        match below(rng, 400) {
+            0..100 => {
+                if let Some(id) = self.number(now) {
+                    self.numbered.push(id)?;
+                }
+            }
+            100..200 => {
+                if let Some(id) = pick(&mut self.numbered, place) {
+                    self.admit(now, id);
+                }
+            }
+            200..290 => self.take(now, place % 2 == 0)?,
+            290..360 => self.put_back(now, place, place % 4 == 0),
+            360..370 => self.fail_check(now, place),
+            370..399 => self.reap(now)?,
+            _ => self.close(),
+        }
+        Ok(())
+    }
+}
+
+/// A number below a bound, which is positive.
+pub(crate) fn below(rng: &mut Pcg32, bound: u32) -> u32 {
+    rng.next_u32() % bound.max(1)
+}
+
+// A length of time: mostly a short one.
+fn length(rng: &mut Pcg32, bound: u32) -> Duration {
+    match below(rng, 6) {
+        0 => Duration::MAX,
+        1 => Duration::from_nanos(1),
+        _ => ms(u64::from(below(rng, bound)).saturating_add(1)),
+    }
+}
+
+fn maybe<T: Drop>(rng: &mut Pcg32, some: T) -> Option<T> {
+    if below(rng, 2) == 0 { None } else { Some(some) }
+}
+
+// Legal limits, with either lending order.
+fn some_limits(rng: &mut Pcg32) -> Option<Limits> {
+    let max_size = below(rng, 8).saturating_add(1);
+    let min_idle = below(rng, max_size.saturating_add(1));
+    let (lifetime, timeout) = (length(rng, 200), length(rng, 100));
+    let limits = Limits::of(
+        max_size,
+        maybe(rng, min_idle),
+        maybe(rng, lifetime),
+        maybe(rng, timeout),
+        length(rng, 40),
+        length(rng, 40),
+    )?;
+    let order = maybe(rng, LendingOrder::OldestFirst);
+    Some(limits.with_order(order.unwrap_or(LendingOrder::NewestFirst)))
+}
+
+/// What a book reports after so many steps at random, with room for so many records. Now and then a
+/// step comes at the last moment that there is, or at the same moment as the one before it.
+pub(crate) fn random_report(
+    alloc: Global,
+    rng: &mut Pcg32,
+    first: u64,
+    steps: u32,
+    room: usize,
+) -> Result<Report, Fail> {
+    let limits = some_limits(rng).ok_or("limits")?;
+    let mut now = ms(u64::from(below(rng, 50)));
+    let mut driven = Driven::new(alloc, limits, now, first, room)?;
+    for _ in 0..steps {
+        now = match below(rng, 1000) {
+            0 => Duration::MAX,
+            1..200 => now,
+            _ => now.saturating_add(ms(u64::from(below(rng, 20)))),
+        };
+        driven.stir(rng, now)?;
+    }
+    Ok(driven.report()?)
+}
+
+/// The same from a seed. The ids of each third one are long.
+pub(crate) fn seeded_report(
+    alloc: Global,
+    seed: u64,
+    steps: u32,
+    room: usize,
+) -> Result<Report, Fail> {
+    let first = if seed % 3 == 0 { u64::MAX - 1000 } else { 0 };
+    let mut rng = Pcg32::seed_from_u64(seed);
+    random_report(alloc, &mut rng, first, steps, room)
+}

@@ -1,0 +1,216 @@
+// What is drawn of small reports: all of it, or its numbers.
+
+use crate::books::{Driven, limits, ms};
+use crate::stories::one_of_each;
+use pool_pictures::{html, svg, text};
+use r2d2_core::Report;
+use std::alloc::{AllocError, Global};
+use std::test::Fail;
+use std::time::Duration;
+
+const TEXT: &str = r"at most 2 connections, 1 wanted idle, the newest lent first
+idle_timeout 100 ms, max_lifetime none
+base at 0 s: 0 idle, 0 lent, 1 pending
+end at 140 ms: 0 idle, 0 lent, 0 pending
+9 records, 0 before the base, closed
+
+connections |      ▄▄▄▄▄▄▄▄▄▄▄▄███████████████████▄▄▄▄▄▄▄▄▄▄▄▄▄▄▄▄▄▄▄▄▄▄▄▄▄▄▄▄▄▄▄▄▄▄▄▄▄▄▄▄▄▄▄      ▄
+       idle |      ▄▄▄▄▄▄▄     ▄▄▄▄▄▄███████▄▄▄▄▄▄▄▄▄▄▄▄▄▄▄▄▄▄▄▄▄▄▄▄▄▄▄▄▄▄▄▄▄▄▄▄▄▄▄▄▄▄▄▄▄▄▄▄▄      ▄
+    pending |▄▄▄▄▄▄▄     ▄▄▄▄▄▄▄                                                            ▄▄▄▄▄▄▄▄
+             a full bar is 2
+
+          0 |      o-----#############-----######x
+          1 |                  o------------------------------------------------------------r
+          2 |                                                                                      c
+            |+-----------+-----------+-----------+------------+-----------+-----------+------------+
+            |0           20 ms       40 ms       60 ms        80 ms       100 ms      120 ms
+
+- idle   # lent   o opened   < there before   x closed   r reaped   c closed with the pool
+";
+
+fn count(text: &str, part: &str) -> usize {
+    text.matches(part).count()
+}
+
+#[test]
+fn writes_a_story(rt: HostRuntime) -> Result<(), Fail> {
+    let report = one_of_each(rt.alloc())?;
+    let drawn = text(rt.alloc(), &report)?;
+    assert_eq!(rt; drawn.as_str(), TEXT);
+    Ok(())
+}
+
+// The plot goes from 80 to 1050, and 10 ms take 69.28 of it.
+#[test]
+fn draws_a_story(rt: HostRuntime) -> Result<(), Fail> {
+    let report = one_of_each(rt.alloc())?;
+    let drawn = svg(rt.alloc(), &report)?;
+    let drawn = drawn.as_str();
+    assert_eq!(rt; count(drawn, "<g class=\"lane\">"), 3);
+    // One mark of each kind is the legend's.
+    assert_eq!(rt; count(drawn, "<circle class=\"hollow\""), 4);
+    assert_eq!(rt; count(drawn, "<path class=\"mark\""), 3);
+    assert_eq!(rt; count(drawn, "<path class=\"solid\""), 4);
+    assert!(rt; drawn.contains("d=\"M149.2 275H495.7\"/>"));
+    assert!(rt; drawn.contains("d=\"M218.5 275H357.1M426.4 275H495.7\"/>"));
+    assert!(rt; drawn.contains("<circle class=\"hollow\" cx=\"1050\" cy=\"315\" r=\"4.5\"/>"));
+    assert!(rt;
+        drawn.contains(
+            "<title>connection 0: admitted at 10 ms, lent 2 times, 30 ms in all, \
+            closed after its use at 60 ms</title>"
+        )
+    );
+    Ok(())
+}
+
+#[test]
+fn writes_a_page(rt: HostRuntime) -> Result<(), Fail> {
+    let report = one_of_each(rt.alloc())?;
+    let drawn = svg(rt.alloc(), &report)?;
+    let page = html(rt.alloc(), &report)?;
+    let page = page.as_str();
+    assert!(rt; page.contains(drawn.as_str()));
+    assert!(rt; page.contains("<tr><th>max_size</th><td>2</td></tr>"));
+    assert!(rt; page.contains("<tr><th>idle_timeout</th><td>100 ms</td></tr>"));
+    assert!(rt; page.contains("<tr><th>pending</th><td>1</td><td>0</td></tr>"));
+    assert_eq!(rt; count(page, "<tr><td>"), 9);
+    assert!(rt;
+        page.contains("<tr><td>0.060 s</td><td class=\"word\">Closed</td><td>0</td><td>0</td></tr>")
+    );
+    assert!(rt;
+        page.contains(
+            "<tr><td>0.140 s</td><td class=\"word\">ClosedAll</td><td></td><td></td></tr>"
+        )
+    );
+    assert!(rt; !page.contains("href") && !page.contains("src="));
+    Ok(())
+}
+
+// So many connections come in, a millisecond apart, and each is lent once.
+fn crowd(alloc: Global, size: u32, room: usize) -> Result<Report, Fail> {
+    let limits = limits(size, size, None, None).ok_or("limits")?;
+    let mut driven = Driven::new(alloc, limits, ms(0), 0, room)?;
+    for place in 0..size {
+        driven.open(ms(u64::from(place)));
+    }
+    for place in 0..size {
+        driven.take(ms(u64::from(size).saturating_add(u64::from(place))), true)?;
+    }
+    Ok(driven.report()?)
+}
+
+// How many lanes a report has in text and in SVG, how many columns the text has, and whether each
+// group of the SVG is closed.
+fn lanes(alloc: Global, report: &Report) -> Result<(usize, usize, usize, bool), AllocError> {
+    let plain = text(alloc, report)?;
+    let mut columns = 0;
+    let mut rows: usize = 0;
+    for line in plain.as_str().lines() {
+        columns = columns.max(line.chars().count());
+        if line.contains('|') {
+            rows = rows.saturating_add(1);
+        }
+    }
+    let drawn = svg(alloc, report)?;
+    let drawn = drawn.as_str();
+    let is_whole = count(drawn, "<g ") == count(drawn, "</g>")
+        && count(drawn, "<text ") == count(drawn, "</text>")
+        && count(drawn, "<title>") == count(drawn, "</title>")
+        && drawn.ends_with("</svg>\n");
+    let page = html(alloc, report)?;
+    let is_whole = is_whole && page.as_str().ends_with("</html>\n");
+    // Three rows are those of the counts, and two those of the axis.
+    Ok((
+        rows.saturating_sub(5),
+        count(drawn, "<g class=\"lane\">"),
+        columns,
+        is_whole,
+    ))
+}
+
+#[test]
+fn draws_as_many_as_there_is_room_for(rt: HostRuntime) -> Result<(), Fail> {
+    let alloc = rt.alloc();
+    for (size, rows, drawn) in [
+        (1u32, 1, 1),
+        (10, 10, 10),
+        (40, 40, 40),
+        (41, 40, 41),
+        (500, 40, 500),
+    ] {
+        let report = crowd(alloc, size, 2000)?;
+        let (in_text, in_svg, columns, is_whole) = lanes(alloc, &report)?;
+        assert_eq!(rt; (in_text, in_svg), (rows, drawn), "{size}");
+        assert!(rt; columns <= 100, "{size}: {columns}");
+        assert!(rt; is_whole, "{size}");
+    }
+    let report = crowd(alloc, 1001, 3000)?;
+    let drawn = svg(alloc, &report)?;
+    assert_eq!(rt; count(drawn.as_str(), "<g class=\"lane\">"), 1000);
+    assert!(rt;
+        drawn
+            .as_str()
+            .contains("left out: 1 connections that were there for less long")
+    );
+    Ok(())
+}
+
+#[test]
+fn draws_ids_where_they_have_room(rt: HostRuntime) -> Result<(), Fail> {
+    for (size, ids) in [(10u32, 10), (100, 100), (101, 0)] {
+        let report = crowd(rt.alloc(), size, 1000)?;
+        let drawn = svg(rt.alloc(), &report)?;
+        assert_eq!(rt; count(drawn.as_str(), "<text class=\"id\""), ids);
+        assert_eq!(rt; count(drawn.as_str(), "<title>"), size as usize);
+    }
+    Ok(())
+}
+
+#[test]
+fn draws_a_base_alone(rt: HostRuntime) -> Result<(), Fail> {
+    let report = crowd(rt.alloc(), 3, 0)?;
+    assert_eq!(rt; report.lost, 6);
+    assert_eq!(rt; lanes(rt.alloc(), &report)?, (3, 3, 100, true));
+    let plain = text(rt.alloc(), &report)?;
+    assert!(rt;
+        plain
+            .as_str()
+            .contains("base at 5 ms: 0 idle, 3 lent, 0 pending\n")
+    );
+    assert!(rt; plain.as_str().contains("0 records, 6 before the base\n"));
+    assert!(rt; plain.as_str().contains("          0 |<\n"));
+    assert!(rt; plain.as_str().contains("counted from 5 ms\n"));
+    let drawn = svg(rt.alloc(), &report)?;
+    assert!(rt;
+        drawn
+            .as_str()
+            .contains(">base at 5 ms; times are counted from there<")
+    );
+    Ok(())
+}
+
+#[test]
+fn draws_what_never_happened(rt: HostRuntime) -> Result<(), Fail> {
+    let limits = limits(u32::MAX / 1_000_000, 0, None, None).ok_or("limits")?;
+    let driven = Driven::new(rt.alloc(), limits, Duration::MAX, 0, 4)?;
+    let report = driven.report()?;
+    assert_eq!(rt; lanes(rt.alloc(), &report)?.1, 0);
+    assert!(rt; lanes(rt.alloc(), &report)?.3);
+    Ok(())
+}
+
+#[test]
+fn draws_the_longest_story(rt: HostRuntime) -> Result<(), Fail> {
+    let limits = limits(2, 2, None, None).ok_or("limits")?;
+    let mut driven = Driven::new(rt.alloc(), limits, ms(0), 0, 9)?;
+    driven.open(ms(0));
+    driven.take(Duration::MAX, true)?;
+    driven.open(Duration::MAX);
+    let report = driven.report()?;
+    assert_eq!(rt; lanes(rt.alloc(), &report)?, (2, 2, 100, true));
+    let plain = text(rt.alloc(), &report)?;
+    let plain = plain.as_str();
+    assert!(rt; plain.contains("end at 213503982334601 d 7 h: 1 idle, 1 lent, 0 pending\n"));
+    assert!(rt; plain.contains(" |0                                       100000000000000 d\n"));
+    Ok(())
+}

@@ -1,0 +1,188 @@
+// What a story says, against the report that it tells.
+
+use crate::books::{Driven, below, limits, ms, random_report};
+use pool_pictures::story::{Cause, Coming, Counts, Ending, Life, Story, Stretch, Use};
+use pool_pictures::svg;
+use r2d2_core::{RecordList, Report};
+use rand_core::SeedableRng;
+use rand_pcg::Pcg32;
+use std::alloc::{AllocError, Global};
+use std::mem;
+use std::test::Fail;
+use std::time::Duration;
+
+// The ids of the connections that are still idle, or lent, in order.
+fn still(alloc: Global, story: &Story, what: Use) -> Result<Vec<u64>, AllocError> {
+    let mut ids = Vec::new(alloc);
+    for life in story.lives.iter() {
+        if life.is_still(what) {
+            ids.push(life.id)?;
+        }
+    }
+    ids.sort_unstable();
+    Ok(ids)
+}
+
+fn in_order(alloc: Global, ids: &[u64]) -> Result<Vec<u64>, AllocError> {
+    let mut sorted = Vec::from_slice(alloc, ids)?;
+    sorted.sort_unstable();
+    Ok(sorted)
+}
+
+// Whether the story ends with what the report shows.
+fn ends_as(alloc: Global, story: &Story, report: &Report) -> Result<bool, AllocError> {
+    let idle = still(alloc, story, Use::Idle)?;
+    let lent = still(alloc, story, Use::Lent)?;
+    let counts = Counts {
+        at: story.to,
+        idle: u32::try_from(report.idle.as_slice().len()).unwrap_or(u32::MAX),
+        connections: report.connections,
+        pending: report.pending,
+    };
+    Ok(
+        idle == in_order(alloc, report.idle.as_slice())?
+            && lent == in_order(alloc, report.lent.as_slice())?
+            && story.last_counts() == Some(counts)
+            && story.closed == report.closed,
+    )
+}
+
+// Whether a connection's stretches follow one another from its birth to its end, and change each
+// time.
+fn is_whole(life: &Life, to: Duration) -> bool {
+    let mut at = life.birth;
+    let mut what = None;
+    for stretch in life.stretches.iter() {
+        let follows = match what {
+            None => life.coming != Coming::Admitted || stretch.from == at,
+            Some(what) => what != stretch.what && stretch.from == at,
+        };
+        if !follows || stretch.from < at || stretch.to < stretch.from {
+            return false;
+        }
+        at = stretch.to;
+        what = Some(stretch.what);
+    }
+    match life.ending {
+        Some(ending) => at == ending.at,
+        None => at == to,
+    }
+}
+
+#[test]
+fn each_story_ends_as_its_report(rt: HostRuntime) -> Result<(), Fail> {
+    let alloc = rt.alloc();
+    for seed in 0..400 {
+        let mut rng = Pcg32::seed_from_u64(seed);
+        for room in [0usize, 1, 9, 300] {
+            let report = random_report(alloc, &mut rng, 0, 200, room)?;
+            let story = Story::of(alloc, &report)?;
+            assert!(rt; ends_as(alloc, &story, &report)?, "{seed} at {room}");
+            for life in story.lives.iter() {
+                assert!(rt; is_whole(life, story.to), "{seed} at {room}: {}", life.id);
+            }
+            assert_eq!(rt;
+                story.counts.len(),
+                report.records.as_slice().len().saturating_add(1)
+            );
+        }
+    }
+    Ok(())
+}
+
+// The report with two records exchanged and one left out, so that it mostly does not replay.
+fn garble(alloc: Global, rng: &mut Pcg32, report: &mut Report) {
+    let empty = RecordList::of(Vec::new(alloc));
+    let mut records = mem::replace(&mut report.records, empty).into_vec();
+    let count = u32::try_from(records.len()).unwrap_or(u32::MAX);
+    let (one, other) = (below(rng, count) as usize, below(rng, count) as usize);
+    if one < records.len() && other < records.len() {
+        records.swap(one, other);
+        records.remove(one);
+    }
+    report.records = RecordList::of(records);
+}
+
+#[test]
+fn a_report_that_does_not_replay_is_told_as_far_as_it_goes(rt: HostRuntime) -> Result<(), Fail> {
+    let alloc = rt.alloc();
+    let mut strange: u32 = 0;
+    for seed in 0..200 {
+        let mut rng = Pcg32::seed_from_u64(seed);
+        let mut report = random_report(alloc, &mut rng, 0, 200, 50)?;
+        garble(alloc, &mut rng, &mut report);
+        if !report.replays()? {
+            strange = strange.saturating_add(1);
+        }
+        let story = Story::of(alloc, &report)?;
+        for life in story.lives.iter() {
+            assert!(rt; is_whole(life, story.to), "{seed}: {}", life.id);
+        }
+        assert!(rt; svg(alloc, &report)?.as_str().ends_with("</svg>\n"));
+    }
+    assert!(rt; strange > 100);
+    Ok(())
+}
+
+// Two connections come in; the newer one is lent and kept, and lent and closed; a reap closes the
+// other.
+pub(crate) fn one_of_each(alloc: Global) -> Result<Report, Fail> {
+    let limits = limits(2, 1, None, Some(100)).ok_or("limits")?;
+    let mut driven = Driven::new(alloc, limits, ms(0), 0, 100)?;
+    driven.open(ms(10));
+    driven.take(ms(20), true)?;
+    driven.open(ms(30));
+    driven.put_back(ms(40), 0, false);
+    driven.take(ms(50), true)?;
+    driven.put_back(ms(60), 0, true);
+    driven.reap(ms(130))?;
+    driven.open(ms(140));
+    driven.close();
+    Ok(driven.report()?)
+}
+
+fn stretch(what: Use, from: u64, to: u64) -> Stretch {
+    Stretch {
+        what,
+        from: ms(from),
+        to: ms(to),
+    }
+}
+
+fn ended(at: u64, cause: Cause) -> Option<Ending> {
+    Some(Ending { at: ms(at), cause })
+}
+
+#[test]
+fn tells_what_became_of_each(rt: HostRuntime) -> Result<(), Fail> {
+    let alloc = rt.alloc();
+    let report = one_of_each(alloc)?;
+    let story = Story::of(alloc, &report)?;
+    assert_eq!(rt;
+        (story.from, story.to, story.length()),
+        (ms(0), ms(140), ms(140))
+    );
+    assert_eq!(rt; story.lives.len(), 3);
+    let first = &story.lives[0];
+    assert_eq!(rt;
+        (first.id, first.birth, first.coming),
+        (0, ms(10), Coming::Admitted)
+    );
+    let stretches = [
+        stretch(Use::Idle, 10, 20),
+        stretch(Use::Lent, 20, 40),
+        stretch(Use::Idle, 40, 50),
+        stretch(Use::Lent, 50, 60),
+    ];
+    assert_eq!(rt; first.stretches.as_slice(), &stretches[..]);
+    let ends = [
+        ended(60, Cause::Closed),
+        ended(130, Cause::Reaped),
+        ended(140, Cause::ClosedAll),
+    ];
+    for (life, end) in story.lives.iter().zip(ends.iter()) {
+        assert_eq!(rt; life.ending, *end);
+    }
+    assert_eq!(rt; story.most(), 2);
+    Ok(())
+}

@@ -1,0 +1,184 @@
+"""Copies of the repository in which the tests of tests/ stand as crates: `tools/run-tests`, `tools/bodies/try` and
+`tools/refuse/try` have it in common.
+
+tests/NAME/ is the source of a crate NAME, whose line tests/libraries.txt has. tests/inside_NAME/ is laid over the source of the crate
+NAME of crates/, for what only that crate can see; each `tests.rs` in it becomes a module of the file that it is named for. The
+files end in .rs here and in .rt in the copy, since `rt ci` takes each .rt file for one that a check reads."""
+import contextlib
+import os
+import re
+import shutil
+import signal
+import subprocess
+import sys
+import tempfile
+import threading
+
+TOP = os.path.dirname(os.path.dirname(os.path.realpath(__file__)))
+TESTS = os.path.join(TOP, "tests")
+RT = os.environ.get("RT", "rt")
+INSIDE = "inside_"
+# Modules of the tests that stand among the crates, since they are proved there.
+LAID = {"crates/pool/src/surface/pool_uses.rt": "crates/examples/src/pool_uses.rt"}
+SECONDS = "400"
+
+
+def names():
+    """The folders of tests, those with the most tests first."""
+    folders = [name for name in os.listdir(TESTS) if os.path.isdir(os.path.join(TESTS, name))]
+    return sorted(folders, key=lambda name: (-count_in(os.path.join(TESTS, name)), name))
+
+
+def proved():
+    """The crates of the repository that have tests of their own, which `rt ci` proves and runs."""
+    crates = os.path.join(TOP, "crates")
+    return [name for name in sorted(os.listdir(crates)) if count_in(os.path.join(crates, name, "src"))]
+
+
+def crate_of(name):
+    """The crate whose tests they are, in the copy."""
+    return name.removeprefix(INSIDE)
+
+
+def sources(folder):
+    for place, _, files in os.walk(folder):
+        for file in files:
+            if file.endswith((".rs", ".rt")):
+                yield os.path.join(place, file)
+
+
+def count_in(folder):
+    """How many tests its files have."""
+    return sum(len(re.findall(r"^\s*#\[test\]", open(file, encoding="utf-8").read(), re.M)) for file in sources(folder))
+
+
+def listed():
+    """The files of the repository, without what runs have left in it."""
+    said = subprocess.run(["git", "-C", TOP, "ls-files", "-co", "--exclude-standard"], check=True, capture_output=True, text=True)
+    return [file for file in said.stdout.splitlines() if os.path.lexists(os.path.join(TOP, file))]
+
+
+def put(source, copy, file):
+    os.makedirs(os.path.dirname(os.path.join(copy, file)) or copy, exist_ok=True)
+    shutil.copy(source, os.path.join(copy, file), follow_symlinks=False)
+
+
+def place_of(name, file):
+    """Where a file of tests/NAME goes in the copy."""
+    return os.path.join("crates", crate_of(name), "src", re.sub(r"\.rs$", ".rt", file))
+
+
+def root_of(source):
+    """The first file of a crate, a library's or a program's."""
+    return next(file for file in (source + "/lib.rt", source + "/main.rt") if os.path.exists(file))
+
+
+def add_tests(copy, name):
+    """Puts the tests of a folder into the copy."""
+    folder = os.path.join(TESTS, name)
+    for source in sources(folder):
+        file = place_of(name, os.path.relpath(source, folder))
+        put(source, copy, file)
+        if name.startswith(INSIDE) and os.path.basename(source) == "tests.rs":
+            above = os.path.dirname(os.path.join(copy, file))
+            parent = root_of(above) if above.endswith("/src") else above + ".rt"
+            with open(parent, "a", encoding="utf-8") as it:
+                it.write("\n#[cfg(test)]\nmod tests;\n")
+
+
+def lay(copy, file, source):
+    """Puts a module that is proved in the repository among the tests: without what only the head of a crate may say."""
+    text = open(os.path.join(TOP, source), encoding="utf-8").read()
+    with open(os.path.join(copy, file), "w", encoding="utf-8") as it:
+        it.write(re.sub(r"^(//!|#!\[).*\n", "", text, flags=re.M))
+
+
+def fill(copy):
+    for file in listed():
+        if not file.startswith("tests/"):
+            put(os.path.join(TOP, file), copy, file)
+    for name in names():
+        add_tests(copy, name)
+    for file, source in LAID.items():
+        lay(copy, file, source)
+    with open(os.path.join(copy, "crates.txt"), "a", encoding="utf-8") as it:
+        it.write(open(os.path.join(TESTS, "libraries.txt"), encoding="utf-8").read())
+    # By it `rt` knows the top of a repository.
+    os.makedirs(os.path.join(copy, ".git"))
+
+
+class Runs:
+    """The programs that were started, so that none of them is left where the script is stopped."""
+
+    def __init__(self):
+        self.running = set()
+        self.lock = threading.Lock()
+        self.is_over = False
+
+    def run(self, words, **how):
+        """How the program ended, and what it said."""
+        with self.lock:
+            if self.is_over:
+                return 1, "stopped"
+            streams = {"stdin": subprocess.DEVNULL, "stdout": subprocess.PIPE, "stderr": subprocess.STDOUT}
+            process = subprocess.Popen(words, errors="replace", **streams, **how)
+            self.running.add(process)
+        said, _ = process.communicate()
+        with self.lock:
+            self.running.discard(process)
+        return process.returncode, said
+
+    def stop(self):
+        with self.lock:
+            self.is_over = True
+            for process in self.running:
+                process.terminate()
+        for process in list(self.running):
+            process.wait()
+
+
+class Copy:
+    """A copy of the repository, with its tests as crates."""
+
+    def __init__(self, folder):
+        self.folder = os.path.join(folder, "copy")
+        # What `rt` puts aside while it works.
+        self.aside = os.path.join(folder, "aside")
+        self.runs = Runs()
+        os.makedirs(self.folder)
+        os.makedirs(self.aside)
+        fill(self.folder)
+
+    def crate(self, name):
+        return os.path.join(self.folder, "crates", crate_of(name))
+
+    def count(self, name):
+        """How many tests there are."""
+        return count_in(os.path.join(self.crate(name), "src"))
+
+    def run_tests(self, name, flags=(), only=None):
+        """The tests of a folder, or one of them, without proof: the status, and what was said."""
+        words = [RT, "try", "--test", "--seconds", SECONDS, *flags, *(["--", only] if only else [])]
+        return self.runs.run(words, cwd=self.crate(name), env={**os.environ, "TMPDIR": self.aside})
+
+
+def outcomes(said):
+    """What became of each test, by its name: `ok`, or another word."""
+    return dict(re.findall(r"^test (\S+) \.\.\. (\w+)", said, re.M))
+
+
+def raise_exit(number, _):
+    sys.exit(128 + number)
+
+
+@contextlib.contextmanager
+def copied():
+    """A copy that is gone at the end, with all that was started in it, also where the script is stopped."""
+    for number in (signal.SIGTERM, signal.SIGHUP):
+        signal.signal(number, raise_exit)
+    with tempfile.TemporaryDirectory(prefix="tests-") as folder:
+        copy = Copy(folder)
+        try:
+            yield copy
+        finally:
+            copy.runs.stop()
