@@ -1,6 +1,6 @@
 /* Who waits in a pool, and who wakes whom: the code of crates/r2d2/src/pool, as Spin can look at all of its
    interleavings. Each step names the function that it stands for. `tools/model` runs it, over a table of sizes and
-   with each of the wrong bodies that stand here as switches. docs/POOL-RULES.md tells what is found.
+   with each of the wrong bodies that stand here as switches. docs/RULES.md tells what is found.
 
    A step under the lock is one atomic block, and the wakes that follow it are blocks of their own, since the lock is
    free by then. Callers make any number of calls, openings fail any number of times, connections come back sound or

@@ -7,7 +7,7 @@ use serde::{Described, Serialize, Serializer};
 use std::alloc::{AllocError, Allocator, Global};
 use std::time::Duration;
 
-/// The report as one object of JSON, on one line without a line feed. `docs/POOL-AUDIT.md` lists
+/// The report as one object of JSON, on one line without a line feed. `docs/JOURNAL.md` lists
 /// its fields.
 ///
 /// Moments and lengths of time are whole nanoseconds: numbers where they are below 2^64, and
