@@ -1,7 +1,7 @@
 //! The pool: one lock round its book, workers that open connections, and what it lends.
 ghost use Rattle.std.specs.Prelude.{◌≡◌, ℕ, ◌≤◌, IfOk, IfErr, IfSome};
 ghost use Rattle.std.specs.Arc.{arc_value};
-ghost use Rattle.r2d2_core.specs.Reports.{DoesReplay, HasSoundCounts, CountsItsTakes};
+ghost use Rattle.r2d2_core.specs.Reports.{DoesReplay, HasSoundCounts, CountsItsTakes, BeginsAtAMaking};
 
 use self::closing::Closer;
 use self::lent::AnyConnection;
@@ -96,11 +96,13 @@ impl<C: Ties, M: ManageConnection, K: Hooks<M>, R: PoolRuntime> AnyPool<C, M, K,
     }
 
     /// What happened last, as far back as the setting `journal_room` reaches, what stood before that, and what there
-    /// is now. The error is lack of memory; then nothing has changed.
+    /// is now. Where its `lost` is 0, that is all since the pool was made. The error is lack of memory; then nothing has
+    /// changed.
     pub fn journal(&self) -> Result<Report, Error>
         ensures replays { IfOk result DoesReplay }
         ensures sound { IfOk result HasSoundCounts }
         ensures counted { IfOk result CountsItsTakes }
+        ensures whole { IfOk result BeginsAtAMaking }
         ensures refused { IfErr result IsOfMemory }
     {
         self.shared().report().map_err(|_| Error::memory())

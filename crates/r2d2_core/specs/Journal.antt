@@ -5,10 +5,11 @@ use Rattle.r2d2_core.specs.Records.{SeenRecord, is_take, takes_in}
 use Rattle.r2d2_core.specs.Bases.{SeenBase, first_base}
 use Rattle.r2d2_core.specs.Folding.{folded}
 
--- the limits of the pool; what stood before the oldest record; the newest records, the oldest of them first; how many there is room for; how
+-- the limits of the pool; the moment of the making; what stood before the oldest record; the newest records, the oldest of them first; how many there is room for; how
 -- many were folded into the base; and how many takes were noted
 pub record SeenJournal : Type 0 where
   pub limits : SeenLimits
+  pub made : ℕ
   pub base : SeenBase
   pub records : List SeenRecord
   pub room : ℕ
@@ -27,9 +28,13 @@ takes_with r n = if is_take r then one_more n else n
 abbrev pub CountsTakes : SeenJournal → Type 0
 CountsTakes l = l.lost ≡ 0 → l.takes ≡ takes_in l.records
 
+-- what stood before the records is what stood at the making, where none was folded in
+abbrev pub BeginsAtTheMaking : SeenJournal → Type 0
+BeginsAtTheMaking l = l.lost ≡ 0 → l.base ≡ first_base l.limits l.made
+
 -- at the making, at a moment
 abbrev pub first_journal : SeenLimits → ℕ → ℕ → SeenJournal
-first_journal limits now room = record { limits = limits; base = first_base limits now; records = []; room = room; lost = 0; takes = 0 }
+first_journal limits now room = record { limits = limits; made = now; base = first_base limits now; records = []; room = room; lost = 0; takes = 0 }
 
 -- the base with the oldest of some records
 abbrev pub with_oldest : SeenLimits → List SeenRecord → SeenBase → SeenBase

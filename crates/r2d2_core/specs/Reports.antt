@@ -6,7 +6,7 @@ use Rattle.r2d2_core.specs.declared.journal.report.Report.{Report}
 use Rattle.r2d2_core.specs.Limits.{seen_limits, wanted_of}
 use Rattle.r2d2_core.specs.Records.{takes_in}
 use Rattle.r2d2_core.specs.Connections.{id_of_idle, id_of_lent}
-use Rattle.r2d2_core.specs.Bases.{SeenBase, IsLegalBase}
+use Rattle.r2d2_core.specs.Bases.{SeenBase, IsLegalBase, first_base}
 use Rattle.r2d2_core.specs.Folding.{replay, AreLegalFrom}
 use Rattle.r2d2_core.specs.Book.{SeenBook}
 
@@ -32,6 +32,10 @@ module _ {B : Type 0} where
   -- its takes are those that its records tell of, where none was folded into the base
   abbrev pub CountsItsTakes : Report B → Type 0
   CountsItsTakes r = r.lost ≡ 0 → r.takes ≡ takes_in r.records
+
+  -- its base is that of a pool just made, where none was folded into it
+  abbrev pub BeginsAtAMaking : Report B → Type 0
+  BeginsAtAMaking r = r.lost ≡ 0 → seen_base r.base ≡ first_base (seen_limits r.limits) (as_nanos r.base.at)
 
   -- what keeps of the counts of each report of a book
   pub record HasSoundCounts (r : Report B) : Type 0 where

@@ -48,7 +48,7 @@ impl<T, A: Allocator> Book<T, A> {
     ghost use Rattle.r2d2_core.specs.Table.{first_picture};
     ghost use Rattle.r2d2_core.specs.Journal.{first_journal, CountsTakes};
     ghost use Rattle.r2d2_core.specs.Book.{seen_book, HasFacts};
-    ghost use Rattle.r2d2_core.specs.Reports.{IsReportOf, DoesReplay, HasSoundCounts, CountsItsTakes};
+    ghost use Rattle.r2d2_core.specs.Reports.{IsReportOf, DoesReplay, HasSoundCounts, CountsItsTakes, BeginsAtAMaking};
 
     /// A book of a core whose ids are counted from 0, made at the moment `now`, that keeps the newest records, `room` of them at
     /// most. The error comes only where its memory is refused.
@@ -144,6 +144,8 @@ impl<T, A: Allocator> Book<T, A> {
         ensures replays { IfOk result DoesReplay }
         ensures sound { IfOk result HasSoundCounts }
         ensures counted { IfOk result CountsItsTakes }
+        ensures whole { IfOk result BeginsAtAMaking }
+        ensures since { IfOk result (λ report. report.lost ≡ 0 → as_nanos report.base.at ≡ self.now.journal.made) }
     {
         self.report_in(self.alloc)
     }
@@ -156,6 +158,8 @@ impl<T, A: Allocator> Book<T, A> {
         ensures replays { IfOk result DoesReplay }
         ensures sound { IfOk result HasSoundCounts }
         ensures counted { IfOk result CountsItsTakes }
+        ensures whole { IfOk result BeginsAtAMaking }
+        ensures since { IfOk result (λ report. report.lost ≡ 0 → as_nanos report.base.at ≡ self.now.journal.made) }
     {
         let base = self.journal.base(alloc)?;
         let records = self.journal.copied(alloc)?;

@@ -7,7 +7,7 @@ ghost use Rattle.r2d2_core.specs.Table as table;
 ghost use Rattle.r2d2_core.specs.Picture.{IsSound};
 ghost use Rattle.r2d2_core.specs.Noted.{noted_take, noted_return, noted_reap, noted_close};
 ghost use Rattle.r2d2_core.specs.Journal.{one_more};
-ghost use Rattle.r2d2_core.specs.Reports.{IsReportOf, DoesReplay, HasSoundCounts, CountsItsTakes};
+ghost use Rattle.r2d2_core.specs.Reports.{IsReportOf, DoesReplay, HasSoundCounts, CountsItsTakes, BeginsAtAMaking};
 ghost use Rattle.r2d2.specs.Wakes.{wakes_of_take, wakes_of_return, wakes_of_reap};
 ghost use Rattle.r2d2.specs.Settled.{seen_settled, settle_answer, after_settle, noted_settle, wakes_of_settled};
 ghost use Rattle.r2d2.specs.Counted.{found_by, counted_up_to, counted_where};
@@ -163,6 +163,7 @@ impl<T, L: Ledger> Counted<T, L> {
         ensures replays { IfOk result DoesReplay }
         ensures sound { IfOk result HasSoundCounts }
         ensures counted { IfOk result CountsItsTakes }
+        ensures whole { IfOk result BeginsAtAMaking }
         ensures takes { IfOk result (λ report. report.takes ≡ counted_up_to all.old.amount) }
         ensures book { self.new.book ≡ self.old.book }
         ensures total { self.new.total ≡ self.old.total }
@@ -277,6 +278,7 @@ impl<T, C: Ties> Tied<T, C> {
         ensures replays { IfOk result DoesReplay }
         ensures sound { IfOk result HasSoundCounts }
         ensures counted { IfOk result CountsItsTakes }
+        ensures whole { IfOk result BeginsAtAMaking }
     {
         self.book.report()
     }

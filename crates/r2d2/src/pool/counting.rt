@@ -1,6 +1,6 @@
 // The calls of a pool that counts its takes.
 ghost use Rattle.std.specs.Prelude.{◌≡◌, ◌≤◌, ◌<◌, ◌+◌, IfOk, IfErr, IfSome};
-ghost use Rattle.r2d2_core.specs.Reports.{DoesReplay, HasSoundCounts, CountsItsTakes};
+ghost use Rattle.r2d2_core.specs.Reports.{DoesReplay, HasSoundCounts, CountsItsTakes, BeginsAtAMaking};
 
 use super::{CountedConnection, CountedPool, PoolRuntime};
 use crate::event::HandleEvent;
@@ -71,6 +71,7 @@ impl<
         requires { all.old.parts ≡ L.parts }
         ensures takes { IfOk result (λ report. report.takes ≡ counted_up_to all.old.amount) }
         ensures counted { IfOk result CountsItsTakes }
+        ensures whole { IfOk result BeginsAtAMaking }
         ensures replays { IfOk result DoesReplay }
         ensures sound { IfOk result HasSoundCounts }
         ensures refused { IfErr result IsOfMemory }

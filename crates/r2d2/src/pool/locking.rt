@@ -1,6 +1,6 @@
 // The lock of a pool, and each step that is made under it.
 ghost use Rattle.std.specs.Prelude.{◌≤◌, IfOk};
-ghost use Rattle.r2d2_core.specs.Reports.{DoesReplay, HasSoundCounts, CountsItsTakes};
+ghost use Rattle.r2d2_core.specs.Reports.{DoesReplay, HasSoundCounts, CountsItsTakes, BeginsAtAMaking};
 
 use super::State;
 use super::lent::Lent;
@@ -83,6 +83,7 @@ impl<P: Drop, C: Ties, M, K, R: Clock + Wait> Shared<Tied<P, C>, M, K, R> {
         ensures replays { IfOk result DoesReplay }
         ensures sound { IfOk result HasSoundCounts }
         ensures counted { IfOk result CountsItsTakes }
+        ensures whole { IfOk result BeginsAtAMaking }
     {
         self.step(|guarded, _now| (guarded.book().report(), Wakes::nobody()))
     }

@@ -1,7 +1,7 @@
 // Those who take the lock by themselves: a caller, the maker of a pool and a worker, who hand it to a wait, and those who bring a tally: a take
 // that does not wait, and an audit. Each other step is made by `Shared::step`.
 ghost use Rattle.std.specs.Prelude.{◌≡◌, ◌<◌, ◌+◌, MatchOption, OnOk, OnErr, IfOk};
-ghost use Rattle.r2d2_core.specs.Reports.{DoesReplay, HasSoundCounts, CountsItsTakes};
+ghost use Rattle.r2d2_core.specs.Reports.{DoesReplay, HasSoundCounts, CountsItsTakes, BeginsAtAMaking};
 ghost use Rattle.r2d2.specs.Counted.{counted_up_to};
 
 use super::PoolRuntime;
@@ -123,6 +123,7 @@ impl<P: Drop, L: Ledger, M, K, R: Clock + Wait> Shared<Counted<P, L>, M, K, R> {
         requires { all.old.parts ≡ L.parts }
         ensures takes { IfOk result (λ report. report.takes ≡ counted_up_to all.old.amount) }
         ensures counted { IfOk result CountsItsTakes }
+        ensures whole { IfOk result BeginsAtAMaking }
         ensures replays { IfOk result DoesReplay }
         ensures sound { IfOk result HasSoundCounts }
         ensures amount { all.new.amount ≡ all.old.amount }

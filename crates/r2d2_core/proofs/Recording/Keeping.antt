@@ -76,17 +76,17 @@ without_first : {X Y : Type 0} (f : X → Y) (xs : List X) → map f (drop 1 xs)
 without_first f [] = refl
 without_first f (x ∷ xs) = refl
 
-full_by : (limits : SeenLimits) (b b' : SeenBase) (rs rs' : List SeenRecord) (r : SeenRecord) (room lost takes takes' : ℕ) (has_room : Bool) → nat_lt (length rs) room ≡ has_room → has_room ≡ false
+full_by : (limits : SeenLimits) (b b' : SeenBase) (rs rs' : List SeenRecord) (r : SeenRecord) (made room lost takes takes' : ℕ) (has_room : Bool) → nat_lt (length rs) room ≡ has_room → has_room ≡ false
     → b' ≡ with_oldest limits (rs ++ r ∷ []) b → rs' ≡ drop 1 (rs ++ r ∷ []) → takes' ≡ takes_with r takes
-    → ◌≡◌ {A = SeenJournal} (record { limits = limits; base = b'; records = rs'; room = room; lost = one_more lost; takes = takes' })
-    (with_record r (record { limits = limits; base = b; records = rs; room = room; lost = lost; takes = takes }))
-full_by limits b b' rs rs' r room lost takes takes' has_room e none e1 e2 e3 = rw (e1, e2, e3, e, none) refl
+    → ◌≡◌ {A = SeenJournal} (record { limits = limits; made = made; base = b'; records = rs'; room = room; lost = one_more lost; takes = takes' })
+    (with_record r (record { limits = limits; made = made; base = b; records = rs; room = room; lost = lost; takes = takes }))
+full_by limits b b' rs rs' r made room lost takes takes' has_room e none e1 e2 e3 = rw (e1, e2, e3, e, none) refl
 
-pub full_noted : (limits : SeenLimits) (b b' : SeenBase) (items : List Record) (now : Buffer Record) (made : Record) (capacity lost lost' takes takes' : ℕ) → length items ≤ capacity → nat_lt (length items) capacity ≡ false
+pub full_noted : (limits : SeenLimits) (b b' : SeenBase) (items : List Record) (now : Buffer Record) (made : Record) (since capacity lost lost' takes takes' : ℕ) → length items ≤ capacity → nat_lt (length items) capacity ≡ false
     → now ≡ buffer (keep_last capacity (items ++ made ∷ [])) capacity → b' ≡ with_oldest limits (map seen_record items ++ seen_record made ∷ []) b → lost' ≡ one_more lost → takes' ≡ takes_with (seen_record made) takes
-    → ◌≡◌ {A = SeenJournal} (record { limits = limits; base = b'; records = map seen_record now.items; room = now.capacity; lost = lost'; takes = takes' })
-    (with_record (seen_record made) (record { limits = limits; base = b; records = map seen_record items; room = capacity; lost = lost; takes = takes }))
-full_noted limits b b' items now made capacity lost lost' takes takes' within full is e1 e2 e3 =
+    → ◌≡◌ {A = SeenJournal} (record { limits = limits; made = since; base = b'; records = map seen_record now.items; room = now.capacity; lost = lost'; takes = takes' })
+    (with_record (seen_record made) (record { limits = limits; made = since; base = b; records = map seen_record items; room = capacity; lost = lost; takes = takes }))
+full_noted limits b b' items now made since capacity lost lost' takes takes' within full is e1 e2 e3 =
     let long : length items ≡ capacity = grind (arith, nat_tests) in
     let one : length (items ++ made ∷ []) - capacity ≡ 1 = omega (arith, length_push items made, long) in
     let kept : map seen_record now.items ≡ drop 1 (map seen_record items ++ seen_record made ∷ []) =
@@ -94,9 +94,9 @@ full_noted limits b b' items now made capacity lost lost' takes takes' within fu
     ∙ (ap (λ k. map seen_record (drop k (items ++ made ∷ []))) one
     ∙ (without_first seen_record (items ++ made ∷ []) ∙ ap (drop 1) (map-append seen_record items (made ∷ [])))) in
     let room : now.capacity ≡ capacity = ap (λ (l : Buffer Record). l.capacity) is in
-    ap (λ n. record { limits = limits; base = b'; records = map seen_record now.items; room = n; lost = lost'; takes = takes' }) room
-    ∙ (ap (λ n. record { limits = limits; base = b'; records = map seen_record now.items; room = capacity; lost = n; takes = takes' }) e2
-    ∙ full_by limits b b' (map seen_record items) (map seen_record now.items) (seen_record made) capacity lost takes takes' false
+    ap (λ n. record { limits = limits; made = since; base = b'; records = map seen_record now.items; room = n; lost = lost'; takes = takes' }) room
+    ∙ (ap (λ n. record { limits = limits; made = since; base = b'; records = map seen_record now.items; room = capacity; lost = n; takes = takes' }) e2
+    ∙ full_by limits b b' (map seen_record items) (map seen_record now.items) (seen_record made) since capacity lost takes takes' false
     (ap (λ n. nat_lt n capacity) (length-map items seen_record) ∙ full) refl e1 kept e3)
 
 -- and there are no more than there is room for

@@ -1,16 +1,17 @@
 -- What a report of a book tells.
 use Rattle.std.proofs.Common.{◌≡◌, List, length, map, sym, ◌∙◌, ap, subst, arith, inl, inr}
 use Rattle.std.proofs.lemmas.List.{length-map}
+use Rattle.std.specs.Duration.{as_nanos}
 use Rattle.r2d2_core.specs.Limits.{SeenLimits, wanted_of, seen_limits}
 use Rattle.r2d2_core.specs.Picture.{IsSound}
 use Rattle.r2d2_core.specs.declared.journal.report.Report.{Report}
 use Rattle.r2d2_core.specs.Connections.{id_of_idle, id_of_lent}
 use Rattle.r2d2_core.specs.Records.{SeenRecord, takes_in}
-use Rattle.r2d2_core.specs.Bases.{SeenBase}
+use Rattle.r2d2_core.specs.Bases.{SeenBase, first_base}
 use Rattle.r2d2_core.specs.Book.{SeenBook, ReplayTo, IsReplayed}
 use Rattle.r2d2_core.specs.BookParts.{IsRecorded}
-use Rattle.r2d2_core.specs.Journal.{CountsTakes}
-use Rattle.r2d2_core.specs.Reports.{seen_base, DoesReplay, IsReportOf, HasSoundCounts, CountsItsTakes}
+use Rattle.r2d2_core.specs.Journal.{CountsTakes, BeginsAtTheMaking}
+use Rattle.r2d2_core.specs.Reports.{seen_base, DoesReplay, IsReportOf, HasSoundCounts, CountsItsTakes, BeginsAtAMaking}
 use Rattle.r2d2_core.proofs.Recording.Replaying.{ids_bare}
 
 -- what the type of a book keeps is what its callers see
@@ -53,3 +54,15 @@ report_sound a r is s =
 -- where a book counts its takes, its report does
 pub report_counts : {T B : Type 0} (a : SeenBook T) (r : Report B) → IsReportOf a r → CountsTakes a.journal → CountsItsTakes r
 report_counts a r is counted none = is.takes ∙ counted (sym is.lost ∙ none) ∙ ap takes_in (sym is.records)
+
+-- where a book's base is that of the making, its report's is, and stands at that moment
+pub report_begins : {T B : Type 0} (a : SeenBook T) (r : Report B) → IsReportOf a r → IsRecorded a → BeginsAtTheMaking a.journal → r.lost ≡ 0 → seen_base r.base ≡ first_base (seen_limits r.limits) a.journal.made
+report_begins a r is recorded begins none =
+    is.base ∙ begins (sym is.lost ∙ none) ∙ ap (λ (l : SeenLimits). first_base l a.journal.made) (recorded.same ∙ sym is.limits)
+
+pub report_since : {T B : Type 0} (a : SeenBook T) (r : Report B) → IsReportOf a r → IsRecorded a → BeginsAtTheMaking a.journal → r.lost ≡ 0 → as_nanos r.base.at ≡ a.journal.made
+report_since a r is recorded begins none = ap (λ (b : SeenBase). b.at) (report_begins a r is recorded begins none)
+
+pub report_whole : {T B : Type 0} (a : SeenBook T) (r : Report B) → IsReportOf a r → IsRecorded a → BeginsAtTheMaking a.journal → BeginsAtAMaking r
+report_whole a r is recorded begins none =
+    report_begins a r is recorded begins none ∙ ap (first_base (seen_limits r.limits)) (sym (report_since a r is recorded begins none))

@@ -5,7 +5,7 @@ ghost use Rattle.r2d2_core.specs.Limits.{seen_limits};
 ghost use Rattle.r2d2_core.specs.Records.{seen_record};
 ghost use Rattle.r2d2_core.specs.Bases.{IsLegalBase};
 ghost use Rattle.r2d2_core.specs.Folding.{AreLegalFrom};
-ghost use Rattle.r2d2_core.specs.Journal.{first_journal, added, with_noted, takes_with, CountsTakes};
+ghost use Rattle.r2d2_core.specs.Journal.{first_journal, added, with_noted, takes_with, CountsTakes, BeginsAtTheMaking};
 ghost use Rattle.r2d2_core.specs.Reports.{seen_base};
 
 use super::base::Base;
@@ -17,11 +17,12 @@ use std::alloc::{AllocError, Allocator, Global};
 use std::marker::Model;
 use std::time::Duration;
 
-/// As many records as it has room for, what stood before the oldest of them, how many were folded into that, and how many takes
+/// The moment of the making, as many records as it has room for, what stood before the oldest of them, how many were folded into that, and how many takes
 /// were noted.
 #[derive(Drop)]
 pub(crate) struct Journal<A: Allocator = Global> {
     limits: Limits,
+    made: Duration,
     standing: Standing<A>,
     records: HeapCircularBuffer<Record, A>,
     lost: u64,
@@ -61,6 +62,7 @@ impl<A: Allocator> Journal<A> {
         let records = HeapCircularBuffer::with_capacity(alloc, room)?;
         Ok(Journal {
             limits,
+            made: now,
             standing,
             records,
             lost: 0,
@@ -70,7 +72,8 @@ impl<A: Allocator> Journal<A> {
 
     /// How many records were folded into the base.
     pub(crate) fn lost(&self) -> u64
-        ensures { result ≡ self.now.lost }
+        ensures value { result ≡ self.now.lost }
+        ensures begins { BeginsAtTheMaking self.now }
     {
         self.lost
     }

@@ -1,9 +1,10 @@
 use Rattle.std.proofs.Common.{◌∙◌, subst}
-use Rattle.r2d2_core.specs.Journal.{CountsTakes}
+use Rattle.r2d2_core.specs.Journal.{CountsTakes, BeginsAtTheMaking}
 use Rattle.r2d2_core.specs.Book.{SeenBook, seen_book, IsReplayed}
+use Rattle.r2d2_core.specs.BookParts.{IsRecorded}
 use Rattle.r2d2_core.specs.Reports.{IsReportOf}
 use Rattle.r2d2_core.specs.Picture.{IsSound}
-use Rattle.r2d2_core.proofs.Recording.Reporting.{is_replayed, report_replays, report_sound, report_counts}
+use Rattle.r2d2_core.proofs.Recording.Reporting.{is_replayed, report_replays, report_sound, report_counts, report_since, report_whole}
 use Rattle.r2d2_core.proofs.journal.Book.report_in.Goals as goal
 
 pub base-requires : goal.base-requires
@@ -27,7 +28,7 @@ returns-clause-given g c =
       limits = c.limits.ensures.value;
       base = c.in_ok-base.ensures;
       records = c.of.ensures ∙ c.in_ok-records.ensures;
-      lost = c.lost.ensures;
+      lost = c.lost.ensures.value;
       takes = c.takes.ensures.value;
       idle = c.in_ok-idle.ensures;
       lent = c.in_ok-lent.ensures;
@@ -44,3 +45,9 @@ returns-clause-sound g c = report_sound c.args.self.now _ (returns-clause-given 
 
 pub returns-clause-counted : goal.returns-clause-counted
 returns-clause-counted g c = report_counts c.args.self.now _ (returns-clause-given g c) (subst (λ (a : SeenBook _). CountsTakes a.journal) c.self.view_is c.takes.ensures.counted)
+
+pub returns-clause-whole : goal.returns-clause-whole
+returns-clause-whole g c = report_whole c.args.self.now _ (returns-clause-given g c) (subst IsRecorded c.self.view_is c.self.invariant.recorded) (subst (λ (a : SeenBook _). BeginsAtTheMaking a.journal) c.self.view_is c.lost.ensures.begins)
+
+pub returns-clause-since : goal.returns-clause-since
+returns-clause-since g c = report_since c.args.self.now _ (returns-clause-given g c) (subst IsRecorded c.self.view_is c.self.invariant.recorded) (subst (λ (a : SeenBook _). BeginsAtTheMaking a.journal) c.self.view_is c.lost.ensures.begins)

@@ -1,5 +1,6 @@
 use Rattle.std.proofs.Common.{map, sym, ◌∙◌, ap, subst, arith, ◌++◌, ◌∷◌, []}
 use Rattle.std.specs.Prelude.{option_map}
+use Rattle.std.specs.Duration.{as_nanos}
 use Rattle.r2d2_core.specs.Limits.{seen_limits}
 use Rattle.r2d2_core.specs.Records.{seen_record}
 use Rattle.r2d2_core.specs.Bases.{IsLegalBase}
@@ -47,6 +48,7 @@ invariant_of-self g c =
       within = fits.0;
       bounded = omega (arith, fits.1, c.self.invariant.bounded);
       counted = λ none. absurd (none_lost s.lost (sym c.saturating_add-self-inside.ensures ∙ none));
+      begins = λ none. absurd (none_lost s.lost (sym c.saturating_add-self-inside.ensures ∙ none));
       has_room = ap (λ (n : SeenStanding). n.room) (c.follow.ensures.folded (c.follow.ensures.may ∙ up.may)) ∙ c.self.invariant.has_room;
     }
 
@@ -60,6 +62,6 @@ returns-in-Some-push_back g c =
     (subst (λ (l : SeenJournal). AreLegalFrom l.limits l.base (added (option_map seen_record c.args.made) l.records)) (sym c.self.view_is) c.requires.follow) in
     let up = gives_up (seen_limits s.limits) s.standing.base s.records.items made c.in-Some-push_back.oldest s.records.capacity c.push_back.result legal are c.push_back.ensures.value c.in-Some-push_back.is in
     let base = ap (λ (n : SeenStanding). n.base) (c.follow.ensures.folded (c.follow.ensures.may ∙ up.may)) ∙ up.base in
-    full_noted (seen_limits s.limits) s.standing.base c.follow.new.self.base s.records.items c.push_back.new.self made s.records.capacity s.lost c.saturating_add-self-inside.result s.takes c.with_take-self-inside.result
+    full_noted (seen_limits s.limits) s.standing.base c.follow.new.self.base s.records.items c.push_back.new.self made (as_nanos s.made) s.records.capacity s.lost c.saturating_add-self-inside.result s.takes c.with_take-self-inside.result
     c.self.invariant.within up.full c.push_back.ensures.items base c.saturating_add-self-inside.ensures c.with_take-self-inside.ensures
     ∙ (ap (λ m. with_noted (option_map seen_record m) (journal_in s)) (sym c.in-Some.is) ∙ ap (with_noted (option_map seen_record c.args.made)) c.self.view_is)
