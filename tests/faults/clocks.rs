@@ -64,18 +64,6 @@ impl<R: Alloc> Alloc for Faulty<R> {
     }
 }
 
-fn moment_of(record: &Record) -> Duration {
-    match record {
-        Record::Taken { at, .. } => *at,
-        Record::Ordered { at, .. } => *at,
-        Record::Admitted { at, .. } => *at,
-        Record::Kept { at, .. } => *at,
-        Record::Closed { at, .. } => *at,
-        Record::Reaped { at, .. } => *at,
-        Record::ClosedAll { at } => *at,
-    }
-}
-
 // Looks until so many connections are idle, for at most ten seconds, by a clock that can be read.
 fn come_to_be_idle<M: ManageConnection, R: PoolRuntime, C: Clock>(
     clock: &C,
@@ -110,7 +98,7 @@ fn a_clock_that_cannot_be_read_at_the_making(rt: HostRuntime) -> Result<(), Fail
     let report = pool.journal()?;
     assert_eq!(rt; report.records.as_slice().len(), 5);
     for record in report.records.as_slice() {
-        assert!(rt; moment_of(record).is_zero(), "{record:?}");
+        assert!(rt; record.at().is_zero(), "{record:?}");
     }
     drop(pool);
     assert_eq!(rt; watched(&rt, &play.managers_dropped, 1, 1000), 1);
@@ -144,9 +132,9 @@ fn a_clock_that_cannot_be_read_later(rt: HostRuntime) -> Result<(), Fail> {
     let records = report.records.as_slice();
     assert_eq!(rt; records.len(), 3);
     let (admitted, taken, kept) = (
-        moment_of(&records[0]),
-        moment_of(&records[1]),
-        moment_of(&records[2]),
+        records[0].at(),
+        records[1].at(),
+        records[2].at(),
     );
     assert!(rt;
         admitted <= taken && taken < Duration::from_secs(3),

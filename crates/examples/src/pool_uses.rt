@@ -1,7 +1,10 @@
 // A user's own code over a pool, proved from the contracts of the pool's calls.
 ghost use Rattle.std.specs.Prelude.{◌≡◌, ◌+◌, ◌^◌, ◌<◌, ◌≤◌, ◌↔◌, IsTrue, IsSome, IfOk, IfSome};
 ghost use Rattle.std.specs.Option.{ForSome};
-ghost use Rattle.r2d2_core.specs.Reports.{DoesReplay};
+ghost use Rattle.std.specs.Duration.{as_nanos};
+ghost use Rattle.r2d2_core.specs.Limits.{seen_limits};
+ghost use Rattle.r2d2_core.specs.Bases.{first_base};
+ghost use Rattle.r2d2_core.specs.Reports.{seen_base, DoesReplay};
 
 use r2d2::event::HandleEvent;
 use r2d2::journal::Report;
@@ -89,6 +92,7 @@ pub fn audit<M: ManageConnection, R: PoolRuntime>(
     pool: &PlainPool<M, R>,
 ) -> Result<Option<Report>, Error>
     ensures whole { IfOk result (λ found. IfSome found (λ report. report.lost ≡ 0)) }
+    ensures begins { IfOk result (λ found. IfSome found (λ report. seen_base report.base ≡ first_base (seen_limits report.limits) (as_nanos report.base.at))) }
     ensures replays { IfOk result (λ found. IfSome found DoesReplay) }
 {
     let report = pool.journal()?;

@@ -5,7 +5,7 @@ use Rattle.r2d2_core.specs.declared.run.Step.{Step}
 use Rattle.r2d2_core.specs.declared.run.Step.TheVariants as step
 use Rattle.r2d2_core.specs.declared.machine.answers.Refusal.{Refusal}
 use Rattle.r2d2_core.specs.declared.machine.answers.Refusal.TheVariants as refusal
-use Rattle.r2d2_core.specs.Limits.{wanted_of, later_by, delay_of, has_reached}
+use Rattle.r2d2_core.specs.Limits.{top_up_beside, later_by, delay_of, has_reached}
 use Rattle.r2d2_core.specs.Lending.{lent_next}
 use Rattle.r2d2_core.specs.Connections.{closed_of, pair_of, SeenReleased}
 use Rattle.r2d2_core.specs.Refusals.{refused_if}
@@ -93,9 +93,9 @@ module _ {T : Type 0} where
 
   -- ORDERS
 
-  -- what is wanted beside the idle ones after a step, as far as there is room
+  -- what a top-up orders after a step
   abbrev pub top_up_after : History T → History T → ℕ
-  top_up_after h after = min (wanted_of (limits_of h) - length (idle_of after)) ((limits_of h).max_size - connections_of after - pending_of h)
+  top_up_after h after = top_up_beside (limits_of h) (length (idle_of after)) (connections_of after) (pending_of h)
 
   -- one where a miss asks for it, as far as there is room
   abbrev pub order_on_miss : History T → Bool → ℕ

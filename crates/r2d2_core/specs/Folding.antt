@@ -1,6 +1,6 @@
 -- What records come to from a base, and which are legal. They stand the oldest first, as in a book and in a report.
-use Rattle.std.specs.Prelude.{◌≡◌, ℕ, ◌+◌, ◌-◌, ◌≤◌, min, Bool, true, false, ◌==◌, ◌||◌, ◌&&◌, not, nat_lt, nat_le, if◌then◌else◌, List, [], ◌∷◌, ◌++◌, length, filter, is_some, option_map, unwrap_or}
-use Rattle.r2d2_core.specs.Limits.{SeenLimits, wanted_of, has_reached}
+use Rattle.std.specs.Prelude.{◌≡◌, ℕ, ◌+◌, ◌-◌, ◌≤◌, Bool, true, false, ◌==◌, ◌||◌, ◌&&◌, not, nat_lt, nat_le, if◌then◌else◌, List, [], ◌∷◌, ◌++◌, length, filter, is_some, option_map, unwrap_or}
+use Rattle.r2d2_core.specs.Limits.{SeenLimits, top_up_beside, has_reached}
 use Rattle.r2d2_core.specs.Ids.{found, without, copies_of}
 use Rattle.r2d2_core.specs.Lending.{lent_next}
 use Rattle.r2d2_core.specs.Connections.{SeenLentConnection, lent_connection, id_of_idle, id_of_lent, birth_in, is_expired, is_kept}
@@ -50,9 +50,9 @@ replay limits (r ∷ rs) b = replay limits rs (folded limits r b)
 
 -- LEGAL RECORDS
 
--- what a step orders that leaves so many idle and so many connections: what is wanted beside the idle ones, as far as there is room
+-- what a step orders that leaves so many idle and so many connections
 abbrev pub tops_up : SeenLimits → ℕ → ℕ → SeenBase → ℕ
-tops_up limits idle connections b = if b.closed then 0 else min (wanted_of limits - idle) (limits.max_size - connections - b.pending)
+tops_up limits idle connections b = if b.closed then 0 else top_up_beside limits idle connections b.pending
 
 -- whether an id is that of the idle one that is lent next, or of a lent one
 abbrev pub is_next : SeenLimits → ℕ → SeenBase → Bool

@@ -1,5 +1,5 @@
 -- What the limits of a pool say. Lengths of time are compared in nanoseconds.
-use Rattle.std.specs.Prelude.{ℕ, ◌+◌, ◌*◌, ◌/◌, ◌^◌, ◌<◌, ◌≤◌, min, Bool, false, ◌||◌, nat_le, Option, Some, None, is_some, unwrap_or}
+use Rattle.std.specs.Prelude.{ℕ, ◌+◌, ◌-◌, ◌*◌, ◌/◌, ◌^◌, ◌<◌, ◌≤◌, min, Bool, false, ◌||◌, nat_le, Option, Some, None, is_some, unwrap_or}
 use Rattle.std.specs.Option.{ForSome}
 use Rattle.std.specs.Duration.{as_nanos, max_nanos}
 use Rattle.std.specs.declared.time.Duration.{Duration}
@@ -39,6 +39,10 @@ pub record AreLegal (limits : SeenLimits) : Type 0 where
 -- how many connections are wanted idle: `min_idle`, else `max_size`
 abbrev pub wanted_of : SeenLimits → ℕ
 wanted_of limits = unwrap_or limits.min_idle limits.max_size
+
+-- what a top-up orders beside so many idle ones, so many connections and so many pending openings: what is wanted, as far as there is room
+abbrev pub top_up_beside : SeenLimits → ℕ → ℕ → ℕ → ℕ
+top_up_beside limits idle connections pending = min (wanted_of limits - idle) (limits.max_size - connections - pending)
 
 -- whether reaps are ever due: only where an age or an idle time is limited
 abbrev pub has_reaps : SeenLimits → Bool

@@ -21,6 +21,7 @@ pub(crate) mod idle;
 pub(crate) mod leftover;
 pub(crate) mod lent;
 pub(crate) mod on_order;
+mod reaping;
 pub(crate) mod roster;
 
 /// Which connections there are, and which openings are pending.
@@ -181,14 +182,15 @@ impl<T, A: Allocator> Core<T, A> {
         let order = self.on_order.limits().order();
         match self.idle.take(order) {
             Some(entry) => {
-                self.lent.add(LentConnection::new(entry.id, entry.birth));
+                let (id, birth) = (entry.id(), entry.birth());
+                self.lent.add(LentConnection::new(id, birth));
                 let ordered = self
                     .on_order
                     .top_up(self.idle.len(), self.lent.len(), self.latest);
                 Take::Found {
-                    id: entry.id,
-                    birth: entry.birth,
-                    value: entry.value,
+                    id,
+                    birth,
+                    value: entry.into_value(),
                     ordered,
                 }
             }
@@ -232,12 +234,8 @@ impl<T, A: Allocator> Core<T, A> {
         match self.on_order.admit(id) {
             Ok(()) => {
                 self.latest = later(self.latest, now);
-                self.idle.add(IdleConnection {
-                    id,
-                    birth: self.latest,
-                    since: self.latest,
-                    value,
-                });
+                self.idle
+                    .add(IdleConnection::new(id, self.latest, self.latest, value));
                 self.last_error = None;
                 Ok(())
             }
@@ -324,12 +322,7 @@ impl<T, A: Allocator> Core<T, A> {
                         ordered,
                     })
                 } else {
-                    self.idle.add(IdleConnection {
-                        id,
-                        birth,
-                        since: latest,
-                        value,
-                    });
+                    self.idle.add(IdleConnection::new(id, birth, latest, value));
                     Ok(Returned::Kept)
                 }
             }

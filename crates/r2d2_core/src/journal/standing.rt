@@ -146,7 +146,7 @@ impl<A: Allocator> Standing<A> {
         let mut list = Vec::with_capacity(alloc, count)?;
         for place in 0..count {
             if let Some(entry) = self.idle.get(place) {
-                list.push_reserved((entry.id, entry.birth, entry.since));
+                list.push_reserved((entry.id(), entry.birth(), entry.since()));
             }
         }
         Ok(list)
@@ -208,10 +208,10 @@ impl<A: Allocator> Standing<A> {
     {
         match self.idle.take(limits.order()) {
             Some(entry) => {
-                if entry.id != id {
+                if entry.id() != id {
                     return false;
                 }
-                self.lent.add(LentConnection::new(id, entry.birth));
+                self.lent.add(LentConnection::new(id, entry.birth()));
                 true
             }
             None => false,
@@ -258,12 +258,7 @@ impl<A: Allocator> Standing<A> {
         requires room { length self.old.base.idle < self.old.room.idle }
         ensures { self.new ≡ standing (with_resting (resting id (as_nanos birth) self.old.base.at) self.old.base) self.old.room }
     {
-        self.idle.add(IdleConnection {
-            id,
-            birth,
-            since: self.at,
-            value: (),
-        });
+        self.idle.add(IdleConnection::new(id, birth, self.at, ()));
     }
 
     // The lent one with the id is gone, if there is one.

@@ -12,42 +12,24 @@ ghost use Rattle.r2d2_core.specs.Seen.{seen_released};
 use super::answers::Released;
 use super::is_before;
 use super::leftover::Leftover;
+use super::reaping::{reap_each, reap_front};
 use crate::schedule::{LendingOrder, Limits};
 use crate::steps::Steps;
-use circular_buffer::HeapCircularBuffer;
-use reaping::{reap_each, reap_front};
+pub(crate) use counted::IdleConnection;
+use counted::Ring;
 use shedding::{shed_each, shed_front};
 use std::alloc::{AllocError, Allocator, Global};
 use std::marker::Model;
 use std::sync::ledger::Ledger;
 use std::time::Duration;
 
-mod counted;
-mod reaping;
+pub(crate) mod counted;
 mod shedding;
-
-/// A connection that is idle.
-#[derive(Drop)]
-pub(crate) struct IdleConnection<T> {
-    pub(crate) id: u64,
-    pub(crate) birth: Duration,
-    pub(crate) since: Duration,
-    pub(crate) value: T,
-}
-
-impl<T> Model for IdleConnection<T> {
-    ghost use Rattle.std.specs.Duration.{as_nanos};
-    ghost use Rattle.r2d2_core.specs.Connections.{SeenIdleConnection, idle_connection};
-
-    ghost Value = { SeenIdleConnection T };
-
-    ghost view = { λ e. idle_connection e.id (as_nanos e.birth) (as_nanos e.since) e.value };
-}
 
 /// The connections in a ring, the newest at its back, until it is closed.
 #[derive(Drop)]
 pub(crate) struct Idle<T, A: Allocator = Global> {
-    ring: Option<HeapCircularBuffer<IdleConnection<T>, A>>,
+    ring: Option<Ring<T, A>>,
 }
 
 impl<T, A: Allocator> Model for Idle<T, A> {
@@ -65,7 +47,7 @@ impl<T, A: Allocator> Idle<T, A> {
         T: Drop,
         ensures { IfOk result (λ idle. idle ≡ roster [] room) }
     {
-        let ring = HeapCircularBuffer::with_capacity(alloc, room)?;
+        let ring = Ring::with_capacity(alloc, room)?;
         Ok(Idle { ring: Some(ring) })
     }
 
@@ -83,7 +65,7 @@ impl<T, A: Allocator> Idle<T, A> {
         ensures { result ≡ option_map id_of_idle (slice_get self.now.items place) }
     {
         match &self.ring {
-            Some(ring) => ring.get(place as usize).map(|entry| entry.id),
+            Some(ring) => ring.get(place as usize).map(|entry| entry.id()),
             None => None,
         }
     }
@@ -105,7 +87,7 @@ impl<T, A: Allocator> Idle<T, A> {
         ensures same { IfNone result (self.new ≡ self.old) }
     {
         match &mut self.ring {
-            Some(ring) => pop_next(ring, order),
+            Some(ring) => ring.pop_next(order),
             None => None,
         }
     }
@@ -116,7 +98,7 @@ impl<T, A: Allocator> Idle<T, A> {
         ensures { self.new ≡ roster (self.old.items ++ entry ∷ []) self.old.room }
     {
         match &mut self.ring {
-            Some(ring) => push_back(ring, entry),
+            Some(ring) => ring.push_back(entry),
             None => unreachable!(),
         }
     }
@@ -184,36 +166,10 @@ impl<T, A: Allocator> Idle<T, A> {
         ensures handed { result ≡ map pair_of self.old.items }
         ensures closed { self.new ≡ roster [] 0 }
     {
-        Leftover::of(self.ring.take())
-    }
-}
-
-// Takes out the one that is lent next.
-fn pop_next<T, A: Allocator>(
-    ring: &mut HeapCircularBuffer<IdleConnection<T>, A>,
-    order: LendingOrder,
-) -> Option<IdleConnection<T>>
-    ensures next { result ≡ lent_next order ring.old.items }
-    ensures others { ring.new ≡ buffer (still_idle order ring.old.items) ring.old.capacity }
-    ensures same { IfNone result (ring.new ≡ ring.old) }
-{
-    match order {
-        LendingOrder::NewestFirst => ring.pop_back(),
-        LendingOrder::OldestFirst => ring.pop_front(),
-    }
-}
-
-// Puts one at the back, where there is room.
-fn push_back<T, A: Allocator>(
-    ring: &mut HeapCircularBuffer<IdleConnection<T>, A>,
-    entry: IdleConnection<T>,
-)
-    requires { length ring.old.items < ring.old.capacity }
-    ensures { ring.new ≡ buffer (ring.old.items ++ entry ∷ []) ring.old.capacity }
-{
-    match ring.push_back(entry) {
-        None => {}
-        Some(_) => unreachable!(),
+        match self.ring.take() {
+            Some(ring) => Leftover::of(Some(ring.into_held())),
+            None => Leftover::of(None),
+        }
     }
 }
 

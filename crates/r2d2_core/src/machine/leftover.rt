@@ -48,7 +48,7 @@ impl<T: Drop, A: Allocator> Iterator for Leftover<T, A> {
         match &mut self.rest {
             Some(rest) => {
                 let entry = rest.pop_front()?;
-                Some((entry.id, entry.value))
+                Some((entry.id(), entry.into_value()))
             }
             None => None,
         }

@@ -68,12 +68,7 @@ impl<A: Allocator> Standing<A> {
                 return false;
             }
             last = since;
-            self.idle.add(IdleConnection {
-                id,
-                birth,
-                since,
-                value: (),
-            });
+            self.idle.add(IdleConnection::new(id, birth, since, ()));
         }
         true
     }
@@ -130,7 +125,7 @@ impl<A: Allocator> Standing<A> {
         }
         for place in 0..ids.len() {
             if let Some(entry) = self.idle.get(place)
-                && entry.id != ids[place]
+                && entry.id() != ids[place]
             {
                 return false;
             }

@@ -6,17 +6,15 @@ ghost use Rattle.circular_buffer.specs.Buffer.{buffer};
 ghost use Rattle.r2d2_core.specs.Limits.{seen_limits};
 ghost use Rattle.r2d2_core.specs.Connections.{is_kept, since_of};
 
-use super::reaping::is_expired;
-use super::{IdleConnection, push_back};
+use super::counted::{Ring, is_expired};
 use crate::schedule::Limits;
-use circular_buffer::HeapCircularBuffer;
 use std::alloc::Allocator;
 use std::time::Duration;
 
 /// Lets connections at the front go as long as they are expired. Those behind the first that is not came to be idle no earlier, so
 /// none of them is, where births don't matter. Where the idle time doesn't either, it looks at none.
 pub(super) fn shed_front<T: Drop, A: Allocator>(
-    ring: &mut HeapCircularBuffer<IdleConnection<T>, A>,
+    ring: &mut Ring<T, A>,
     limits: &Limits,
     now: Duration,
 )
@@ -28,7 +26,7 @@ pub(super) fn shed_front<T: Drop, A: Allocator>(
         return;
     }
     for _ in 0..ring.len() {
-        let Some(oldest) = ring.front() else {
+        let Some(oldest) = ring.get(0) else {
             return;
         };
         if !is_expired(oldest, limits, now) {
@@ -40,7 +38,7 @@ pub(super) fn shed_front<T: Drop, A: Allocator>(
 
 /// Takes each connection from the front once, and puts those that are kept at the back.
 pub(super) fn shed_each<T: Drop, A: Allocator>(
-    ring: &mut HeapCircularBuffer<IdleConnection<T>, A>,
+    ring: &mut Ring<T, A>,
     limits: &Limits,
     now: Duration,
 )
@@ -50,7 +48,7 @@ pub(super) fn shed_each<T: Drop, A: Allocator>(
     for _ in 0..all {
         if let Some(entry) = ring.pop_front() {
             if !is_expired(&entry, limits, now) {
-                push_back(ring, entry);
+                ring.push_back(entry);
             }
         }
     }

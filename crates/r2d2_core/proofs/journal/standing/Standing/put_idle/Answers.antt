@@ -27,9 +27,10 @@ loop-entry-preserved g c =
     let e = seen_resting (get_or all k none) in
     let at = as_nanos c.loop-entry.self-inside.at in
     let fits : (nat_le e.birth e.since && (nat_le (as_nanos c.loop-entry.last) e.since && nat_le e.since at)) ≡ true = cc in
+    let made : c.new.result ≡ e = c.new.ensures in
     record {
       order = order_more at (as_nanos c.loop-entry.last) k (map seen_resting all) e (are_in_order at 0 (map seen_resting all)) (seen_next seen_resting all k none (omega arith)) fits c.loop-entry.invariant.order;
-      put = ap (λ (r : SeenRoster Resting). r.items) c.add.ensures ∙ (ap (λ l. l ++ e ∷ []) c.loop-entry.invariant.put ∙ sym (seen_taken seen_resting all k none (omega arith)));
+      put = ap (λ (r : SeenRoster Resting). r.items) c.add.ensures ∙ rw made (ap (λ l. l ++ e ∷ []) c.loop-entry.invariant.put ∙ sym (seen_taken seen_resting all k none (omega arith)));
       room = ap (λ (r : SeenRoster Resting). r.room) c.add.ensures ∙ c.loop-entry.invariant.room;
       lent_room = c.loop-entry.invariant.lent_room;
       at = c.loop-entry.invariant.at;

@@ -1,4 +1,4 @@
-use Rattle.std.proofs.Common.{◌≡◌, ℕ, ◌<◌, List, Some, length, sym, ◌∙◌, ap, arith}
+use Rattle.std.proofs.Common.{◌≡◌, ℕ, ◌<◌, List, Some, length, sym, ◌∙◌, ap, arith, refl}
 use Rattle.std.specs.Prelude.{option_copied, slice_get}
 use Rattle.std.specs.declared.time.Duration.{Duration}
 use Rattle.std.proofs.lemmas.List.{length_push}
@@ -17,10 +17,11 @@ loop-place-preserved g c =
     elim c.match-get.branch [
       | in-Some w ↦
           let there : slice_get here c.loop-place.place ≡ Some w.in-Some.entry.now = sym c.get.ensures ∙ ap option_copied w.in-Some.is in
-          let p : ℕ × Duration × Duration = (w.entry.inside.id, w.entry.inside.birth, w.entry.inside.since) in
+          let p : ℕ × Duration × Duration = (w.id.result, w.birth.result, w.since.result) in
+          let told : seen_resting p ≡ w.in-Some.entry.now = rw (w.id.ensures, w.birth.ensures, w.since.ensures) refl in
           rw (w.list-is, w.push_reserved.ensures.items, w.push_reserved.ensures.capacity)
           (record {
-            listed = copied_more seen_resting all c.loop-place.place c.loop-place.list.items p (same_at here all c.loop-place.place (seen_resting p) same (there ∙ ap Some (sym w.entry.view_is))) c.loop-place.invariant.listed;
+            listed = copied_more seen_resting all c.loop-place.place c.loop-place.list.items p (same_at here all c.loop-place.place (seen_resting p) same (there ∙ ap Some (sym told))) c.loop-place.invariant.listed;
             len = omega (arith, length_push c.loop-place.list.items p, c.loop-place.invariant.len);
             room = c.loop-place.invariant.room;
           })

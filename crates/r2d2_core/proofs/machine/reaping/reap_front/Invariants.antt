@@ -4,7 +4,7 @@ use Rattle.r2d2_core.specs.Limits.{seen_limits}
 use Rattle.r2d2_core.specs.Connections.{is_expired, released_at}
 use Rattle.r2d2_core.specs.Seen.{seen_released}
 use Rattle.r2d2_core.proofs.Lists.Turning.{Fronted}
-use Rattle.r2d2_core.proofs.machine.idle.reaping.reap_front.Given as goal
+use Rattle.r2d2_core.proofs.machine.reaping.reap_front.Given as goal
 
 abbrev pub invariant-loop : goal.invariant-loop
 invariant-loop g l = record {

@@ -7,39 +7,18 @@ ghost use Rattle.r2d2_core.specs.Limits.{seen_limits};
 ghost use Rattle.r2d2_core.specs.Connections.{is_expired, is_kept, since_of, released_at, closed_of};
 ghost use Rattle.r2d2_core.specs.Seen.{seen_released};
 
-use super::counted::{look, move_in, move_out};
-use super::{IdleConnection, reached};
-use crate::machine::answers::Released;
+use super::answers::Released;
+use super::idle::counted::{Ring, is_expired, look, move_in, move_out, released};
 use crate::schedule::Limits;
 use crate::steps::Steps;
-use circular_buffer::HeapCircularBuffer;
 use std::alloc::Allocator;
 use std::sync::ledger::Ledger;
 use std::time::Duration;
 
-#[tactic(auto, unfolding(crate::specs::Connections::is_expired))]
-pub(super) fn is_expired<T>(entry: &IdleConnection<T>, limits: &Limits, now: Duration) -> bool
-    ensures { result ≡ is_expired (seen_limits limits.now) (as_nanos now) entry.now }
-{
-    reached(limits.idle_timeout(), now.saturating_sub(entry.since))
-        || reached(limits.max_lifetime(), now.saturating_sub(entry.birth))
-}
-
-#[tactic(auto, unfolding(crate::specs::Connections::released_at))]
-fn released<T>(entry: IdleConnection<T>, now: Duration) -> Released<T>
-    ensures { seen_released result ≡ released_at (as_nanos now) entry }
-{
-    Released {
-        id: entry.id,
-        age: now.saturating_sub(entry.birth),
-        value: entry.value,
-    }
-}
-
 /// Takes connections from the front as long as they are expired. Those behind the first that is not came to be idle no earlier,
 /// so none of them is, where births don't matter. Where the idle time doesn't either, it looks at none.
 pub(super) fn reap_front<T, A: Allocator, L: Ledger>(
-    ring: &mut HeapCircularBuffer<IdleConnection<T>, A>,
+    ring: &mut Ring<T, A>,
     limits: &Limits,
     now: Duration,
     out: &mut Vec<Released<T>>,
@@ -74,7 +53,7 @@ pub(super) fn reap_front<T, A: Allocator, L: Ledger>(
 
 /// Takes each connection from the front once, and puts those that are kept at the back.
 pub(super) fn reap_each<T, A: Allocator, L: Ledger>(
-    ring: &mut HeapCircularBuffer<IdleConnection<T>, A>,
+    ring: &mut Ring<T, A>,
     limits: &Limits,
     now: Duration,
     out: &mut Vec<Released<T>>,

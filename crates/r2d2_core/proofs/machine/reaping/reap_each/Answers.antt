@@ -4,8 +4,8 @@ use Rattle.std.specs.List.{slice_get}
 use Rattle.r2d2_core.specs.Limits.{seen_limits}
 use Rattle.r2d2_core.specs.Connections.{is_expired, is_kept}
 use Rattle.r2d2_core.proofs.Lists.Turning.{turned_closed, turned_kept, turned_there, turned_fits, turned_all}
-use Rattle.r2d2_core.proofs.machine.idle.reaping.reap_each.Goals as goal
-use Rattle.r2d2_core.proofs.machine.idle.reaping.reap_each.Goals.{in-Some+then-is_expired, in-Some+else-is_expired, in_default}
+use Rattle.r2d2_core.proofs.machine.reaping.reap_each.Goals as goal
+use Rattle.r2d2_core.proofs.machine.reaping.reap_each.Goals.{in-Some+then-is_expired, in-Some+else-is_expired, in_default}
 
 pub push_reserved-requires : goal.push_reserved-requires
 push_reserved-requires g c =

@@ -7,8 +7,8 @@ use Rattle.r2d2_core.specs.Limits.{seen_limits}
 use Rattle.r2d2_core.specs.Connections.{is_expired, is_kept, since_of}
 use Rattle.r2d2_core.proofs.Lists.Expiring.{expires_earlier, never_expires}
 use Rattle.r2d2_core.proofs.Lists.Turning.{none_passes, fronted_more, fronted_stop, fronted_there, fronted_all}
-use Rattle.r2d2_core.proofs.machine.idle.reaping.reap_front.Goals as goal
-use Rattle.r2d2_core.proofs.machine.idle.reaping.reap_front.Goals.{in-Some-move_out, in_default-move_out}
+use Rattle.r2d2_core.proofs.machine.reaping.reap_front.Goals as goal
+use Rattle.r2d2_core.proofs.machine.reaping.reap_front.Goals.{in-Some-move_out, in_default-move_out}
 
 pub returns-then-not-is_expired-clause-released : goal.returns-then-not-is_expired-clause-released
 returns-then-not-is_expired-clause-released g c =
