@@ -42,18 +42,6 @@ fn place_of(list: &[Known], id: u64) -> Option<usize> {
     None
 }
 
-fn moment_of(record: Record) -> Duration {
-    match record {
-        Record::Taken { at, .. }
-        | Record::Ordered { at, .. }
-        | Record::Admitted { at, .. }
-        | Record::Kept { at, .. }
-        | Record::Closed { at, .. }
-        | Record::Reaped { at, .. }
-        | Record::ClosedAll { at } => at,
-    }
-}
-
 impl Standing {
     // What the base of a report says.
     fn of<A: Allocator>(alloc: Global, report: &Report<A>) -> Result<Standing, AllocError> {
@@ -209,8 +197,8 @@ impl Standing {
     }
 
     fn follow(&mut self, record: Record) -> Result<(), AllocError> {
-        self.is_strange |= moment_of(record) < self.at;
-        self.at = moment_of(record);
+        self.is_strange |= record.at() < self.at;
+        self.at = record.at();
         match record {
             Record::Taken { id, ordered, .. } => {
                 self.take(id)?;

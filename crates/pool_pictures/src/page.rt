@@ -2,7 +2,7 @@
 
 use crate::drawing::svg;
 use crate::lengths::{Length, Limit};
-use crate::story::{Counts, moment_of};
+use crate::story::Counts;
 use r2d2_core::{LendingOrder, Limits, Record, Report};
 use std::alloc::{AllocError, Allocator, Global};
 use std::fmt;
@@ -134,7 +134,7 @@ fn base_of<A: Allocator>(report: &Report<A>) -> Counts {
 
 fn end_of<A: Allocator>(report: &Report<A>) -> Counts {
     let at = match report.records.as_slice().last() {
-        Some(record) => moment_of(*record),
+        Some(record) => record.at(),
         None => report.base.at,
     };
     Counts {
@@ -172,7 +172,7 @@ fn records(page: &mut String, records: &[Record]) -> Result<(), AllocError> {
 }
 
 fn line(page: &mut String, record: Record) -> Result<(), AllocError> {
-    let at = Seconds(moment_of(record));
+    let at = Seconds(record.at());
     let (name, id, ordered) = parts(record);
     write!(page, "<tr><td>{at}</td><td class=\"word\">{name}</td><td>")?;
     if let Some(id) = id {

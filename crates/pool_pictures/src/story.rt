@@ -1,11 +1,9 @@
 // The story of a report: what became of each connection, and how many there were.
 ghost use Rattle.std.specs.Prelude.{◌≡◌, ◌+◌, ◌-◌, ◌^◌, ◌<◌, min, IfOk};
 ghost use Rattle.std.specs.Duration.{as_nanos};
-ghost use Rattle.r2d2_core.specs.Records.{seen_record};
-ghost use Rattle.r2d2_core.specs.Folding.{moment_in};
 ghost use Rattle.r2d2_core.specs.Limits.{has_reached};
 
-use r2d2_core::{Limits, Record, Report};
+use r2d2_core::{Limits, Report};
 use std::alloc::{AllocError, Allocator, Global};
 use std::time::Duration;
 use telling::Teller;
@@ -267,20 +265,5 @@ impl Story {
         } else {
             size.max(most)
         }
-    }
-}
-
-/// The moment of a record.
-pub fn moment_of(made: Record) -> Duration
-    ensures { as_nanos result ≡ moment_in (seen_record made) }
-{
-    match made {
-        Record::Taken { at, .. }
-        | Record::Ordered { at, .. }
-        | Record::Admitted { at, .. }
-        | Record::Kept { at, .. }
-        | Record::Closed { at, .. }
-        | Record::Reaped { at, .. }
-        | Record::ClosedAll { at } => at,
     }
 }

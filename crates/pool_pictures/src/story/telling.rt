@@ -1,7 +1,7 @@
 // How a story is told: the records of a report, one by one.
 ghost use Rattle.std.specs.Prelude.{◌≡◌};
 
-use super::{Cause, Coming, Counts, Life, Story, Stretch, Use, moment_of};
+use super::{Cause, Coming, Counts, Life, Story, Stretch, Use};
 use r2d2_core::{Base, Limits, Record, Report};
 use std::alloc::{AllocError, Allocator, Global};
 use std::collections::{BTreeMap, BTreeSet};
@@ -197,7 +197,7 @@ impl Teller {
 
     /// What the next record tells.
     pub(super) fn follow(&mut self, record: Record) -> Result<(), AllocError> {
-        self.now = self.now.max(moment_of(record));
+        self.now = self.now.max(record.at());
         match record {
             Record::Taken { id, ordered, .. } => {
                 self.lend(id)?;

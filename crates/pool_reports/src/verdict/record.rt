@@ -2,9 +2,8 @@
 ghost use Rattle.std.specs.Prelude.{◌≡◌};
 ghost use Rattle.std.specs.Duration.{as_nanos};
 ghost use Rattle.r2d2_core.specs.Limits.{seen_limits, has_reached};
-ghost use Rattle.r2d2_core.specs.Records.{seen_record};
 ghost use Rattle.r2d2_core.specs.Reports.{seen_base};
-ghost use Rattle.r2d2_core.specs.Folding.{moment_in, tops_up};
+ghost use Rattle.r2d2_core.specs.Folding.{tops_up};
 
 use r2d2_core::{Base, LendingOrder, Limits, Record};
 use std::alloc::Allocator;
@@ -131,7 +130,7 @@ pub(super) fn reason<A: Allocator>(
     record: &Record,
     is_first: bool,
 ) -> RecordReason {
-    let at = moment_of(record);
+    let at = record.at();
     if at.as_nanos() < before.at.as_nanos() {
         return if is_first {
             RecordReason::BeforeBase
@@ -148,20 +147,6 @@ pub(super) fn reason<A: Allocator>(
         Record::Closed { id, ordered, .. } => of_closed(limits, before, *id, *ordered),
         Record::Reaped { ordered, .. } => of_reaped(limits, before, at, *ordered),
         Record::ClosedAll { .. } => RecordReason::ClosedTwice,
-    }
-}
-
-fn moment_of(record: &Record) -> Duration
-    ensures { as_nanos result ≡ moment_in (seen_record record.now) }
-{
-    match record {
-        Record::Taken { at, .. }
-        | Record::Ordered { at, .. }
-        | Record::Admitted { at, .. }
-        | Record::Kept { at, .. }
-        | Record::Closed { at, .. }
-        | Record::Reaped { at, .. }
-        | Record::ClosedAll { at } => *at,
     }
 }
 
