@@ -1,13 +1,13 @@
 -- Which steps are refused, what each step answers, and what a core shows.
-use Rattle.std.specs.Prelude.{ℕ, ◌+◌, ◌-◌, min, ◌^◌, Bool, ◌==◌, ◌||◌, not, nat_lt, if◌then◌else◌, List, [], ◌∷◌, map, length, Option, None, is_some, option_map, unwrap_or, Ok, Err}
+use Rattle.std.specs.Prelude.{ℕ, ◌+◌, ◌-◌, min, ◌^◌, Bool, false, ◌==◌, ◌||◌, not, nat_lt, if◌then◌else◌, List, [], ◌∷◌, map, length, Option, None, is_some, option_map, unwrap_or, Ok, Err}
 use Rattle.std.specs.List.{list_any}
 use Rattle.r2d2_core.specs.declared.run.Step.{Step}
 use Rattle.r2d2_core.specs.declared.run.Step.TheVariants as step
 use Rattle.r2d2_core.specs.declared.machine.answers.Refusal.{Refusal}
 use Rattle.r2d2_core.specs.declared.machine.answers.Refusal.TheVariants as refusal
-use Rattle.r2d2_core.specs.Limits.{top_up_beside, later_by, delay_of, has_reached}
+use Rattle.r2d2_core.specs.Limits.{top_up, later_by, delay_of, has_reached}
 use Rattle.r2d2_core.specs.Lending.{lent_next}
-use Rattle.r2d2_core.specs.Connections.{closed_of, pair_of, SeenReleased}
+use Rattle.r2d2_core.specs.Connections.{closed_of, pair_of}
 use Rattle.r2d2_core.specs.Refusals.{refused_if}
 use Rattle.r2d2_core.specs.Seen.{SeenAnswer, Taken, Found, Empty, Begun, Numbered, Admitted, Failed, CheckFailed, CameBack, SeenReturned, Kept, Closed, Reaped, Told, Left}
 use Rattle.r2d2_core.specs.Picture.{Picture}
@@ -69,10 +69,6 @@ module _ {T : Type 0} where
   abbrev pub closes : History T → ℕ → ℕ → Bool → Bool
   closes h t id broken = broken || (has_reached (limits_of h).max_lifetime (age_of h t id) || is_closed h)
 
-  -- what a reap at a moment after h closes, oldest first
-  abbrev pub reaped_of : History T → ℕ → List (SeenReleased T)
-  reaped_of h t = closed_of (limits_of h) t (idle_of h)
-
   abbrev pub return_with : Bool → T → ℕ → ℕ → SeenReturned T
   return_with b value age n = if b then Closed value age n else Kept
 
@@ -87,15 +83,15 @@ module _ {T : Type 0} where
   reply_with h n (step.PutBack now id value broken) =
       let t = moment_of h (step.PutBack now id value broken) in
       CameBack (Ok (return_with (closes h t id broken) value (age_of h t id) n))
-  reply_with h n (step.Reap now) = Reaped (reaped_of h (moment_of h (step.Reap now))) n
+  reply_with h n (step.Reap now) = Reaped (closed_of (limits_of h) (moment_of h (step.Reap now)) (idle_of h)) n
   reply_with h n step.TakeError = Told (last_error_of h)
   reply_with h n step.Close = Left (map pair_of (idle_of h))
 
   -- ORDERS
 
-  -- what a top-up orders after a step
+  -- what a top-up orders after a step, where there was no close
   abbrev pub top_up_after : History T → History T → ℕ
-  top_up_after h after = top_up_beside (limits_of h) (length (idle_of after)) (connections_of after) (pending_of h)
+  top_up_after h after = top_up (limits_of h) false (length (idle_of after)) (connections_of after) (pending_of h)
 
   -- one where a miss asks for it, as far as there is room
   abbrev pub order_on_miss : History T → Bool → ℕ

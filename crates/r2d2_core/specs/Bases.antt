@@ -12,12 +12,9 @@ use Rattle.r2d2_core.specs.Connections.{SeenIdleConnection, SeenLentConnection, 
 abbrev pub Resting : Type 0
 Resting = SeenIdleConnection (Unit {0})
 
-abbrev pub resting : ℕ → ℕ → ℕ → Resting
-resting id birth since = idle_connection id birth since tt
-
 -- an idle connection as a report has it: id, birth, and since when it is idle
 abbrev pub seen_resting : ℕ × Duration × Duration → Resting
-seen_resting c = resting c.0 (as_nanos c.1) (as_nanos c.2)
+seen_resting c = idle_connection c.0 (as_nanos c.1) (as_nanos c.2) tt
 
 -- a lent one: id and birth
 abbrev pub seen_away : ℕ × Duration → SeenLentConnection

@@ -1,10 +1,10 @@
 -- What a book shows, and what holds of each.
 use Rattle.std.specs.Prelude.{◌≡◌, List, map}
 use Rattle.r2d2_core.specs.Limits.{SeenLimits}
-use Rattle.r2d2_core.specs.Connections.{SeenIdleConnection}
+use Rattle.r2d2_core.specs.Connections.{SeenIdleConnection, idle_connection}
 use Rattle.r2d2_core.specs.Picture.{Picture, IsSound}
 use Rattle.r2d2_core.specs.Records.{SeenRecord}
-use Rattle.r2d2_core.specs.Bases.{SeenBase, Resting, resting, IsLegalBase}
+use Rattle.r2d2_core.specs.Bases.{SeenBase, Resting, IsLegalBase}
 use Rattle.r2d2_core.specs.Folding.{replay, AreLegalFrom}
 use Rattle.r2d2_core.specs.Journal.{SeenJournal}
 
@@ -18,7 +18,7 @@ seen_book picture journal = record { picture = picture; journal = journal }
 
 -- an idle connection without its payload
 abbrev pub bare : {T : Type 0} → SeenIdleConnection T → Resting
-bare c = resting c.id c.birth c.since
+bare c = idle_connection c.id c.birth c.since tt
 
 -- a base says what a picture shows
 pub record ComesTo {T : Type 0} (b : SeenBase) (p : Picture T) : Type 0 where

@@ -1,11 +1,11 @@
 -- What records come to from a base, and which are legal. They stand the oldest first, as in a book and in a report.
 use Rattle.std.specs.Prelude.{◌≡◌, ℕ, ◌+◌, ◌-◌, ◌≤◌, Bool, true, false, ◌==◌, ◌||◌, ◌&&◌, not, nat_lt, nat_le, if◌then◌else◌, List, [], ◌∷◌, ◌++◌, length, filter, is_some, option_map, unwrap_or}
-use Rattle.r2d2_core.specs.Limits.{SeenLimits, top_up_beside, has_reached}
+use Rattle.r2d2_core.specs.Limits.{SeenLimits, top_up, has_reached}
 use Rattle.r2d2_core.specs.Ids.{found, without, copies_of}
 use Rattle.r2d2_core.specs.Lending.{lent_next}
-use Rattle.r2d2_core.specs.Connections.{SeenLentConnection, lent_connection, id_of_idle, id_of_lent, birth_in, is_expired, is_kept}
+use Rattle.r2d2_core.specs.Connections.{SeenLentConnection, idle_connection, lent_connection, id_of_idle, id_of_lent, birth_in, is_expired, is_kept}
 use Rattle.r2d2_core.specs.Records.{SeenRecord, Taken, Ordered, Admitted, Kept, Closed, Reaped, ClosedAll}
-use Rattle.r2d2_core.specs.Bases.{SeenBase, Resting, resting, ids_of}
+use Rattle.r2d2_core.specs.Bases.{SeenBase, Resting, ids_of}
 
 -- the moment of a record
 abbrev pub moment_in : SeenRecord → ℕ
@@ -37,8 +37,8 @@ expired_in limits at b = length (filter (is_expired limits at) b.idle)
 abbrev pub folded : SeenLimits → SeenRecord → SeenBase → SeenBase
 folded limits (Taken at id n) b = record b { at = at; idle = without id_of_idle id b.idle; lent = b.lent ++ lent_connection id (birth_at_rest id b.idle) ∷ []; pending = b.pending + n }
 folded limits (Ordered at n) b = record b { at = at; pending = b.pending + n }
-folded limits (Admitted at id) b = record b { at = at; idle = b.idle ++ resting id at at ∷ []; connections = b.connections + 1; pending = b.pending - 1 }
-folded limits (Kept at id) b = record b { at = at; idle = b.idle ++ resting id (birth_away id b.lent) at ∷ []; lent = without id_of_lent id b.lent }
+folded limits (Admitted at id) b = record b { at = at; idle = b.idle ++ idle_connection id at at tt ∷ []; connections = b.connections + 1; pending = b.pending - 1 }
+folded limits (Kept at id) b = record b { at = at; idle = b.idle ++ idle_connection id (birth_away id b.lent) at tt ∷ []; lent = without id_of_lent id b.lent }
 folded limits (Closed at id n) b = record b { at = at; lent = without id_of_lent id b.lent; connections = b.connections - 1; pending = b.pending + n }
 folded limits (Reaped at n) b = record b { at = at; idle = still_resting limits at b; connections = b.connections - expired_in limits at b; pending = b.pending + n }
 folded limits (ClosedAll at) b = record b { at = at; idle = []; connections = b.connections - length b.idle; pending = 0; closed = true }
@@ -50,27 +50,20 @@ replay limits (r ∷ rs) b = replay limits rs (folded limits r b)
 
 -- LEGAL RECORDS
 
--- what a step orders that leaves so many idle and so many connections
-abbrev pub tops_up : SeenLimits → ℕ → ℕ → SeenBase → ℕ
-tops_up limits idle connections b = if b.closed then 0 else top_up_beside limits idle connections b.pending
-
--- whether an id is that of the idle one that is lent next, or of a lent one
+-- whether an id is that of the idle one that is lent next
 abbrev pub is_next : SeenLimits → ℕ → SeenBase → Bool
 is_next limits id b = unwrap_or (option_map (λ c. c.id == id) (lent_next limits.order b.idle)) false
-
-abbrev pub is_away : ℕ → SeenBase → Bool
-is_away id b = is_some (birth_in id b.lent)
 
 -- whether a record fits a base, but for its moment. The one taken is the idle one that is next; one is ordered alone, where none is idle and
 -- there is room; one is admitted where an opening is pending; what is kept or closed is lent, and what is kept is not to be closed; a reap
 -- closes or orders; a pool is closed once; and all order what they have to
 abbrev pub fits : SeenLimits → SeenRecord → SeenBase → Bool
-fits limits (Taken at id n) b = is_next limits id b && (n == tops_up limits (length b.idle - 1) b.connections b)
+fits limits (Taken at id n) b = is_next limits id b && (n == top_up limits b.closed (length b.idle - 1) b.connections b.pending)
 fits limits (Ordered at n) b = (length b.idle == 0) && ((n == 1) && (not b.closed && nat_lt (b.connections + b.pending) limits.max_size))
 fits limits (Admitted at id) b = nat_lt 0 b.pending
-fits limits (Kept at id) b = is_away id b && (not b.closed && not (has_reached limits.max_lifetime (at - birth_away id b.lent)))
-fits limits (Closed at id n) b = is_away id b && (n == tops_up limits (length b.idle) (b.connections - 1) b)
-fits limits (Reaped at n) b = (n == tops_up limits (length (still_resting limits at b)) (b.connections - expired_in limits at b) b) && (nat_lt 0 n || nat_lt 0 (expired_in limits at b))
+fits limits (Kept at id) b = is_some (birth_in id b.lent) && (not b.closed && not (has_reached limits.max_lifetime (at - birth_away id b.lent)))
+fits limits (Closed at id n) b = is_some (birth_in id b.lent) && (n == top_up limits b.closed (length b.idle) (b.connections - 1) b.pending)
+fits limits (Reaped at n) b = (n == top_up limits b.closed (length (still_resting limits at b)) (b.connections - expired_in limits at b) b.pending) && (nat_lt 0 n || nat_lt 0 (expired_in limits at b))
 fits limits (ClosedAll at) b = not b.closed
 
 -- and moments never fall

@@ -1,5 +1,5 @@
 -- What the limits of a pool say. Lengths of time are compared in nanoseconds.
-use Rattle.std.specs.Prelude.{ℕ, ◌+◌, ◌-◌, ◌*◌, ◌/◌, ◌^◌, ◌<◌, ◌≤◌, min, Bool, false, ◌||◌, nat_le, Option, Some, None, is_some, unwrap_or}
+use Rattle.std.specs.Prelude.{ℕ, ◌+◌, ◌-◌, ◌*◌, ◌/◌, ◌^◌, ◌<◌, ◌≤◌, min, Bool, false, ◌||◌, nat_le, Option, Some, None, is_some, unwrap_or, if◌then◌else◌}
 use Rattle.std.specs.Option.{ForSome}
 use Rattle.std.specs.Duration.{as_nanos, max_nanos}
 use Rattle.std.specs.declared.time.Duration.{Duration}
@@ -25,7 +25,7 @@ abbrev pub with_order : LendingOrder → SeenLimits → SeenLimits
 with_order order limits = record limits { order = order }
 
 abbrev pub seen_limits : Limits → SeenLimits
-seen_limits l = with_order l.order (settings l.max_size l.min_idle l.max_lifetime l.idle_timeout l.connection_timeout l.reap_every)
+seen_limits l = record (settings l.max_size l.min_idle l.max_lifetime l.idle_timeout l.connection_timeout l.reap_every) { order = l.order }
 
 -- sizes and lengths are positive, and no more are wanted idle than there may be
 pub record AreLegal (limits : SeenLimits) : Type 0 where
@@ -40,9 +40,9 @@ pub record AreLegal (limits : SeenLimits) : Type 0 where
 abbrev pub wanted_of : SeenLimits → ℕ
 wanted_of limits = unwrap_or limits.min_idle limits.max_size
 
--- what a top-up orders beside so many idle ones, so many connections and so many pending openings: what is wanted, as far as there is room
-abbrev pub top_up_beside : SeenLimits → ℕ → ℕ → ℕ → ℕ
-top_up_beside limits idle connections pending = min (wanted_of limits - idle) (limits.max_size - connections - pending)
+-- what a top-up orders where so many are idle, connected and pending: what is wanted beside the idle ones, as far as there is room; none once closed
+abbrev pub top_up : SeenLimits → Bool → ℕ → ℕ → ℕ → ℕ
+top_up limits closed idle connections pending = if closed then 0 else min (wanted_of limits - idle) (limits.max_size - connections - pending)
 
 -- whether reaps are ever due: only where an age or an idle time is limited
 abbrev pub has_reaps : SeenLimits → Bool

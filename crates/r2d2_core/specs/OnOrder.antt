@@ -4,7 +4,7 @@ use Rattle.std.specs.List.{All}
 use Rattle.std.specs.Duration.{as_nanos}
 use Rattle.r2d2_core.specs.declared.machine.answers.Refusal.{Refusal}
 use Rattle.r2d2_core.specs.declared.machine.answers.Refusal.TheVariants as refusal
-use Rattle.r2d2_core.specs.Limits.{SeenLimits, wanted_of, top_up_beside, later_by, delay_of}
+use Rattle.r2d2_core.specs.Limits.{SeenLimits, wanted_of, top_up, later_by, delay_of}
 use Rattle.r2d2_core.specs.Ids.{found, without, same_id}
 use Rattle.r2d2_core.specs.Openings.{SeenOpening, opening, with_opening, with_many, one_more, one_less}
 use Rattle.r2d2_core.specs.Jobs.{SeenJob, Open, Reap, Wait, Nothing, Closed, first_job}
@@ -46,9 +46,9 @@ pub record IsAccounted (o : SeenOnOrder) : Type 0 where
 abbrev pub room_beside : ℕ → SeenOnOrder → ℕ
 room_beside connections o = o.limits.max_size - connections - o.pending
 
--- what a top-up orders
-abbrev pub top_up : ℕ → ℕ → SeenOnOrder → ℕ
-top_up idle connections o = if o.closed then 0 else top_up_beside o.limits idle connections o.pending
+-- what a top-up orders beside so many idle ones and so many connections
+abbrev pub top_up_beside : ℕ → ℕ → SeenOnOrder → ℕ
+top_up_beside idle connections o = top_up o.limits o.closed idle connections o.pending
 
 -- what a miss orders: one, where it is asked for and there is room
 abbrev pub miss_order : Bool → ℕ → SeenOnOrder → ℕ

@@ -24,12 +24,7 @@ pub data SeenRecord : Type 0 where
 -- whether a record tells of a take that found
 abbrev pub is_take : SeenRecord → Bool
 is_take (Taken at id ordered) = true
-is_take (Ordered at ordered) = false
-is_take (Admitted at id) = false
-is_take (Kept at id) = false
-is_take (Closed at id ordered) = false
-is_take (Reaped at ordered) = false
-is_take (ClosedAll at) = false
+is_take _ = false
 
 -- how many takes that found the records tell of
 abbrev pub takes_in : List SeenRecord → ℕ

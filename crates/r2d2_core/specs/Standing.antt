@@ -5,9 +5,9 @@ use Rattle.r2d2_core.specs.declared.journal.standing.Rooms.{Rooms}
 use Rattle.r2d2_core.specs.declared.journal.standing.Standing.TheInside.{Inside}
 use Rattle.r2d2_core.specs.Limits.{SeenLimits}
 use Rattle.r2d2_core.specs.Ids.{without}
-use Rattle.r2d2_core.specs.Connections.{SeenLentConnection, lent_connection, id_of_idle, id_of_lent}
+use Rattle.r2d2_core.specs.Connections.{SeenLentConnection, idle_connection, lent_connection, id_of_idle, id_of_lent}
 use Rattle.r2d2_core.specs.Records.{SeenRecord, Taken, Admitted, Kept}
-use Rattle.r2d2_core.specs.Bases.{SeenBase, Resting, resting}
+use Rattle.r2d2_core.specs.Bases.{SeenBase, Resting}
 use Rattle.r2d2_core.specs.Folding.{birth_at_rest, birth_away, still_resting, expired_in}
 
 -- how many may be idle, and how many lent
@@ -77,10 +77,10 @@ abbrev pub lent_out : ℕ → SeenBase → SeenBase
 lent_out id b = record b { idle = without id_of_idle id b.idle; lent = b.lent ++ lent_connection id (birth_at_rest id b.idle) ∷ [] }
 
 abbrev pub admitted_to : ℕ → SeenBase → SeenBase
-admitted_to id b = record (with_resting (resting id b.at b.at) b) { pending = b.pending - 1 }
+admitted_to id b = record (with_resting (idle_connection id b.at b.at tt) b) { pending = b.pending - 1 }
 
 abbrev pub kept_in : ℕ → SeenBase → SeenBase
-kept_in id b = record b { idle = b.idle ++ resting id (birth_away id b.lent) b.at ∷ []; lent = without id_of_lent id b.lent }
+kept_in id b = record b { idle = b.idle ++ idle_connection id (birth_away id b.lent) b.at tt ∷ []; lent = without id_of_lent id b.lent }
 
 abbrev pub parted_from : ℕ → SeenBase → SeenBase
 parted_from id b = record b { lent = without id_of_lent id b.lent; connections = b.connections - 1 }

@@ -8,7 +8,7 @@ use Rattle.r2d2_core.specs.Lending.{lent_next, still_idle}
 use Rattle.r2d2_core.specs.Jobs.{SeenJob}
 use Rattle.r2d2_core.specs.Connections.{SeenIdleConnection, SeenReleased, idle_connection, lent_connection, id_of_lent, pair_of, birth_in, is_expired, is_kept, closed_of}
 use Rattle.r2d2_core.specs.Refusals.{refused_if, ok_unless, ok_or_back, unless_refused}
-use Rattle.r2d2_core.specs.OnOrder.{SeenOnOrder, top_up, miss_order, with_orders, first_on_order, job_at, begun, number_refusal, after_numbering, admit_refusal, admitted_one, fail_refusal, due_again, failed_one, emptied}
+use Rattle.r2d2_core.specs.OnOrder.{SeenOnOrder, top_up_beside, miss_order, with_orders, first_on_order, job_at, begun, number_refusal, after_numbering, admit_refusal, admitted_one, fail_refusal, due_again, failed_one, emptied}
 use Rattle.r2d2_core.specs.Picture.{Picture}
 use Rattle.r2d2_core.specs.Seen.{SeenTake, SeenReturned, Kept, Closed, SeenGone, take_with, or_text}
 
@@ -26,7 +26,7 @@ module _ {T : Type 0} where
   ordered n p = with_on_order (with_orders n p.latest p.on_order) p
 
   abbrev pub top_up_of : Picture T → ℕ
-  top_up_of p = top_up (length p.idle) p.connections p.on_order
+  top_up_of p = top_up_beside (length p.idle) p.connections p.on_order
 
   abbrev pub topped_up : Picture T → Picture T
   topped_up p = ordered (top_up_of p) p

@@ -1,9 +1,7 @@
 // Why a record may not follow what stood before it.
 ghost use Rattle.std.specs.Prelude.{◌≡◌};
 ghost use Rattle.std.specs.Duration.{as_nanos};
-ghost use Rattle.r2d2_core.specs.Limits.{seen_limits, has_reached};
-ghost use Rattle.r2d2_core.specs.Reports.{seen_base};
-ghost use Rattle.r2d2_core.specs.Folding.{tops_up};
+ghost use Rattle.r2d2_core.specs.Limits.{seen_limits, top_up, has_reached};
 
 use r2d2_core::{Base, LendingOrder, Limits, Record};
 use std::alloc::Allocator;
@@ -255,7 +253,7 @@ fn reached(limit: Option<Duration>, length: Duration) -> bool
 
 // What is to be ordered where so many are idle, and so many connected.
 fn due<A: Allocator>(limits: &Limits, before: &Base<A>, idle: usize, connections: u32) -> u32
-    ensures { result ≡ tops_up (seen_limits limits.now) idle connections (seen_base before.now) }
+    ensures { result ≡ top_up (seen_limits limits.now) before.now.closed idle connections before.now.pending }
 {
     if before.closed {
         return 0;

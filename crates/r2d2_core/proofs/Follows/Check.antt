@@ -8,7 +8,7 @@ use Rattle.r2d2_core.specs.declared.machine.answers.Refusal.{Refusal}
 use Rattle.r2d2_core.specs.declared.machine.answers.Refusal.TheVariants as refusal
 use Rattle.r2d2_core.specs.Refusals.{ok_unless, unless_refused}
 use Rattle.r2d2_core.specs.Seen.{SeenAnswer, SeenGone, CheckFailed}
-use Rattle.r2d2_core.specs.OnOrder.{top_up}
+use Rattle.r2d2_core.specs.OnOrder.{top_up_beside}
 use Rattle.r2d2_core.specs.Picture.{Picture, IsSound}
 use Rattle.r2d2_core.specs.Table.{raised_to, ordered, topped_up, lent_refusal, lent_birth, gone_one, with_text, gone_with, check_answer, after_check}
 use Rattle.r2d2_core.specs.History.{History, Then, is_closed, now_of}
@@ -42,7 +42,7 @@ module _ {T : Type 0} where
 
   -- what it orders
   orders_of-check : (h : History T) (now : Duration) (id : ℕ) (text : Option (String Global)) → is_lent h id ≡ true → IsSound (picture_of h)
-      → orders_of h (checking now id text) ≡ top_up (length (idle_of h)) (connections_of h - 1) (on_order_of h)
+      → orders_of h (checking now id text) ≡ top_up_beside (length (idle_of h)) (connections_of h - 1) (on_order_of h)
   orders_of-check h now id text lent sound =
       orders_of-top_up h (checking now id text) (length (idle_of h)) (connections_of h - 1) refl
       (ap length (idle_of-check h now id text 0 lent sound)) (connections_of-check h now id text 0)
@@ -60,7 +60,7 @@ module _ {T : Type 0} where
   }
 
   picture_of-check : (h : History T) (now : Duration) (id : ℕ) (text : Option (String Global)) (n : ℕ) → is_lent h id ≡ true → IsKept h
-      → n ≡ top_up (length (idle_of h)) (connections_of h - 1) (on_order_of h) → (is_closed h ≡ true → n ≡ 0)
+      → n ≡ top_up_beside (length (idle_of h)) (connections_of h - 1) (on_order_of h) → (is_closed h ≡ true → n ≡ 0)
       → picture_of (then_lost h now id text n) ≡ topped_up (gone_one id (with_text text (raised_to (as_nanos now) (picture_of h))))
   unfolding picture_of
   picture_of-check h now id text n lent kept orders none =
@@ -91,7 +91,7 @@ module _ {T : Type 0} where
     by None accepted =
         let none : lent_refusal id (picture_of h) ≡ None = lent_refusal-is h id ∙ accepted in
         let lent : is_lent h id ≡ true = not_false (is_lent h id) (passes (not (is_lent h id)) refusal.NotLent None accepted).0 in
-        let orders : n ≡ top_up (length (idle_of h)) (connections_of h - 1) (on_order_of h) = orders_of-check h now id text lent kept.sound in
+        let orders : n ≡ top_up_beside (length (idle_of h)) (connections_of h - 1) (on_order_of h) = orders_of-check h now id text lent kept.sound in
         let joins : after_check (as_nanos now) id text (picture_of h) ≡ new = ap (λ o. unless_refused o new (picture_of h)) none in
         let picture : picture_of (then_lost h now id text n) ≡ new = picture_of-check h now id text n lent kept orders (orders_if_closed h s) in
         follows_accepted h s _ _ accepted

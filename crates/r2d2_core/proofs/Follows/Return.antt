@@ -8,7 +8,7 @@ use Rattle.r2d2_core.specs.declared.machine.answers.Refusal.{Refusal}
 use Rattle.r2d2_core.specs.declared.machine.answers.Refusal.TheVariants as refusal
 use Rattle.r2d2_core.specs.Refusals.{ok_or_back, unless_refused}
 use Rattle.r2d2_core.specs.Seen.{SeenAnswer, Kept, CameBack}
-use Rattle.r2d2_core.specs.OnOrder.{top_up}
+use Rattle.r2d2_core.specs.OnOrder.{top_up_beside}
 use Rattle.r2d2_core.specs.Picture.{Picture, IsSound}
 use Rattle.r2d2_core.specs.Table.{raised_to, ordered, lent_refusal, lent_birth, kept_one, gone_one, return_by, returned_by, return_of, returned, return_answer, after_return}
 use Rattle.r2d2_core.specs.History.{History, Then, is_closed, now_of}
@@ -48,7 +48,7 @@ module _ {T : Type 0} where
 
   -- what it orders: a top-up where one is closed, and else nothing
   abbrev back_orders : History T → Bool → ℕ
-  back_orders h true = top_up (length (idle_of h)) (connections_of h - 1) (on_order_of h)
+  back_orders h true = top_up_beside (length (idle_of h)) (connections_of h - 1) (on_order_of h)
   back_orders h false = 0
 
   orders_of-kept : (h : History T) (s : Step T) → reply_with h 0 s ≡ CameBack (Ok Kept) → orders_of h s ≡ 0

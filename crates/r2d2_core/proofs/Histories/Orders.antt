@@ -8,7 +8,7 @@ use Rattle.r2d2_core.specs.Limits.{wanted_of}
 use Rattle.r2d2_core.specs.Connections.{SeenIdleConnection, SeenLentConnection}
 use Rattle.r2d2_core.specs.Seen.{SeenAnswer}
 use Rattle.r2d2_core.specs.Openings.{opening, with_many}
-use Rattle.r2d2_core.specs.OnOrder.{SeenOnOrder, with_orders, top_up}
+use Rattle.r2d2_core.specs.OnOrder.{SeenOnOrder, with_orders, top_up_beside}
 use Rattle.r2d2_core.specs.Picture.{Picture, IsSound}
 use Rattle.r2d2_core.specs.Table.{ordered}
 use Rattle.r2d2_core.specs.History.{History, Then, limits_of, is_closed, now_of, moment_of}
@@ -147,7 +147,7 @@ module _ {T : Type 0} where
   pub orders_of-top_up : (h : History T) (s : Step T) (idle connections : ℕ)
       → orders_by h (Then h s (reply_with h 0 s)) s (reply_with h 0 s) ≡ top_up_after h (Then h s (reply_with h 0 s))
       → length (idle_of (Then h s (reply_with h 0 s))) ≡ idle → connections_of (Then h s (reply_with h 0 s)) ≡ connections
-      → orders_of h s ≡ top_up idle connections (on_order_of h)
+      → orders_of h s ≡ top_up_beside idle connections (on_order_of h)
   unfolding orders_of on_order_of
   orders_of-top_up h s idle connections tops_up idle_is connections_is =
       ap (λ n. cond (is_closed h) 0 n) tops_up

@@ -14,9 +14,9 @@ use Rattle.r2d2_core.specs.declared.journal.record.Record.{Record}
 use Rattle.r2d2_core.specs.declared.journal.record.Record.TheVariants as record_
 use Rattle.r2d2_core.specs.Limits.{SeenLimits}
 use Rattle.r2d2_core.specs.Ids.{copies_of, without}
-use Rattle.r2d2_core.specs.Connections.{SeenLentConnection, lent_connection, id_of_idle, id_of_lent, since_of, is_kept}
+use Rattle.r2d2_core.specs.Connections.{SeenLentConnection, idle_connection, lent_connection, id_of_idle, id_of_lent, since_of, is_kept}
 use Rattle.r2d2_core.specs.Records.{seen_record, SeenRecord, Taken, Ordered, Admitted, Kept, Closed, Reaped, ClosedAll}
-use Rattle.r2d2_core.specs.Bases.{SeenBase, Resting, resting, ids_of, IsLegalBase}
+use Rattle.r2d2_core.specs.Bases.{SeenBase, Resting, ids_of, IsLegalBase}
 use Rattle.r2d2_core.specs.Folding.{birth_at_rest, birth_away, folded, replay, may_follow, all_follow, admitted_by, admitted_in, known_in, AreLegalFrom}
 use Rattle.r2d2_core.specs.declared.journal.report.Report.{Report}
 use Rattle.r2d2_core.specs.Limits.{seen_limits}
@@ -236,8 +236,8 @@ fewer_kept p (x ∷ xs) = kept_step (p x) x xs (filter p xs) (fewer_kept p xs)
 rested : (limits : SeenLimits) (r : SeenRecord) (b : SeenBase) → (let now = folded limits r b in length now.idle) ≤ length b.idle + rest_by r
 rested limits (Taken at id n) b = omega (arith, fewer_without id_of_idle id b.idle)
 rested limits (Ordered at n) b = omega arith
-rested limits (Admitted at id) b = omega (arith, length_push b.idle (resting id at at))
-rested limits (Kept at id) b = omega (arith, length_push b.idle (resting id (birth_away id b.lent) at))
+rested limits (Admitted at id) b = omega (arith, length_push b.idle (idle_connection id at at tt))
+rested limits (Kept at id) b = omega (arith, length_push b.idle (idle_connection id (birth_away id b.lent) at tt))
 rested limits (Closed at id n) b = omega arith
 rested limits (Reaped at n) b = omega (arith, fewer_kept (is_kept limits at) b.idle)
 rested limits (ClosedAll at) b = omega arith

@@ -10,13 +10,13 @@ use Rattle.std.proofs.lemmas.List.Kept.{IsNonDecreasingBy-filter}
 use Rattle.std.proofs.lemmas.List.Sorted.{IsNonDecreasingBy-push}
 use Rattle.std.proofs.lemmas.Bool.{eqb-true}
 use Rattle.std.proofs.lemmas.Bool.Decides.{nat_tests}
-use Rattle.r2d2_core.specs.Limits.{SeenLimits, wanted_of}
+use Rattle.r2d2_core.specs.Limits.{SeenLimits, wanted_of, top_up}
 use Rattle.r2d2_core.specs.Ids.{found, without, copies_of}
 use Rattle.r2d2_core.specs.Lending.{lent_next, still_idle}
-use Rattle.r2d2_core.specs.Connections.{SeenLentConnection, lent_connection, id_of_idle, id_of_lent, since_of, is_expired, is_kept}
+use Rattle.r2d2_core.specs.Connections.{SeenLentConnection, idle_connection, lent_connection, birth_in, id_of_idle, id_of_lent, since_of, is_expired, is_kept}
 use Rattle.r2d2_core.specs.Records.{SeenRecord, Taken, Ordered, Admitted, Kept, Closed, Reaped, ClosedAll}
-use Rattle.r2d2_core.specs.Bases.{SeenBase, Resting, resting, ids_of, IsLegalBase}
-use Rattle.r2d2_core.specs.Folding.{moment_in, birth_at_rest, birth_away, still_resting, expired_in, folded, replay, tops_up, is_next, is_away, fits, may_follow, all_follow, admitted_by, admitted_in, known_in, AreLegalFrom}
+use Rattle.r2d2_core.specs.Bases.{SeenBase, Resting, ids_of, IsLegalBase}
+use Rattle.r2d2_core.specs.Folding.{moment_in, birth_at_rest, birth_away, still_resting, expired_in, folded, replay, is_next, fits, may_follow, all_follow, admitted_by, admitted_in, known_in, AreLegalFrom}
 use Rattle.r2d2_core.proofs.Lists.Filters.{copies_of-filter}
 use Rattle.r2d2_core.proofs.Lists.Ids.{copies_of-append, copies_of-push, copies_of-without, length-without, All-without, All-found, All-push, All-weaker}
 use Rattle.r2d2_core.proofs.Lists.Lending.{found-next, without-next, IsNonDecreasingBy-still_idle}
@@ -87,7 +87,7 @@ there_by : (id : ℕ) (b : SeenBase) (o : Option SeenLentConnection) → found i
 there_by id b None e is = absurd cc
 there_by id b (Some l) e is = record { l = l; there = e }
 
-pub is_there : (id : ℕ) (b : SeenBase) → is_away id b ≡ true → IsThere id b
+pub is_there : (id : ℕ) (b : SeenBase) → is_some (birth_in id b.lent) ≡ true → IsThere id b
 is_there id b is = there_by id b (found id_of_lent id b.lent) refl is
 
 -- IDS
@@ -116,11 +116,11 @@ ids_folded limits (Admitted at id) b apart fit i =
     omega (
       arith,
       copies_of-append i (map id_of_idle b.idle) (map id_of_lent b.lent),
-      copies_of-append i (map id_of_idle (b.idle ++ resting id at at ∷ [])) (map id_of_lent b.lent),
-      copies_of-push id_of_idle i b.idle (resting id at at),
+      copies_of-append i (map id_of_idle (b.idle ++ idle_connection id at at tt ∷ [])) (map id_of_lent b.lent),
+      copies_of-push id_of_idle i b.idle (idle_connection id at at tt),
     )
 ids_folded limits (Kept at id) b apart fit i =
-    let c = resting id (birth_away id b.lent) at in
+    let c = idle_connection id (birth_away id b.lent) at tt in
     let s = is_there id b ((split _ _ fit).0) in
     omega (
       arith,
@@ -167,7 +167,7 @@ module _ (limits : SeenLimits) (b : SeenBase) (legal : IsLegalBase limits b) whe
       let f = split _ _ fit in
       let s = stands_next limits id b (idle_apart b legal.apart) f.0 in
       let l = lent_connection id (birth_at_rest id b.idle) in
-      let is : n ≡ tops_up limits (length b.idle - 1) b.connections b = eqb-true n _ f.1 in
+      let is : n ≡ top_up limits b.closed (length b.idle - 1) b.connections b.pending = eqb-true n _ f.1 in
       let since : s.c.since ≤ b.at = All-found (λ c. c.since ≤ b.at) id_of_idle id b.idle s.c legal.seen s.there in
       let birth : s.c.birth ≤ s.c.since = All-found (λ c. c.birth ≤ c.since) id_of_idle id b.idle s.c legal.born s.there in
       let born : birth_at_rest id b.idle ≡ s.c.birth = ap (λ o. unwrap_or (option_map (λ (c : Resting). c.birth) o) 0) s.there in
@@ -204,7 +204,7 @@ module _ (limits : SeenLimits) (b : SeenBase) (legal : IsLegalBase limits b) whe
   legal_admitted : (at id : ℕ) → b.at ≤ at → fits limits (Admitted at id) b ≡ true → ((i : ℕ) → copies_of i (ids_of (folded limits (Admitted at id) b)) ≤ 1) → IsLegalBase limits (folded limits (Admitted at id) b)
   legal_admitted at id later fit apart =
       let some : 0 < b.pending = is_lt _ _ fit in
-      let c = resting id at at in
+      let c = idle_connection id at at tt in
       record {
         apart = apart;
         counted = omega (arith, legal.counted, length_push b.idle c);
@@ -222,7 +222,7 @@ module _ (limits : SeenLimits) (b : SeenBase) (legal : IsLegalBase limits b) whe
       let f = split _ _ fit in
       let g = split _ _ f.1 in
       let s = is_there id b f.0 in
-      let c = resting id (birth_away id b.lent) at in
+      let c = idle_connection id (birth_away id b.lent) at tt in
       let birth : s.l.birth ≤ b.at = All-found (λ l. l.birth ≤ b.at) id_of_lent id b.lent s.l legal.born_lent s.there in
       let born : birth_away id b.lent ≡ s.l.birth = ap (λ o. unwrap_or (option_map (λ (c : SeenLentConnection). c.birth) o) 0) s.there in
       record {
@@ -241,7 +241,7 @@ module _ (limits : SeenLimits) (b : SeenBase) (legal : IsLegalBase limits b) whe
   legal_closed at id n later fit apart =
       let f = split _ _ fit in
       let s = is_there id b f.0 in
-      let is : n ≡ tops_up limits (length b.idle) (b.connections - 1) b = eqb-true n _ f.1 in
+      let is : n ≡ top_up limits b.closed (length b.idle) (b.connections - 1) b.pending = eqb-true n _ f.1 in
       record {
         apart = apart;
         counted = omega (arith, legal.counted, length-without id_of_lent id b.lent s.l s.there);
@@ -258,7 +258,7 @@ module _ (limits : SeenLimits) (b : SeenBase) (legal : IsLegalBase limits b) whe
   unfolding is_kept is_expired
   legal_reaped at n later fit apart =
       let f = split _ _ fit in
-      let is : n ≡ tops_up limits (length (still_resting limits at b)) (b.connections - expired_in limits at b) b = eqb-true n _ f.0 in
+      let is : n ≡ top_up limits b.closed (length (still_resting limits at b)) (b.connections - expired_in limits at b) b.pending = eqb-true n _ f.0 in
       record {
         apart = apart;
         counted = omega (arith, legal.counted, length-filter_both (is_expired limits at) (is_kept limits at) (λ c. refl) b.idle);

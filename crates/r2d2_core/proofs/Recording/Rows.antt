@@ -4,9 +4,9 @@ use Rattle.std.specs.declared.time.Duration.{Duration}
 use Rattle.r2d2_core.specs.declared.schedule.limits.LendingOrder.TheVariants as lending
 use Rattle.r2d2_core.specs.Limits.{SeenLimits, settings, with_order}
 use Rattle.r2d2_core.specs.Ids.{copies_of}
-use Rattle.r2d2_core.specs.Connections.{lent_connection, is_expired, is_kept}
+use Rattle.r2d2_core.specs.Connections.{idle_connection, lent_connection, is_expired, is_kept}
 use Rattle.r2d2_core.specs.Records.{SeenRecord, Taken, Ordered, Admitted, Kept, Closed, Reaped, ClosedAll}
-use Rattle.r2d2_core.specs.Bases.{SeenBase, resting, first_base}
+use Rattle.r2d2_core.specs.Bases.{SeenBase, first_base}
 use Rattle.r2d2_core.specs.Folding.{folded, all_follow, known_in}
 use Rattle.r2d2_core.specs.Folding.{replay as replay_from}
 
@@ -42,7 +42,7 @@ standing at connections pending closed = record { at = at; idle = []; lent = [];
 abbrev one_kept : List SeenRecord
 one_kept = Admitted (ms 1) 0 ∷ Taken (ms 2) 0 0 ∷ Kept (ms 3) 0 ∷ []
 
-one_kept-replays : replay small one_kept ≡ record (standing (ms 3) 1 0 false) { idle = resting 0 (ms 1) (ms 3) ∷ [] }
+one_kept-replays : replay small one_kept ≡ record (standing (ms 3) 1 0 false) { idle = idle_connection 0 (ms 1) (ms 3) tt ∷ [] }
 unfolding is_expired is_kept
 one_kept-replays = refl
 
@@ -76,17 +76,17 @@ two_closed-legal = refl
 
 -- a reap closes those that came first and leaves the others; here it finds one of two
 one_reaped-replays : replay idling (Admitted 0 0 ∷ Admitted 0 1 ∷ Taken (ms 400) 1 0 ∷ Kept (ms 500) 1 ∷ Reaped (ms 1000) 1 ∷ [])
-    ≡ record (standing (ms 1000) 1 1 false) { idle = resting 1 0 (ms 500) ∷ [] }
+    ≡ record (standing (ms 1000) 1 1 false) { idle = idle_connection 1 0 (ms 500) tt ∷ [] }
 unfolding is_expired is_kept
 one_reaped-replays = refl
 
 -- after a base: one is lent from before, and comes back
-after_base-replays : replay_from pair (Kept (ms 7) 4 ∷ []) (record (standing (ms 5) 1 1 false) { lent = lent_connection 4 (ms 2) ∷ [] }) ≡ record (standing (ms 7) 1 1 false) { idle = resting 4 (ms 2) (ms 7) ∷ [] }
+after_base-replays : replay_from pair (Kept (ms 7) 4 ∷ []) (record (standing (ms 5) 1 1 false) { lent = lent_connection 4 (ms 2) ∷ [] }) ≡ record (standing (ms 7) 1 1 false) { idle = idle_connection 4 (ms 2) (ms 7) tt ∷ [] }
 unfolding is_expired is_kept
 after_base-replays = refl
 
 -- the oldest record of three is folded in, and the other two go on from there
-one_folded : folded small (Admitted (ms 1) 0) (first_base small 0) ≡ record (standing (ms 1) 1 0 false) { idle = resting 0 (ms 1) (ms 1) ∷ [] }
+one_folded : folded small (Admitted (ms 1) 0) (first_base small 0) ≡ record (standing (ms 1) 1 0 false) { idle = idle_connection 0 (ms 1) (ms 1) tt ∷ [] }
 unfolding is_expired is_kept
 one_folded = refl
 

@@ -33,7 +33,7 @@ impl Record {
     ghost use Rattle.r2d2_core.specs.Standing.{rest_by, leave_by};
     ghost use Rattle.r2d2_core.specs.Recorded.{record_of_take, record_of_admission, record_of_return, record_of_check, record_of_reap, record_of_close};
 
-    /// The moment of the record, since the pool was made.
+    /// The moment of the record: that of its step, or the latest one before it where that is later.
     pub fn at(&self) -> Duration
         ensures { as_nanos result ≡ moment_in (seen_record self.now) }
     {

@@ -1,13 +1,13 @@
 // What stood before the oldest of the records that are kept.
-ghost use Rattle.std.specs.Prelude.{◌≡◌, ℕ, ◌+◌, ◌-◌, ◌^◌, ◌==◌, ◌<◌, ◌≤◌, ◌&&◌, not, nat_lt, length, map, IsTrue, IfOk};
+ghost use Rattle.std.specs.Prelude.{◌≡◌, ℕ, ◌+◌, ◌-◌, ◌^◌, ◌==◌, ◌<◌, ◌≤◌, ◌&&◌, not, nat_lt, is_some, length, map, IsTrue, IfOk};
 ghost use Rattle.std.specs.Duration.{as_nanos};
 ghost use Rattle.std.specs.List.Sorted.{IsNonDecreasingBy};
-ghost use Rattle.r2d2_core.specs.Limits.{seen_limits, has_reached};
+ghost use Rattle.r2d2_core.specs.Limits.{seen_limits, top_up, has_reached};
 ghost use Rattle.r2d2_core.specs.Ids.{copies_of};
-ghost use Rattle.r2d2_core.specs.Connections.{id_of_idle, id_of_lent, since_of};
+ghost use Rattle.r2d2_core.specs.Connections.{idle_connection, birth_in, id_of_idle, id_of_lent, since_of};
 ghost use Rattle.r2d2_core.specs.Records.{seen_record};
-ghost use Rattle.r2d2_core.specs.Bases.{resting, seen_resting, seen_away, IsLegalBase};
-ghost use Rattle.r2d2_core.specs.Folding.{birth_away, is_next, is_away, tops_up, expired_in, may_follow, folded};
+ghost use Rattle.r2d2_core.specs.Bases.{seen_resting, seen_away, IsLegalBase};
+ghost use Rattle.r2d2_core.specs.Folding.{birth_away, is_next, expired_in, may_follow, folded};
 ghost use Rattle.r2d2_core.specs.Reports.{seen_base};
 ghost use Rattle.r2d2_core.specs.Standing.{standing, rooms_for, rest_by, leave_by, empty_base, with_more, lent_out, admitted_to, kept_in, with_resting, parted_from, swept_of, closed_in};
 
@@ -169,7 +169,7 @@ impl<A: Allocator> Standing<A> {
     // Orders so many, where that is what is wanted beside the idle ones, as far as there is room.
     fn order(&mut self, limits: &Limits, ordered: u32) -> bool
         requires fits { self.old.base.connections + self.old.base.pending ≤ (seen_limits limits.now).max_size }
-        ensures is { result ≡ (ordered == tops_up (seen_limits limits.now) (length self.old.base.idle) self.old.base.connections self.old.base) }
+        ensures is { result ≡ (ordered == top_up (seen_limits limits.now) self.old.base.closed (length self.old.base.idle) self.old.base.connections self.old.base.pending) }
         ensures more { IsTrue result → self.new ≡ standing (with_more ordered self.old.base) self.old.room }
     {
         let connections = (self.idle.len() + self.lent.len()) as u32;
@@ -236,7 +236,7 @@ impl<A: Allocator> Standing<A> {
     fn keep(&mut self, limits: &Limits, id: u64) -> bool
         requires apart { copies_of id (map id_of_lent self.old.base.lent) ≤ 1 }
         requires room { length self.old.base.idle < self.old.room.idle }
-        ensures is { result ≡ (is_away id self.old.base && (not self.old.base.closed && not (has_reached (seen_limits limits.now).max_lifetime (self.old.base.at - birth_away id self.old.base.lent)))) }
+        ensures is { result ≡ (is_some (birth_in id self.old.base.lent) && (not self.old.base.closed && not (has_reached (seen_limits limits.now).max_lifetime (self.old.base.at - birth_away id self.old.base.lent)))) }
         ensures kept { IsTrue result → self.new ≡ standing (kept_in id self.old.base) self.old.room }
     {
         match self.lent.remove(id) {
@@ -256,7 +256,7 @@ impl<A: Allocator> Standing<A> {
     // Adds the newest idle one.
     fn rest(&mut self, id: u64, birth: Duration)
         requires room { length self.old.base.idle < self.old.room.idle }
-        ensures { self.new ≡ standing (with_resting (resting id (as_nanos birth) self.old.base.at) self.old.base) self.old.room }
+        ensures { self.new ≡ standing (with_resting (idle_connection id (as_nanos birth) self.old.base.at tt) self.old.base) self.old.room }
     {
         self.idle.add(IdleConnection::new(id, birth, self.at, ()));
     }
@@ -264,7 +264,7 @@ impl<A: Allocator> Standing<A> {
     // The lent one with the id is gone, if there is one.
     fn part(&mut self, id: u64) -> bool
         requires { copies_of id (map id_of_lent self.old.base.lent) ≤ 1 }
-        ensures is { result ≡ is_away id self.old.base }
+        ensures is { result ≡ is_some (birth_in id self.old.base.lent) }
         ensures gone { IsTrue result → self.new ≡ standing (parted_from id self.old.base) self.old.room }
     {
         self.lent.remove(id).is_some()

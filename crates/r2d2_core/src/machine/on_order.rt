@@ -92,7 +92,7 @@ impl<A: Allocator> OnOrder<A> {
     /// Orders what is wanted beside so many idle connections, as far as there is room beside them and the lent ones.
     pub(crate) fn top_up(&mut self, idle: usize, lent: usize, due: Duration) -> u32
         requires { idle + lent + self.old.pending ≤ self.old.limits.max_size }
-        ensures answer { result ≡ on_order.top_up idle (idle + lent) self.old }
+        ensures answer { result ≡ on_order.top_up_beside idle (idle + lent) self.old }
         ensures after { self.new ≡ on_order.with_orders result (as_nanos due) self.old }
     {
         let _max_size = self.limits.max_size();
