@@ -125,7 +125,7 @@ inline wake_workers(step) {
 #define IS_TRYING (_pid >= CALLERS - TRYING)
 #define MAY_STAY (_pid >= CALLERS - CALLERS_STAY)
 
-/* AnyPool::lend_within and lend_idle, the drop of what was lent, and the drop of the pool. */
+/* AnyPool::lend_within, the drop of what was lent, and the drop of the pool. */
 active [CALLERS] proctype caller() {
   bool orders;            /* the step just made has ordered openings */
 #if BUILD
@@ -153,7 +153,7 @@ calls: /* between two calls */
   :: goto let_go
   fi;
 
-look: /* Shared::lend_until; Shared::lend_now of a `try_get`, where a miss changes nothing */
+look: /* Shared::lend_until; of a `try_get` it has no end, and a miss changes nothing */
 #ifdef WAKES_BEFORE_THE_STEP
   atomic { wake_workers(MISS) };
 #endif
@@ -210,20 +210,20 @@ gives_up: /* Shared::lend_until, which has taken the latest error and let the lo
 took: /* Shared::wake, after a take that found */
   if :: orders -> atomic { orders = false; wake_workers(TAKE) } :: else fi;
 
-has: /* Shared::if_sound, then the caller's own use, then Shared::take_back */
+has: /* Shared::if_sound, then the caller's own use, then AnyConnection::drop */
   if
   :: MAY_STAY -> goto stays
   :: atomic { CHECKS -> lent--; top_up(); orders = ordered > 0 };    /* Shared::settle, of one that is unsound */
      atomic { wake_caller(CHECK) };
      if :: orders -> atomic { orders = false; wake_workers(CHECK) } :: else fi;
-     if :: MAY_STAY -> goto stays :: true fi;                       /* Shared::release */
+     if :: MAY_STAY -> goto stays :: true fi;                       /* Hooks::release */
      goto look
   :: atomic { lent--; idle++; sound() };                            /* Shared::put_back, kept */
      atomic { wake_caller(KEPT) }
   :: atomic { lent--; top_up(); orders = ordered > 0 };              /* Shared::put_back, closed */
      atomic { wake_caller(CLOSED) };
      if :: orders -> atomic { orders = false; wake_workers(CLOSED) } :: else fi;
-     if :: MAY_STAY -> goto stays :: true fi                        /* Shared::release */
+     if :: MAY_STAY -> goto stays :: true fi                        /* Hooks::release */
   fi;
   goto calls;
 

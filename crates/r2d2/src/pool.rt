@@ -28,12 +28,10 @@ use std::time::Duration;
 mod building;
 mod closing;
 mod counting;
-mod guarded;
 mod lending;
 mod lent;
 mod locking;
 mod opening;
-mod returning;
 mod state;
 mod waiting;
 
@@ -209,7 +207,10 @@ impl<
         ensures settings { IfOk result (λ lent. lent.settings ≡ self.now) }
         ensures refused { IfErr result IsOfMemoryOrTime }
     {
-        self.lend_within(timeout, &mut ())
+        match self.lend_within(Some(timeout), &mut ())? {
+            Some(lent) => Ok(lent),
+            None => unreachable!(),
+        }
     }
 
     /// Lends an idle connection, as `get_timeout`; None if there is none. It does not wait for one, and orders none.
@@ -219,7 +220,7 @@ impl<
         ensures settings { IfOk result (λ found. IfSome found (λ lent. lent.settings ≡ self.now)) }
         ensures refused { IfErr result IsOfMemory }
     {
-        self.lend_idle(&mut ())
+        self.lend_within(None, &mut ())
     }
 }
 

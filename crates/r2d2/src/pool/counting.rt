@@ -46,7 +46,10 @@ impl<
         ensures amount { share.old.amount ≤ share.new.amount }
         ensures lent { IfOk result (λ _. share.old.amount + 1 ≤ share.new.amount) }
     {
-        self.lend_within(timeout, share)
+        match self.lend_within(Some(timeout), share)? {
+            Some(lent) => Ok(lent),
+            None => unreachable!(),
+        }
     }
 
     /// As `Pool::try_get`, and counted as `get`.
@@ -61,7 +64,7 @@ impl<
         ensures amount { share.old.amount ≤ share.new.amount }
         ensures lent { IfOk result (λ found. IfSome found (λ _. share.old.amount + 1 ≤ share.new.amount)) }
     {
-        self.lend_idle(share)
+        self.lend_within(None, share)
     }
 
     /// What happened, as `journal` says it, at a moment when `all` has all parts of the ledger: so the report's

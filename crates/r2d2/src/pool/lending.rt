@@ -1,66 +1,33 @@
 // How a caller comes to a connection.
-ghost use Rattle.std.specs.Prelude.{◌≡◌, ◌≤◌, ◌<◌, ◌+◌, IfOk, IfErr, IfSome};
-ghost use Rattle.std.specs.Arc.{arc_value};
+ghost use Rattle.std.specs.Prelude.{◌≡◌, ◌≤◌, ◌<◌, ◌+◌, IfOk, IfErr, IfSome, IsSome};
+ghost use Rattle.std.specs.Option.{IsNone};
 
-use super::closing::Closer;
 use super::lent::{AnyConnection, Lent};
 use super::locking::SharedOf;
-use super::returning::TakesBack;
 use super::{AnyPool, PoolRuntime};
 use crate::engine::{Counter, Outcome, Settled, Ties};
 use crate::error::text_of;
 use crate::hooks::Hooks;
-use crate::payload::PayloadOf;
+use crate::payload::{Payload, PayloadOf};
 use crate::{Error, ManageConnection};
-use r2d2_core::Released;
 use std::sync::Arc;
 use std::time::Duration;
 
 impl<C: Counter, M: ManageConnection, K: Hooks<M>, R: PoolRuntime> AnyPool<C, M, K, R> {
     ghost use Rattle.r2d2.specs.Failures.{IsOfMemory, IsOfMemoryOrTime};
 
-    /// Lends a connection that passed its check, and waits for one at most so long.
+    /// Lends a connection that passed its check, and waits for one at most so long. With no timeout it does not wait, and orders none: it
+    /// answers None where none is idle.
     pub(super) fn lend_within(
         &self,
-        timeout: Duration,
-        tally: &mut C::Tally,
-    ) -> Result<AnyConnection<C, M, K, R>, Error>
-        requires { 0 < C.parts tally.old }
-        ensures settings { IfOk result (λ lent. lent.settings ≡ self.now) }
-        ensures refused { IfErr result IsOfMemoryOrTime }
-        ensures parts { C.parts tally.new ≡ C.parts tally.old }
-        ensures amount { C.amount tally.old ≤ C.amount tally.new }
-        ensures lent { IfOk result (λ _. C.amount tally.old + C.per_take ≤ C.amount tally.new) }
-    {
-        // Modelled in model/waiting.pml: keep both alike.
-        let shared = self.shared();
-        let start = shared.moment();
-        let closer = Arc::try_clone(&self.closer).map_err(|_| Error::memory())?;
-        let end = start.saturating_add(timeout);
-        for _ in shared.rt.forever() {
-            match shared.lend_until(end, tally) {
-                Ok(lent) => {
-                    if let Some(lent) = shared.if_sound(lent) {
-                        return Ok(shared.check_out(closer, start, lent));
-                    }
-                }
-                Err(message) => {
-                    shared.hooks.timeout(timeout);
-                    return Err(Error::timeout(message));
-                }
-            }
-        }
-        unreachable!()
-    }
-
-    /// Lends a connection that is idle and passed its check; None where none is idle.
-    pub(super) fn lend_idle(
-        &self,
+        timeout: Option<Duration>,
         tally: &mut C::Tally,
     ) -> Result<Option<AnyConnection<C, M, K, R>>, Error>
         requires { 0 < C.parts tally.old }
         ensures settings { IfOk result (λ found. IfSome found (λ lent. lent.settings ≡ self.now)) }
-        ensures refused { IfErr result IsOfMemory }
+        ensures refused { IfErr result IsOfMemoryOrTime }
+        ensures waits { IsSome timeout → IfOk result IsSome }
+        ensures at_once { IsNone timeout → IfErr result IsOfMemory }
         ensures parts { C.parts tally.new ≡ C.parts tally.old }
         ensures amount { C.amount tally.old ≤ C.amount tally.new }
         ensures lent { IfOk result (λ found. IfSome found (λ _. C.amount tally.old + C.per_take ≤ C.amount tally.new)) }
@@ -69,12 +36,26 @@ impl<C: Counter, M: ManageConnection, K: Hooks<M>, R: PoolRuntime> AnyPool<C, M,
         let shared = self.shared();
         let start = shared.moment();
         let closer = Arc::try_clone(&self.closer).map_err(|_| Error::memory())?;
+        let end = timeout.map(|timeout| start.saturating_add(timeout));
         for _ in shared.rt.forever() {
-            let Some(lent) = shared.lend_now(tally) else {
-                return Ok(None);
-            };
-            if let Some(lent) = shared.if_sound(lent) {
-                return Ok(Some(shared.check_out(closer, start, lent)));
+            match shared.lend_until(end, tally) {
+                Ok(Some(lent)) => {
+                    if let Some(lent) = shared.if_sound(lent) {
+                        let lent_at = shared.moment();
+                        shared.hooks.check_out(lent.id, start, lent_at);
+                        return Ok(Some(AnyConnection {
+                            closer,
+                            lent_at,
+                            lent,
+                        }));
+                    }
+                }
+                Ok(None) => return Ok(None),
+                Err(message) => {
+                    // Who brings no timeout never waited.
+                    shared.hooks.timeout(timeout.unwrap_or(Duration::ZERO));
+                    return Err(Error::timeout(message));
+                }
             }
         }
         unreachable!()
@@ -98,28 +79,10 @@ impl<C: Ties, M: ManageConnection, K: Hooks<M>, R: PoolRuntime> SharedOf<C, M, K
         // Modelled in model/waiting.pml: keep both alike.
         let text = text_of(self.rt.alloc(), &error);
         self.hooks.error(error);
-        let Lent { id, payload: value } = lent;
+        let Lent { id, payload } = lent;
         if let Settled::Gone(gone) = self.settle(Outcome::Unsound { id, text }) {
-            let age = gone.age;
-            self.release(Released { id, age, value });
-        }
-    }
-
-    /// Hands a connection to its caller, whose call began at `start`, and tells of it.
-    fn check_out(
-        &self,
-        closer: Arc<Closer<PayloadOf<M>, C, M, K, R>>,
-        start: Duration,
-        lent: Lent<PayloadOf<M>>,
-    ) -> AnyConnection<C, M, K, R>
-        ensures { result.settings ≡ (arc_value (arc_value closer).shared).hooks }
-    {
-        let lent_at = self.moment();
-        self.hooks.check_out(lent.id, start, lent_at);
-        AnyConnection {
-            closer,
-            lent_at,
-            lent,
+            let Payload { connection, .. } = payload;
+            self.hooks.release(id, gone.age, connection);
         }
     }
 }

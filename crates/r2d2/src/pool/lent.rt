@@ -3,12 +3,11 @@ ghost use Rattle.std.specs.Prelude.{◌≡◌};
 
 use super::PoolRuntime;
 use super::closing::Closer;
-use super::returning::TakesBack;
 use crate::engine::Ties;
 use crate::hooks::Hooks;
-use crate::payload::PayloadOf;
+use crate::payload::{Payload, PayloadOf};
 use crate::{Extensions, ManageConnection};
-use r2d2_core::Take;
+use r2d2_core::{Returned, Take};
 use std::alloc::{Allocator, Global};
 use std::fmt;
 use std::marker::Model;
@@ -119,11 +118,20 @@ where
 impl<C: Ties, M: ManageConnection, K: Hooks<M>, R: PoolRuntime> Drop for AnyConnection<C, M, K, R> {
     // Puts the connection back, and only then lets the pool go.
     fn drop(self) {
+        // Modelled in model/waiting.pml: keep both alike.
         let AnyConnection {
             closer,
             lent_at,
-            lent,
+            mut lent,
         } = self;
-        closer.shared.take_back(lent_at, lent);
+        let id = lent.id;
+        let shared = &closer.shared;
+        shared.hooks.check_in(id, lent_at, shared.moment());
+        let broken = shared.manager.has_broken(&mut lent.payload.connection);
+        let returned = shared.put_back(lent, broken);
+        if let Ok(Returned::Closed { value, age, .. }) = returned {
+            let Payload { connection, .. } = value;
+            shared.hooks.release(id, age, connection);
+        }
     }
 }

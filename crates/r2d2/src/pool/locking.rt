@@ -94,7 +94,8 @@ impl<P: Drop, C: Ties, M, K, R: Clock + Wait> Shared<Tied<P, C>, M, K, R> {
         lent: Lent<P>,
         broken: bool,
     ) -> Result<Returned<P>, (Refusal, P)> {
-        self.step(|guarded, now| guarded.put_back(now, lent, broken))
+        let Lent { id, payload } = lent;
+        self.step(|guarded, now| guarded.give_back(now, id, payload, broken))
     }
 
     /// Gives an opened connection its id.

@@ -1,6 +1,8 @@
-// Those who take the lock by themselves: a caller, the maker of a pool and a worker, who hand it to a wait, and those who bring a tally: a take
-// that does not wait, and an audit. Each other step is made by `Shared::step`.
-ghost use Rattle.std.specs.Prelude.{◌≡◌, ◌<◌, ◌+◌, MatchOption, OnOk, OnErr, IfOk};
+// Those who take the lock by themselves: a caller, the maker of a pool and a worker, who hand it to a wait, and an audit, which brings a share.
+// Each other step is made by `Shared::step`.
+ghost use Rattle.std.specs.Prelude.{◌≡◌, ◌≤◌, ◌<◌, ◌+◌, IsTrue, IsSome, MatchOption, OnErr, IfOk, vec_len, vec_capacity};
+ghost use Rattle.std.specs.Option.{IsNone};
+ghost use Rattle.std.specs.Result.{IsOk};
 ghost use Rattle.r2d2_core.specs.Reports.{DoesReplay, HasSoundCounts, CountsItsTakes, BeginsAtAMaking};
 ghost use Rattle.r2d2.specs.Counted.{counted_up_to};
 
@@ -8,10 +10,10 @@ use super::PoolRuntime;
 use super::lent::Lent;
 use super::locking::{Shared, SharedOf};
 use crate::ManageConnection;
-use crate::engine::{Counted, Counter, Tied, Ties};
+use crate::engine::{Counted, Counter, Tied, Ties, Wakes};
 use crate::hooks::Hooks;
-use crate::payload::PayloadOf;
-use r2d2_core::{Job, Released, Report};
+use crate::payload::{Payload, PayloadOf};
+use r2d2_core::{Book, Job, Released, Report};
 use std::alloc::AllocError;
 use std::rt::Clock;
 use std::sync::Wait;
@@ -19,41 +21,31 @@ use std::sync::ledger::{Ledger, Share};
 use std::time::Duration;
 
 impl<P: Drop, C: Counter, M, K, R: Clock + Wait> Shared<Tied<P, C>, M, K, R> {
-    /// Takes the idle connection that is lent next, if there is one, and orders none.
-    pub(super) fn lend_now(&self, tally: &mut C::Tally) -> Option<Lent<P>>
-        requires { 0 < C.parts tally.old }
-        ensures parts { C.parts tally.new ≡ C.parts tally.old }
-        ensures amount { MatchOption result (C.amount tally.new ≡ C.amount tally.old) (λ _. C.amount tally.new ≡ C.amount tally.old + C.per_take) }
-    {
-        let mut guarded = self.guarded.lock(&self.rt);
-        let (found, wakes) = guarded.lend_next(self.moment(), false, tally);
-        drop(guarded);
-        self.wake(wakes);
-        found
-    }
-
-    /// Takes the idle connection that is lent next; where there is none it orders one and waits, until the moment `end`. Past that it
-    /// answers the latest error of an opening or a check.
+    /// Takes the idle connection that is lent next. Where there is none it orders one and waits, until the moment `end`; past that it
+    /// answers the latest error of an opening or a check. With no end it neither orders nor waits, and answers None.
     pub(super) fn lend_until(
         &self,
-        end: Duration,
+        end: Option<Duration>,
         tally: &mut C::Tally,
-    ) -> Result<Lent<P>, Option<String>>
+    ) -> Result<Option<Lent<P>>, Option<String>>
         requires { 0 < C.parts tally.old }
         ensures parts { C.parts tally.new ≡ C.parts tally.old }
-        ensures lent { OnOk result (C.amount tally.new ≡ C.amount tally.old + C.per_take) }
+        ensures lent { IfOk result (λ found. MatchOption found (C.amount tally.new ≡ C.amount tally.old) (λ _. C.amount tally.new ≡ C.amount tally.old + C.per_take)) }
         ensures refused { OnErr result (C.amount tally.new ≡ C.amount tally.old) }
+        ensures waits { IsSome end → IfOk result IsSome }
+        ensures at_once { IsNone end → IsOk result }
     {
         // Modelled in model/waiting.pml: keep both alike.
         let mut guarded = self.guarded.lock(&self.rt);
         for _ in self.rt.forever() {
             let now = self.moment();
-            let (found, wakes) = guarded.lend_next(now, true, tally);
-            if let Some(lent) = found {
+            let (taken, wakes) = guarded.lend(now, end.is_some(), tally);
+            let found = Lent::of(taken);
+            let (Some(end), None) = (end, &found) else {
                 drop(guarded);
                 self.wake(wakes);
-                return Ok(lent);
-            }
+                return Ok(found);
+            };
             // Before the wait, which lets the lock go.
             self.wake(wakes);
             let left = end.saturating_sub(now);
@@ -115,6 +107,33 @@ impl<C: Ties, M: ManageConnection, K: Hooks<M>, R: PoolRuntime> SharedOf<C, M, K
             }
         }
     }
+
+    // Releases what a reap closed, and empties the list.
+    fn release_all(&self, expired: &mut Vec<Released<PayloadOf<M>>>) {
+        for released in expired.drain(..) {
+            let Released { id, age, value } = released;
+            let Payload { connection, .. } = value;
+            self.hooks.release(id, age, connection);
+        }
+    }
+}
+
+impl<P: Drop, C: Ties> Tied<P, C> {
+    // Closes what is expired, into the list.
+    fn reap(&mut self, now: Duration, expired: &mut Vec<Released<P>>) -> Wakes {
+        if !has_room(self.book(), expired) {
+            return Wakes::nobody();
+        }
+        let (_ordered, wakes) = self.sweep(now, expired);
+        wakes
+    }
+}
+
+// Whether a reap can use the list. It has room from the making on; but of a locked book its type alone is known, so this asks.
+fn has_room<P>(book: &Book<P>, expired: &Vec<Released<P>>) -> bool
+    ensures { IsTrue result → (vec_len expired.now ≡ 0) × (book.now.picture.on_order.limits.max_size ≤ vec_capacity expired.now) }
+{
+    expired.is_empty() && expired.capacity() >= book.limits().max_size() as usize
 }
 
 impl<P: Drop, L: Ledger, M, K, R: Clock + Wait> Shared<Counted<P, L>, M, K, R> {
