@@ -4,6 +4,8 @@
 #[cfg(test)]
 mod clocks;
 #[cfg(test)]
+mod hands;
+#[cfg(test)]
 mod in_turn;
 #[cfg(test)]
 mod lives;

@@ -33,6 +33,22 @@ fn a_connect_slower_than_the_timeout(rt: HostRuntime) -> Result<(), Fail> {
     Ok(())
 }
 
+// It ordered on its miss, and neither looks nor orders again when its time is over.
+#[test]
+fn a_caller_who_gives_up_ordered_once(rt: HostRuntime) -> Result<(), Fail> {
+    let rows = Rows { unheld: 0, ..GOOD };
+    let play = Play::new(rt.alloc(), rows)?;
+    let pool = Builder::new()
+        .max_size(3)
+        .min_idle(Some(0))
+        .build(rt, Manager::new(rt, &play)?)?;
+    let wait = Duration::from_millis(50);
+    assert!(rt; pool.get_timeout(wait).is_err());
+    assert_eq!(rt; pool.journal()?.pending, 1);
+    play.let_go.store(1, Ordering::SeqCst);
+    Ok(())
+}
+
 /// Opens a connection each 400 ms.
 #[derive(Drop)]
 struct Steady<R> {

@@ -50,6 +50,8 @@ fn event_on_try_get(rt: HostRuntime) -> Result<(), Fail> {
         .build(rt, Sevens)?;
     let lent = pool.try_get()?;
     assert!(rt; lent.is_some());
+    // Who finds none did not wait, and is told of nowhere.
+    assert!(rt; pool.try_get()?.is_none());
     let events = [Told::Acquire(0), Told::Checkout(0)];
     assert_eq!(rt; told.lock(&rt).as_slice(), events.as_slice());
     Ok(())
