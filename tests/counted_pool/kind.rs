@@ -2,7 +2,8 @@
 
 use r2d2::{
     Builder, CountedConnection, CountedPool, CustomizeConnection, Error, HandleError, HandleEvent,
-    ManageConnection, NopConnectionCustomizer, NopErrorHandler, NopEventHandler, PoolRuntime, State,
+    ManageConnection, NopConnectionCustomizer, NopErrorHandler, NopEventHandler, PoolRuntime,
+    State,
 };
 use r2d2_core::Report;
 use std::marker::Brand;
@@ -135,7 +136,11 @@ where
         Ok(made)
     }
 
-    fn make_unchecked<R: PoolRuntime>(self, rt: R, manager: M) -> Result<Pool<M, H, V, Z, R>, Fail> {
+    fn make_unchecked<R: PoolRuntime>(
+        self,
+        rt: R,
+        manager: M,
+    ) -> Result<Pool<M, H, V, Z, R>, Fail> {
         let (total, all) = Blank::new(PARTS).open::<Brand>();
         Ok(Pool {
             pool: self.build_counted(rt, manager, total)?,

@@ -42,9 +42,7 @@ impl<R> Hand<R> {
 impl<R: Clock> Clock for Hand<R> {
     fn monotonic(&self) -> io::Result<Duration> {
         let by = self.moves_by.load(Ordering::SeqCst);
-        Ok(Duration::from_secs(
-            self.shows.fetch_add(by, Ordering::SeqCst),
-        ))
+        Ok(Duration::from_secs(self.shows.fetch_add(by, Ordering::SeqCst)))
     }
 
     fn since_1970(&self) -> io::Result<Duration> {
@@ -135,7 +133,10 @@ fn how_old_one_is_whose_check_failed(rt: HostRuntime) -> Result<(), Fail> {
         .build(hand, Manager::new(rt, &play)?)?;
     hand.set(12, 0);
     drop(pool.try_get()?);
-    assert_eq!(rt; ages.lock(&rt).as_slice(), [Duration::from_secs(7)].as_slice());
+    assert_eq!(rt;
+        ages.lock(&rt).as_slice(),
+        [Duration::from_secs(7)].as_slice()
+    );
     Ok(())
 }
 

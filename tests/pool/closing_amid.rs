@@ -6,7 +6,9 @@ use crate::kind::{Makes, PlainPool, Pool};
 use crate::listening::{Events, Listener, Told};
 use crate::managers::{Blammo, Breaks, Counts, Line, Manager, Value};
 use r2d2::event::{AcquireEvent, CheckinEvent, CheckoutEvent, ReleaseEvent, TimeoutEvent};
-use r2d2::{Builder, CustomizeConnection, HandleEvent, ManageConnection, NopErrorHandler, PoolRuntime};
+use r2d2::{
+    Builder, CustomizeConnection, HandleEvent, ManageConnection, NopErrorHandler, PoolRuntime,
+};
 use std::alloc::AllocError;
 use std::rt::Clock;
 use std::sync::atomic::{AtomicU64, Ordering};

@@ -30,7 +30,11 @@ where
         Ok(self.build(rt, manager)?)
     }
 
-    fn make_unchecked<R: PoolRuntime>(self, rt: R, manager: M) -> Result<Pool<M, H, V, Z, R>, Fail> {
+    fn make_unchecked<R: PoolRuntime>(
+        self,
+        rt: R,
+        manager: M,
+    ) -> Result<Pool<M, H, V, Z, R>, Fail> {
         Ok(self.build_unchecked(rt, manager)?)
     }
 }

@@ -87,10 +87,7 @@ fn two_openings_at_once(rt: HostRuntime) -> Result<(), Fail> {
         openings: Arc::try_clone(&openings)?,
         rt,
     };
-    let pool = Builder::new()
-        .max_size(2)
-        .thread_pool(2)
-        .make(rt, manager)?;
+    let pool = Builder::new().max_size(2).thread_pool(2).make(rt, manager)?;
     assert!(rt; openings.saw_both.load(Ordering::SeqCst));
     assert_eq!(rt; pool.state().connections, 2);
     Ok(())

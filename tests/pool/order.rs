@@ -5,7 +5,10 @@ use crate::kind::Makes;
 use crate::listening::{Listener, Told};
 use crate::managers::{Blammo, Breaks, Counts, Line, Manager, Sevens, Value};
 use r2d2::event::{AcquireEvent, CheckinEvent, CheckoutEvent, ReleaseEvent, TimeoutEvent};
-use r2d2::{Builder, CustomizeConnection, ErrorKind, HandleError, HandleEvent, ManageConnection, PoolRuntime};
+use r2d2::{
+    Builder, CustomizeConnection, ErrorKind, HandleError, HandleEvent, ManageConnection,
+    PoolRuntime,
+};
 use std::alloc::AllocError;
 use std::rt::Clock;
 use std::sync::atomic::{AtomicU64, Ordering};

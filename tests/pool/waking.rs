@@ -4,7 +4,9 @@ use crate::callers::{keep, watched};
 use crate::kind::{Makes, Pool};
 use crate::managers::{Blammo, Wrong, WrongOnce};
 use r2d2::event::{AcquireEvent, CheckinEvent, CheckoutEvent, ReleaseEvent, TimeoutEvent};
-use r2d2::{Builder, HandleError, HandleEvent, NopConnectionCustomizer, NopErrorHandler, PoolRuntime};
+use r2d2::{
+    Builder, HandleError, HandleEvent, NopConnectionCustomizer, NopErrorHandler, PoolRuntime,
+};
 use std::alloc::{AllocError, Global};
 use std::rt::Clock;
 use std::sync::Arc;
