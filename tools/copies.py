@@ -18,9 +18,9 @@ TOP = os.path.dirname(os.path.dirname(os.path.realpath(__file__)))
 TESTS = os.path.join(TOP, "tests")
 RT = os.environ.get("RT", "rt")
 INSIDE = "inside_"
+# Folders whose lib.rs names modules of others, where it has no such file itself: so the same bodies run over another kind of pool.
+OTHERS = {"faults": ["pool"], "counted_pool": ["pool"], "counted_faults": ["counted_pool", "faults"]}
 # Modules of the tests that stand among the crates, since they are proved there.
-# Folders whose lib.rs names modules of another one: the same bodies, over another kind of pool.
-AGAIN = {"counted_pool": "pool"}
 LAID = {"crates/pool/src/surface/pool_uses.rt": "crates/examples/src/pool_uses.rt"}
 SECONDS = "400"
 
@@ -60,13 +60,14 @@ def count_in(folder):
 
 
 def files_of(name):
-    """The files of a folder of tests, with those of another one whose modules it names, by their places in it."""
+    """The files of a folder of tests, with those of others whose modules it names, by their places in it."""
     folder = os.path.join(TESTS, name)
     files = {os.path.relpath(source, folder): source for source in sources(folder)}
-    if name in AGAIN:
-        modules = re.findall(r"^mod (\w+);", open(files["lib.rs"], encoding="utf-8").read(), re.M)
-        other = os.path.join(TESTS, AGAIN[name])
-        files = {**{module + ".rs": os.path.join(other, module + ".rs") for module in modules}, **files}
+    for other in OTHERS.get(name, []):
+        for module in re.findall(r"^mod (\w+);", open(files["lib.rs"], encoding="utf-8").read(), re.M):
+            source = os.path.join(TESTS, other, module + ".rs")
+            if module + ".rs" not in files and os.path.exists(source):
+                files[module + ".rs"] = source
     return files
 
 

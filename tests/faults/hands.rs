@@ -1,5 +1,6 @@
 // A clock that its test moves: moments and ages exactly, and who is woken after a reap.
 
+use crate::kind::Makes;
 use crate::play::{GOOD, Manager, Others, Play, Rows, Sorry, watched};
 use r2d2::event::{AcquireEvent, CheckinEvent, CheckoutEvent, ReleaseEvent, TimeoutEvent};
 use r2d2::{Builder, HandleError, HandleEvent, PoolRuntime};
@@ -130,7 +131,7 @@ fn how_old_one_is_whose_check_failed(rt: HostRuntime) -> Result<(), Fail> {
     let pool = Builder::new()
         .max_size(1)
         .event_handler(Mover::new(hand, [(0, 0); 2], &ages)?)
-        .build(hand, Manager::new(rt, &play)?)?;
+        .make(hand, Manager::new(rt, &play)?)?;
     hand.set(12, 0);
     drop(pool.try_get()?);
     assert_eq!(rt;
@@ -154,7 +155,7 @@ fn past_its_end_a_caller_orders_on_its_miss(rt: HostRuntime) -> Result<(), Fail>
         .min_idle(Some(0))
         .journal_room(16)
         .error_handler(Mover::new(hand, [(100, 0); 2], &ages)?)
-        .build(hand, Manager::new(rt, &play)?)?;
+        .make(hand, Manager::new(rt, &play)?)?;
     assert!(rt; pool.get_timeout(Duration::from_secs(60)).is_err());
     let report = pool.journal()?;
     let orders = report
@@ -186,7 +187,7 @@ fn a_reap_has_a_moment_of_its_own(rt: HostRuntime) -> Result<(), Fail> {
         .error_handler(Mover::new(hand, sets, &ages)?)
         .event_handler(Mover::new(hand, sets, &ages)?)
         .connection_customizer(Others::new(rt, &play)?)
-        .build(hand, Manager::new(rt, &play)?)?;
+        .make(hand, Manager::new(rt, &play)?)?;
     drop(pool.get()?);
     play.let_go.store(u64::MAX, Ordering::SeqCst);
     assert!(rt; watched(&rt, &play.released, 1, 1000) >= 1);
@@ -205,7 +206,7 @@ fn a_reap_wakes_the_other_workers(rt: HostRuntime) -> Result<(), Fail> {
         .min_idle(Some(3))
         .thread_pool(2)
         .idle_timeout(Some(Duration::from_secs(60)))
-        .build(hand, Manager::new(rt, &play)?)?;
+        .make(hand, Manager::new(rt, &play)?)?;
     let _lent = pool.get()?;
     assert_eq!(rt; watched(&rt, play.connects(), 4, 1000), 4);
     // Time for the other one to come to its wait.

@@ -8,6 +8,8 @@ mod hands;
 #[cfg(test)]
 mod in_turn;
 #[cfg(test)]
+mod kind;
+#[cfg(test)]
 mod lives;
 #[cfg(test)]
 mod passing_on;
