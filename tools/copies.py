@@ -18,6 +18,8 @@ TOP = os.path.dirname(os.path.dirname(os.path.realpath(__file__)))
 TESTS = os.path.join(TOP, "tests")
 RT = os.environ.get("RT", "rt")
 INSIDE = "inside_"
+# Folders whose lib.rs names modules of others, where it has no such file itself: so the same bodies run over another kind of pool.
+OTHERS = {"faults": ["pool"], "counted_pool": ["pool"], "counted_faults": ["counted_pool", "faults"]}
 # Modules of the tests that stand among the crates, since they are proved there.
 LAID = {"crates/pool/src/surface/pool_uses.rt": "crates/examples/src/pool_uses.rt"}
 SECONDS = "400"
@@ -26,7 +28,7 @@ SECONDS = "400"
 def names():
     """The folders of tests, those with the most tests first."""
     folders = [name for name in os.listdir(TESTS) if os.path.isdir(os.path.join(TESTS, name))]
-    return sorted(folders, key=lambda name: (-count_in(os.path.join(TESTS, name)), name))
+    return sorted(folders, key=lambda name: (-count_of(files_of(name).values()), name))
 
 
 def proved():
@@ -47,9 +49,26 @@ def sources(folder):
                 yield os.path.join(place, file)
 
 
+def count_of(files):
+    """How many tests the files have."""
+    return sum(len(re.findall(r"^\s*#\[test\]", open(file, encoding="utf-8").read(), re.M)) for file in files)
+
+
 def count_in(folder):
     """How many tests its files have."""
-    return sum(len(re.findall(r"^\s*#\[test\]", open(file, encoding="utf-8").read(), re.M)) for file in sources(folder))
+    return count_of(sources(folder))
+
+
+def files_of(name):
+    """The files of a folder of tests, with those of others whose modules it names, by their places in it."""
+    folder = os.path.join(TESTS, name)
+    files = {os.path.relpath(source, folder): source for source in sources(folder)}
+    for other in OTHERS.get(name, []):
+        for module in re.findall(r"^mod (\w+);", open(files["lib.rs"], encoding="utf-8").read(), re.M):
+            source = os.path.join(TESTS, other, module + ".rs")
+            if module + ".rs" not in files and os.path.exists(source):
+                files[module + ".rs"] = source
+    return files
 
 
 def listed():
@@ -75,9 +94,8 @@ def root_of(source):
 
 def add_tests(copy, name):
     """Puts the tests of a folder into the copy."""
-    folder = os.path.join(TESTS, name)
-    for source in sources(folder):
-        file = place_of(name, os.path.relpath(source, folder))
+    for place, source in files_of(name).items():
+        file = place_of(name, place)
         put(source, copy, file)
         if name.startswith(INSIDE) and os.path.basename(source) == "tests.rs":
             above = os.path.dirname(os.path.join(copy, file))

@@ -1,7 +1,8 @@
 // A clock that cannot be read: at the making, or later.
 
+use crate::kind::{Makes, PlainPool};
 use crate::play::{GOOD, Manager, Play, watched};
-use r2d2::{Builder, ErrorKind, ManageConnection, PlainPool, PoolRuntime};
+use r2d2::{Builder, ErrorKind, ManageConnection, PoolRuntime};
 use r2d2_core::Record;
 use std::alloc::{Alloc, Global};
 use std::rt::Clock;
@@ -89,7 +90,7 @@ fn a_clock_that_cannot_be_read_at_the_making(rt: HostRuntime) -> Result<(), Fail
     let pool = Builder::new()
         .max_size(1)
         .journal_room(16)
-        .build_unchecked(late, Manager::new(rt, &play)?)?;
+        .make_unchecked(late, Manager::new(rt, &play)?)?;
     assert!(rt; come_to_be_idle(&rt, &pool, 1));
     drop(pool.get()?);
     thread::sleep(&rt, Duration::from_secs(3));
@@ -116,7 +117,7 @@ fn a_clock_that_cannot_be_read_later(rt: HostRuntime) -> Result<(), Fail> {
     let pool = Builder::new()
         .max_size(1)
         .journal_room(16)
-        .build(short, Manager::new(rt, &play)?)?;
+        .make(short, Manager::new(rt, &play)?)?;
     thread::sleep(&rt, Duration::from_secs(3));
     let lent = pool.get()?;
     // A wait ends in time all the same.

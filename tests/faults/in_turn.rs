@@ -134,7 +134,7 @@ fn starting_each_worker(rt: HostRuntime) -> Result<(), Fail> {
     if built.is_ok() {
         assert_eq!(rt; watched(&rt, play.connects(), 3, 500), 3);
     }
-    play.let_go.store(1, Ordering::SeqCst);
+    play.let_go.store(u64::MAX, Ordering::SeqCst);
     drop(built);
     assert_eq!(rt; watched(&rt, &play.managers_dropped, 1, 1000), 1);
     let opened = play.opened.load(Ordering::SeqCst);

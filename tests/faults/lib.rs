@@ -4,7 +4,11 @@
 #[cfg(test)]
 mod clocks;
 #[cfg(test)]
+mod hands;
+#[cfg(test)]
 mod in_turn;
+#[cfg(test)]
+mod kind;
 #[cfg(test)]
 mod lives;
 #[cfg(test)]

@@ -1,5 +1,6 @@
 // Each outcome of each call, in each place of a connection's life.
 
+use crate::kind::Makes;
 use crate::play::{GOOD, Manager, Others, Play, Rows, watched};
 use r2d2::{Builder, PoolRuntime};
 use std::process::Abort;
@@ -33,7 +34,7 @@ fn two_lendings<R: PoolRuntime + Abort>(rt: &R, row: Row) -> Result<(), Fail> {
         .error_handler(Others::new(*rt, &play)?)
         .event_handler(Others::new(*rt, &play)?)
         .connection_customizer(Others::new(*rt, &play)?)
-        .build(*rt, Manager::new(*rt, &play)?)?;
+        .make(*rt, Manager::new(*rt, &play)?)?;
     for _ in 0..2 {
         drop(pool.get_timeout(Duration::from_secs(20))?);
     }
@@ -259,7 +260,7 @@ fn late_return<R: PoolRuntime + Abort>(rt: &R, has_broken: &str, wanted: &str) -
         .error_handler(Others::new(*rt, &play)?)
         .event_handler(Others::new(*rt, &play)?)
         .connection_customizer(Others::new(*rt, &play)?)
-        .build(*rt, Manager::new(*rt, &play)?)?;
+        .make(*rt, Manager::new(*rt, &play)?)?;
     let lent = pool.get()?;
     drop(pool);
     drop(lent);

@@ -1,8 +1,9 @@
 // Callers who are woken as their time runs out, and give up: another one has what they were woken for.
 
 use crate::clocks::{Fault, Faulty};
+use crate::kind::{Makes, PlainPool};
 use crate::play::{GOOD, Manager, Play, Rows, watched};
-use r2d2::{Builder, ManageConnection, PlainPool, PoolRuntime};
+use r2d2::{Builder, ManageConnection, PoolRuntime};
 use std::rt::Clock;
 use std::sync::Arc;
 use std::sync::atomic::{AtomicU64, Ordering};
@@ -36,7 +37,7 @@ fn the_last_one_is_served<R: PoolRuntime>(
     let pool = Builder::new()
         .max_size(1)
         .min_idle(Some(0))
-        .build(Faulty { rt, fault }, Manager::new(rt, &play)?)?;
+        .make(Faulty { rt, fault }, Manager::new(rt, &play)?)?;
     let lent = pool.get()?;
     let served = Arc::new(rt.alloc(), AtomicU64::new(0))?;
     let mut threads = Vec::new(rt.alloc());
@@ -79,7 +80,7 @@ fn no_caller_waits_beside_an_idle_connection(rt: HostRuntime) -> Result<(), Fail
     let play = Play::new(rt.alloc(), GOOD)?;
     let pool = Builder::new()
         .max_size(1)
-        .build(rt, Manager::new(rt, &play)?)?;
+        .make(rt, Manager::new(rt, &play)?)?;
     let served = Arc::new(rt.alloc(), AtomicU64::new(0))?;
     for trial in 0..120u64 {
         let lent = pool.get()?;

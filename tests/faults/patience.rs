@@ -1,8 +1,12 @@
 // Managers, customizers and handlers that are slow, or fail again and again; many callers; and a pool that goes while they wait.
 
+use crate::kind::{Makes, PlainPool, Pool};
 use crate::play::{GOOD, Manager, Others, Play, Rows, watched};
 use r2d2::event::{AcquireEvent, CheckinEvent, CheckoutEvent, ReleaseEvent, TimeoutEvent};
-use r2d2::{Builder, ErrorKind, HandleEvent, ManageConnection, PlainPool, PoolRuntime};
+use r2d2::{
+    Builder, ErrorKind, HandleEvent, ManageConnection, NopConnectionCustomizer, NopErrorHandler,
+    PoolRuntime,
+};
 use std::rt::Clock;
 use std::sync::Arc;
 use std::sync::atomic::{AtomicU64, Ordering};
@@ -18,7 +22,7 @@ fn a_connect_slower_than_the_timeout(rt: HostRuntime) -> Result<(), Fail> {
         .max_size(1)
         .connection_timeout(Duration::from_millis(300))
         .event_handler(Others::new(rt, &play)?)
-        .build_unchecked(rt, Manager::new(rt, &play)?)?;
+        .make_unchecked(rt, Manager::new(rt, &play)?)?;
     let start = Instant::now(&rt)?;
     let error = pool.get().err().ok_or("a connection")?;
     let waited = start.elapsed(&rt)?.as_millis();
@@ -30,6 +34,22 @@ fn a_connect_slower_than_the_timeout(rt: HostRuntime) -> Result<(), Fail> {
     play.let_go.store(1, Ordering::SeqCst);
     drop(pool.get_timeout(Duration::from_secs(20))?);
     assert!(rt; play.told(&rt, "timeout 0; acquire 0; checkout 0; checkin 0; "));
+    Ok(())
+}
+
+// It ordered on its miss, and neither looks nor orders again when its time is over.
+#[test]
+fn a_caller_who_gives_up_ordered_once(rt: HostRuntime) -> Result<(), Fail> {
+    let rows = Rows { unheld: 0, ..GOOD };
+    let play = Play::new(rt.alloc(), rows)?;
+    let pool = Builder::new()
+        .max_size(3)
+        .min_idle(Some(0))
+        .make(rt, Manager::new(rt, &play)?)?;
+    let wait = Duration::from_millis(50);
+    assert!(rt; pool.get_timeout(wait).is_err());
+    assert_eq!(rt; pool.journal()?.pending, 1);
+    play.let_go.store(1, Ordering::SeqCst);
     Ok(())
 }
 
@@ -83,7 +103,7 @@ fn a_worker_waits_where_nothing_is_due(rt: HostRuntime) -> Result<(), Fail> {
         .max_lifetime(None)
         .idle_timeout(None)
         .thread_pool(1)
-        .build(rt, Manager::new(rt, &play)?)?;
+        .make(rt, Manager::new(rt, &play)?)?;
     // Time for the worker to find nothing to do, now or at any later moment.
     thread::sleep(&rt, Duration::from_millis(300));
     assert!(rt; pool.get_timeout(Duration::from_secs(10)).is_ok());
@@ -103,7 +123,7 @@ fn a_customizer_that_fails_each_second_time(rt: HostRuntime) -> Result<(), Fail>
         .error_handler(Others::new(rt, &play)?)
         .event_handler(Others::new(rt, &play)?)
         .connection_customizer(Others::new(rt, &play)?)
-        .build(rt, Manager::new(rt, &play)?)?;
+        .make(rt, Manager::new(rt, &play)?)?;
     assert_eq!(rt; pool.state().connections, 3);
     assert_eq!(rt; watched(&rt, &play.errors, 3, 1000), 3);
     assert_eq!(rt; play.opened.load(Ordering::SeqCst), 6);
@@ -125,7 +145,7 @@ fn each_return_is_broken(rt: HostRuntime) -> Result<(), Fail> {
     let pool = Builder::new()
         .max_size(2)
         .connection_customizer(Others::new(rt, &play)?)
-        .build(rt, Manager::new(rt, &play)?)?;
+        .make(rt, Manager::new(rt, &play)?)?;
     for closed in 0..20 {
         assert_eq!(rt; play.released.load(Ordering::SeqCst), closed);
         drop(pool.get()?);
@@ -154,7 +174,7 @@ fn each_check_fails(rt: HostRuntime) -> Result<(), Fail> {
         .error_handler(Others::new(rt, &play)?)
         .event_handler(Others::new(rt, &play)?)
         .connection_customizer(Others::new(rt, &play)?)
-        .build(rt, Manager::new(rt, &play)?)?;
+        .make(rt, Manager::new(rt, &play)?)?;
     let start = Instant::now(&rt)?;
     let wait = Duration::from_secs(2);
     let error = pool.get_timeout(wait).err().ok_or("a connection")?;
@@ -201,7 +221,7 @@ impl<R: PoolRuntime> HandleEvent for Lengthy<R> {
 
 // Lends a connection, and gives it back; it answers whether there was one.
 fn lends<M: ManageConnection, V: HandleEvent + 'static, R: PoolRuntime>(
-    pool: r2d2::Pool<M, r2d2::NopErrorHandler, V, r2d2::NopConnectionCustomizer, R>,
+    pool: Pool<M, NopErrorHandler, V, NopConnectionCustomizer, R>,
 ) -> bool {
     pool.get().is_ok()
 }
@@ -212,7 +232,7 @@ fn a_slow_handler_holds_up_its_own_caller_alone(rt: HostRuntime) -> Result<(), F
     let pool = Builder::new()
         .max_size(3)
         .event_handler(Lengthy { rt })
-        .build(rt, Manager::new(rt, &play)?)?;
+        .make(rt, Manager::new(rt, &play)?)?;
     let start = Instant::now(&rt)?;
     let mut threads = Vec::new(rt.alloc());
     for _ in 0..3 {
@@ -258,7 +278,7 @@ fn sixteen_callers_of_one_connection(rt: HostRuntime) -> Result<(), Fail> {
     let play = Play::new(rt.alloc(), GOOD)?;
     let pool = Builder::new()
         .max_size(1)
-        .build(rt, Manager::new(rt, &play)?)?;
+        .make(rt, Manager::new(rt, &play)?)?;
     let holders = Holders {
         now: AtomicU64::new(0),
         clashes: AtomicU64::new(0),
@@ -296,7 +316,7 @@ fn a_pool_that_goes_while_callers_of_its_clones_wait(rt: HostRuntime) -> Result<
     let play = Play::new(rt.alloc(), GOOD)?;
     let pool = Builder::new()
         .max_size(1)
-        .build(rt, Manager::new(rt, &play)?)?;
+        .make(rt, Manager::new(rt, &play)?)?;
     let lent = pool.get()?;
     let served = Arc::new(rt.alloc(), AtomicU64::new(0))?;
     let mut threads = Vec::new(rt.alloc());

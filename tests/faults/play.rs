@@ -82,7 +82,7 @@ pub(crate) struct Play {
     is_valid: Outcomes,
     has_broken: Outcomes,
     unheld: u64,
-    /// Greater than 0 once the connects that wait are let go.
+    /// How many of the connects that wait are let go.
     pub(crate) let_go: AtomicU64,
     /// What was opened, told and dropped, in order.
     text: Mutex<String>,
@@ -203,7 +203,8 @@ impl<R: PoolRuntime> ManageConnection for Manager<R> {
         let play = &self.play;
         let (number, goes_well) = play.connect.next();
         if number >= play.unheld {
-            watched(&self.rt, &play.let_go, 1, 1000);
+            let place = (number - play.unheld).saturating_add(1);
+            watched(&self.rt, &play.let_go, place, 1000);
         }
         if !goes_well {
             return Err(Sorry::Connect(number));

@@ -1,5 +1,6 @@
 // A pool whose first calls go badly: what it tells, counts and records.
 
+use crate::kind::Makes;
 use crate::play::{GOOD, Manager, Others, Play, Rows};
 use r2d2::Builder;
 use r2d2_core::Record;
@@ -20,7 +21,7 @@ fn connect_script(rt: HostRuntime) -> Result<(), Fail> {
         .connection_timeout(Duration::from_secs(2))
         .error_handler(Others::new(rt, &play)?)
         .event_handler(Others::new(rt, &play)?)
-        .build(rt, Manager::new(rt, &play)?)?;
+        .make(rt, Manager::new(rt, &play)?)?;
     assert_eq!(rt; play.errors.load(Ordering::SeqCst), 2);
     assert!(rt; play.told(&rt, "acquire 0; "));
     assert_eq!(rt; pool.state().connections, 1);
@@ -40,7 +41,7 @@ fn acquire_script(rt: HostRuntime) -> Result<(), Fail> {
         .error_handler(Others::new(rt, &play)?)
         .event_handler(Others::new(rt, &play)?)
         .connection_customizer(Others::new(rt, &play)?)
-        .build(rt, Manager::new(rt, &play)?)?;
+        .make(rt, Manager::new(rt, &play)?)?;
     assert_eq!(rt; play.errors.load(Ordering::SeqCst), 1);
     assert_eq!(rt; play.dropped.load(Ordering::SeqCst), 1);
     assert!(rt; play.told(&rt, "acquire 0; "));
@@ -75,7 +76,7 @@ fn check_script(rt: HostRuntime) -> Result<(), Fail> {
         .error_handler(Others::new(rt, &play)?)
         .event_handler(Others::new(rt, &play)?)
         .connection_customizer(Others::new(rt, &play)?)
-        .build(rt, Manager::new(rt, &play)?)?;
+        .make(rt, Manager::new(rt, &play)?)?;
     let lent = pool.get()?;
     let report = pool.journal()?;
     // A worker may tell of the second connection before this thread tells of the first one's end.

@@ -1,10 +1,12 @@
 // What comes of building, and what a built pool says of itself.
 
 use crate::callers::watched;
+use crate::listening::Listener;
 use crate::managers::{Breaks, Counts, Manager, Sevens};
 use r2d2::{
     Builder, ErrorKind, NopConnectionCustomizer, NopErrorHandler, NopEventHandler, PlainPool, Pool,
 };
+use std::sync::{Arc, Mutex};
 use std::test::Fail;
 use std::time::Duration;
 
@@ -33,12 +35,17 @@ fn test_is_send_sync(rt: HostRuntime) -> Result<(), Fail> {
 fn test_initialization_failure(rt: HostRuntime) -> Result<(), Fail> {
     let counts = Counts::new(rt.alloc())?;
     let manager = Manager::new(&counts, 0, Breaks::Never)?;
-    let builder = Builder::new().connection_timeout(Duration::from_secs(1));
+    let told = Arc::new(rt.alloc(), Mutex::new(Vec::new(rt.alloc())))?;
+    let builder = Builder::new()
+        .connection_timeout(Duration::from_secs(1))
+        .event_handler(Listener::new(rt, &told)?);
     let error = builder.build(rt, manager).err().ok_or("a pool")?;
     assert_eq!(rt;
         error.to_string(rt.alloc())?.as_str(),
         "timed out waiting for connection: blammo"
     );
+    // No caller waited in vain.
+    assert!(rt; told.lock(&rt).is_empty());
     Ok(())
 }
 

@@ -1,6 +1,7 @@
 // What threads of a test do, and how long they look.
 
-use r2d2::{ManageConnection, PlainPool, PoolRuntime};
+use crate::kind::PlainPool;
+use r2d2::{ManageConnection, PoolRuntime};
 use std::rt::Clock;
 use std::sync::atomic::{AtomicU64, Ordering};
 use std::thread;

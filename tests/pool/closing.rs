@@ -1,9 +1,10 @@
 // What happens to connections and to the manager where a connection is broken, or its pool goes away.
 
 use crate::callers::{keep, watched};
+use crate::kind::{Makes, Pool};
 use crate::listening::{Listener, Told};
 use crate::managers::{Blammo, Breaks, Counts, Manager, Value};
-use r2d2::{Builder, ManageConnection, Pool, PoolRuntime};
+use r2d2::{Builder, ManageConnection, PoolRuntime};
 use std::rt::Clock;
 use std::sync::atomic::{AtomicU64, Ordering};
 use std::sync::{Arc, Mutex};
@@ -26,7 +27,7 @@ fn conns_drop_on_pool_drop(rt: HostRuntime) -> Result<(), Fail> {
     let pool = Builder::new()
         .max_size(10)
         .max_lifetime(Some(Duration::from_secs(10)))
-        .build(rt, Manager::new(&counts, 10, Breaks::Never)?)?;
+        .make(rt, Manager::new(&counts, 10, Breaks::Never)?)?;
     drop(pool);
     assert_eq!(rt; watched(&rt, &counts.dropped, 10, 1000), 10);
     Ok(())
@@ -54,7 +55,7 @@ fn close_by_return(rt: HostRuntime) -> Result<(), Fail> {
     let pool = Builder::new()
         .max_size(1)
         .event_handler(Listener::new(rt, &told)?)
-        .build(rt, Manager::new(&counts, 1, Breaks::Never)?)?;
+        .make(rt, Manager::new(&counts, 1, Breaks::Never)?)?;
     let mut lent = pool.get()?;
     drop(pool);
     lent.field = 3;
@@ -76,7 +77,7 @@ fn close_by_the_return_of_another_thread(rt: HostRuntime) -> Result<(), Fail> {
     let pool = Builder::new()
         .max_size(1)
         .event_handler(Listener::new(rt, &told)?)
-        .build(rt, Manager::new(&counts, 1, Breaks::Never)?)?;
+        .make(rt, Manager::new(&counts, 1, Breaks::Never)?)?;
     let lent = pool.get()?;
     drop(pool);
     assert_eq!(rt; counts.dropped(), 0);
@@ -158,7 +159,7 @@ fn what_is_idle_at_a_close_is_dropped_without_the_lock(rt: HostRuntime) -> Resul
         drops: Arc::try_clone(&drops)?,
         rt,
     };
-    let pool = Builder::new().max_size(2).build_unchecked(rt, manager)?;
+    let pool = Builder::new().max_size(2).make_unchecked(rt, manager)?;
     assert_eq!(rt; watched(&rt, &drops.connects, 2, 1000), 2);
     // Waits until the first connection is there, and gives it back. A worker comes with the second one while the first is dropped.
     drop(pool.get()?);

@@ -2,12 +2,12 @@
 // that a close does not have.
 
 use crate::callers::{keep, watched};
+use crate::kind::{Makes, PlainPool, Pool};
 use crate::listening::{Events, Listener, Told};
 use crate::managers::{Blammo, Breaks, Counts, Line, Manager, Value};
 use r2d2::event::{AcquireEvent, CheckinEvent, CheckoutEvent, ReleaseEvent, TimeoutEvent};
 use r2d2::{
-    Builder, CustomizeConnection, HandleEvent, ManageConnection, NopErrorHandler, PlainPool, Pool,
-    PoolRuntime,
+    Builder, CustomizeConnection, HandleEvent, ManageConnection, NopErrorHandler, PoolRuntime,
 };
 use std::alloc::AllocError;
 use std::rt::Clock;
@@ -172,7 +172,7 @@ impl<R: PoolRuntime> Scene<R> {
             .max_size(1)
             .event_handler(HaltingListener(Halting::new(rt, place, &halt, &counts)?, listener))
             .connection_customizer(Halting::new(rt, place, &halt, &counts)?)
-            .build_unchecked(rt, Halting::new(rt, place, &halt, &counts)?)?;
+            .make_unchecked(rt, Halting::new(rt, place, &halt, &counts)?)?;
         Ok(Scene {
             pool,
             halt,
@@ -251,7 +251,7 @@ fn waits_in_vain<R: PoolRuntime>(pool: PlainPool<Manager, R>) -> bool {
 fn close_amid_waiting(rt: HostRuntime) -> Result<(), Fail> {
     let counts = Counts::new(rt.alloc())?;
     let manager = Manager::new(&counts, 1, Breaks::Never)?;
-    let pool = Builder::new().max_size(1).build(rt, manager)?;
+    let pool = Builder::new().max_size(1).make(rt, manager)?;
     let lent = pool.get()?;
     let (one, other) = (pool.try_clone()?, pool.try_clone()?);
     let one = thread::spawn(&rt, move || waits_in_vain(one))?;
@@ -270,7 +270,7 @@ fn close_by_two_at_once(rt: HostRuntime) -> Result<(), Fail> {
     for _ in 0..30 {
         let counts = Counts::new(rt.alloc())?;
         let manager = Manager::new(&counts, 2, Breaks::Never)?;
-        let pool = Builder::new().max_size(2).build(rt, manager)?;
+        let pool = Builder::new().max_size(2).make(rt, manager)?;
         let (one, other) = (pool.get()?, pool.get()?);
         drop(pool);
         let theirs = thread::spawn(&rt, move || keep(rt, Duration::ZERO, other))?;

@@ -1,6 +1,7 @@
 // Settings and calls at the edge of what there is.
 
 use crate::callers::keep;
+use crate::kind::Makes;
 use crate::managers::Sevens;
 use r2d2::{Builder, ErrorKind};
 use std::test::Fail;
@@ -9,7 +10,7 @@ use std::time::{Duration, Instant};
 
 #[test]
 fn a_call_that_waits_for_no_time(rt: HostRuntime) -> Result<(), Fail> {
-    let pool = Builder::new().max_size(1).build(rt, Sevens)?;
+    let pool = Builder::new().max_size(1).make(rt, Sevens)?;
     let lent = pool.get_timeout(Duration::ZERO)?;
     let error = pool
         .get_timeout(Duration::ZERO)
@@ -26,7 +27,7 @@ fn a_call_that_waits_for_ever(rt: HostRuntime) -> Result<(), Fail> {
     let pool = Builder::new()
         .max_size(1)
         .connection_timeout(Duration::MAX)
-        .build(rt, Sevens)?;
+        .make(rt, Sevens)?;
     let lent = pool.get()?;
     let other = thread::spawn(&rt, move || keep(rt, Duration::from_millis(200), lent))?;
     let began = Instant::now(&rt)?;
@@ -42,7 +43,7 @@ fn a_timeout_of_a_nanosecond(rt: HostRuntime) -> Result<(), Fail> {
     let pool = Builder::new()
         .max_size(1)
         .connection_timeout(Duration::from_nanos(1))
-        .build_unchecked(rt, Sevens)?;
+        .make_unchecked(rt, Sevens)?;
     for _ in 0..500 {
         if pool.state().idle_connections == 1 {
             break;
@@ -63,7 +64,7 @@ fn lengths_of_a_nanosecond(rt: HostRuntime) -> Result<(), Fail> {
         .max_size(1)
         .max_lifetime(nanosecond)
         .idle_timeout(nanosecond)
-        .build(rt, Sevens)?;
+        .make(rt, Sevens)?;
     // Each is too old when it comes back, and another one is opened.
     drop(pool.get()?);
     drop(pool.get()?);
@@ -77,7 +78,7 @@ fn a_million_connections_at_most(rt: HostRuntime) -> Result<(), Fail> {
     let pool = Builder::new()
         .max_size(1_000_000)
         .min_idle(Some(0))
-        .build(rt, Sevens)?;
+        .make(rt, Sevens)?;
     assert_eq!(rt; pool.state().connections, 0);
     drop(pool.get()?);
     assert_eq!(rt; pool.state().connections, 1);

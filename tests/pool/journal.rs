@@ -1,5 +1,6 @@
 // The records that a pool keeps.
 
+use crate::kind::Makes;
 use crate::managers::{Breaks, Counts, Manager};
 use r2d2::Builder;
 use r2d2_core::Record;
@@ -43,7 +44,7 @@ fn journal_shows_take(rt: HostRuntime) -> Result<(), Fail> {
     let pool = Builder::new()
         .max_size(1)
         .journal_room(16)
-        .build(rt, Manager::new(&counts, 2, Breaks::AtTheSecondReturn)?)?;
+        .make(rt, Manager::new(&counts, 2, Breaks::AtTheSecondReturn)?)?;
     drop(pool.get()?);
     drop(pool.get()?);
     let _lent = pool.get()?;
@@ -80,7 +81,7 @@ fn journal_of_a_fresh_pool(rt: HostRuntime) -> Result<(), Fail> {
         .max_size(3)
         .min_idle(Some(2))
         .journal_room(4)
-        .build_unchecked(rt, Manager::new(&counts, 0, Breaks::Never)?)?;
+        .make_unchecked(rt, Manager::new(&counts, 0, Breaks::Never)?)?;
     let report = pool.journal()?;
     assert_eq!(rt; report.limits.max_size(), 3);
     assert!(rt; report.records.as_slice().is_empty());

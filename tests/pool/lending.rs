@@ -1,15 +1,16 @@
 // How callers come to connections, wait for them, and what stays with a connection.
 
 use crate::callers::{keep, watched};
+use crate::kind::{Makes, PooledConnection};
 use crate::managers::{Breaks, Counts, Kind, Manager, Sevens, Value};
-use r2d2::{Builder, ErrorKind, PooledConnection};
+use r2d2::{Builder, ErrorKind};
 use std::test::Fail;
 use std::thread;
 use std::time::{Duration, Instant};
 
 #[test]
 fn test_acquire_release(rt: HostRuntime) -> Result<(), Fail> {
-    let pool = Builder::new().max_size(2).build(rt, Sevens)?;
+    let pool = Builder::new().max_size(2).make(rt, Sevens)?;
     let first = pool.get()?;
     let second = pool.get()?;
     drop(first);
@@ -22,7 +23,7 @@ fn test_acquire_release(rt: HostRuntime) -> Result<(), Fail> {
 
 #[test]
 fn try_get(rt: HostRuntime) -> Result<(), Fail> {
-    let pool = Builder::new().max_size(2).build(rt, Sevens)?;
+    let pool = Builder::new().max_size(2).make(rt, Sevens)?;
     let first = pool.try_get()?;
     let second = pool.try_get()?;
     let third = pool.try_get()?;
@@ -39,7 +40,7 @@ fn try_get_orders_none(rt: HostRuntime) -> Result<(), Fail> {
     let pool = Builder::new()
         .max_size(1)
         .min_idle(Some(0))
-        .build(rt, Sevens)?;
+        .make(rt, Sevens)?;
     assert!(rt; pool.try_get()?.is_none());
     let report = pool.journal()?;
     assert_eq!(rt; (report.connections, report.pending), (0, 0));
@@ -51,7 +52,7 @@ fn get_timeout(rt: HostRuntime) -> Result<(), Fail> {
     let pool = Builder::new()
         .max_size(1)
         .connection_timeout(Duration::from_millis(500))
-        .build(rt, Sevens)?;
+        .make(rt, Sevens)?;
     let wait = Duration::from_millis(100);
 
     let lent = pool.get_timeout(wait)?;
@@ -70,7 +71,7 @@ fn test_get_global_timeout(rt: HostRuntime) -> Result<(), Fail> {
     let pool = Builder::new()
         .max_size(1)
         .connection_timeout(Duration::from_secs(1))
-        .build(rt, Sevens)?;
+        .make(rt, Sevens)?;
     let _lent = pool.get()?;
     // From here on a moment of the pool is no length of time.
     thread::sleep(&rt, Duration::from_secs(1));
@@ -85,14 +86,14 @@ fn test_get_global_timeout(rt: HostRuntime) -> Result<(), Fail> {
 
 #[test]
 fn longest_timeout(rt: HostRuntime) -> Result<(), Fail> {
-    let pool = Builder::new().max_size(1).build(rt, Sevens)?;
+    let pool = Builder::new().max_size(1).make(rt, Sevens)?;
     assert!(rt; pool.get_timeout(Duration::MAX).is_ok());
     Ok(())
 }
 
 #[test]
 fn waits_for_the_longest_timeout(rt: HostRuntime) -> Result<(), Fail> {
-    let pool = Builder::new().max_size(1).build(rt, Sevens)?;
+    let pool = Builder::new().max_size(1).make(rt, Sevens)?;
     let lent = pool.get()?;
     let other = thread::spawn(&rt, move || keep(rt, Duration::from_millis(300), lent))?;
     assert!(rt; pool.try_get()?.is_none());
@@ -103,7 +104,7 @@ fn waits_for_the_longest_timeout(rt: HostRuntime) -> Result<(), Fail> {
 
 #[test]
 fn clones_are_over_one_state(rt: HostRuntime) -> Result<(), Fail> {
-    let pool = Builder::new().max_size(1).build(rt, Sevens)?;
+    let pool = Builder::new().max_size(1).make(rt, Sevens)?;
     let clone = pool.try_clone()?;
     let lent = pool.try_get()?;
     assert!(rt; lent.is_some());
@@ -118,7 +119,7 @@ fn clones_are_over_one_state(rt: HostRuntime) -> Result<(), Fail> {
 
 #[test]
 fn extensions(rt: HostRuntime) -> Result<(), Fail> {
-    let pool = Builder::new().max_size(2).build(rt, Sevens)?;
+    let pool = Builder::new().max_size(2).make(rt, Sevens)?;
     let mut first = pool.get()?;
     let mut second = pool.get()?;
     let added = PooledConnection::extensions_mut(&mut first).insert(Value::Number(1));
@@ -136,7 +137,7 @@ fn extensions(rt: HostRuntime) -> Result<(), Fail> {
 fn extensions_go_with_their_connection(rt: HostRuntime) -> Result<(), Fail> {
     let counts = Counts::new(rt.alloc())?;
     let manager = Manager::new(&counts, 2, Breaks::AtTheSecondReturn)?;
-    let pool = Builder::new().max_size(1).build(rt, manager)?;
+    let pool = Builder::new().max_size(1).make(rt, manager)?;
     let mut lent = pool.get()?;
     let added = PooledConnection::extensions_mut(&mut lent).insert(Value::Word('w'));
     assert!(rt; added == Ok(None));
@@ -159,7 +160,7 @@ fn a_timeout_tells_an_error_from_before_the_call(rt: HostRuntime) -> Result<(), 
     let counts = Counts::new(rt.alloc())?;
     let pool = Builder::new()
         .max_size(1)
-        .build_unchecked(rt, Manager::new(&counts, 0, Breaks::Never)?)?;
+        .make_unchecked(rt, Manager::new(&counts, 0, Breaks::Never)?)?;
     assert!(rt; watched(&rt, &counts.connects, 2, 1000) >= 2);
     // The first failure is told, and now the second is; the third comes 800 ms after it.
     thread::sleep(&rt, Duration::from_millis(100));

@@ -20,6 +20,8 @@ mod extremes;
 #[cfg(test)]
 mod journal;
 #[cfg(test)]
+mod kind;
+#[cfg(test)]
 mod lending;
 #[cfg(test)]
 mod listening;

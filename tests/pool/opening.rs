@@ -1,6 +1,7 @@
 // How connections are opened.
 
 use crate::callers::watched;
+use crate::kind::Makes;
 use crate::managers::{Blammo, Breaks, Counts, Line, Manager, Sevens, Value};
 use r2d2::{Builder, CustomizeConnection, ManageConnection, PoolRuntime};
 use std::sync::Arc;
@@ -86,10 +87,7 @@ fn two_openings_at_once(rt: HostRuntime) -> Result<(), Fail> {
         openings: Arc::try_clone(&openings)?,
         rt,
     };
-    let pool = Builder::new()
-        .max_size(2)
-        .thread_pool(2)
-        .build(rt, manager)?;
+    let pool = Builder::new().max_size(2).thread_pool(2).make(rt, manager)?;
     assert!(rt; openings.saw_both.load(Ordering::SeqCst));
     assert_eq!(rt; pool.state().connections, 2);
     Ok(())
@@ -105,7 +103,7 @@ fn test_connection_customizer(rt: HostRuntime) -> Result<(), Fail> {
     };
     let pool = Builder::new()
         .connection_customizer(customizer)
-        .build(rt, Manager::new(&counts, 1000, Breaks::Always)?)?;
+        .make(rt, Manager::new(&counts, 1000, Breaks::Always)?)?;
     let lent = pool.get()?;
     assert_eq!(rt; lent.field, 1);
     assert_eq!(rt; released.load(Ordering::SeqCst), 0);
@@ -156,7 +154,7 @@ fn all_workers_are_woken(rt: HostRuntime) -> Result<(), Fail> {
         .max_size(6)
         .min_idle(Some(3))
         .thread_pool(3)
-        .build(rt, manager)?;
+        .make(rt, manager)?;
     // Time for the workers to come to their waits.
     thread::sleep(&rt, Duration::from_millis(300));
     // The first take orders one opening, the second two.
@@ -171,7 +169,7 @@ fn retries_are_put_off_by_half_of_the_timeout_at_most(rt: HostRuntime) -> Result
     let _pool = Builder::new()
         .max_size(1)
         .connection_timeout(Duration::from_millis(200))
-        .build_unchecked(rt, Manager::new(&counts, 0, Breaks::Never)?)?;
+        .make_unchecked(rt, Manager::new(&counts, 0, Breaks::Never)?)?;
     assert!(rt; watched(&rt, &counts.connects, 10, 500) >= 10);
     Ok(())
 }
@@ -181,7 +179,7 @@ fn min_idle(rt: HostRuntime) -> Result<(), Fail> {
     let pool = Builder::new()
         .max_size(5)
         .min_idle(Some(2))
-        .build(rt, Sevens)?;
+        .make(rt, Sevens)?;
     thread::sleep(&rt, Duration::from_secs(1));
     let state = pool.state();
     assert_eq!(rt; (state.idle_connections, state.connections), (2, 2));

@@ -1,6 +1,7 @@
 // In which order a caller's thread calls, what waits for a call, and what does not.
 
 use crate::callers::{keep, watched};
+use crate::kind::Makes;
 use crate::listening::{Listener, Told};
 use crate::managers::{Blammo, Breaks, Counts, Line, Manager, Sevens, Value};
 use r2d2::event::{AcquireEvent, CheckinEvent, CheckoutEvent, ReleaseEvent, TimeoutEvent};
@@ -132,7 +133,7 @@ fn a_failed_check_and_a_broken_return(rt: HostRuntime) -> Result<(), Fail> {
         .error_handler(Scribe::new(rt, &calls)?)
         .event_handler(Scribe::new(rt, &calls)?)
         .connection_customizer(Scribe::new(rt, &calls)?)
-        .build(rt, Scribe::new(rt, &calls)?)?;
+        .make(rt, Scribe::new(rt, &calls)?)?;
     // From here on the time since the pool was made is no young age.
     thread::sleep(&rt, Duration::from_secs(2));
     drop(pool.get()?);
@@ -204,7 +205,7 @@ impl<R: PoolRuntime> ManageConnection for FirstFails<R> {
 #[test]
 fn try_get_looks_on_after_a_failed_check(rt: HostRuntime) -> Result<(), Fail> {
     let manager = FirstFails::new(rt, 2, Duration::ZERO);
-    let pool = Builder::new().max_size(2).build(rt, manager)?;
+    let pool = Builder::new().max_size(2).make(rt, manager)?;
     assert!(rt; pool.try_get()?.is_some());
     Ok(())
 }
@@ -215,7 +216,7 @@ fn checks_only_where_it_is_set_to(rt: HostRuntime) -> Result<(), Fail> {
     let pool = Builder::new()
         .max_size(1)
         .test_on_check_out(false)
-        .build(rt, manager)?;
+        .make(rt, manager)?;
     assert!(rt; pool.try_get()?.is_some());
     Ok(())
 }
@@ -225,7 +226,7 @@ fn a_failed_check_does_not_begin_the_wait_anew(rt: HostRuntime) -> Result<(), Fa
     let second = Duration::from_secs(1);
     let pool = Builder::new()
         .max_size(1)
-        .build(rt, FirstFails::new(rt, 1, second))?;
+        .make(rt, FirstFails::new(rt, 1, second))?;
     let start = Instant::now(&rt)?;
     let error = pool.get_timeout(second).err().ok_or("a connection")?;
     let waited = start.elapsed(&rt)?.as_millis();
@@ -270,7 +271,7 @@ fn nobody_is_lent_what_is_still_told_of(rt: HostRuntime) -> Result<(), Fail> {
     let pool = Builder::new()
         .max_size(1)
         .event_handler(Slow(Listener::new(rt, &told)?))
-        .build_unchecked(rt, Sevens)?;
+        .make_unchecked(rt, Sevens)?;
     let lent = pool.get()?;
     let other = thread::spawn(&rt, move || keep(rt, Duration::ZERO, lent))?;
     let _lent = pool.get()?;
@@ -331,7 +332,7 @@ fn an_opening_is_tried_again_while_its_error_is_told(rt: HostRuntime) -> Result<
     let _pool = Builder::new()
         .max_size(1)
         .error_handler(handler)
-        .build_unchecked(rt, Manager::new(&counts, 0, Breaks::Never)?)?;
+        .make_unchecked(rt, Manager::new(&counts, 0, Breaks::Never)?)?;
     assert!(rt; watched(&rt, &counts.connects, 2, 1000) >= 2);
     assert_eq!(rt; waited_in_vain.load(Ordering::SeqCst), 0);
     Ok(())
@@ -350,7 +351,7 @@ fn a_waiter_is_served_while_a_connection_is_released(rt: HostRuntime) -> Result<
         .max_size(1)
         .min_idle(Some(0))
         .connection_customizer(customizer)
-        .build(rt, Manager::new(&counts, 2, Breaks::Always)?)?;
+        .make(rt, Manager::new(&counts, 2, Breaks::Always)?)?;
     let lent = pool.get()?;
     // Time for this thread to come to its wait.
     let other = thread::spawn(&rt, move || keep(rt, Duration::from_millis(300), lent))?;

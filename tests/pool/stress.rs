@@ -2,8 +2,9 @@
 // each report of the journal replays, whatever room there is for records.
 
 use crate::callers::watched;
+use crate::kind::{Makes, PlainPool};
 use crate::managers::{Blammo, Breaks, Counts, Line, Manager, Value};
-use r2d2::{Builder, ManageConnection, PlainPool, PoolRuntime};
+use r2d2::{Builder, ManageConnection, PoolRuntime};
 use std::alloc::{AllocError, Global};
 use std::process::Abort;
 use std::sync::Arc;
@@ -211,7 +212,7 @@ where
         .max_lifetime(None)
         .idle_timeout(None)
         .journal_room(room)
-        .build(rt, Fickle::new(&counts, &fit)?)?;
+        .make(rt, Fickle::new(&counts, &fit)?)?;
     let threads = start_all(rt, &pool, &start)?;
     let seen = join_all(rt, threads);
     assert_eq!(rt;

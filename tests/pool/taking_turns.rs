@@ -1,5 +1,6 @@
 // Which of the idle connections is lent next, under each lending order.
 
+use crate::kind::Makes;
 use crate::managers::{Blammo, Value};
 use r2d2::{Builder, LendingOrder, ManageConnection, PoolRuntime};
 use std::sync::atomic::{AtomicU64, Ordering};
@@ -40,7 +41,7 @@ fn lent_to_six<R: PoolRuntime>(rt: R, order: LendingOrder) -> Result<Vec<u64>, F
         .max_size(3)
         .thread_pool(1)
         .lending_order(order)
-        .build(rt, manager)?;
+        .make(rt, manager)?;
     let mut numbers = Vec::new(rt.alloc());
     for _ in 0..6 {
         numbers.push(*pool.get()?)?;

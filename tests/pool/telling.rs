@@ -1,10 +1,11 @@
 // Which events are told, and in which order.
 
 use crate::callers::keep;
+use crate::kind::{Makes, PooledConnection};
 use crate::listening::{Listener, Told};
 use crate::managers::{Breaks, Counts, Manager, Sevens};
 use r2d2::event::{AcquireEvent, CheckinEvent, CheckoutEvent, ReleaseEvent, TimeoutEvent};
-use r2d2::{Builder, HandleEvent, PoolRuntime, PooledConnection};
+use r2d2::{Builder, HandleEvent, PoolRuntime};
 use std::sync::{Arc, Mutex, Wait};
 use std::test::Fail;
 use std::time::Duration;
@@ -18,7 +19,7 @@ fn events(rt: HostRuntime) -> Result<(), Fail> {
         .max_size(1)
         .connection_timeout(Duration::from_millis(250))
         .event_handler(Listener::new(rt, &told)?)
-        .build(rt, Manager::new(&counts, 100, Breaks::Always)?)?;
+        .make(rt, Manager::new(&counts, 100, Breaks::Always)?)?;
     let wait = Duration::from_millis(123);
     let lent = pool.get()?;
     assert!(rt; pool.get_timeout(wait).is_err());
@@ -47,9 +48,11 @@ fn event_on_try_get(rt: HostRuntime) -> Result<(), Fail> {
     let pool = Builder::new()
         .max_size(1)
         .event_handler(Listener::new(rt, &told)?)
-        .build(rt, Sevens)?;
+        .make(rt, Sevens)?;
     let lent = pool.try_get()?;
     assert!(rt; lent.is_some());
+    // Who finds none did not wait, and is told of nowhere.
+    assert!(rt; pool.try_get()?.is_none());
     let events = [Told::Acquire(0), Told::Checkout(0)];
     assert_eq!(rt; told.lock(&rt).as_slice(), events.as_slice());
     Ok(())
@@ -121,7 +124,7 @@ fn how_long_events_say(rt: HostRuntime) -> Result<(), Fail> {
     let pool = Builder::new()
         .max_size(1)
         .event_handler(watch)
-        .build(rt, Manager::new(&counts, 100, Breaks::Always)?)?;
+        .make(rt, Manager::new(&counts, 100, Breaks::Always)?)?;
     // From here on the time since the pool was made, and that since the first admission, is too long for each length below.
     let pause = Duration::from_millis(400);
     thread::sleep(&rt, Duration::from_secs(2));

@@ -1,6 +1,7 @@
 // Callers in threads of their own.
 
 use crate::callers::{checkouts, watched};
+use crate::kind::Makes;
 use crate::managers::{Blammo, Breaks, Counts, Manager, Sevens, Value};
 use r2d2::{Builder, ManageConnection, PoolRuntime};
 use std::sync::Arc;
@@ -62,7 +63,7 @@ fn test_issue_2_unlocked_during_is_valid(rt: HostRuntime) -> Result<(), Fail> {
         callers: Arc::try_clone(&callers)?,
         rt,
     };
-    let pool = Builder::new().max_size(2).build(rt, manager)?;
+    let pool = Builder::new().max_size(2).make(rt, manager)?;
     let theirs = pool.try_clone()?;
     let first = thread::spawn(&rt, move || checkouts(theirs, 1))?;
     assert_eq!(rt; watched(&rt, &callers.checks, 1, 1000), 1);
@@ -81,7 +82,7 @@ fn waiter_after_broken_return(rt: HostRuntime) -> Result<(), Fail> {
         .max_size(1)
         .min_idle(Some(0))
         .connection_timeout(Duration::from_secs(10))
-        .build(rt, Manager::new(&counts, 2, Breaks::Always)?)?;
+        .make(rt, Manager::new(&counts, 2, Breaks::Always)?)?;
     let lent = pool.get()?;
     let theirs = pool.try_clone()?;
     let waiter = thread::spawn(&rt, move || checkouts(theirs, 1))?;
@@ -94,7 +95,7 @@ fn waiter_after_broken_return(rt: HostRuntime) -> Result<(), Fail> {
 
 #[test]
 fn readme_example(rt: HostRuntime) -> Result<(), Fail> {
-    let pool = Builder::new().max_size(15).build(rt, Sevens)?;
+    let pool = Builder::new().max_size(15).make(rt, Sevens)?;
     let mut threads = Vec::new(rt.alloc());
     for _ in 0..20 {
         let theirs = pool.try_clone()?;

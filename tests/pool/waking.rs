@@ -1,10 +1,11 @@
 // Whom a step wakes, it wakes at once: not only when what it closed was released, or its error was told.
 
 use crate::callers::{keep, watched};
+use crate::kind::{Makes, Pool};
 use crate::managers::{Blammo, Wrong, WrongOnce};
 use r2d2::event::{AcquireEvent, CheckinEvent, CheckoutEvent, ReleaseEvent, TimeoutEvent};
 use r2d2::{
-    Builder, HandleError, HandleEvent, NopConnectionCustomizer, NopErrorHandler, Pool, PoolRuntime,
+    Builder, HandleError, HandleEvent, NopConnectionCustomizer, NopErrorHandler, PoolRuntime,
 };
 use std::alloc::{AllocError, Global};
 use std::rt::Clock;
@@ -99,7 +100,7 @@ fn releasing_pool<R: PoolRuntime>(
     let pool = Builder::new()
         .max_size(1)
         .event_handler(Patient::new(rt, served)?)
-        .build(rt, WrongOnce::new(rt, wrong))?;
+        .make(rt, WrongOnce::new(rt, wrong))?;
     Ok(pool)
 }
 
@@ -141,7 +142,7 @@ fn a_failed_opening_wakes_before_its_error_is_told(rt: HostRuntime) -> Result<()
     let pool = Builder::new()
         .max_size(1)
         .error_handler(Patient::new(rt, &served)?)
-        .build_unchecked(rt, WrongOnce::new(rt, Wrong::Connect))?;
+        .make_unchecked(rt, WrongOnce::new(rt, Wrong::Connect))?;
     // The worker whose opening failed waits until this thread was served, so another one has to try again.
     let lent = pool.get()?;
     served.callers.fetch_add(1, Ordering::SeqCst);

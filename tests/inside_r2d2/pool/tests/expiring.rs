@@ -142,10 +142,10 @@ fn oldest_first_lets_none_expire(rt: HostRuntime) -> Result<(), Fail> {
     Ok(())
 }
 
-/// Writes down how old each closed connection is said to be.
+/// Writes down the id of each closed connection, and how old it is said to be.
 #[derive(Drop)]
 struct Ages<R> {
-    ages: Arc<Mutex<Vec<Duration>>>,
+    ages: Arc<Mutex<Vec<(u64, Duration)>>>,
     rt: R,
 }
 
@@ -160,7 +160,8 @@ impl<R: PoolRuntime> HandleEvent for Ages<R> {
 
     fn handle_release(&self, event: ReleaseEvent) {
         // Where memory is refused the age is missing in the list, and the test that reads it fails.
-        self.ages.lock(&self.rt).push(event.age()).ok();
+        let told = (event.connection_id(), event.age());
+        self.ages.lock(&self.rt).push(told).ok();
     }
 
     fn handle_checkout(&self, _event: CheckoutEvent) {}
@@ -171,7 +172,7 @@ impl<R: PoolRuntime> HandleEvent for Ages<R> {
 }
 
 #[test]
-fn how_old_an_expired_connection_is(rt: HostRuntime) -> Result<(), Fail> {
+fn how_old_expired_connections_are(rt: HostRuntime) -> Result<(), Fail> {
     let dropped = no_drops(rt.alloc())?;
     let ages = Arc::new(rt.alloc(), Mutex::new(Vec::new(rt.alloc())))?;
     let handler = Ages {
@@ -187,12 +188,17 @@ fn how_old_an_expired_connection_is(rt: HostRuntime) -> Result<(), Fail> {
         .build(rt, FiveLines::new(&dropped)?)?;
     // From here on the time since the pool was made is too long for an age.
     thread::sleep(&rt, Duration::from_secs(2));
-    drop(pool.get()?);
-    assert_eq!(rt; watched(&rt, &dropped, 1, 1000), 1);
+    let (first, second) = (pool.get()?, pool.get()?);
+    drop(first);
+    drop(second);
+    assert_eq!(rt; watched(&rt, &dropped, 2, 1000), 2);
+    // The one that was idle longest is told of first.
     let ages = ages.lock(&rt);
-    assert_eq!(rt; ages.len(), 1);
-    let age = ages[0].as_millis();
-    assert!(rt; 300 <= age && age < 2000);
+    assert_eq!(rt; ages.len(), 2);
+    for (place, (id, age)) in ages.iter().enumerate() {
+        assert_eq!(rt; *id, place as u64);
+        assert!(rt; 300 <= age.as_millis() && age.as_millis() < 2000);
+    }
     Ok(())
 }
 

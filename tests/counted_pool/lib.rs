@@ -1,0 +1,35 @@
+//! The tests of what a pool does, over a counted pool: their bodies are those of tests/pool.
+#![tactic(auto)]
+
+#[cfg(test)]
+mod callers;
+#[cfg(test)]
+mod closing;
+#[cfg(test)]
+mod closing_amid;
+#[cfg(test)]
+mod extremes;
+#[cfg(test)]
+mod journal;
+#[cfg(test)]
+mod kind;
+#[cfg(test)]
+mod lending;
+#[cfg(test)]
+mod listening;
+#[cfg(test)]
+mod managers;
+#[cfg(test)]
+mod opening;
+#[cfg(test)]
+mod order;
+#[cfg(test)]
+mod stress;
+#[cfg(test)]
+mod taking_turns;
+#[cfg(test)]
+mod telling;
+#[cfg(test)]
+mod threads;
+#[cfg(test)]
+mod waking;
