@@ -23,8 +23,8 @@ module _ {T : Type 0} where
   abbrev pub ids_in : Picture T → List ℕ
   ids_in p = map id_of_idle p.idle ++ (map id_of_lent p.lent ++ p.on_order.numbered)
 
-  -- what holds of each picture of a core
-  pub record IsSound (p : Picture T) : Type 0 where
+  -- all that holds of each picture of a core, but that what is wanted was ordered
+  pub record IsSteady (p : Picture T) : Type 0 where
     -- no id stands twice, and none is one that is still to be given
     pub apart : (i : ℕ) → copies_of i (ids_in p) ≤ 1
     pub below_next : (i : ℕ) → p.on_order.next_id ≤ i → copies_of i (ids_in p) ≡ 0
@@ -34,8 +34,6 @@ module _ {T : Type 0} where
     pub accounted : IsAccounted p.on_order
     -- connections and pending openings are at most `max_size`
     pub fits : p.connections + p.on_order.pending ≤ p.on_order.limits.max_size
-    -- unless closed, what is idle and pending reaches what is wanted, or there is no more room
-    pub replenished : p.on_order.closed ≡ false → (wanted_of p.on_order.limits ≤ length p.idle + p.on_order.pending) ⊎ (p.connections + p.on_order.pending ≡ p.on_order.limits.max_size)
     -- the idle ones stand in the order in which they came to be idle, none after the latest moment
     pub is_sorted : IsNonDecreasingBy since_of p.idle
     pub seen : All (λ c. c.since ≤ p.latest) p.idle
@@ -44,3 +42,9 @@ module _ {T : Type 0} where
     pub born_lent : All (λ c. c.birth ≤ p.latest) p.lent
     -- once closed, nothing is idle
     pub none_once_closed : p.on_order.closed ≡ true → p.idle ≡ []
+
+  -- what holds of each picture of a core
+  pub record IsSound (p : Picture T) : Type 0 where
+    pub steady : IsSteady p
+    -- unless closed, what is idle and pending reaches what is wanted, or there is no more room
+    pub replenished : p.on_order.closed ≡ false → (wanted_of p.on_order.limits ≤ length p.idle + p.on_order.pending) ⊎ (p.connections + p.on_order.pending ≡ p.on_order.limits.max_size)

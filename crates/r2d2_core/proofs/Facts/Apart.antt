@@ -7,7 +7,7 @@ use Rattle.r2d2_core.proofs.Lists.Ids.{copies_of-append3}
 
 module _ {T : Type 0} where
   pub lent_once : (i : ℕ) (p : Picture T) → IsSound p → copies_of i (map id_of_lent p.lent) ≤ 1
-  lent_once i p s = omega (arith, s.apart i, copies_of-append3 i (map id_of_idle p.idle) (map id_of_lent p.lent) p.on_order.numbered)
+  lent_once i p s = omega (arith, s.steady.apart i, copies_of-append3 i (map id_of_idle p.idle) (map id_of_lent p.lent) p.on_order.numbered)
 
   pub numbered_once : (i : ℕ) (p : Picture T) → IsSound p → copies_of i p.on_order.numbered ≤ 1
-  numbered_once i p s = omega (arith, s.apart i, copies_of-append3 i (map id_of_idle p.idle) (map id_of_lent p.lent) p.on_order.numbered)
+  numbered_once i p s = omega (arith, s.steady.apart i, copies_of-append3 i (map id_of_idle p.idle) (map id_of_lent p.lent) p.on_order.numbered)

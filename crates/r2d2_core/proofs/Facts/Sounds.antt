@@ -15,7 +15,7 @@ use Rattle.r2d2_core.specs.Table.{raised_to, with_on_order, topped_up, first_pic
 use Rattle.r2d2_core.specs.Seen.{or_text}
 use Rattle.r2d2_core.proofs.Lists.Ids.{copies_of-append3}
 use Rattle.r2d2_core.proofs.Facts.Accounted.{unless_refused-keeps, passes, not_false, is_not, found_numbered, accounted_first, accounted_begun, accounted_numbering, accounted_admitted, accounted_failed, accounted_emptied}
-use Rattle.r2d2_core.proofs.Facts.Steady.{steady, apart_still, sound_at, sound_topped_up, sound_missed, sound_rescheduled, sound_told, steady_lent_out, steady_lost, sound_kept, sound_numbered, sound_admitted, steady_swept}
+use Rattle.r2d2_core.proofs.Facts.Steady.{apart_still, sound_at, sound_topped_up, sound_missed, sound_rescheduled, sound_told, steady_lent_out, steady_lost, sound_kept, sound_numbered, sound_admitted, steady_swept}
 
 -- what is accepted is the new one
 accepted_is : {X : Type 0} (P : X → Type 0) (why : Option Refusal) (new old : X) → why ≡ None → P (unless_refused why new old) → P new
@@ -35,24 +35,26 @@ module _ {T : Type 0} where
 
   pub sound_first : (limits : SeenLimits) (now first_id : ℕ) → wanted_of limits ≤ limits.max_size → IsSound (first_picture {T = T} limits now first_id)
   sound_first limits now first_id le = record {
-    apart = λ i. omega arith;
-    below_next = λ i past. refl;
-    counted = refl;
-    accounted = accounted_first limits now first_id le;
-    fits = omega arith;
+    steady = record {
+      apart = λ i. omega arith;
+      below_next = λ i past. refl;
+      counted = refl;
+      accounted = accounted_first limits now first_id le;
+      fits = omega arith;
+      is_sorted = λ i j d ij lt. absurd (omega arith);
+      seen = λ k d lt. absurd (omega arith);
+      born = λ k d lt. absurd (omega arith);
+      born_lent = λ k d lt. absurd (omega arith);
+      none_once_closed = λ closed. absurd (is_not false closed refl);
+    };
     replenished = λ is_open. inl (omega arith);
-    is_sorted = λ i j d ij lt. absurd (omega arith);
-    seen = λ k d lt. absurd (omega arith);
-    born = λ k d lt. absurd (omega arith);
-    born_lent = λ k d lt. absurd (omega arith);
-    none_once_closed = λ closed. absurd (is_not false closed refl);
   }
 
   -- TAKE
 
   sound_taken : (or_order : Bool) (p : Picture T) (o : Option (SeenIdleConnection T)) → lent_next p.on_order.limits.order p.idle ≡ o → IsSound p → IsSound (taken o or_order p)
   sound_taken or_order p None e s = sound_missed or_order s
-  sound_taken or_order p (Some c) e s = sound_topped_up (steady_lent_out c e (steady s))
+  sound_taken or_order p (Some c) e s = sound_topped_up (steady_lent_out c e s.steady)
 
   pub sound_take : (t : ℕ) (or_order : Bool) {p : Picture T} → IsSound p → IsSound (after_take t or_order p)
   sound_take t or_order {p} s = sound_taken or_order (raised_to t p) (lent_next p.on_order.limits.order p.idle) refl (sound_at t s)
@@ -67,28 +69,28 @@ module _ {T : Type 0} where
   sound_task Closed {p} a s = s
 
   pub sound_begin : (t : ℕ) {p : Picture T} → IsSound p → IsSound (after_begin t p)
-  sound_begin t {p} s = sound_task (job_at (max p.latest t) p.on_order) (accounted_begun (max p.latest t) p.on_order s.accounted) (sound_at t s)
+  sound_begin t {p} s = sound_task (job_at (max p.latest t) p.on_order) (accounted_begun (max p.latest t) p.on_order s.steady.accounted) (sound_at t s)
 
   number_by : (tries : ℕ) (p : Picture T) (why : Option Refusal) → IsAccounted (unless_refused why (numbered_one tries p.on_order) p.on_order) → IsSound p → IsSound (with_on_order (unless_refused why (numbered_one tries p.on_order) p.on_order) p)
   number_by tries p None a s = sound_numbered tries a s
   number_by tries p (Some why) a s = s
 
   pub sound_number : (tries : ℕ) {p : Picture T} → IsSound p → IsSound (after_number tries p)
-  sound_number tries {p} s = number_by tries p (number_refusal tries p.on_order) (accounted_numbering tries p.on_order s.accounted) s
+  sound_number tries {p} s = number_by tries p (number_refusal tries p.on_order) (accounted_numbering tries p.on_order s.steady.accounted) s
 
   pub sound_admit : (t id : ℕ) (value : T) {p : Picture T} → IsSound p → IsSound (after_admit t id value p)
   sound_admit t id value {p} s =
       unless_refused-keeps IsSound (admit_refusal id p.on_order) (admitted_at (max p.latest t) id value p) p
       (λ accepted.
       let there = found_numbered id p.on_order accepted in
-      let a = accepted_is IsAccounted (admit_refusal id p.on_order) (admitted_one id p.on_order) p.on_order accepted (accounted_admitted id p.on_order s.accounted) in
+      let a = accepted_is IsAccounted (admit_refusal id p.on_order) (admitted_one id p.on_order) p.on_order accepted (accounted_admitted id p.on_order s.steady.accounted) in
       sound_admitted id value there.1 there.0 a (sound_at t s)) s
 
   pub sound_fail : {A : Type 0} (t tries : ℕ) (text : Option (String A)) {p : Picture T} → IsSound p → IsSound (after_fail t tries text p)
   sound_fail t tries text {p} s =
       unless_refused-keeps IsSound (fail_refusal tries p.on_order) (failed t tries text p) p
       (λ accepted.
-      let a = accepted_is IsAccounted (fail_refusal tries p.on_order) (failed_one (max p.latest t) tries p.on_order) p.on_order accepted (accounted_failed (max p.latest t) tries p.on_order s.accounted) in
+      let a = accepted_is IsAccounted (fail_refusal tries p.on_order) (failed_one (max p.latest t) tries p.on_order) p.on_order accepted (accounted_failed (max p.latest t) tries p.on_order s.steady.accounted) in
       sound_told (or_text text p.last_error) (sound_rescheduled _ _ _ a (sound_at t s))) s
 
   -- RETURN, FAILED CHECK
@@ -100,7 +102,7 @@ module _ {T : Type 0} where
       loan_found (found id_of_lent id p.lent) (not_false (is_some (birth_in id p.lent)) there.0)
 
   sound_returned : (closes : Bool) (id : ℕ) (value : T) (l : SeenLentConnection) (p : Picture T) → found id_of_lent id p.lent ≡ Some l → (closes ≡ false → p.on_order.closed ≡ false) → IsSound p → IsSound (returned_by closes id l.birth value p)
-  sound_returned true id value l p is is_open s = sound_topped_up (steady_lost id l is (steady s))
+  sound_returned true id value l p is is_open s = sound_topped_up (steady_lost id l is s.steady)
   sound_returned false id value l p is is_open s = sound_kept id value l is (is_open refl) s
 
   pub sound_return : (t id : ℕ) (value : T) (broken : Bool) {p : Picture T} → IsSound p → IsSound (after_return t id value broken p)
@@ -116,12 +118,13 @@ module _ {T : Type 0} where
       unless_refused-keeps IsSound (lent_refusal id p) (topped_up (gone_one id (with_text text (raised_to t p)))) p
       (λ accepted.
       let l = found_lent id p accepted in
-      sound_topped_up (steady_lost id l.0 l.1 (steady (sound_told (or_text text p.last_error) (sound_at t s))))) s
+      let now = sound_told (or_text text p.last_error) (sound_at t s) in
+      sound_topped_up (steady_lost id l.0 l.1 now.steady)) s
 
   -- REAP, TAKE ERROR, CLOSE
 
   pub sound_reap : (t : ℕ) {p : Picture T} → IsSound p → IsSound (after_reap t p)
-  sound_reap t s = sound_topped_up (steady_swept (steady (sound_at t s)))
+  sound_reap t s = sound_topped_up (steady_swept (let now = sound_at t s in now.steady))
 
   pub sound_take_error : {p : Picture T} → IsSound p → IsSound (after_take_error p)
   sound_take_error s = sound_told None s
@@ -132,17 +135,19 @@ module _ {T : Type 0} where
         arith,
         copies_of-append3 i (map id_of_idle p.idle) (map id_of_lent p.lent) p.on_order.numbered,
         copies_of-append3 i [] (map id_of_lent p.lent) [],
-      )) (steady s) in
+      )) s.steady in
       record {
-        apart = ids.0;
-        below_next = ids.1;
-        counted = omega (arith, s.counted);
-        accounted = accounted_emptied p.on_order;
-        fits = omega (arith, s.fits);
+        steady = record {
+          apart = ids.0;
+          below_next = ids.1;
+          counted = omega (arith, s.steady.counted);
+          accounted = accounted_emptied p.on_order;
+          fits = omega (arith, s.steady.fits);
+          is_sorted = λ i j d ij lt. absurd (omega arith);
+          seen = λ k d lt. absurd (omega arith);
+          born = λ k d lt. absurd (omega arith);
+          born_lent = s.steady.born_lent;
+          none_once_closed = λ closed. refl;
+        };
         replenished = λ is_open. absurd (is_not true refl is_open);
-        is_sorted = λ i j d ij lt. absurd (omega arith);
-        seen = λ k d lt. absurd (omega arith);
-        born = λ k d lt. absurd (omega arith);
-        born_lent = s.born_lent;
-        none_once_closed = λ closed. refl;
       }

@@ -14,7 +14,7 @@ use Rattle.r2d2_core.specs.Lending.{lent_next, still_idle}
 use Rattle.r2d2_core.specs.Openings.{SeenOpening}
 use Rattle.r2d2_core.specs.Connections.{SeenIdleConnection, SeenLentConnection, idle_connection, lent_connection, id_of_idle, id_of_lent, since_of, is_expired, is_kept}
 use Rattle.r2d2_core.specs.OnOrder.{IsAccounted, admitted_one, numbered_one}
-use Rattle.r2d2_core.specs.Picture.{Picture, IsSound, ids_in}
+use Rattle.r2d2_core.specs.Picture.{Picture, IsSteady, IsSound, ids_in}
 use Rattle.r2d2_core.specs.Table.{raised_to, with_on_order, ordered, top_up_of, topped_up, miss_order_of, lent_out, admitted_at, kept_one, gone_one, swept}
 use Rattle.r2d2_core.proofs.Lists.Filters.{copies_of-filter}
 use Rattle.r2d2_core.proofs.Lists.Ids.{copies_of-append, copies_of-append3, copies_of-one, copies_of-other, copies_of-push, copies_of-without, length-without, All-without, All-found, All-push, All-weaker}
@@ -64,51 +64,6 @@ with_one_admitted wanted idle more connections pending size e some (inl h) = inl
 with_one_admitted wanted idle more connections pending size e some (inr h) = inr (omega arith)
 
 module _ {T : Type 0} where
-  -- all that holds of each picture of a core, but that what is wanted was ordered
-  pub record IsSteady (p : Picture T) : Type 0 where
-    pub apart : (i : ℕ) → copies_of i (ids_in p) ≤ 1
-    pub below_next : (i : ℕ) → p.on_order.next_id ≤ i → copies_of i (ids_in p) ≡ 0
-    pub counted : p.connections ≡ length p.idle + length p.lent
-    pub accounted : IsAccounted p.on_order
-    pub fits : p.connections + p.on_order.pending ≤ p.on_order.limits.max_size
-    pub is_sorted : IsNonDecreasingBy since_of p.idle
-    pub seen : All (λ c. c.since ≤ p.latest) p.idle
-    pub born : All (λ c. c.birth ≤ c.since) p.idle
-    pub born_lent : All (λ c. c.birth ≤ p.latest) p.lent
-    pub none_once_closed : p.on_order.closed ≡ true → p.idle ≡ []
-
-  pub steady : {p : Picture T} → IsSound p → IsSteady p
-  steady {p} s = record {
-    apart = s.apart;
-    below_next = s.below_next;
-    counted = s.counted;
-    accounted = s.accounted;
-    fits = s.fits;
-    is_sorted = s.is_sorted;
-    seen = s.seen;
-    born = s.born;
-    born_lent = s.born_lent;
-    none_once_closed = s.none_once_closed;
-  }
-
-  abbrev pub IsReplenished : Picture T → Type 0
-  IsReplenished p = p.on_order.closed ≡ false → Reaches (wanted_of p.on_order.limits) (length p.idle) p.on_order.pending p.connections p.on_order.limits.max_size
-
-  pub sound : {p : Picture T} → IsSteady p → IsReplenished p → IsSound p
-  sound {p} s r = record {
-    apart = s.apart;
-    below_next = s.below_next;
-    counted = s.counted;
-    accounted = s.accounted;
-    fits = s.fits;
-    replenished = r;
-    is_sorted = s.is_sorted;
-    seen = s.seen;
-    born = s.born;
-    born_lent = s.born_lent;
-    none_once_closed = s.none_once_closed;
-  }
-
   -- ids that stand no more often than before are as far apart
   pub apart_still : (p q : Picture T) → p.on_order.next_id ≡ q.on_order.next_id → ((i : ℕ) → copies_of i (ids_in q) ≤ copies_of i (ids_in p)) → IsSteady p
       → ((i : ℕ) → copies_of i (ids_in q) ≤ 1) × ((i : ℕ) → q.on_order.next_id ≤ i → copies_of i (ids_in q) ≡ 0)
@@ -131,7 +86,7 @@ module _ {T : Type 0} where
   }
 
   pub sound_at : (t : ℕ) {p : Picture T} → IsSound p → IsSound (raised_to t p)
-  sound_at t s = sound (steady_at t (steady s)) s.replenished
+  sound_at t s = record { steady = steady_at t s.steady; replenished = s.replenished }
 
   -- ORDERS
 
@@ -153,49 +108,55 @@ module _ {T : Type 0} where
   pub sound_topped_up : {p : Picture T} → IsSteady p → IsSound (topped_up p)
   sound_topped_up {p} s =
       let o = p.on_order in
-      sound
-      (steady_orders (top_up_of p) (top_up_fits o.closed (wanted_of o.limits) o.limits.max_size (length p.idle) p.connections o.pending s.fits) (closed_none o.closed _) s)
-      (λ is_open. after_top_up (wanted_of o.limits) o.limits.max_size (length p.idle) p.connections o.pending (top_up_of p) s.fits (open_all o.closed _ is_open))
+      record {
+        steady = steady_orders (top_up_of p) (top_up_fits o.closed (wanted_of o.limits) o.limits.max_size (length p.idle) p.connections o.pending s.fits) (closed_none o.closed _) s;
+        replenished = λ is_open. after_top_up (wanted_of o.limits) o.limits.max_size (length p.idle) p.connections o.pending (top_up_of p) s.fits (open_all o.closed _ is_open);
+      }
 
   pub sound_missed : (or_order : Bool) {p : Picture T} → IsSound p → IsSound (ordered (miss_order_of or_order p) p)
   sound_missed or_order {p} s =
       let o = p.on_order in
-      let fits = miss_fits o.closed or_order o.limits.max_size p.connections o.pending s.fits in
-      sound
-      (steady_orders (miss_order_of or_order p) fits (closed_none o.closed _) (steady s))
-      (λ is_open. with_more_pending (miss_order_of or_order p) (wanted_of o.limits) (length p.idle) p.connections o.pending o.limits.max_size fits (s.replenished is_open))
+      let fits = miss_fits o.closed or_order o.limits.max_size p.connections o.pending s.steady.fits in
+      record {
+        steady = steady_orders (miss_order_of or_order p) fits (closed_none o.closed _) s.steady;
+        replenished = λ is_open. with_more_pending (miss_order_of or_order p) (wanted_of o.limits) (length p.idle) p.connections o.pending o.limits.max_size fits (s.replenished is_open);
+      }
 
   -- what is on order changes, but for its counts, its numbers and its limits
   pub sound_rescheduled : (xs : List SeenOpening) (ws : List ℕ) (r : Option ℕ) {p : Picture T} → IsAccounted (record p.on_order { scheduled = xs; in_work = ws; next_reap = r }) → IsSound p
       → IsSound (with_on_order (record p.on_order { scheduled = xs; in_work = ws; next_reap = r }) p)
   sound_rescheduled xs ws r {p} a s = record {
-    apart = s.apart;
-    below_next = s.below_next;
-    counted = s.counted;
-    accounted = a;
-    fits = s.fits;
+    steady = record {
+      apart = s.steady.apart;
+      below_next = s.steady.below_next;
+      counted = s.steady.counted;
+      accounted = a;
+      fits = s.steady.fits;
+      is_sorted = s.steady.is_sorted;
+      seen = s.steady.seen;
+      born = s.steady.born;
+      born_lent = s.steady.born_lent;
+      none_once_closed = s.steady.none_once_closed;
+    };
     replenished = s.replenished;
-    is_sorted = s.is_sorted;
-    seen = s.seen;
-    born = s.born;
-    born_lent = s.born_lent;
-    none_once_closed = s.none_once_closed;
   }
 
   -- the facts don't speak of the last error
   pub sound_told : (e : Option (List ℕ)) {p : Picture T} → IsSound p → IsSound (record p { last_error = e })
   sound_told e {p} s = record {
-    apart = s.apart;
-    below_next = s.below_next;
-    counted = s.counted;
-    accounted = s.accounted;
-    fits = s.fits;
+    steady = record {
+      apart = s.steady.apart;
+      below_next = s.steady.below_next;
+      counted = s.steady.counted;
+      accounted = s.steady.accounted;
+      fits = s.steady.fits;
+      is_sorted = s.steady.is_sorted;
+      seen = s.steady.seen;
+      born = s.steady.born;
+      born_lent = s.steady.born_lent;
+      none_once_closed = s.steady.none_once_closed;
+    };
     replenished = s.replenished;
-    is_sorted = s.is_sorted;
-    seen = s.seen;
-    born = s.born;
-    born_lent = s.born_lent;
-    none_once_closed = s.none_once_closed;
   }
 
   -- TAKE
@@ -261,22 +222,24 @@ module _ {T : Type 0} where
         copies_of-append3 i (map id_of_idle (p.idle ++ c ∷ [])) (map id_of_lent (without id_of_lent id p.lent)) p.on_order.numbered,
         copies_of-without id_of_lent id i p.lent l is,
         copies_of-push id_of_idle i p.idle c,
-      )) (steady s) in
+      )) s.steady in
       let less : length (without id_of_lent id p.lent) + 1 ≡ length p.lent = length-without id_of_lent id p.lent l is in
       let more : length (p.idle ++ c ∷ []) ≡ length p.idle + 1 = length_push p.idle c in
-      let birth : l.birth ≤ p.latest = All-found (λ l. l.birth ≤ p.latest) id_of_lent id p.lent l s.born_lent is in
+      let birth : l.birth ≤ p.latest = All-found (λ l. l.birth ≤ p.latest) id_of_lent id p.lent l s.steady.born_lent is in
       record {
-        apart = ids.0;
-        below_next = ids.1;
-        counted = omega (arith, s.counted, less, more);
-        accounted = s.accounted;
-        fits = s.fits;
+        steady = record {
+          apart = ids.0;
+          below_next = ids.1;
+          counted = omega (arith, s.steady.counted, less, more);
+          accounted = s.steady.accounted;
+          fits = s.steady.fits;
+          is_sorted = IsNonDecreasingBy-push since_of p.idle c s.steady.is_sorted (λ d some. s.steady.seen (length p.idle - 1) d (omega arith));
+          seen = All-push (λ c. c.since ≤ p.latest) p.idle c s.steady.seen (omega arith);
+          born = All-push (λ c. c.birth ≤ c.since) p.idle c s.steady.born birth;
+          born_lent = All-without (λ l. l.birth ≤ p.latest) id_of_lent id p.lent s.steady.born_lent;
+          none_once_closed = λ closed. absurd (is_not p.on_order.closed closed is_open);
+        };
         replenished = λ still. with_one_kept (wanted_of p.on_order.limits) p.on_order.pending p.connections p.on_order.limits.max_size (length p.idle) (length (p.idle ++ c ∷ [])) more (s.replenished still);
-        is_sorted = IsNonDecreasingBy-push since_of p.idle c s.is_sorted (λ d some. s.seen (length p.idle - 1) d (omega arith));
-        seen = All-push (λ c. c.since ≤ p.latest) p.idle c s.seen (omega arith);
-        born = All-push (λ c. c.birth ≤ c.since) p.idle c s.born birth;
-        born_lent = All-without (λ l. l.birth ≤ p.latest) id_of_lent id p.lent s.born_lent;
-        none_once_closed = λ closed. absurd (is_not p.on_order.closed closed is_open);
       }
 
   -- NUMBER, ADMIT
@@ -292,20 +255,22 @@ module _ {T : Type 0} where
         copies_of-append i p.on_order.numbered (next ∷ []),
       ) in
       record {
-        apart = λ i. elim (cases_eq i next) [
-          | inl e ↦ omega (arith, count i, copies_of-one i next, s.below_next i (omega arith))
-          | inr ne ↦ omega (arith, count i, copies_of-other i next ne, s.apart i)
-        ];
-        below_next = λ i past. omega (arith, count i, copies_of-other i next (λ e. absurd (omega arith)), s.below_next i (omega arith));
-        counted = s.counted;
-        accounted = a;
-        fits = s.fits;
+        steady = record {
+          apart = λ i. elim (cases_eq i next) [
+            | inl e ↦ omega (arith, count i, copies_of-one i next, s.steady.below_next i (omega arith))
+            | inr ne ↦ omega (arith, count i, copies_of-other i next ne, s.steady.apart i)
+          ];
+          below_next = λ i past. omega (arith, count i, copies_of-other i next (λ e. absurd (omega arith)), s.steady.below_next i (omega arith));
+          counted = s.steady.counted;
+          accounted = a;
+          fits = s.steady.fits;
+          is_sorted = s.steady.is_sorted;
+          seen = s.steady.seen;
+          born = s.steady.born;
+          born_lent = s.steady.born_lent;
+          none_once_closed = s.steady.none_once_closed;
+        };
         replenished = s.replenished;
-        is_sorted = s.is_sorted;
-        seen = s.seen;
-        born = s.born;
-        born_lent = s.born_lent;
-        none_once_closed = s.none_once_closed;
       }
 
   -- a numbered one is idle
@@ -321,22 +286,24 @@ module _ {T : Type 0} where
         ap (copies_of i) (map-id (without same_id id o.numbered)),
         copies_of-without same_id id i o.numbered id is,
         copies_of-push id_of_idle i p.idle c,
-      )) (steady s) in
+      )) s.steady in
       let less : length (without same_id id o.numbered) + 1 ≡ length o.numbered = length-without same_id id o.numbered id is in
-      let some : 0 < o.pending = omega (arith, s.accounted.placed, less) in
+      let some : 0 < o.pending = omega (arith, s.steady.accounted.placed, less) in
       let more : length (p.idle ++ c ∷ []) ≡ length p.idle + 1 = length_push p.idle c in
       record {
-        apart = ids.0;
-        below_next = ids.1;
-        counted = omega (arith, s.counted, more);
-        accounted = a;
-        fits = omega (arith, s.fits, some);
+        steady = record {
+          apart = ids.0;
+          below_next = ids.1;
+          counted = omega (arith, s.steady.counted, more);
+          accounted = a;
+          fits = omega (arith, s.steady.fits, some);
+          is_sorted = IsNonDecreasingBy-push since_of p.idle c s.steady.is_sorted (λ d some. s.steady.seen (length p.idle - 1) d (omega arith));
+          seen = All-push (λ c. c.since ≤ p.latest) p.idle c s.steady.seen (omega arith);
+          born = All-push (λ c. c.birth ≤ c.since) p.idle c s.steady.born (omega arith);
+          born_lent = s.steady.born_lent;
+          none_once_closed = λ closed. absurd (is_not o.closed closed is_open);
+        };
         replenished = λ still. with_one_admitted (wanted_of o.limits) (length p.idle) (length (p.idle ++ c ∷ [])) p.connections o.pending o.limits.max_size more some (s.replenished still);
-        is_sorted = IsNonDecreasingBy-push since_of p.idle c s.is_sorted (λ d some. s.seen (length p.idle - 1) d (omega arith));
-        seen = All-push (λ c. c.since ≤ p.latest) p.idle c s.seen (omega arith);
-        born = All-push (λ c. c.birth ≤ c.since) p.idle c s.born (omega arith);
-        born_lent = s.born_lent;
-        none_once_closed = λ closed. absurd (is_not o.closed closed is_open);
       }
 
   -- REAP

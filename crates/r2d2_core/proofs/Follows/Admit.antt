@@ -67,11 +67,11 @@ module _ {T : Type 0} where
   -- a number that is found stands once, and is neither idle nor lent
   copies_in : (h : History T) (i : ℕ) → IsSound (picture_of h) → copies_of i (map id_of_idle (idle_of h)) + (copies_of i (map id_of_lent (lent_of h)) + copies_of i (numbered_of h)) ≤ 1
   unfolding picture_of on_order_of
-  copies_in h i sound = omega (arith, sound.apart i, copies_of-append3 i (map id_of_idle (idle_of h)) (map id_of_lent (lent_of h)) (numbered_of h))
+  copies_in h i sound = omega (arith, sound.steady.apart i, copies_of-append3 i (map id_of_idle (idle_of h)) (map id_of_lent (lent_of h)) (numbered_of h))
 
   none_past : (h : History T) (i : ℕ) → IsSound (picture_of h) → next_id_of h ≤ i → copies_of i (numbered_of h) ≡ 0
   unfolding picture_of on_order_of
-  none_past h i sound past = omega (arith, sound.below_next i past, copies_of-append3 i (map id_of_idle (idle_of h)) (map id_of_lent (lent_of h)) (numbered_of h))
+  none_past h i sound past = omega (arith, sound.steady.below_next i past, copies_of-append3 i (map id_of_idle (idle_of h)) (map id_of_lent (lent_of h)) (numbered_of h))
 
   numbered_of-open : (h : History T) → is_closed h ≡ false → numbered_of h ≡ filter (λ i. not (is_admitted h i)) (ids_of h)
   unfolding numbered_of
@@ -112,7 +112,7 @@ module _ {T : Type 0} where
 
   pending_some : (h : History T) (id : ℕ) → found same_id id (numbered_of h) ≡ Some id → IsSound (picture_of h) → 1 ≤ pending_of h
   unfolding picture_of on_order_of
-  pending_some h id e sound = omega (arith, sound.accounted.placed, copies_of-found id (numbered_of h) e, copies_of-length id (numbered_of h))
+  pending_some h id e sound = omega (arith, sound.steady.accounted.placed, copies_of-found id (numbered_of h) e, copies_of-length id (numbered_of h))
 
   kept_admit : (h : History T) (now : Duration) (id : ℕ) (value : T) → is_closed h ≡ false → found same_id id (numbered_of h) ≡ Some id → IsKept h
       → IsSound (picture_of (Then h (step.Admit now id value) (Admitted (Ok tt)))) → IsKept (Then h (step.Admit now id value) (Admitted (Ok tt)))

@@ -96,7 +96,7 @@ module _ {T : Type 0} where
   kept_begin h now (Open tries) e kept sound =
       let s = step.Begin now in
       let opens = opens_open (is_closed h) tries (first_job (moment_of h s) (scheduled_of h) (next_reap_of h)) e in
-      let few = begins_within (moment_of h s) tries (on_order_of h) opens.1 kept.sound.accounted in
+      let few = begins_within (moment_of h s) tries (on_order_of h) opens.1 kept.sound.steady.accounted in
       record {
         sound = sound;
         gone_were_admitted = kept.gone_were_admitted;

@@ -80,7 +80,7 @@ module _ {T : Type 0} where
   -- it answers nothing
   pub close_answer-closed : (h : History T) → IsKept h → is_closed h ≡ true → close_answer (picture_of h) ≡ []
   unfolding picture_of on_order_of
-  close_answer-closed h kept closed = ap (map pair_of) (kept.sound.none_once_closed closed)
+  close_answer-closed h kept closed = ap (map pair_of) (kept.sound.steady.none_once_closed closed)
 
   next_reap_of-closed : (h : History T) → is_closed h ≡ true → next_reap_of h ≡ None
   unfolding next_reap_of
@@ -91,8 +91,8 @@ module _ {T : Type 0} where
   unfolding picture_of on_order_of
   after_close-closed h kept closed =
       let o = on_order_of h in
-      let none : IsEmpty o = kept.sound.accounted.empty_once_closed closed in
-      let idle : idle_of h ≡ [] = kept.sound.none_once_closed closed in
+      let none : IsEmpty o = kept.sound.steady.accounted.empty_once_closed closed in
+      let idle : idle_of h ≡ [] = kept.sound.steady.none_once_closed closed in
       let all : connections_of h - length (idle_of h) ≡ connections_of h = omega (arith, ap length idle) in
       same_picture refl (sym idle) refl
       (same_on_order o (sym none.scheduled) (sym none.in_work) (sym none.numbered) (sym (next_reap_of-closed h closed)) refl (sym none.pending) (sym closed))

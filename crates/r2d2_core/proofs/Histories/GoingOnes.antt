@@ -46,7 +46,7 @@ module _ {T : Type 0} where
   -- the ids of a sound picture are apart
   pub apart_in : (h : History T) → IsSound (picture_of h) → AreApart h
   unfolding picture_of on_order_of
-  apart_in h sound i = omega (arith, sound.apart i, copies_of-append3 i (map id_of_idle (idle_of h)) (map id_of_lent (lent_of h)) (numbered_of h))
+  apart_in h sound i = omega (arith, sound.steady.apart i, copies_of-append3 i (map id_of_idle (idle_of h)) (map id_of_lent (lent_of h)) (numbered_of h))
 
   -- of the idle ones, those stay that do not go
   pub idle_of-going : (h : History T) (s : Step T) (r : SeenAnswer T) (t : ℕ) (p : SeenIdleConnection T → Bool) → deeds_in (moment_of h s) s r ≡ going_deeds id_of_idle t (filter p (idle_of h)) → ((i : ℕ) → admits s i ≡ false)
@@ -78,4 +78,4 @@ module _ {T : Type 0} where
   -- connections and gone ones are those that were admitted
   pub admitted_are : (h : History T) → IsKept h → gone_count h + (length (idle_of h) + length (lent_of h)) ≡ admitted_count h
   unfolding picture_of connections_of
-  admitted_are h kept = omega (arith, kept.gone_were_admitted, kept.sound.counted)
+  admitted_are h kept = omega (arith, kept.gone_were_admitted, kept.sound.steady.counted)

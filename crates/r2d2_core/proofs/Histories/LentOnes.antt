@@ -120,4 +120,4 @@ module _ {T : Type 0} where
   -- a lent one was admitted and is not gone
   pub lent_is_connected : (h : History T) (id : ℕ) → is_lent h id ≡ true → IsSound (picture_of h) → gone_count h + 1 ≤ admitted_count h
   unfolding picture_of connections_of
-  lent_is_connected h id lent sound = omega (arith, sound.counted, some-found (λ c. c.id == id) (lent_of h) lent)
+  lent_is_connected h id lent sound = omega (arith, sound.steady.counted, some-found (λ c. c.id == id) (lent_of h) lent)

@@ -126,7 +126,7 @@ module _ {T : Type 0} where
           copies_of-append i p.on_order.numbered (next ∷ []),
           copies_of-one i next,
           none (omega (arith, e)),
-          sound.below_next i (omega (arith, e)),
+          sound.steady.below_next i (omega (arith, e)),
           copies_of-append3 i (map id_of_idle p.idle) (map id_of_lent p.lent) p.on_order.numbered,
         )
         | inr ne ↦ omega (arith, copies_of-append i p.on_order.numbered (next ∷ []), copies_of-other i next ne, few)

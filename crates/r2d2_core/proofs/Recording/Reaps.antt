@@ -117,9 +117,9 @@ module _ {T : Type 0} where
   close_step : (limits : SeenLimits) (b : SeenBase) (rs : List SeenRecord) (p : Picture T) (closed : Bool) → p.on_order.closed ≡ closed → IsSound p → KeepReplaying limits b rs p
       → KeepReplaying limits b (added (cond closed None (Some (ClosedAll p.latest))) rs) (after_close p)
   close_step limits b rs p true e sound k =
-      let empty : IsEmpty p.on_order = sound.accounted.empty_once_closed e in
+      let empty : IsEmpty p.on_order = sound.steady.accounted.empty_once_closed e in
       with_none_more limits b rs p (after_close p) refl
-      (ap (map bare) (sound.none_once_closed e)) refl (omega (arith, ap length (sound.none_once_closed e))) empty.pending e (omega arith) (λ i past. past) (λ i n few none. omega (arith, few)) k
+      (ap (map bare) (sound.steady.none_once_closed e)) refl (omega (arith, ap length (sound.steady.none_once_closed e))) empty.pending e (omega arith) (λ i past. past) (λ i n few none. omega (arith, few)) k
   close_step limits b rs p false e sound k = with_one_more limits b rs _ p _ sound (λ m. says_closed m p e) refl refl (λ i. omega arith) k
 
   -- a close

@@ -41,7 +41,7 @@ module _ {T : Type 0} where
   -- the ids of what is idle in a sound picture are apart, also without payloads
   pub idle_apart : (p : Picture T) → IsSound p → (i : ℕ) → copies_of i (map id_of_idle (map bare p.idle)) ≤ 1
   idle_apart p sound i =
-      omega (arith, ap (copies_of i) (ids_bare p.idle), sound.apart i, copies_of-append3 i (map id_of_idle p.idle) (map id_of_lent p.lent) p.on_order.numbered)
+      omega (arith, ap (copies_of i) (ids_bare p.idle), sound.steady.apart i, copies_of-append3 i (map id_of_idle p.idle) (map id_of_lent p.lent) p.on_order.numbered)
 
   -- what a picture shows, as a base that tells up to a moment
   abbrev pub shown_at : ℕ → Picture T → SeenBase
@@ -87,7 +87,7 @@ module _ {T : Type 0} where
         };
         not_after = omega (arith, ap at_of (replay-push limits rs r b), at_folded limits r now, s.not_after);
         fresh = fresh;
-        below_next = λ i past. omega (arith, known-push i b rs r, numbers i, k.below_next i (omega (arith, next, past)), sound.below_next i (omega (arith, next, past)), numbered i);
+        below_next = λ i past. omega (arith, known-push i b rs r, numbers i, k.below_next i (omega (arith, next, past)), sound.steady.below_next i (omega (arith, next, past)), numbered i);
       }
 
   -- a step with no record

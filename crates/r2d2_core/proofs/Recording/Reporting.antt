@@ -43,8 +43,8 @@ report_sound a r is s =
     let size : r.limits.max_size ≡ a.picture.on_order.limits.max_size = ap (λ (ls : SeenLimits). ls.max_size) is.limits in
     let wanted : wanted_of (seen_limits r.limits) ≡ wanted_of a.picture.on_order.limits = ap wanted_of is.limits in
     record {
-      counted = omega (arith, is.connections, s.counted, idle, lent);
-      fits = omega (arith, is.connections, is.pending, s.fits, size);
+      counted = omega (arith, is.connections, s.steady.counted, idle, lent);
+      fits = omega (arith, is.connections, is.pending, s.steady.fits, size);
       replenished = λ still. elim (s.replenished (sym is.closed ∙ still)) [
         | inl h ↦ inl (omega (arith, h, wanted, idle, is.pending))
         | inr h ↦ inr (omega (arith, h, is.connections, is.pending, size))

@@ -103,7 +103,7 @@ module _ {T : Type 0} where
       let c : SeenIdleConnection T = idle_connection id p.latest p.latest value in
       let waits : length (without same_id id p.on_order.numbered) + 1 ≡ length p.on_order.numbered = length-without same_id id p.on_order.numbered id there in
       record {
-        fit = lt_is 0 p.on_order.pending (omega (arith, sound.accounted.placed, waits));
+        fit = lt_is 0 p.on_order.pending (omega (arith, sound.steady.accounted.placed, waits));
         comes = record { idle = sym (map-append bare p.idle (c ∷ [])); lent = refl; connections = refl; pending = refl; closed = refl };
         later = omega arith;
         not_after = omega arith;

@@ -7,7 +7,7 @@ use Rattle.r2d2_core.proofs.journal.report.IdList.of_lent.Goals.{in-Some, in_def
 
 pub loop-place-preserved : goal.loop-place-preserved
 loop-place-preserved g c =
-    let within : c.loop-place.place < length c.args.machine.now.lent = let counted : c.connections.result ≡ length c.args.machine.now.idle + length c.args.machine.now.lent = c.connections.ensures.value ∙ c.connections.ensures.sound.counted in omega (arith, counted, c.idle.ensures.value) in
+    let within : c.loop-place.place < length c.args.machine.now.lent = let counted : c.connections.result ≡ length c.args.machine.now.idle + length c.args.machine.now.lent = c.connections.ensures.value ∙ c.connections.ensures.sound.steady.counted in omega (arith, counted, c.idle.ensures.value) in
     elim c.match-lent_id.branch [
       | in-Some w ↦
           rw (w.list-is, w.push_reserved.ensures.items, w.push_reserved.ensures.capacity)
