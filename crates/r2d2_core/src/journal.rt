@@ -5,7 +5,7 @@ ghost use Rattle.std.specs.Duration.{as_nanos};
 use crate::machine::{Core, Gone, Leftover, Refusal, Released, Returned, Take};
 use crate::schedule::{Job, Limits};
 pub use base::{AwayList, Base, RestingList};
-use bounded::Journal;
+use bounded::{Before, Journal};
 pub use faults::Fault;
 pub use record::Record;
 pub use report::{IdList, RecordList, Report};
@@ -33,14 +33,14 @@ pub struct Book<T, A: Allocator = Global> {
 }
 
 impl<T, A: Allocator> Model for Book<T, A> {
-    ghost use Rattle.r2d2_core.specs.Book.{SeenBook, seen_book};
-    ghost use Rattle.r2d2_core.specs.BookParts.{IsFaithful};
+    ghost use Rattle.r2d2_core.specs.Book.{SeenBook};
+    ghost use Rattle.r2d2_core.specs.BookParts.{book_in, IsFaithful};
 
     ghost Value = { SeenBook T };
 
-    ghost view = { λ b. seen_book b.machine b.journal };
+    ghost view = { λ b. book_in b.machine b.journal };
 
-    ghost invariant = { λ b. IsFaithful (seen_book b.machine b.journal) };
+    ghost invariant = { λ b. IsFaithful (book_in b.machine b.journal) };
 }
 
 impl<T, A: Allocator> Book<T, A> {
@@ -48,7 +48,7 @@ impl<T, A: Allocator> Book<T, A> {
     ghost use Rattle.r2d2_core.specs.Table.{first_picture};
     ghost use Rattle.r2d2_core.specs.Journal.{first_journal, CountsTakes};
     ghost use Rattle.r2d2_core.specs.Book.{seen_book, HasFacts};
-    ghost use Rattle.r2d2_core.specs.Reports.{IsReportOf, DoesReplay, HasSoundCounts, CountsItsTakes, BeginsAtAMaking};
+    ghost use Rattle.r2d2_core.specs.Reports.{seen_base, IsReportOf, DoesReplay, HasSoundCounts, CountsItsTakes, BeginsAtAMaking};
 
     /// A book of a core whose ids are counted from 0, made at the moment `now`, that keeps the newest records, `room` of them at
     /// most. The error comes only where its memory is refused.
@@ -161,7 +161,7 @@ impl<T, A: Allocator> Book<T, A> {
         ensures whole { IfOk result BeginsAtAMaking }
         ensures since { IfOk result (λ report. report.lost ≡ 0 → as_nanos report.base.at ≡ self.now.journal.made) }
     {
-        let base = self.journal.base(alloc)?;
+        let base = self.base(alloc)?;
         let records = self.journal.copied(alloc)?;
         let idle = IdList::of_idle(alloc, &self.machine)?;
         let lent = IdList::of_lent(alloc, &self.machine)?;
@@ -177,6 +177,18 @@ impl<T, A: Allocator> Book<T, A> {
             pending: self.machine.pending(),
             closed: self.machine.is_closed(),
         })
+    }
+
+    // What stood before the oldest record.
+    fn base<B: Allocator>(&self, alloc: B) -> Result<Base<B>, AllocError>
+    where
+        B: Copy,
+        ensures { IfOk result (λ base. seen_base base ≡ self.now.journal.base) }
+    {
+        match self.journal.before() {
+            Before::Shown(at) => Base::shown(alloc, &self.machine, *at),
+            Before::Folded(standing) => standing.copied(alloc),
+        }
     }
 }
 

@@ -155,6 +155,20 @@ impl<T, A: Allocator> Core<T, A> {
         self.lent.id_at(place)
     }
 
+    /// The idle connections.
+    pub(crate) fn idle_ones(&self) -> &Idle<T, A>
+        ensures { result.now.items ≡ self.now.idle }
+    {
+        &self.idle
+    }
+
+    /// The lent connections.
+    pub(crate) fn lent_ones(&self) -> &Roster<LentConnection, A>
+        ensures { result.now.items ≡ self.now.lent }
+    {
+        &self.lent
+    }
+
     // How many connections there are.
     fn count(&self) -> usize
         ensures value { result ≡ self.now.connections }

@@ -13,7 +13,7 @@ use Rattle.r2d2_core.specs.Jobs.{SeenJob, Open, Reap, Wait, Nothing, Closed}
 use Rattle.r2d2_core.specs.Refusals.{ok_unless, ok_or_back, unless_refused}
 use Rattle.r2d2_core.specs.OnOrder.{SeenOnOrder, job_at, begun_by, number_refusal, numbered_one, fail_refusal, admit_refusal}
 use Rattle.r2d2_core.specs.Picture.{Picture, IsSound}
-use Rattle.r2d2_core.specs.Table.{raised_to, with_on_order, first_picture, take_orders, take_answer, after_take, after_begin, after_number, failed, after_fail, admitted_at, admit_answer, after_admit, with_text, gone_one, topped_up, lent_refusal, lent_birth, is_closing, returned, return_of, return_answer, after_return, gone_with, check_answer, after_check, reap_closed, reap_orders, after_reap, after_close}
+use Rattle.r2d2_core.specs.Table.{raised_to, with_on_order, first_picture, take_orders, take_answer, after_take, after_begin, after_number, failed, after_fail, admitted_at, admit_answer, after_admit, with_text, gone_one, topped_up, lent_refusal, lent_birth, is_closing, returned, return_of, return_answer, after_return, gone_with, check_answer, after_check, reap_closed, reap_orders, after_reap, after_take_error, after_close}
 use Rattle.r2d2_core.specs.Seen.{take_with, or_text}
 use Rattle.r2d2_core.specs.Records.{SeenRecord}
 use Rattle.r2d2_core.specs.Recorded.{record_of_take, record_of_admission, record_of_return, record_of_check, record_of_reap, record_of_close}
@@ -101,20 +101,19 @@ module _ {T : Type 0} where
   -- BEGIN, NUMBER, FAIL, TAKE ERROR
 
   -- a step that leaves what records tell
-  pub recorded_none : (a a' : SeenBook T) (p : Picture T) → a'.picture ≡ p → p.on_order.limits ≡ a.picture.on_order.limits → a'.journal ≡ a.journal
+  keeps_none : (a : SeenBook T) (p : Picture T) → p.on_order.limits ≡ a.picture.on_order.limits
       → a.picture.idle ≡ p.idle → a.picture.lent ≡ p.lent → a.picture.connections ≡ p.connections → a.picture.on_order.pending ≡ p.on_order.pending → a.picture.on_order.closed ≡ p.on_order.closed → a.picture.latest ≤ p.latest
       → ((i : ℕ) → p.on_order.next_id ≤ i → a.picture.on_order.next_id ≤ i)
       → ((i n : ℕ) → n + copies_of i a.picture.on_order.numbered ≤ 1 → (a.picture.on_order.next_id ≤ i → n ≡ 0) → n + copies_of i p.on_order.numbered ≤ 1)
-      → IsRecorded a → IsRecorded a'
-  recorded_none a a' p went same noted idle lent connections pending closed later next numbers old =
-      recorded None a a' p went noted
-      (with_none_more a.journal.limits a.journal.base a.journal.records a.picture p (sym same) (ap (map bare) idle) lent connections pending closed later next numbers old)
+      → IsRecorded a → KeepsWith a.journal None p
+  keeps_none a p same idle lent connections pending closed later next numbers old =
+      with_none_more a.journal.limits a.journal.base a.journal.records a.picture p (sym same) (ap (map bare) idle) lent connections pending closed later next numbers old
 
-  pub recorded_begin : (t : ℕ) (a a' : SeenBook T) → a'.picture ≡ after_begin t a.picture → a'.journal ≡ a.journal → IsRecorded a → IsRecorded a'
-  recorded_begin t a a' went noted old =
+  pub keeps_begin : (t : ℕ) (a : SeenBook T) → IsRecorded a → KeepsWith a.journal None (after_begin t a.picture)
+  keeps_begin t a old =
       let p = a.picture in
       let left = begun_leaves (job_at (max p.latest t) p.on_order) p.on_order in
-      recorded_none a a' (after_begin t p) went left.0 noted refl refl refl left.1 left.2 (omega arith)
+      keeps_none a (after_begin t p) left.0 refl refl refl left.1 left.2 (omega arith)
       (λ i past. omega (arith, left.3, past)) (λ i n few none. omega (arith, few, ap (copies_of i) left.4)) old
 
   known_numbered : (p : Picture T) (i n : ℕ) → IsSound p → n + copies_of i p.on_order.numbered ≤ 1 → (p.on_order.next_id ≤ i → n ≡ 0) → n + copies_of i (p.on_order.numbered ++ p.on_order.next_id ∷ []) ≤ 1
@@ -132,20 +131,23 @@ module _ {T : Type 0} where
         | inr ne ↦ omega (arith, copies_of-append i p.on_order.numbered (next ∷ []), copies_of-other i next ne, few)
       ]
 
-  number_by : (tries : ℕ) (a a' : SeenBook T) (why : Option Refusal) → IsSound a.picture → a'.picture ≡ with_on_order (unless_refused why (numbered_one tries a.picture.on_order) a.picture.on_order) a.picture → a'.journal ≡ a.journal → IsRecorded a → IsRecorded a'
-  number_by tries a a' None sound went noted old =
-      recorded_none a a' _ went refl noted refl refl refl refl refl (omega arith) (λ i past. omega (arith, past)) (λ i n few none. known_numbered a.picture i n sound few none) old
-  number_by tries a a' (Some why) sound went noted old = recorded_none a a' _ went refl noted refl refl refl refl refl (omega arith) (λ i past. past) (λ i n few none. few) old
+  number_by : (tries : ℕ) (a : SeenBook T) (why : Option Refusal) → IsSound a.picture → IsRecorded a
+      → KeepsWith a.journal None (with_on_order (unless_refused why (numbered_one tries a.picture.on_order) a.picture.on_order) a.picture)
+  number_by tries a None sound old = keeps_none a _ refl refl refl refl refl refl (omega arith) (λ i past. omega (arith, past)) (λ i n few none. known_numbered a.picture i n sound few none) old
+  number_by tries a (Some why) sound old = old
 
-  pub recorded_number : (tries : ℕ) (a a' : SeenBook T) → IsSound a.picture → a'.picture ≡ after_number tries a.picture → a'.journal ≡ a.journal → IsRecorded a → IsRecorded a'
-  recorded_number tries a a' sound went noted old = number_by tries a a' (number_refusal tries a.picture.on_order) sound went noted old
+  pub keeps_number : (tries : ℕ) (a : SeenBook T) → IsSound a.picture → IsRecorded a → KeepsWith a.journal None (after_number tries a.picture)
+  keeps_number tries a sound old = number_by tries a (number_refusal tries a.picture.on_order) sound old
 
-  fail_by : {A : Type 0} (t tries : ℕ) (text : Option (String A)) (a a' : SeenBook T) (why : Option Refusal) → a'.picture ≡ unless_refused why (failed t tries text a.picture) a.picture → a'.journal ≡ a.journal → IsRecorded a → IsRecorded a'
-  fail_by t tries text a a' None went noted old = recorded_none a a' _ went refl noted refl refl refl refl refl (omega arith) (λ i past. past) (λ i n few none. few) old
-  fail_by t tries text a a' (Some why) went noted old = recorded_none a a' _ went refl noted refl refl refl refl refl (omega arith) (λ i past. past) (λ i n few none. few) old
+  fail_by : {A : Type 0} (t tries : ℕ) (text : Option (String A)) (a : SeenBook T) (why : Option Refusal) → IsRecorded a → KeepsWith a.journal None (unless_refused why (failed t tries text a.picture) a.picture)
+  fail_by t tries text a None old = keeps_none a _ refl refl refl refl refl refl (omega arith) (λ i past. past) (λ i n few none. few) old
+  fail_by t tries text a (Some why) old = old
 
-  pub recorded_fail : {A : Type 0} (t tries : ℕ) (text : Option (String A)) (a a' : SeenBook T) → a'.picture ≡ after_fail t tries text a.picture → a'.journal ≡ a.journal → IsRecorded a → IsRecorded a'
-  recorded_fail t tries text a a' went noted old = fail_by t tries text a a' (fail_refusal tries a.picture.on_order) went noted old
+  pub keeps_fail : {A : Type 0} (t tries : ℕ) (text : Option (String A)) (a : SeenBook T) → IsRecorded a → KeepsWith a.journal None (after_fail t tries text a.picture)
+  keeps_fail t tries text a old = fail_by t tries text a (fail_refusal tries a.picture.on_order) old
+
+  pub keeps_take_error : (a : SeenBook T) → IsRecorded a → KeepsWith a.journal None (after_take_error a.picture)
+  keeps_take_error a old = keeps_none a _ refl refl refl refl refl refl (omega arith) (λ i past. past) (λ i n few none. few) old
 
   -- ADMIT
 

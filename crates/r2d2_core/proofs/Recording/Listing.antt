@@ -24,15 +24,7 @@ module _ {X Y : Type 0} where
   pub listed_all : (f : X → Y) (xs : List X) (places : ℕ) (ids : List Y) → places ≡ length xs → IsListed f xs places ids → ids ≡ map f xs
   listed_all f xs places ids e h = h.is ∙ ap (map f) (take_all places xs (omega arith))
 
--- a copy as it is
-pub same_at : {X : Type 0} (xs ys : List X) (place : ℕ) (x : X) → xs ≡ ys → slice_get xs place ≡ Some x → option_map (λ (y : X). y) (slice_get ys place) ≡ Some x
-same_at xs ys place x same e = ap (option_map (λ y. y)) (ap (λ l. slice_get l place) (sym same) ∙ e)
-
-pub none_at : {X : Type 0} (xs ys : List X) (place : ℕ) → xs ≡ ys → slice_get xs place ≡ None → option_map (λ (y : X). y) (slice_get ys place) ≡ None
-none_at xs ys place same e = ap (option_map (λ y. y)) (ap (λ l. slice_get l place) (sym same) ∙ e)
-
 -- one more is copied
-pub copied_more : {P X : Type 0} (seen : P → X) (xs : List X) (place : ℕ) (items : List P) (p : P) → option_map (λ (y : X). y) (slice_get xs place) ≡ Some (seen p) → IsListed (λ (y : X). y) xs place (map seen items)
-    → IsListed (λ (y : X). y) xs (place + 1) (map seen (items ++ p ∷ []))
-copied_more {P} {X} seen xs place items p e h =
-    subst (IsListed (λ (y : X). y) xs (place + 1)) (sym (map-append seen items (p ∷ []))) (listed_more (λ (y : X). y) xs place (seen p) (map seen items) e h)
+pub copied_more : {P X Y : Type 0} (seen : P → Y) (f : X → Y) (xs : List X) (place : ℕ) (items : List P) (p : P) → option_map f (slice_get xs place) ≡ Some (seen p) → IsListed f xs place (map seen items)
+    → IsListed f xs (place + 1) (map seen (items ++ p ∷ []))
+copied_more {P} {X} {Y} seen f xs place items p e h = subst (IsListed f xs (place + 1)) (sym (map-append seen items (p ∷ []))) (listed_more f xs place (seen p) (map seen items) e h)

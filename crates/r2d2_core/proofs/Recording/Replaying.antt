@@ -10,7 +10,7 @@ use Rattle.r2d2_core.specs.Records.{SeenRecord, Taken, Ordered, Admitted, Kept, 
 use Rattle.r2d2_core.specs.Bases.{SeenBase, Resting}
 use Rattle.r2d2_core.specs.Folding.{moment_in, folded, replay, fits, may_follow, all_follow, admitted_by, known_in}
 use Rattle.r2d2_core.specs.Book.{ComesTo, bare}
-use Rattle.r2d2_core.specs.BookParts.{KeepReplaying}
+use Rattle.r2d2_core.specs.BookParts.{KeepReplaying, shown_at}
 use Rattle.r2d2_core.specs.Journal.{with_oldest}
 use Rattle.r2d2_core.proofs.Lists.Ids.{copies_of-append3}
 use Rattle.r2d2_core.proofs.Recording.Folding.{both, split, folds_first, known_folded, replay-push, follow-push, known-push}
@@ -21,7 +21,7 @@ le_is a b x = grind (arith, nat_tests)
 pub lt_is : (a b : ℕ) → a + 1 ≤ b → nat_lt a b ≡ true
 lt_is a b h = grind (arith, nat_tests)
 
-at_folded : (limits : SeenLimits) (r : SeenRecord) (b : SeenBase) → (let now = folded limits r b in now.at) ≡ moment_in r
+pub at_folded : (limits : SeenLimits) (r : SeenRecord) (b : SeenBase) → (let now = folded limits r b in now.at) ≡ moment_in r
 at_folded limits (Taken at id n) b = refl
 at_folded limits (Ordered at n) b = refl
 at_folded limits (Admitted at id) b = refl
@@ -43,15 +43,11 @@ module _ {T : Type 0} where
   idle_apart p sound i =
       omega (arith, ap (copies_of i) (ids_bare p.idle), sound.steady.apart i, copies_of-append3 i (map id_of_idle p.idle) (map id_of_lent p.lent) p.on_order.numbered)
 
-  -- what a picture shows, as a base that tells up to a moment
-  abbrev pub shown_at : ℕ → Picture T → SeenBase
-  shown_at m p = record { at = m; idle = map bare p.idle; lent = p.lent; connections = p.connections; pending = p.on_order.pending; closed = p.on_order.closed }
-
   shown_by : (at : ℕ) (i : List Resting) (l : List SeenLentConnection) (n m : ℕ) (c : Bool) (p : Picture T) → i ≡ map bare p.idle → l ≡ p.lent → n ≡ p.connections → m ≡ p.on_order.pending → c ≡ p.on_order.closed
       → ◌≡◌ {A = SeenBase} (record { at = at; idle = i; lent = l; connections = n; pending = m; closed = c }) (shown_at at p)
   shown_by at i l n m c p e1 e2 e3 e4 e5 = rw (e1, e2, e3, e4, e5) refl
 
-  is_shown : (b : SeenBase) (p : Picture T) → ComesTo b p → b ≡ shown_at b.at p
+  pub is_shown : (b : SeenBase) (p : Picture T) → ComesTo b p → b ≡ shown_at b.at p
   is_shown b p k = shown_by b.at b.idle b.lent b.connections b.pending b.closed p k.idle k.lent k.connections k.pending k.closed
 
   -- a record fits what a picture shows, and makes of it what the picture after it shows

@@ -1,8 +1,16 @@
 // What stood before the oldest record of a report.
-ghost use Rattle.std.specs.Prelude.{◌≡◌, map};
+ghost use Rattle.std.specs.Prelude.{◌≡◌, map, IfOk};
+ghost use Rattle.std.specs.Duration.{as_nanos};
 ghost use Rattle.r2d2_core.specs.Bases.{seen_resting, seen_away};
+ghost use Rattle.r2d2_core.specs.Book.{bare};
+ghost use Rattle.r2d2_core.specs.BookParts.{shown_at};
+ghost use Rattle.r2d2_core.specs.Reports.{seen_base};
 
-use std::alloc::{Allocator, Global};
+use crate::machine::Core;
+use crate::machine::idle::Idle;
+use crate::machine::lent::LentConnection;
+use crate::machine::roster::{HasId, Roster};
+use std::alloc::{AllocError, Allocator, Global};
 use std::marker::Model;
 use std::time::Duration;
 
@@ -22,6 +30,30 @@ pub struct Base<A: Allocator = Global> {
     pub pending: u32,
     /// Whether the book was closed.
     pub closed: bool,
+}
+
+impl<A: Allocator> Base<A> {
+    /// What a machine shows, as a base that tells up to a moment.
+    pub(crate) fn shown<T, B: Allocator>(
+        alloc: A,
+        machine: &Core<T, B>,
+        at: Duration,
+    ) -> Result<Base<A>, AllocError>
+    where
+        A: Copy,
+        ensures { IfOk result (λ base. seen_base base ≡ shown_at (as_nanos at) machine.now) }
+    {
+        let idle = RestingList::copied(alloc, machine.idle_ones())?;
+        let lent = AwayList::copied(alloc, machine.lent_ones())?;
+        Ok(Base {
+            at,
+            idle,
+            lent,
+            connections: machine.connections(),
+            pending: machine.pending(),
+            closed: machine.is_closed(),
+        })
+    }
 }
 
 /// The idle connections of a base: the id of each, the moment of its admission, and the moment since which it is idle.
@@ -45,6 +77,23 @@ impl<A: Allocator> RestingList<A> {
         ensures { result ≡ map seen_resting list.items }
     {
         RestingList { list }
+    }
+
+    // The idle ones, without what their owner keeps of them.
+    pub(super) fn copied<T, B: Allocator>(
+        alloc: A,
+        idle: &Idle<T, B>,
+    ) -> Result<RestingList<A>, AllocError>
+        ensures { IfOk result (λ list. list ≡ map bare idle.now.items) }
+    {
+        let count = idle.len();
+        let mut list = Vec::with_capacity(alloc, count)?;
+        for place in 0..count {
+            if let Some(entry) = idle.get(place) {
+                list.push_reserved((entry.id(), entry.birth(), entry.since()));
+            }
+        }
+        Ok(RestingList { list })
     }
 
     /// The connections, the oldest first.
@@ -84,6 +133,23 @@ impl<A: Allocator> AwayList<A> {
         ensures { result ≡ map seen_away list.items }
     {
         AwayList { list }
+    }
+
+    // The lent ones.
+    pub(super) fn copied<B: Allocator>(
+        alloc: A,
+        lent: &Roster<LentConnection, B>,
+    ) -> Result<AwayList<A>, AllocError>
+        ensures { IfOk result (λ list. list ≡ lent.now.items) }
+    {
+        let count = lent.len();
+        let mut list = Vec::with_capacity(alloc, count)?;
+        for place in 0..count {
+            if let Some(loan) = lent.get(place) {
+                list.push_reserved((loan.id(), loan.birth()));
+            }
+        }
+        Ok(AwayList { list })
     }
 
     /// The connections, in the order of their takes.

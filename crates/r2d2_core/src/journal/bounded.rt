@@ -1,14 +1,11 @@
 // The newest records, and what stood before them.
-ghost use Rattle.std.specs.Prelude.{◌≡◌, map, option_map, IfOk};
+ghost use Rattle.std.specs.Prelude.{◌≡◌, ◌<◌, map, option_map, IfOk};
 ghost use Rattle.std.specs.Duration.{as_nanos};
 ghost use Rattle.r2d2_core.specs.Limits.{seen_limits};
 ghost use Rattle.r2d2_core.specs.Records.{seen_record};
-ghost use Rattle.r2d2_core.specs.Bases.{IsLegalBase};
-ghost use Rattle.r2d2_core.specs.Folding.{AreLegalFrom};
-ghost use Rattle.r2d2_core.specs.Journal.{first_journal, added, with_noted, takes_with, CountsTakes, BeginsAtTheMaking};
-ghost use Rattle.r2d2_core.specs.Reports.{seen_base};
+ghost use Rattle.r2d2_core.specs.Journal.{first_journal, takes_with, CountsTakes};
+ghost use Rattle.r2d2_core.specs.JournalParts.{IsBefore, MayNote, kept_alone};
 
-use super::base::Base;
 use super::record::Record;
 use super::standing::{Rooms, Standing};
 use crate::schedule::Limits;
@@ -17,13 +14,22 @@ use std::alloc::{AllocError, Allocator, Global};
 use std::marker::Model;
 use std::time::Duration;
 
+/// What stood before the oldest of the records.
+#[derive(Drop)]
+pub(crate) enum Before<A: Allocator = Global> {
+    /// Without room for a record: what the machine shows now. The moment is that of the latest record, or of the making.
+    Shown(Duration),
+    /// What the records come to that were kept once.
+    Folded(Standing<A>),
+}
+
 /// The moment of the making, as many records as it has room for, what stood before the oldest of them, how many were folded into that, and how many takes
 /// were noted.
 #[derive(Drop)]
 pub(crate) struct Journal<A: Allocator = Global> {
     limits: Limits,
     made: Duration,
-    standing: Standing<A>,
+    before: Before<A>,
     records: HeapCircularBuffer<Record, A>,
     lost: u64,
     takes: u64,
@@ -58,12 +64,16 @@ impl<A: Allocator> Journal<A> {
             idle: most,
             lent: most,
         };
-        let standing = Standing::new(alloc, now, limits.wanted(), both)?;
+        let before = if room == 0 {
+            Before::Shown(now)
+        } else {
+            Before::Folded(Standing::new(alloc, now, limits.wanted(), both)?)
+        };
         let records = HeapCircularBuffer::with_capacity(alloc, room)?;
         Ok(Journal {
             limits,
             made: now,
-            standing,
+            before,
             records,
             lost: 0,
             takes: 0,
@@ -72,8 +82,7 @@ impl<A: Allocator> Journal<A> {
 
     /// How many records were folded into the base.
     pub(crate) fn lost(&self) -> u64
-        ensures value { result ≡ self.now.lost }
-        ensures begins { BeginsAtTheMaking self.now }
+        ensures { result ≡ self.now.lost }
     {
         self.lost
     }
@@ -86,17 +95,25 @@ impl<A: Allocator> Journal<A> {
         self.takes
     }
 
-    /// Notes the record that a step made, if it made one. Where there is no room the oldest is folded into the base.
+    /// Notes the record that a step made, if it made one. Where there is no room left the oldest is folded into the base; without any room the moment
+    /// alone is kept.
     pub(crate) fn note(&mut self, made: Option<Record>)
-        requires legal { IsLegalBase self.old.limits self.old.base }
-        requires follow { AreLegalFrom self.old.limits self.old.base (added (option_map seen_record made) self.old.records) }
-        ensures { self.new ≡ with_noted (option_map seen_record made) self.old }
+        requires { 0 < self.old.room → MayNote (option_map seen_record made) self.old }
+        ensures { self.new ≡ kept_alone (option_map seen_record made) self.old }
     {
         if let Some(made) = made {
             self.takes = with_take(self.takes, &made);
-            if let Some(oldest) = self.records.push_back(made) {
-                self.standing.follow(&self.limits, &oldest);
-                self.lost = self.lost.saturating_add(1);
+            match &mut self.before {
+                Before::Shown(at) => {
+                    *at = made.at();
+                    self.lost = self.lost.saturating_add(1);
+                }
+                Before::Folded(standing) => {
+                    if let Some(oldest) = self.records.push_back(made) {
+                        standing.follow(&self.limits, &oldest);
+                        self.lost = self.lost.saturating_add(1);
+                    }
+                }
             }
         }
     }
@@ -108,15 +125,11 @@ impl<A: Allocator> Journal<A> {
         self.records.to_vec(alloc)
     }
 
-    /// A copy of the base.
-    pub(crate) fn base<B: Allocator>(&self, alloc: B) -> Result<Base<B>, AllocError>
-    where
-        B: Copy,
-        requires { IsLegalBase self.now.limits self.now.base }
-        ensures { IfOk result (λ base. seen_base base ≡ self.now.base) }
+    /// What stood before the oldest record.
+    pub(crate) fn before(&self) -> &Before<A>
+        ensures { IsBefore self.now result.now }
     {
-        let _max_size = self.limits.max_size();
-        self.standing.copied(alloc)
+        &self.before
     }
 }
 

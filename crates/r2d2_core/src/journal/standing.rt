@@ -123,47 +123,16 @@ impl<A: Allocator> Standing<A> {
         requires { self.now.base.connections < 2 ^ 32 }
         ensures { IfOk result (λ base. seen_base base ≡ self.now.base) }
     {
-        let idle = self.resting(alloc)?;
-        let lent = self.away(alloc)?;
+        let idle = RestingList::copied(alloc, &self.idle)?;
+        let lent = AwayList::copied(alloc, &self.lent)?;
         Ok(Base {
             at: self.at,
-            idle: RestingList::of(idle),
-            lent: AwayList::of(lent),
+            idle,
+            lent,
             connections: (self.idle.len() + self.lent.len()) as u32,
             pending: self.pending,
             closed: self.closed,
         })
-    }
-
-    // The idle ones, the oldest first.
-    fn resting<B: Allocator>(
-        &self,
-        alloc: B,
-    ) -> Result<Vec<(u64, Duration, Duration), B>, AllocError>
-        ensures { IfOk result (λ list. map seen_resting list.items ≡ self.now.base.idle) }
-    {
-        let count = self.idle.len();
-        let mut list = Vec::with_capacity(alloc, count)?;
-        for place in 0..count {
-            if let Some(entry) = self.idle.get(place) {
-                list.push_reserved((entry.id(), entry.birth(), entry.since()));
-            }
-        }
-        Ok(list)
-    }
-
-    // The lent ones, in the order of their takes.
-    fn away<B: Allocator>(&self, alloc: B) -> Result<Vec<(u64, Duration), B>, AllocError>
-        ensures { IfOk result (λ list. map seen_away list.items ≡ self.now.base.lent) }
-    {
-        let count = self.lent.len();
-        let mut list = Vec::with_capacity(alloc, count)?;
-        for place in 0..count {
-            if let Some(loan) = self.lent.get(place) {
-                list.push_reserved((loan.id(), loan.birth()));
-            }
-        }
-        Ok(list)
     }
 
     // Orders so many, where that is what is wanted beside the idle ones, as far as there is room.

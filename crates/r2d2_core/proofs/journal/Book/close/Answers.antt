@@ -1,37 +1,41 @@
-use Rattle.std.proofs.Common.{◌≡◌, ◌∙◌, ap, sym, subst}
+use Rattle.std.proofs.Common.{◌≡◌, ◌∙◌, ap, refl, sym, subst}
 use Rattle.std.specs.Prelude.{option_map}
 use Rattle.r2d2_core.specs.Table.{after_close}
 use Rattle.r2d2_core.specs.Records.{seen_record}
 use Rattle.r2d2_core.specs.Recorded.{record_of_close}
 use Rattle.r2d2_core.specs.Journal.{with_noted}
-use Rattle.r2d2_core.specs.Book.{seen_book}
-use Rattle.r2d2_core.proofs.Recording.Books.{KeepsWith, keeps_close, recorded}
+use Rattle.r2d2_core.specs.Book.{SeenBook}
+use Rattle.r2d2_core.specs.BookParts.{beside, book_in}
+use Rattle.r2d2_core.specs.Noted.{noted_close}
+use Rattle.r2d2_core.proofs.Recording.Beside.{keeps_as, may_note, noted_beside, faithful}
+use Rattle.r2d2_core.proofs.Recording.Books.{keeps_close}
 use Rattle.r2d2_core.proofs.journal.Book.close.Goals as goal
 
 -- what is noted keeps the records legal
-pub note-requires-clause-legal : goal.note-requires-clause-legal
-note-requires-clause-legal g c = c.self.invariant.recorded.replays.base
-
-pub note-requires-clause-follow : goal.note-requires-clause-follow
-note-requires-clause-follow g c =
+pub note-requires : goal.note-requires
+note-requires g c =
     let old = c.self.inside.machine in
-    let keeps = keeps_close (seen_book old c.self.inside.journal) c.self.invariant.sound c.self.invariant.recorded in
+    let l = c.self.inside.journal in
     let made : option_map seen_record c.of_close-made.result ≡ record_of_close old.latest old.on_order.closed =
     c.of_close-made.ensures ∙ (ap (λ at. record_of_close at c.is_closed.result) c.latest.ensures.value ∙ ap (record_of_close old.latest) c.is_closed.ensures.value) in
-    let k = subst (λ m. KeepsWith c.self.inside.journal m (after_close old)) (sym made) keeps in
-    k.replays.legal
+    let keeps = keeps_as (beside old l) _ _ _ (after_close old) made refl (keeps_close (book_in old l) c.self.invariant.sound c.self.invariant.recorded) in
+    may_note l _ old (after_close old) keeps
+
+pub returns-clause-noted : goal.returns-clause-noted
+returns-clause-noted g c =
+    let old = c.self.inside.machine in
+    let l = c.self.inside.journal in
+    let made : option_map seen_record c.of_close-made.result ≡ record_of_close old.latest old.on_order.closed =
+    c.of_close-made.ensures ∙ (ap (λ at. record_of_close at c.is_closed.result) c.latest.ensures.value ∙ ap (record_of_close old.latest) c.is_closed.ensures.value) in
+    let keeps = keeps_as (beside old l) _ _ _ c.close.new.self made c.close.ensures.after (keeps_close (book_in old l) c.self.invariant.sound c.self.invariant.recorded) in
+    subst (λ (b : SeenBook _). beside c.close.new.self c.note.new.self ≡ noted_close b) c.self.view_is
+    (noted_beside l c.note.new.self _ old c.close.new.self c.self.invariant keeps c.note.ensures ∙ ap (λ made. with_noted made (beside old l)) made)
 
 pub invariant_of-self : goal.invariant_of-self
 invariant_of-self g c =
     let old = c.self.inside.machine in
-    record {
-      sound = c.close.ensures.sound;
-      recorded =
-          recorded _ (seen_book old c.self.inside.journal) (seen_book c.close.new.self c.note.new.self) _ c.close.ensures.after
-          (c.note.ensures
-          ∙ ap (λ made. with_noted made c.self.inside.journal)
-          (c.of_close-made.ensures
-          ∙ (ap (λ at. record_of_close at c.is_closed.result) c.latest.ensures.value
-          ∙ ap (record_of_close old.latest) c.is_closed.ensures.value)))
-          (keeps_close (seen_book old c.self.inside.journal) c.self.invariant.sound c.self.invariant.recorded);
-    }
+    let l = c.self.inside.journal in
+    let made : option_map seen_record c.of_close-made.result ≡ record_of_close old.latest old.on_order.closed =
+    c.of_close-made.ensures ∙ (ap (λ at. record_of_close at c.is_closed.result) c.latest.ensures.value ∙ ap (record_of_close old.latest) c.is_closed.ensures.value) in
+    let keeps = keeps_as (beside old l) _ _ _ c.close.new.self made c.close.ensures.after (keeps_close (book_in old l) c.self.invariant.sound c.self.invariant.recorded) in
+    faithful l c.note.new.self _ old c.close.new.self c.self.invariant c.close.ensures.sound keeps c.note.ensures

@@ -1,14 +1,11 @@
-use Rattle.std.proofs.Common.{◌∙◌, subst}
+use Rattle.std.proofs.Common.{◌∙◌, ap, sym, subst}
 use Rattle.r2d2_core.specs.Journal.{CountsTakes, BeginsAtTheMaking}
-use Rattle.r2d2_core.specs.Book.{SeenBook, seen_book, IsReplayed}
-use Rattle.r2d2_core.specs.BookParts.{IsRecorded}
+use Rattle.r2d2_core.specs.Book.{SeenBook, IsReplayed}
+use Rattle.r2d2_core.specs.BookParts.{IsRecorded, book_in}
 use Rattle.r2d2_core.specs.Reports.{IsReportOf}
 use Rattle.r2d2_core.specs.Picture.{IsSound}
 use Rattle.r2d2_core.proofs.Recording.Reporting.{is_replayed, report_replays, report_sound, report_counts, report_since, report_whole}
 use Rattle.r2d2_core.proofs.journal.Book.report_in.Goals as goal
-
-pub base-requires : goal.base-requires
-base-requires g c = c.self.invariant.recorded.replays.base
 
 pub returns-clause-given : goal.returns-clause-given
 returns-clause-given g c =
@@ -26,9 +23,9 @@ returns-clause-given g c =
     })) c.self.view_is
     (record {
       limits = c.limits.ensures.value;
-      base = c.in_ok-base.ensures;
+      base = c.in_ok-base.ensures ∙ ap (λ (a : SeenBook _). a.journal.base) (sym c.self.view_is);
       records = c.of.ensures ∙ c.in_ok-records.ensures;
-      lost = c.lost.ensures.value;
+      lost = c.lost.ensures;
       takes = c.takes.ensures.value;
       idle = c.in_ok-idle.ensures;
       lent = c.in_ok-lent.ensures;
@@ -38,7 +35,7 @@ returns-clause-given g c =
     })
 
 pub returns-clause-replays : goal.returns-clause-replays
-returns-clause-replays g c = report_replays c.args.self.now _ (returns-clause-given g c) (subst IsReplayed c.self.view_is (is_replayed (seen_book c.self.inside.machine c.self.inside.journal) c.self.invariant.recorded))
+returns-clause-replays g c = report_replays c.args.self.now _ (returns-clause-given g c) (subst IsReplayed c.self.view_is (is_replayed (book_in c.self.inside.machine c.self.inside.journal) c.self.invariant.recorded))
 
 pub returns-clause-sound : goal.returns-clause-sound
 returns-clause-sound g c = report_sound c.args.self.now _ (returns-clause-given g c) (subst (λ (a : SeenBook _). IsSound a.picture) c.self.view_is c.self.invariant.sound)
@@ -47,7 +44,7 @@ pub returns-clause-counted : goal.returns-clause-counted
 returns-clause-counted g c = report_counts c.args.self.now _ (returns-clause-given g c) (subst (λ (a : SeenBook _). CountsTakes a.journal) c.self.view_is c.takes.ensures.counted)
 
 pub returns-clause-whole : goal.returns-clause-whole
-returns-clause-whole g c = report_whole c.args.self.now _ (returns-clause-given g c) (subst IsRecorded c.self.view_is c.self.invariant.recorded) (subst (λ (a : SeenBook _). BeginsAtTheMaking a.journal) c.self.view_is c.lost.ensures.begins)
+returns-clause-whole g c = report_whole c.args.self.now _ (returns-clause-given g c) (subst IsRecorded c.self.view_is c.self.invariant.recorded) (subst (λ (a : SeenBook _). BeginsAtTheMaking a.journal) c.self.view_is c.self.invariant.begins)
 
 pub returns-clause-since : goal.returns-clause-since
-returns-clause-since g c = report_since c.args.self.now _ (returns-clause-given g c) (subst IsRecorded c.self.view_is c.self.invariant.recorded) (subst (λ (a : SeenBook _). BeginsAtTheMaking a.journal) c.self.view_is c.lost.ensures.begins)
+returns-clause-since g c = report_since c.args.self.now _ (returns-clause-given g c) (subst IsRecorded c.self.view_is c.self.invariant.recorded) (subst (λ (a : SeenBook _). BeginsAtTheMaking a.journal) c.self.view_is c.self.invariant.begins)

@@ -1,22 +1,25 @@
-use Rattle.std.proofs.Common.{◌≤◌, rules, sym, subst}
+use Rattle.std.proofs.Common.{◌≤◌, ◌∙◌, ap, rules, sym, subst}
 use Rattle.std.specs.Duration.{as_nanos}
 use Rattle.r2d2_core.specs.Limits.{seen_limits, wanted_of}
-use Rattle.r2d2_core.specs.Picture.{Picture, IsSound}
+use Rattle.r2d2_core.specs.Picture.{Picture}
 use Rattle.r2d2_core.specs.Table.{first_picture}
 use Rattle.r2d2_core.specs.Journal.{SeenJournal}
-use Rattle.r2d2_core.specs.BookParts.{KeepReplaying}
+use Rattle.r2d2_core.specs.Book.{seen_book}
+use Rattle.r2d2_core.specs.BookParts.{book_in, IsFaithful}
 use Rattle.r2d2_core.proofs.Facts.Sounds.{sound_first}
-use Rattle.r2d2_core.proofs.Recording.Books.{recorded_made}
+use Rattle.r2d2_core.proofs.Recording.Beside.{beside_first, faithful_first}
 use Rattle.r2d2_core.proofs.journal.Book.with_first_id.Goals as goal
 
 pub invariant_of-result : goal.invariant_of-result
 invariant_of-result g c =
     let le : wanted_of (seen_limits c.args.limits) ≤ c.args.limits.max_size = search rules in
     let first = first_picture (seen_limits c.args.limits) (as_nanos c.args.now) c.args.first_id in
-    record {
-      sound = subst IsSound (sym c.in_ok-machine.ensures) (sound_first (seen_limits c.args.limits) (as_nanos c.args.now) c.args.first_id le);
-      recorded =
-          subst (λ (p : Picture _). KeepReplaying c.in_ok-journal.journal.limits c.in_ok-journal.journal.base c.in_ok-journal.journal.records p) (sym c.in_ok-machine.ensures)
-          (subst (λ (l : SeenJournal). KeepReplaying l.limits l.base l.records first) (sym c.in_ok-journal.ensures)
-          (recorded_made (seen_limits c.args.limits) (as_nanos c.args.now) c.args.first_id c.args.room le));
-    }
+    subst (λ (p : Picture _). IsFaithful (book_in p c.in_ok-journal.journal)) (sym c.in_ok-machine.ensures)
+    (subst (λ (l : SeenJournal). IsFaithful (book_in first l)) (sym c.in_ok-journal.ensures)
+    (faithful_first (seen_limits c.args.limits) (as_nanos c.args.now) c.args.first_id c.args.room le (sound_first (seen_limits c.args.limits) (as_nanos c.args.now) c.args.first_id le)))
+
+pub returns : goal.returns
+returns g c =
+    let first = first_picture (seen_limits c.args.limits) (as_nanos c.args.now) c.args.first_id in
+    ap (λ (p : Picture _). book_in p c.in_ok-journal.journal) c.in_ok-machine.ensures
+    ∙ (ap (λ (l : SeenJournal). book_in first l) c.in_ok-journal.ensures ∙ ap (seen_book first) (beside_first (seen_limits c.args.limits) (as_nanos c.args.now) c.args.first_id c.args.room))

@@ -1,11 +1,12 @@
 use Rattle.std.proofs.Common.{◌≡◌, length, map, vec_capacity}
 use Rattle.r2d2_core.specs.Bases.{seen_resting}
+use Rattle.r2d2_core.specs.Book.{bare}
 use Rattle.r2d2_core.proofs.Recording.Listing.{IsListed}
-use Rattle.r2d2_core.proofs.journal.standing.Standing.resting.Given as goal
+use Rattle.r2d2_core.proofs.journal.base.RestingList.copied.Given as goal
 
 abbrev pub invariant-loop-place : goal.invariant-loop-place
 invariant-loop-place g l = record {
-  listed : IsListed (λ e. e) l.fn.self.base.idle l.place (map seen_resting l.list.items);
+  listed : IsListed bare l.fn.idle.items l.place (map seen_resting l.list.items);
   len : length l.list.items ≡ l.place;
-  room : vec_capacity l.list ≡ length l.fn.self.base.idle;
+  room : vec_capacity l.list ≡ length l.fn.idle.items;
 }
