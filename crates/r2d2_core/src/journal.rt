@@ -185,6 +185,7 @@ impl<T, A: Allocator> Book<T, A> {
         B: Copy,
         ensures { IfOk result (λ base. seen_base base ≡ self.now.journal.base) }
     {
+        let _max_size = self.machine.limits().max_size();
         match self.journal.before() {
             Before::Shown(at) => Base::shown(alloc, &self.machine, *at),
             Before::Folded(standing) => standing.copied(alloc),

@@ -1,5 +1,5 @@
 -- A journal beside its machine: where it has no room, what is before its records is what the machine shows.
-use Rattle.std.proofs.Common.{◌≡◌, ℕ, zero, suc, ◌+◌, ◌<◌, ◌≤◌, ◌==◌, Bool, true, false, cond, List, [], ◌∷◌, ◌++◌, length, drop, Option, Some, None, refl, sym, ◌∙◌, ap, subst, arith}
+use Rattle.std.proofs.Common.{◌≡◌, ℕ, zero, suc, ◌<◌, ◌≤◌, ◌==◌, Bool, true, false, cond, List, [], ◌∷◌, ◌++◌, length, drop, Option, Some, None, refl, sym, ◌∙◌, ap, subst, arith}
 use Rattle.std.specs.Prelude.{nat_lt}
 use Rattle.std.proofs.lemmas.Bool.Decides.{nat_tests}
 use Rattle.r2d2_core.specs.Limits.{SeenLimits, wanted_of}
@@ -7,8 +7,8 @@ use Rattle.r2d2_core.specs.Picture.{Picture, IsSound}
 use Rattle.r2d2_core.specs.Table.{first_picture}
 use Rattle.r2d2_core.specs.Records.{SeenRecord}
 use Rattle.r2d2_core.specs.Bases.{SeenBase, first_base}
-use Rattle.r2d2_core.specs.Folding.{moment_in, folded}
-use Rattle.r2d2_core.specs.Journal.{SeenJournal, first_journal, with_oldest, added, with_noted, one_more, takes_with, BeginsAtTheMaking}
+use Rattle.r2d2_core.specs.Folding.{folded}
+use Rattle.r2d2_core.specs.Journal.{SeenJournal, first_journal, with_oldest, with_noted, one_more, takes_with, BeginsAtTheMaking}
 use Rattle.r2d2_core.specs.JournalParts.{MayNote, passed, kept_alone}
 use Rattle.r2d2_core.specs.Book.{seen_book}
 use Rattle.r2d2_core.specs.BookParts.{shown_at, beside, book_in, IsFaithful}
@@ -72,6 +72,14 @@ module _ {T : Type 0} where
   beside_same : (p : Picture T) (l : SeenJournal) → 0 < l.room → beside p l ≡ l
   beside_same p l some = ap (λ none. record l { base = cond none (shown_at l.base.at p) l.base }) (not_zero l.room some)
 
+  -- what is before the records of a book
+  pub before_shown : (p : Picture T) (l : SeenJournal) (at : ℕ) → l.room ≡ 0 → l.base ≡ first_base l.limits at → (let n = beside p l in shown_at at p ≡ n.base)
+  before_shown p l at bare is =
+      ap (λ (b : SeenBase). shown_at b.at p) (sym is) ∙ ap (λ n. cond (n == 0) (shown_at l.base.at p) l.base) (sym bare)
+
+  pub before_folded : (p : Picture T) (l : SeenJournal) → 0 < l.room → (let n = beside p l in l.base ≡ n.base)
+  before_folded p l some = ap (λ (n : SeenJournal). n.base) (sym (beside_same p l some))
+
   -- one without room, by what the machine shows before and after a step
   noted_bare : (limits : SeenLimits) (since : ℕ) (b : SeenBase) (lost takes : ℕ) (made : Option SeenRecord) (p p' : Picture T) (m : SeenJournal)
       → KeepsWith (beside p (journal limits since b [] 0 lost takes)) made p' → m ≡ kept_alone made (journal limits since b [] 0 lost takes)
@@ -120,18 +128,18 @@ module _ {T : Type 0} where
         none_without_room = subst (λ (n : SeenJournal). n.room ≡ 0 → n.records ≡ []) (sym noted) (none_noted made (beside p l) old.none_without_room);
       }
 
-  -- MAKING
+-- MAKING
 
-  same_by : (none : Bool) (b : SeenBase) → cond none b b ≡ b
-  same_by true b = refl
-  same_by false b = refl
+same_by : (none : Bool) (b : SeenBase) → cond none b b ≡ b
+same_by true b = refl
+same_by false b = refl
 
-  -- at the making the machine shows what the journal begins with
-  pub beside_first : (limits : SeenLimits) (now first_id room : ℕ) → beside (first_picture {T = T} limits now first_id) (first_journal limits now room) ≡ first_journal limits now room
-  beside_first limits now first_id room = ap (λ (b : SeenBase). record (first_journal limits now room) { base = b }) (same_by (room == 0) (first_base limits now))
+-- at the making the machine shows what the journal begins with
+pub beside_first : (T : Type 0) (limits : SeenLimits) (now first_id room : ℕ) → beside (first_picture {T = T} limits now first_id) (first_journal limits now room) ≡ first_journal limits now room
+beside_first T limits now first_id room = ap (λ (b : SeenBase). record (first_journal limits now room) { base = b }) (same_by (room == 0) (first_base limits now))
 
-  pub faithful_first : (limits : SeenLimits) (now first_id room : ℕ) → wanted_of limits ≤ limits.max_size → IsSound (first_picture {T = T} limits now first_id)
-      → IsFaithful (book_in (first_picture {T = T} limits now first_id) (first_journal limits now room))
-  faithful_first limits now first_id room within sound =
-      subst (λ (l : SeenJournal). IsFaithful (seen_book (first_picture {T = T} limits now first_id) l)) (sym (beside_first limits now first_id room))
-      (record { sound = sound; recorded = recorded_made limits now first_id room within; begins = λ none. refl; none_without_room = λ none. refl })
+pub faithful_first : (T : Type 0) (limits : SeenLimits) (now first_id room : ℕ) → wanted_of limits ≤ limits.max_size → IsSound (first_picture {T = T} limits now first_id)
+    → IsFaithful (book_in (first_picture {T = T} limits now first_id) (first_journal limits now room))
+faithful_first T limits now first_id room within sound =
+    subst (λ (l : SeenJournal). IsFaithful (seen_book (first_picture {T = T} limits now first_id) l)) (sym (beside_first T limits now first_id room))
+    (record { sound = sound; recorded = recorded_made limits now first_id room within; begins = λ none. refl; none_without_room = λ none. refl })

@@ -9,6 +9,7 @@ use Rattle.r2d2_core.specs.Ids.{found, without, copies_of}
 use Rattle.r2d2_core.specs.Lending.{lent_next, still_idle}
 use Rattle.r2d2_core.specs.Connections.{SeenLentConnection, lent_connection, id_of_idle, is_expired, is_kept}
 use Rattle.r2d2_core.specs.Bases.{SeenBase, Resting}
+use Rattle.r2d2_core.specs.Book.{bare}
 use Rattle.r2d2_core.specs.Folding.{birth_at_rest}
 use Rattle.r2d2_core.specs.declared.journal.standing.Rooms.{Rooms}
 use Rattle.r2d2_core.specs.Standing.{standing, rooms, lent_out, swept_of}
@@ -17,7 +18,7 @@ use Rattle.r2d2_core.proofs.Lists.Lending.{found-next, without-next, length-stil
 abbrev base_with : ℕ → List Resting → List SeenLentConnection → ℕ → ℕ → Bool → SeenBase
 base_with at idle lent connections pending closed = record { at = at; idle = idle; lent = lent; connections = connections; pending = pending; closed = closed }
 
-same_base : (at pending : ℕ) (closed : Bool) (i i' : List Resting) (l l' : List SeenLentConnection) (n n' : ℕ) → i ≡ i' → l ≡ l' → n ≡ n' → base_with at i l n pending closed ≡ base_with at i' l' n' pending closed
+pub same_base : (at pending : ℕ) (closed : Bool) (i i' : List Resting) (l l' : List SeenLentConnection) (n n' : ℕ) → i ≡ i' → l ≡ l' → n ≡ n' → base_with at i l n pending closed ≡ base_with at i' l' n' pending closed
 same_base at pending closed i i' l l' n n' e f h = rw (e, f, h) refl
 
 abbrev pub birth_of : Resting → ℕ
@@ -52,3 +53,8 @@ sweeps limits at pending closed idle lent room lent_room now is count =
 -- a lent one is its id and its birth
 pub same_loan : (l : SeenLentConnection) (id birth : ℕ) → id ≡ l.id → birth ≡ l.birth → lent_connection id birth ≡ l
 same_loan l id birth e f = rw (e, f) refl
+
+-- what is idle in a base has no payload
+pub bare_same : (idle : List Resting) → map bare idle ≡ idle
+bare_same [] = refl
+bare_same (c ∷ idle) = ap (λ l. c ∷ l) (bare_same idle)

@@ -1,4 +1,4 @@
-use Rattle.std.proofs.Common.{◌≡◌, ◌∙◌, ap, refl, sym, subst}
+use Rattle.std.proofs.Common.{◌≡◌, ◌∙◌, ap, refl, subst}
 use Rattle.std.specs.Prelude.{option_map}
 use Rattle.r2d2_core.specs.Table.{after_close}
 use Rattle.r2d2_core.specs.Records.{seen_record}

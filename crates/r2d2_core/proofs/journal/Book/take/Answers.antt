@@ -1,4 +1,4 @@
-use Rattle.std.proofs.Common.{◌≡◌, ◌∙◌, ap, sym, subst, max}
+use Rattle.std.proofs.Common.{◌≡◌, ◌∙◌, ap, subst, max}
 use Rattle.std.specs.Prelude.{option_map}
 use Rattle.std.specs.Duration.{as_nanos}
 use Rattle.r2d2_core.specs.Seen.{seen_take}
