@@ -58,8 +58,8 @@ impl<A: Allocator> Model for Schedule<A> {
 
 impl<A: Allocator> Schedule<A> {
     ghost use Rattle.r2d2_core.specs.Limits.{seen_limits};
-    ghost use Rattle.r2d2_core.specs.Openings.{opening, with_many};
-    ghost use Rattle.r2d2_core.specs.Schedule.{first_schedule, joined, cleared, with_openings, after_job};
+    ghost use Rattle.r2d2_core.specs.Openings.{opening};
+    ghost use Rattle.r2d2_core.specs.Schedule.{first_schedule, joined, cleared, after_job};
     ghost use Rattle.r2d2_core.specs.Jobs.{seen_job, first_job};
     ghost use Rattle.r2d2_core.specs.Heap.{binary_digits, steps_of_job};
 
@@ -103,17 +103,6 @@ impl<A: Allocator> Schedule<A> {
         let opening = Opening::new(due, tries);
         heap::add(&mut self.entries, self.held as usize, opening, steps);
         self.held += 1;
-    }
-
-    /// Adds so many openings that never failed, each at the cost of an `order`.
-    pub(crate) fn order_many<L: Ledger>(&mut self, count: u32, due: Duration, steps: &mut Steps<L>)
-        requires { length self.old.openings + count ≤ self.old.max_size }
-        ensures after { self.new ≡ with_openings (with_many count (opening (as_nanos due) 0) self.old.openings) self.old }
-        ensures cost { steps.new ≤ steps.old + count * binary_digits (length self.new.openings) }
-    {
-        for _ in 0..count {
-            self.order(due, 0, steps);
-        }
     }
 
     /// What is to be done at the moment `now`, and taken out then: the opening that is due first, by its tries among equals, or the next reap if

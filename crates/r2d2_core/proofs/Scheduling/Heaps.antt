@@ -32,12 +32,6 @@ pub binary_digits_mono : (m n : ℕ) → m ≤ n → binary_digits m ≤ binary_
 unfolding binary_digits
 binary_digits_mono m n h = let above = lt-binary_digits n in length-digits_of-le 2 (length (digits_of 2 n)) m (omega arith) (omega arith)
 
--- so many orders at this cost each, and one more
-pub one_more_order : (from so_far then n held more : ℕ) → held ≤ more → so_far ≤ from + n * binary_digits held → then ≤ so_far + binary_digits more → then ≤ from + (n + 1) * binary_digits more
-one_more_order from so_far then n held more h before last =
-    let grown : n * binary_digits held ≤ n * binary_digits more = mul-le-mul_left n (binary_digits_mono held more h) in
-    omega arith
-
 pow_two : (k : ℕ) → 2 ^ suc k ≡ 2 * 2 ^ k
 pow_two k = let e = pow-suc 2 k in omega arith
 

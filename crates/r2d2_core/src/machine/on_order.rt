@@ -58,7 +58,7 @@ impl<A: Allocator> OnOrder<A> {
         let numbered = Roster::new(alloc, limits.max_size() as usize)?;
         let mut schedule = Schedule::new(alloc, limits, now)?;
         let pending = limits.wanted();
-        schedule.order_many_uncounted(pending, now);
+        schedule.order_many(pending, now);
         Ok(OnOrder {
             limits,
             schedule,
@@ -134,7 +134,7 @@ impl<A: Allocator> OnOrder<A> {
         requires still_open { self.old.closed ≡ true → count ≡ 0 }
         ensures { self.new ≡ on_order.with_orders count (as_nanos due) self.old }
     {
-        self.schedule.order_many_uncounted(count, due);
+        self.schedule.order_many(count, due);
         self.pending += count;
     }
 

@@ -21,12 +21,14 @@ impl<A: Allocator> Schedule<A> {
         self.order_from::<Brand>(due, tries, Blank::new(1));
     }
 
-    /// `order_many`, for a caller that counts no steps.
-    pub(crate) fn order_many_uncounted(&mut self, count: u32, due: Duration)
+    /// Adds so many openings that never failed.
+    pub(crate) fn order_many(&mut self, count: u32, due: Duration)
         requires { length self.old.openings + count ≤ self.old.max_size }
         ensures { self.new ≡ with_openings (with_many count (opening (as_nanos due) 0) self.old.openings) self.old }
     {
-        self.order_many_from::<Brand>(count, due, Blank::new(1));
+        for _ in 0..count {
+            self.order_uncounted(due, 0);
+        }
     }
 
     /// `next`, for a caller that counts no steps.
@@ -48,17 +50,6 @@ impl<A: Allocator> Schedule<A> {
     {
         let mut steps: Steps<L> = Steps::new(blank);
         self.order(due, tries, &mut steps);
-    }
-
-    fn order_many_from<L: Ledger>(&mut self, count: u32, due: Duration, blank: Blank)
-        requires name { blank.name ≡ L.name }
-        requires parts { blank.parts ≡ L.parts }
-        requires some { 0 < L.parts }
-        requires room { length self.old.openings + count ≤ self.old.max_size }
-        ensures { self.new ≡ with_openings (with_many count (opening (as_nanos due) 0) self.old.openings) self.old }
-    {
-        let mut steps: Steps<L> = Steps::new(blank);
-        self.order_many(count, due, &mut steps);
     }
 
     fn next_from<L: Ledger>(&mut self, now: Duration, blank: Blank) -> Job

@@ -2,25 +2,19 @@ use Rattle.std.proofs.Common.{arith, ◌≡◌, ℕ, ◌+◌, ◌∙◌, ap, sym
 use Rattle.std.specs.Duration.{as_nanos}
 use Rattle.r2d2_core.specs.Openings.{opening, with_many}
 use Rattle.r2d2_core.specs.Schedule.{SeenSchedule, joined, with_openings}
-use Rattle.r2d2_core.proofs.Scheduling.Openings.{length-with, length-with_many}
-use Rattle.r2d2_core.proofs.Scheduling.Heaps.{one_more_order}
+use Rattle.r2d2_core.proofs.Scheduling.Openings.{length-with_many}
 use Rattle.r2d2_core.proofs.schedule.Schedule.order_many.Goals as goal
 
-pub order-requires : goal.order-requires
-order-requires g c =
+pub order_uncounted-requires : goal.order_uncounted-requires
+order_uncounted-requires g c =
     let x = opening (as_nanos c.args.due) 0 in
     let held : length c.loop.self.openings ≡ length c.args.self.now.openings + c.loop.counter =
-    ap (λ (p : SeenSchedule). length p.openings) c.loop.invariant.openings ∙ length-with_many c.loop.counter x c.args.self.now.openings in
-    let size : c.loop.self.max_size ≡ c.args.self.now.max_size = ap (λ (p : SeenSchedule). p.max_size) c.loop.invariant.openings in
+    ap (λ (p : SeenSchedule). length p.openings) c.loop.invariant ∙ length-with_many c.loop.counter x c.args.self.now.openings in
+    let size : c.loop.self.max_size ≡ c.args.self.now.max_size = ap (λ (p : SeenSchedule). p.max_size) c.loop.invariant in
     omega (arith, c.requires)
 
 pub loop-preserved : goal.loop-preserved
 loop-preserved g c =
     let x = opening (as_nanos c.args.due) 0 in
-    let more : length c.order.new.self.openings ≡ length c.loop.self.openings + 1 =
-    ap (λ (p : SeenSchedule). length p.openings) c.order.ensures.after ∙ length-with x c.loop.self.openings in
-    record {
-      openings = c.order.ensures.after ∙ ap (joined x) c.loop.invariant.openings
-          ∙ ap (λ (n : ℕ). with_openings (with_many n x c.args.self.now.openings) c.args.self.now) (sym (add-one c.loop.counter));
-      cost = one_more_order _ _ _ c.loop.counter _ _ (omega arith) c.loop.invariant.cost c.order.ensures.cost;
-    }
+    c.order_uncounted.ensures ∙ ap (joined x) c.loop.invariant
+    ∙ ap (λ (n : ℕ). with_openings (with_many n x c.args.self.now.openings) c.args.self.now) (sym (add-one c.loop.counter))

@@ -1,12 +1,8 @@
-use Rattle.std.proofs.Common.{◌≡◌, ◌+◌, ◌*◌, ◌≤◌, length}
+use Rattle.std.proofs.Common.{◌≡◌}
 use Rattle.std.specs.Duration.{as_nanos}
 use Rattle.r2d2_core.specs.Openings.{opening, with_many}
 use Rattle.r2d2_core.specs.Schedule.{with_openings}
-use Rattle.r2d2_core.specs.Heap.{binary_digits}
 use Rattle.r2d2_core.proofs.schedule.Schedule.order_many.Given as goal
 
 abbrev pub invariant-loop : goal.invariant-loop
-invariant-loop g l = record {
-  openings : l.self ≡ with_openings (with_many l.counter (opening (as_nanos l.due) 0) l.fn.self.openings) l.fn.self;
-  cost : l.steps ≤ l.fn.steps + l.counter * binary_digits (length l.self.openings);
-}
+invariant-loop g l = l.self ≡ with_openings (with_many l.counter (opening (as_nanos l.due) 0) l.fn.self.openings) l.fn.self
