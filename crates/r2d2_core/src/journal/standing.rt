@@ -156,12 +156,9 @@ impl<A: Allocator> Standing<A> {
     fn away<B: Allocator>(&self, alloc: B) -> Result<Vec<(u64, Duration), B>, AllocError>
         ensures { IfOk result (λ list. map seen_away list.items ≡ self.now.base.lent) }
     {
-        let count = self.lent.len();
-        let mut list = Vec::with_capacity(alloc, count)?;
-        for place in 0..count {
-            if let Some(loan) = self.lent.get(place) {
-                list.push_reserved((loan.id(), loan.birth()));
-            }
+        let mut list = Vec::with_capacity(alloc, self.lent.len())?;
+        for loan in self.lent.items() {
+            list.push_reserved((loan.id(), loan.birth()));
         }
         Ok(list)
     }
