@@ -1,5 +1,5 @@
-pub mod Apart
 pub mod Ids
+pub mod Slots
 pub mod Filters
 pub mod Lending
 pub mod Counting

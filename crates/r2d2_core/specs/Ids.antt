@@ -1,5 +1,5 @@
 -- Lists of things with ids.
-use Rattle.std.specs.Prelude.{◌≡◌, ◌≢◌, ◌<◌, ℕ, ◌+◌, ◌-◌, ◌==◌, if◌then◌else◌, List, [], ◌∷◌, length, take, slice_index_or, Option, Some, None}
+use Rattle.std.specs.Prelude.{ℕ, ◌+◌, ◌-◌, ◌==◌, if◌then◌else◌, List, [], ◌∷◌, length, take, Option, Some, None}
 use Rattle.std.specs.List.{list_any}
 
 -- the last of a list
@@ -35,12 +35,3 @@ same_id i = i
 abbrev pub copies_of : ℕ → List ℕ → ℕ
 copies_of i [] = 0
 copies_of i (x ∷ xs) = (if x == i then 1 else 0) + copies_of i xs
-
--- none of the first n has the id
-abbrev pub NoneBelow : {X : Type 0} → (X → ℕ) → ℕ → List X → ℕ → Type 0
-NoneBelow {X} id_of i xs n = (k : ℕ) (d : X) → k < n → id_of (slice_index_or xs k d) ≢ i
-
--- one with the id stands at p
-pub record StandsAt {X : Type 0} (id_of : X → ℕ) (i : ℕ) (xs : List X) (p : ℕ) : Type 0 where
-  pub within : p < length xs
-  pub here : (d : X) → id_of (slice_index_or xs p d) ≡ i

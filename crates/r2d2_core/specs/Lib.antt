@@ -7,6 +7,7 @@ pub mod Heap
 pub mod Schedule
 pub mod ScheduleParts
 pub mod Roster
+pub mod Slots
 pub mod Connections
 pub mod Refusals
 pub mod Seen

@@ -148,11 +148,11 @@ impl<T, A: Allocator> Core<T, A> {
         self.idle.id_at(place)
     }
 
-    /// The id of the lent connection at a place, from the one that was taken first.
-    pub(crate) fn lent_id(&self, place: u32) -> Option<u64>
-        ensures { result ≡ option_map id_of_lent (slice_get self.now.lent place) }
+    /// The ids of the lent connections, in the order of their takes.
+    pub(crate) fn lent_ids<B: Allocator>(&self, alloc: B) -> Result<Vec<u64, B>, AllocError>
+        ensures { IfOk result (λ ids. ids.items ≡ map id_of_lent self.now.lent) }
     {
-        self.lent.id_at(place)
+        self.lent.ids(alloc)
     }
 
     /// The idle connections.

@@ -1,13 +1,13 @@
 -- Lists of things with ids.
-use Rattle.std.proofs.Common.{◌≡◌, ℕ, zero, suc, ◌+◌, ◌-◌, ◌<◌, ◌≤◌, Bool, true, false, cond, List, [], ◌∷◌, ◌++◌, map, length, take, get_or, Option, Some, None, refl, sym, ◌∙◌, ap, subst, arith}
+use Rattle.std.proofs.Common.{◌≡◌, ℕ, zero, suc, ◌+◌, ◌-◌, ◌≤◌, Bool, true, false, cond, List, [], ◌∷◌, ◌++◌, map, length, take, get_or, Option, Some, refl, sym, ◌∙◌, ap, subst, arith}
 use Rattle.std.specs.Prelude.{◌==◌}
-use Rattle.std.specs.List.{remove, slice_get, All}
+use Rattle.std.specs.List.{slice_get, All}
 use Rattle.std.specs.Option.{is_some}
 use Rattle.circular_buffer.specs.Buffer.{last_item}
 use Rattle.std.proofs.lemmas.List.{take_at, length_push, map-append}
-use Rattle.std.proofs.lemmas.Bool.{eq-eqb, ne_eqb, eqb-true, cond-true, cond-false}
+use Rattle.std.proofs.lemmas.Bool.{ne_eqb, eqb-true}
 use Rattle.std.proofs.lemmas.List.Elements.{All-append}
-use Rattle.r2d2_core.specs.Ids.{last_of, front, found, without, same_id, NoneBelow, copies_of}
+use Rattle.r2d2_core.specs.Ids.{last_of, front, found, without, same_id, copies_of}
 
 module _ {X : Type 0} where
   pub last_of-push : (xs : List X) (x : X) → last_of (xs ++ x ∷ []) ≡ Some x
@@ -17,30 +17,6 @@ module _ {X : Type 0} where
 
   pub front-push : (xs : List X) (x : X) → front (xs ++ x ∷ []) ≡ xs
   front-push xs x = take_at xs (x ∷ []) (length (xs ++ x ∷ []) - 1) (omega (arith, length_push xs x))
-
-  none_tail : (id_of : X → ℕ) (i : ℕ) (x : X) (xs : List X) (n : ℕ) → NoneBelow id_of i (x ∷ xs) (suc n) → NoneBelow id_of i xs n
-  none_tail id_of i x xs n none k d lt = none (suc k) d (omega arith)
-
-  none_head : (id_of : X → ℕ) (i : ℕ) (x : X) (xs : List X) (n : ℕ) → NoneBelow id_of i (x ∷ xs) (suc n) → (id_of x == i) ≡ false
-  none_head id_of i x xs n none = ne_eqb (id_of x) i (none 0 x (omega arith))
-
-  pub found_none : (id_of : X → ℕ) (i : ℕ) (xs : List X) → NoneBelow id_of i xs (length xs) → found id_of i xs ≡ None
-  found_none id_of i [] none = refl
-  found_none id_of i (x ∷ xs) none = cond-false _ _ _ (none_head id_of i x xs (length xs) none) ∙ found_none id_of i xs (none_tail id_of i x xs (length xs) none)
-
-  pub without_none : (id_of : X → ℕ) (i : ℕ) (xs : List X) → NoneBelow id_of i xs (length xs) → without id_of i xs ≡ xs
-  without_none id_of i [] none = refl
-  without_none id_of i (x ∷ xs) none = cond-false _ _ _ (none_head id_of i x xs (length xs) none) ∙ ap (λ l. x ∷ l) (without_none id_of i xs (none_tail id_of i x xs (length xs) none))
-
-  pub found_first : (id_of : X → ℕ) (i : ℕ) (xs : List X) (p : ℕ) (d : X) → p < length xs → ((d : X) → id_of (get_or xs p d) ≡ i) → NoneBelow id_of i xs p → found id_of i xs ≡ Some (get_or xs p d)
-  found_first id_of i [] p d lt here none = absurd (omega arith)
-  found_first id_of i (x ∷ xs) zero d lt here none = cond-true _ _ _ (eq-eqb (id_of x) i (here x))
-  found_first id_of i (x ∷ xs) (suc p) d lt here none = cond-false _ _ _ (none_head id_of i x xs p none) ∙ found_first id_of i xs p d (omega arith) here (none_tail id_of i x xs p none)
-
-  pub without_first : (id_of : X → ℕ) (i : ℕ) (xs : List X) (p : ℕ) → p < length xs → ((d : X) → id_of (get_or xs p d) ≡ i) → NoneBelow id_of i xs p → without id_of i xs ≡ remove xs p
-  without_first id_of i [] p lt here none = absurd (omega arith)
-  without_first id_of i (x ∷ xs) zero lt here none = cond-true _ _ _ (eq-eqb (id_of x) i (here x))
-  without_first id_of i (x ∷ xs) (suc p) lt here none = cond-false _ _ _ (none_head id_of i x xs p none) ∙ ap (λ l. x ∷ l) (without_first id_of i xs p (omega arith) here (none_tail id_of i x xs p none))
 
   -- what a pop of the back of a ring gives
   pub last_item-last_of : (xs : List X) → last_item xs ≡ last_of xs

@@ -50,10 +50,6 @@ sweeps limits at pending closed idle lent room lent_room now is count =
     ap (λ n. standing (base_with at now.items lent (length now.items + length lent) pending closed) (rooms n lent_room)) same
     ∙ ap (λ b. standing b (rooms room lent_room)) (same_base at pending closed now.items (filter (is_kept limits at) idle) lent lent _ (length idle + length lent - length (filter (is_expired limits at) idle)) kept refl (omega (arith, count)))
 
--- a lent one is its id and its birth
-pub same_loan : (l : SeenLentConnection) (id birth : ℕ) → id ≡ l.id → birth ≡ l.birth → lent_connection id birth ≡ l
-same_loan l id birth e f = rw (e, f) refl
-
 -- what is idle in a base has no payload
 pub bare_same : (idle : List Resting) → map bare idle ≡ idle
 bare_same [] = refl

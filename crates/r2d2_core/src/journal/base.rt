@@ -142,12 +142,9 @@ impl<A: Allocator> AwayList<A> {
     ) -> Result<AwayList<A>, AllocError>
         ensures { IfOk result (λ list. list ≡ lent.now.items) }
     {
-        let count = lent.len();
-        let mut list = Vec::with_capacity(alloc, count)?;
-        for place in 0..count {
-            if let Some(loan) = lent.get(place) {
-                list.push_reserved((loan.id(), loan.birth()));
-            }
+        let mut list = Vec::with_capacity(alloc, lent.len())?;
+        for loan in lent.items() {
+            list.push_reserved((loan.id(), loan.birth()));
         }
         Ok(AwayList { list })
     }

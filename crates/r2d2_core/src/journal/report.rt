@@ -140,13 +140,7 @@ impl<A: Allocator> IdList<A> {
     ) -> Result<IdList<A>, AllocError>
         ensures { IfOk result (λ ids. ids ≡ map id_of_lent machine.now.lent) }
     {
-        let count = machine.connections() - machine.idle();
-        let mut list = Vec::with_capacity(alloc, count as usize)?;
-        for place in 0..count {
-            if let Some(id) = machine.lent_id(place) {
-                list.push_reserved(id);
-            }
-        }
-        Ok(IdList { ids: list })
+        let ids = machine.lent_ids(alloc)?;
+        Ok(IdList { ids })
     }
 }

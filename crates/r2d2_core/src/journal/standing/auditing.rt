@@ -16,7 +16,6 @@ use crate::journal::base::Base;
 use crate::journal::record::Record;
 use crate::machine::idle::IdleConnection;
 use crate::machine::lent::LentConnection;
-use crate::machine::roster::HasId;
 use crate::schedule::Limits;
 use std::alloc::{AllocError, Allocator};
 use std::time::Duration;
@@ -114,7 +113,7 @@ impl<A: Allocator> Standing<A> {
     pub(crate) fn has_ids(&self, idle: &[u64], lent: &[u64]) -> bool
         ensures { IsTrue result ↔ ((map id_of_idle self.now.base.idle ≡ idle.now) × (map id_of_lent self.now.base.lent ≡ lent.now)) }
     {
-        self.has_idle(idle) && self.has_lent(lent)
+        self.has_idle(idle) && self.lent.has_ids(lent)
     }
 
     fn has_idle(&self, ids: &[u64]) -> bool
@@ -126,22 +125,6 @@ impl<A: Allocator> Standing<A> {
         for place in 0..ids.len() {
             if let Some(entry) = self.idle.get(place)
                 && entry.id() != ids[place]
-            {
-                return false;
-            }
-        }
-        true
-    }
-
-    fn has_lent(&self, ids: &[u64]) -> bool
-        ensures { IsTrue result ↔ (map id_of_lent self.now.base.lent ≡ ids.now) }
-    {
-        if self.lent.len() != ids.len() {
-            return false;
-        }
-        for place in 0..ids.len() {
-            if let Some(loan) = self.lent.get(place)
-                && loan.id() != ids[place]
             {
                 return false;
             }

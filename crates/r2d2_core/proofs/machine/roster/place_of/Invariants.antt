@@ -1,11 +1,11 @@
 use Rattle.std.proofs.Common.{◌≤◌, length}
-use Rattle.r2d2_core.proofs.Lists.Apart.{NoneFrom}
+use Rattle.r2d2_core.specs.Slots.{NoneHeldFrom}
 use Rattle.r2d2_core.proofs.machine.roster.place_of.Given as goal
 
 abbrev pub invariant-back : goal.invariant-back
 invariant-back g l = record {
-  within : l.place ≤ length l.list;
-  none_after : NoneFrom g.X.HasId.id_of l.id l.list l.place;
+  within : l.place ≤ length l.slots;
+  none_after : NoneHeldFrom g.X.HasId.id_of l.id l.slots l.place;
 }
 
 abbrev pub decreases-back : goal.decreases-back
