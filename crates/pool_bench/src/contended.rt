@@ -19,7 +19,7 @@ where
     requires { S.IsAlwaysCallable start }
 {
     for threads in [1, 2, 4, 8] {
-        for max_size in [1, 4, 10, 100] {
+        for max_size in [1, 10] {
             let case = Case {
                 threads,
                 max_size,

@@ -75,6 +75,8 @@ fn batches<R: PoolRuntime>(
         give_back(&mut lent, BATCH, which);
         drops = drops.saturating_add(start.elapsed(&rt)?);
     }
+    // The oldest of many costs most, and `lent` itself would begin with it.
+    give_back(&mut lent, max_size.saturating_sub(BATCH), Which::Newest);
     Ok((gets, drops))
 }
 

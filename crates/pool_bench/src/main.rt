@@ -1,5 +1,6 @@
-//! Times the calls of a pool. With an argument it prints a line for each scenario: its name, the threads, `max_size`, how many operations
-//! were timed, and the nanoseconds for each, in the fastest of twenty-five runs. With none it says how to run it.
+//! Times the calls of a pool. Given `bench`, it prints a line for each scenario: its name, the threads, `max_size`, how many operations
+//! were timed, and the nanoseconds for each, in the fastest of twenty-five runs. Given a scenario's name too, it runs that one alone, as for
+//! a profile. Else it says how to run it.
 #![tactic(auto)]
 
 ghost use Rattle.std.specs.Prelude.{◌<◌};
@@ -13,26 +14,34 @@ mod scenario;
 use contended::{goes_round, is_served};
 use growing::{BATCH, BATCHES};
 use r2d2::PoolRuntime;
-use scenario::{Case, Scenario};
+use scenario::{Case, Scenario, is_chosen};
 use std::{env, thread};
 
 /// Calls of a scenario of one thread, in one run.
 const CALLS: u32 = 2_000;
 
 fn main(rt: HostRuntime) -> Result<(), anyhow::Error> {
-    if env::args(&rt)?.count() < 2 {
-        println!(rt; "usage: pool_bench bench")?;
+    let mut words = env::args(&rt)?.skip(1);
+    if words.next().as_deref() != Some("bench") {
+        println!(rt; "usage: pool_bench bench [SCENARIO]")?;
         return Ok(());
     }
+    // The only scenario to run, or all.
+    let word = words.next();
+    let only = word.as_deref();
     println!(rt; "scenario threads max_size ops ns_per_op")?;
-    measure_alone(rt)?;
-    contended::measure(rt, |pool, calls| {
-        Ok(thread::spawn(&rt, move || is_served(pool, calls))?)
-    })?;
-    contended::measure_floor(rt, |latest, calls| {
-        Ok(thread::spawn(&rt, move || goes_round(rt, latest, calls))?)
-    })?;
-    measure_growing(rt)
+    measure_alone(rt, only)?;
+    if is_chosen("mt", only) {
+        contended::measure(rt, |pool, calls| {
+            Ok(thread::spawn(&rt, move || is_served(pool, calls))?)
+        })?;
+    }
+    if is_chosen("mt_floor", only) {
+        contended::measure_floor(rt, |latest, calls| {
+            Ok(thread::spawn(&rt, move || goes_round(rt, latest, calls))?)
+        })?;
+    }
+    measure_growing(rt, only)
 }
 
 fn one_thread(max_size: u32, operations: u32) -> Case
@@ -46,26 +55,26 @@ fn one_thread(max_size: u32, operations: u32) -> Case
     }
 }
 
-fn measure_alone<R: PoolRuntime + Print>(rt: R) -> Result<(), anyhow::Error> {
-    Scenario::Clock.measure(rt, one_thread(1, CALLS))?;
-    Scenario::Lock.measure(rt, one_thread(1, CALLS))?;
-    Scenario::Floor.measure(rt, one_thread(1, CALLS))?;
-    Scenario::GetDrop.measure(rt, one_thread(10, CALLS))?;
-    Scenario::GetDropCheck.measure(rt, one_thread(10, CALLS))?;
-    Scenario::CountedGetDrop.measure(rt, one_thread(10, CALLS))?;
-    Scenario::TryGetHit.measure(rt, one_thread(10, CALLS))?;
-    Scenario::TryGetMiss.measure(rt, one_thread(1, CALLS))
+fn measure_alone<R: PoolRuntime + Print>(rt: R, only: Option<&str>) -> Result<(), anyhow::Error> {
+    Scenario::Clock.measure(rt, only, one_thread(1, CALLS))?;
+    Scenario::Lock.measure(rt, only, one_thread(1, CALLS))?;
+    Scenario::Floor.measure(rt, only, one_thread(1, CALLS))?;
+    Scenario::GetDrop.measure(rt, only, one_thread(10, CALLS))?;
+    Scenario::GetDropCheck.measure(rt, only, one_thread(10, CALLS))?;
+    Scenario::CountedGetDrop.measure(rt, only, one_thread(10, CALLS))?;
+    Scenario::TryGetHit.measure(rt, only, one_thread(10, CALLS))?;
+    Scenario::TryGetMiss.measure(rt, only, one_thread(1, CALLS))
 }
 
-fn measure_growing<R: PoolRuntime + Print>(rt: R) -> Result<(), anyhow::Error> {
+fn measure_growing<R: PoolRuntime + Print>(rt: R, only: Option<&str>) -> Result<(), anyhow::Error> {
     for max_size in [10, 100, 1000, 10_000] {
-        Scenario::Build.measure(rt, one_thread(max_size, 1))?;
+        Scenario::Build.measure(rt, only, one_thread(max_size, 1))?;
     }
     for lent in [10, 100, 1000, 10_000] {
         let case = one_thread(lent + BATCH, BATCH * BATCHES);
-        Scenario::LentGet.measure(rt, case)?;
-        Scenario::LentDrop.measure(rt, case)?;
-        Scenario::LentDropOldest.measure(rt, case)?;
+        Scenario::LentGet.measure(rt, only, case)?;
+        Scenario::LentDrop.measure(rt, only, case)?;
+        Scenario::LentDropOldest.measure(rt, only, case)?;
     }
     Ok(())
 }

@@ -9,6 +9,14 @@ use std::time::Duration;
 /// How often each scenario is run. The fastest run counts: the others were held up by something else. So runs are short and many.
 pub const RUNS: u32 = 25;
 
+/// Whether the scenario of this name is to be run: it is the only one, or all are.
+pub fn is_chosen(name: &str, only: Option<&str>) -> bool {
+    match only {
+        Some(only) => only == name,
+        None => true,
+    }
+}
+
 /// How often, and at what size, a scenario is run.
 #[derive(Clone, Copy)]
 pub struct Case {
@@ -99,8 +107,16 @@ impl Scenario {
         }
     }
 
-    /// Runs it a few times, and prints its line.
-    pub fn measure<R: PoolRuntime + Print>(self, rt: R, case: Case) -> Result<(), anyhow::Error> {
+    /// Runs it a few times, and prints its line; nothing where `only` names another one.
+    pub fn measure<R: PoolRuntime + Print>(
+        self,
+        rt: R,
+        only: Option<&str>,
+        case: Case,
+    ) -> Result<(), anyhow::Error> {
+        if !is_chosen(self.name(), only) {
+            return Ok(());
+        }
         let mut fastest = Duration::MAX;
         for _ in 0..RUNS {
             let time = self.run(rt, case)?;

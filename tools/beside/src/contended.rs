@@ -1,0 +1,84 @@
+// Several threads at one pool.
+use crate::alone::floor_round;
+use crate::pools::{open_pool, Nothings};
+use crate::scenario::{measure, Case};
+use parking_lot::Mutex;
+use r2d2::Pool;
+use std::sync::Arc;
+use std::thread;
+use std::time::{Duration, Instant};
+
+/// Calls of all threads together, in one run.
+const CALLS: u32 = 8_000;
+
+/// Times each number of threads at each size of pool.
+pub fn measure_pools() {
+    for threads in [1, 2, 4, 8] {
+        for max_size in [1, 10] {
+            let case = Case {
+                threads,
+                max_size,
+                operations: CALLS,
+            };
+            measure("mt", case, get_drop);
+        }
+    }
+}
+
+/// Times the round of `floor` by each number of threads at one lock.
+pub fn measure_floor() {
+    for threads in [1, 2, 4, 8] {
+        let case = Case {
+            threads,
+            max_size: 1,
+            operations: CALLS,
+        };
+        measure("mt_floor", case, floor);
+    }
+}
+
+// `get`, and the connection's return, in threads that share the calls.
+fn get_drop(case: Case) -> Duration {
+    let pool = open_pool(case.max_size, false);
+    in_threads(case, || {
+        let theirs = pool.clone();
+        move |calls| serve(theirs, calls)
+    })
+}
+
+// Rounds of `floor` in threads that share the calls.
+fn floor(case: Case) -> Duration {
+    let latest = Arc::new(Mutex::new(Duration::ZERO));
+    in_threads(case, || {
+        let theirs = Arc::clone(&latest);
+        move |rounds| go_round(theirs, rounds)
+    })
+}
+
+// The time of threads that share the calls, from before the first is started until all have ended.
+fn in_threads<C: FnOnce(u32) + Send + 'static>(case: Case, caller: impl Fn() -> C) -> Duration {
+    let calls = case.operations / case.threads;
+    let begun = Instant::now();
+    let mut callers = Vec::new();
+    for _ in 0..case.threads {
+        let call = caller();
+        callers.push(thread::spawn(move || call(calls)));
+    }
+    for caller in callers {
+        caller.join().expect("a call was not served");
+    }
+    begun.elapsed()
+}
+
+fn serve(pool: Pool<Nothings>, calls: u32) {
+    for _ in 0..calls {
+        drop(pool.get().expect("a call was not served"));
+    }
+}
+
+fn go_round(latest: Arc<Mutex<Duration>>, rounds: u32) {
+    let start = Instant::now();
+    for _ in 0..rounds {
+        floor_round(&latest, start);
+    }
+}

@@ -1,0 +1,55 @@
+//! Times the calls of r2d2's pool in the scenarios of `crates/pool_bench`, under their names and
+//! with their figures, and prints the same lines: the name, the threads, `max_size`, how many
+//! operations were timed, and the nanoseconds for each, in the fastest run.
+
+mod alone;
+mod contended;
+mod growing;
+mod pools;
+mod scenario;
+
+use growing::{BATCH, BATCHES};
+use scenario::{measure, Case};
+
+/// Calls of a scenario of one thread, in one run.
+const CALLS: u32 = 2_000;
+
+fn main() {
+    println!("scenario threads max_size ops ns_per_op");
+    measure_alone();
+    contended::measure_pools();
+    contended::measure_floor();
+    measure_growing();
+}
+
+fn one_thread(max_size: u32, operations: u32) -> Case {
+    Case {
+        threads: 1,
+        max_size,
+        operations,
+    }
+}
+
+fn measure_alone() {
+    let one = one_thread(1, CALLS);
+    measure("clock", one, alone::clock);
+    measure("lock", one, alone::lock);
+    measure("floor", one, alone::floor);
+    let ten = one_thread(10, CALLS);
+    measure("get_drop", ten, |case| alone::get_drop(case, false));
+    measure("get_drop_check", ten, |case| alone::get_drop(case, true));
+    measure("try_get_hit", ten, alone::try_get_hit);
+    measure("try_get_miss", one, alone::try_get_miss);
+}
+
+fn measure_growing() {
+    for max_size in [10, 100, 1000, 10_000] {
+        measure("build", one_thread(max_size, 1), growing::build);
+    }
+    for lent in [10, 100, 1000, 10_000] {
+        let case = one_thread(lent + BATCH, BATCH * BATCHES);
+        measure("lent_get", case, growing::lent_get);
+        measure("lent_drop", case, growing::lent_drop);
+        measure("lent_drop_oldest", case, growing::lent_drop_oldest);
+    }
+}
