@@ -69,13 +69,13 @@ fn draws_each_report(rt: HostRuntime) -> Result<(), Fail> {
     let timeline = text(rt.alloc(), &report)?;
     let told = format!(in rt.alloc(); "line 1: replays\n{timeline}")?;
     serves(&rt, Form::Text, NEW, told.as_str(), Ok(true))?;
-    let picture = svg(rt.alloc(), &report)?;
-    serves(&rt, Form::Svg, NEW, picture.as_str(), Ok(true))?;
+    let drawing = svg(rt.alloc(), &report)?;
+    serves(&rt, Form::Svg, NEW, drawing.as_str(), Ok(true))?;
     let page = html(rt.alloc(), &report)?;
     serves(&rt, Form::Html, NEW, page.as_str(), Ok(true))?;
     let wrong = wrong(rt.alloc())?;
-    let picture = svg(rt.alloc(), &from_json(rt.alloc(), wrong.as_str())?)?;
-    serves(&rt, Form::Svg, wrong.as_str(), picture.as_str(), Ok(false))
+    let drawing = svg(rt.alloc(), &from_json(rt.alloc(), wrong.as_str())?)?;
+    serves(&rt, Form::Svg, wrong.as_str(), drawing.as_str(), Ok(false))
 }
 
 #[test]

@@ -6,7 +6,7 @@ use rand_core::SeedableRng;
 use rand_pcg::Pcg32;
 use std::test::Fail;
 
-// The plot of a picture whose ids have few digits, in tenths.
+// The plot of a drawing whose ids have few digits, in tenths.
 const LEFT: u32 = 800;
 
 const RIGHT: u32 = 10_500;
@@ -53,7 +53,7 @@ impl Ends {
     }
 }
 
-// Whether the line of a picture is a line, a bar or an area.
+// Whether the line of a drawing is a line, a bar or an area.
 fn is_stroke(line: &str) -> bool {
     ["idle", "lent", "idles", "lents", "pendings"]
         .iter()

@@ -1,4 +1,4 @@
-// A script of steps, as `pool-steps` reads them, that a book takes; and a picture of what the book
+// A script of steps, as `pool-steps` reads them, that a book takes; and a drawing of what the book
 // reports then: as text, as SVG or as a page.
 
 use pool_lines::program::Fault;
@@ -42,7 +42,7 @@ impl Kind {
         }
     }
 
-    fn picture(self, alloc: Global, report: &Report) -> Result<String, AllocError> {
+    fn drawing(self, alloc: Global, report: &Report) -> Result<String, AllocError> {
         match self {
             Kind::Text => text(alloc, report),
             Kind::Svg => svg(alloc, report),
@@ -103,8 +103,8 @@ pub fn drawn<R: Input + Print + Eprint + AllocGlobal>(
     let script = io::read_to_string(rt.alloc(), rt.reader())?;
     match report(rt.alloc(), script.as_str()) {
         Ok(report) => {
-            let picture = kind.picture(rt.alloc(), &report)?;
-            print!(rt; "{picture}")?;
+            let drawing = kind.drawing(rt.alloc(), &report)?;
+            print!(rt; "{drawing}")?;
             Ok(ExitCode::SUCCESS)
         }
         Err(fault) => {

@@ -19,7 +19,7 @@ pub enum Form {
     Json,
     /// In words, with a timeline of the report below.
     Text,
-    /// As a picture of the report alone, as SVG.
+    /// As a drawing of the report alone, as SVG.
     Svg,
     /// As a page about the report alone.
     Html,

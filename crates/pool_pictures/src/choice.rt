@@ -1,4 +1,4 @@
-// Which connections are drawn, where there are more than a picture has lanes for.
+// Which connections are drawn, where there are more than a drawing has lanes for.
 
 use crate::story::{Life, Story};
 use std::alloc::{AllocError, Global};

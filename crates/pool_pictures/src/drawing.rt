@@ -1,4 +1,4 @@
-// A picture as SVG.
+// A drawing as SVG.
 ghost use Rattle.std.specs.Prelude.{◌≤◌};
 
 use crate::choice::drawn;
@@ -22,7 +22,7 @@ const LANES: usize = 1000;
 const OPENING: &str = r#"<svg xmlns="http://www.w3.org/2000/svg" class="pool" role="img"
   aria-label="What became of the connections of a pool" "#;
 
-/// A picture of a report as SVG, with time from left to right: its limits and counts; a band of how
+/// A drawing of a report as SVG, with time from left to right: its limits and counts; a band of how
 /// many connections were idle, lent and pending, against `max_size` and the wanted number; and a
 /// lane for each connection, with its id where the lane is high enough, and with its story as a
 /// title. It suits light and dark surroundings. Of more than 1000 connections it draws those that
@@ -42,7 +42,7 @@ pub fn svg<A: Allocator>(alloc: Global, report: &Report<A>) -> Result<String, Al
     Ok(canvas.out)
 }
 
-/// A picture so far, and how it is laid out.
+/// A drawing so far, and how it is laid out.
 #[derive(Drop)]
 struct Canvas {
     alloc: Global,
@@ -124,7 +124,7 @@ impl Canvas {
     }
 }
 
-// From when to when the picture goes, and what came before it.
+// From when to when the drawing goes, and what came before it.
 fn told(alloc: Global, story: &Story) -> Result<String, AllocError> {
     let (from, to) = (Length(story.from), Length(story.to));
     let (records, lost) = (story.counts.len().saturating_sub(1), story.lost);

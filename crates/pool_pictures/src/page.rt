@@ -1,4 +1,4 @@
-// A picture in a page of its own.
+// A drawing in a page of its own.
 
 use crate::drawing::svg;
 use crate::lengths::{Length, Limit};
@@ -49,8 +49,8 @@ th { font-weight: 400; color: var(--dim) }
 
 const FOOT: &str = "</main>\n</body>\n</html>\n";
 
-/// A page about a report that needs nothing else: its limits and counts, the picture that `svg`
-/// draws, and its newest records, 200 at most. On a narrow screen the picture scrolls in its box.
+/// A page about a report that needs nothing else: its limits and counts, the drawing that `svg`
+/// draws, and its newest records, 200 at most. On a narrow screen the drawing scrolls in its box.
 /// The error comes only where memory is refused.
 pub fn html<A: Allocator>(alloc: Global, report: &Report<A>) -> Result<String, AllocError> {
     let mut page = String::from_str(alloc, HEAD)?;
@@ -58,8 +58,8 @@ pub fn html<A: Allocator>(alloc: Global, report: &Report<A>) -> Result<String, A
     limits(&mut page, &report.limits)?;
     counts(&mut page, report)?;
     page.push_str("</div>\n<div class=\"box\">\n")?;
-    let picture = svg(alloc, report)?;
-    page.push_str(picture.as_str())?;
+    let drawing = svg(alloc, report)?;
+    page.push_str(drawing.as_str())?;
     page.push_str("</div>\n")?;
     records(&mut page, report.records.as_slice())?;
     page.push_str(FOOT)?;

@@ -1,10 +1,10 @@
-// Where a moment lies in a picture.
+// Where a moment lies in a drawing.
 ghost use Rattle.std.specs.Prelude.{◌≡◌, ◌≤◌};
 
 use crate::story::Story;
 use std::time::Duration;
 
-/// A picture's time from left to right: the moments of a story on the places 0 to `width`.
+/// A drawing's time from left to right: the moments of a story on the places 0 to `width`.
 #[derive(Clone, Copy)]
 pub(crate) struct Scale {
     // The first moment and the length, in nanoseconds.

@@ -1,4 +1,4 @@
-// A picture for a terminal.
+// A drawing for a terminal.
 
 use crate::choice::drawn;
 use crate::lengths::{Axis, Length, Limit, digits, label};

@@ -1,4 +1,4 @@
-// The time of a picture, from left to right.
+// The time of a drawing, from left to right.
 
 use super::Canvas;
 use super::layout::Tenths;
@@ -9,7 +9,7 @@ use std::alloc::AllocError;
 // How wide a letter of a label is.
 const LETTER: u32 = 65;
 
-// A picture with lanes that reach further down has its labels below them too.
+// A drawing with lanes that reach further down has its labels below them too.
 const FAR: u32 = 3000;
 
 impl Canvas {
@@ -26,7 +26,7 @@ impl Canvas {
         self.beginning(story)
     }
 
-    // A line down the picture at each mark.
+    // A line down the drawing at each mark.
     fn grid(&mut self, axis: Axis) -> Result<(), AllocError> {
         let (top, bottom) = (self.layout.band_top(), self.layout.lanes_bottom());
         let (top, height) = (Tenths(top), Tenths(bottom.saturating_sub(top)));

@@ -1,4 +1,4 @@
-// Where the parts of a picture lie. All places and lengths are in tenths of a unit of the picture.
+// Where the parts of a drawing lie. All places and lengths are in tenths of a unit of the drawing.
 ghost use Rattle.std.specs.Prelude.{◌+◌, ◌≤◌};
 
 use crate::scale::Scale;
@@ -6,7 +6,7 @@ use crate::story::Story;
 use std::fmt;
 use std::time::Duration;
 
-/// How wide a picture is.
+/// How wide a drawing is.
 pub(super) const WIDTH: u32 = 12_000;
 
 /// What is left free at the left of the texts.
@@ -90,7 +90,7 @@ pub(super) struct Layout {
 }
 
 impl Layout {
-    /// A picture with so many lanes, whose ids have so many digits at most.
+    /// A drawing with so many lanes, whose ids have so many digits at most.
     pub(super) fn of(story: &Story, lanes: usize, digits: u32) -> Layout {
         let pitch = Pitch::of(lanes);
         let names = digits.saturating_mul(70).saturating_add(100);

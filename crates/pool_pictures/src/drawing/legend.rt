@@ -1,4 +1,4 @@
-// What the lines and marks of a picture mean.
+// What the lines and marks of a drawing mean.
 
 use super::Canvas;
 use super::layout::{LEGEND, MARGIN, Tenths};

@@ -1,4 +1,4 @@
-// The rows of a picture in text, a sign for each column.
+// The rows of a drawing in text, a sign for each column.
 
 use crate::scale::Scale;
 use crate::story::{Cause, Coming, Counts, Life, Series, Story, Use};
