@@ -1,6 +1,6 @@
 // A list of things with ids, which has its room from the start. One that leaves is found by a hint and leaves a hole, so no other is
 // moved, and holes are taken out many at a time. Nothing is promised of hints: a wrong one is seen, and costs a search.
-ghost use Rattle.std.specs.Prelude.{◌≡◌, ◌↔◌, ℕ, ◌+◌, ◌/◌, ◌<◌, ◌≤◌, ◌++◌, ◌∷◌, [], length, map, IfOk, IfNone, IsSome, IsTrue, MatchOption, Option, None, slice_set, slice_index_or, vec_capacity, vec_len};
+ghost use Rattle.std.specs.Prelude.{◌≡◌, ◌↔◌, ℕ, ◌+◌, ◌<◌, ◌≤◌, ◌++◌, ◌∷◌, [], length, map, IfOk, IfNone, IsSome, IsTrue, MatchOption, Option, None, slice_set, slice_index_or, vec_capacity, vec_len};
 ghost use Rattle.std.specs.Iterator.{item_count, YieldsFirstRef};
 ghost use Rattle.r2d2_core.specs.Ids.{found, without, copies_of};
 ghost use Rattle.r2d2_core.specs.Roster.{roster};
@@ -39,7 +39,7 @@ pub(crate) struct Roster<X, A: Allocator = Global> {
 }
 
 impl<X, A: Allocator> Model for Roster<X, A> {
-    ghost use Rattle.std.specs.Prelude.{◌≡◌, ◌≤◌, ◌+◌, ◌/◌, length, vec_capacity};
+    ghost use Rattle.std.specs.Prelude.{◌≡◌, ◌≤◌, length, vec_capacity};
     ghost use Rattle.r2d2_core.specs.Roster.{SeenRoster, roster};
 
     ghost Value = { SeenRoster X };
@@ -48,11 +48,8 @@ impl<X, A: Allocator> Model for Roster<X, A> {
 
     ghost view = { λ a. roster (held a.slots.items) a.room };
 
-    ghost invariant = { λ a. (a.count ≡ length (held a.slots.items)) × (a.room + (a.room / 4 + 8) ≤ vec_capacity a.slots) };
+    ghost invariant = { λ a. (a.count ≡ length (held a.slots.items)) × (a.room ≤ vec_capacity a.slots) };
 }
-
-// How many holes are let be beside a quarter of what is held.
-const SPARE: usize = 8;
 
 impl<X: HasId, A: Allocator> Roster<X, A> {
     pub(crate) fn new(alloc: A, room: usize) -> Result<Roster<X, A>, AllocError>
@@ -60,7 +57,7 @@ impl<X: HasId, A: Allocator> Roster<X, A> {
         A: Copy,
         ensures { IfOk result (λ roster'. roster' ≡ roster [] room) }
     {
-        let places = room.checked_add(room / 4 + SPARE).ok_or(AllocError)?;
+        let places = room.checked_add(room / 4).ok_or(AllocError)?;
         // The next power of two is to be a number too.
         if places > usize::MAX / 2 {
             return Err(AllocError);
@@ -70,6 +67,21 @@ impl<X: HasId, A: Allocator> Roster<X, A> {
         Ok(Roster {
             slots,
             hints,
+            count: 0,
+            room,
+        })
+    }
+
+    /// The same, with no memory but for the room itself: there are no hints, so each removal searches.
+    pub(crate) fn tight(alloc: A, room: usize) -> Result<Roster<X, A>, AllocError>
+    where
+        A: Copy,
+        ensures { IfOk result (λ roster'. roster' ≡ roster [] room) }
+    {
+        let slots = Vec::with_capacity(alloc, room)?;
+        Ok(Roster {
+            slots,
+            hints: Vec::new(alloc),
             count: 0,
             room,
         })
@@ -178,16 +190,16 @@ impl<'a, X> Iterator for Items<'a, X> {
     }
 }
 
-// Takes the holes out where there are more than are let be, and sets the hints anew. At least as many left the list since the last
-// time, so each of them pays for a few moves.
+// Makes room for one more: where the slots are full or mostly holes, takes the holes out and sets the hints anew. There are more slots
+// than the room by a quarter, so many left the list since the last time, and each of them pays for a few moves.
 fn make_room<X: HasId, A: Allocator>(slots: &mut Vec<Option<X>, A>, hints: &mut [u32], count: usize)
     requires counted { count ≡ length (held slots.old.items) }
-    requires fits { count + (count / 4 + SPARE) ≤ usize.MAX }
+    requires fits { count < vec_capacity slots.old }
     ensures held { held slots.new.items ≡ held slots.old.items }
-    ensures len { vec_len slots.new < count + (count / 4 + SPARE) }
+    ensures room { vec_len slots.new < vec_capacity slots.new }
     ensures capacity { vec_capacity slots.new ≡ vec_capacity slots.old }
 {
-    if slots.len() >= count + (count / 4 + SPARE) {
+    if slots.len() >= slots.capacity() || slots.len() / 2 > count {
         squeeze(slots);
         note_all(hints, slots);
     }

@@ -8,14 +8,15 @@ ghost use Rattle.r2d2_core.specs.Records.{seen_record};
 ghost use Rattle.r2d2_core.specs.Bases.{seen_resting, seen_away, IsLegalBase};
 ghost use Rattle.r2d2_core.specs.Folding.{replay, all_follow, known_in};
 ghost use Rattle.r2d2_core.specs.Reports.{seen_base};
-ghost use Rattle.r2d2_core.specs.Standing.{standing, rooms_for, with_idle, with_lent};
+ghost use Rattle.r2d2_core.specs.Standing.{standing, rooms_for, empty_base, with_idle, with_lent};
 ghost use Rattle.r2d2_core.specs.Auditing.{are_in_order, are_born};
 
 use super::{Rooms, Standing};
 use crate::journal::base::Base;
 use crate::journal::record::Record;
-use crate::machine::idle::IdleConnection;
+use crate::machine::idle::{Idle, IdleConnection};
 use crate::machine::lent::LentConnection;
+use crate::machine::roster::Roster;
 use crate::schedule::Limits;
 use std::alloc::{AllocError, Allocator};
 use std::time::Duration;
@@ -45,12 +46,29 @@ impl<A: Allocator> Standing<A> {
             ((are_in_order (as_nanos base.now.at) 0 base.now.idle && are_born (as_nanos base.now.at) base.now.lent) ≡ false)
             (λ there. ((are_in_order (as_nanos base.now.at) 0 base.now.idle && are_born (as_nanos base.now.at) base.now.lent) ≡ true) × (there ≡ standing (seen_base base.now) room))) }
     {
-        let mut standing = Standing::new(alloc, base.at, base.pending, room)?;
+        let mut standing = Standing::tight(alloc, base.at, base.pending, room)?;
         if !standing.put_idle(base.idle.as_slice()) || !standing.put_lent(base.lent.as_slice()) {
             return Ok(None);
         }
         standing.closed = base.closed;
         Ok(Some(standing))
+    }
+
+    // What stands where nothing is idle or lent, with no memory but for so many.
+    fn tight(alloc: A, at: Duration, pending: u32, room: Rooms) -> Result<Standing<A>, AllocError>
+    where
+        A: Copy,
+        ensures { IfOk result (λ made. made ≡ standing (empty_base (as_nanos at) pending) room) }
+    {
+        let idle = Idle::new(alloc, room.idle)?;
+        let lent = Roster::tight(alloc, room.lent)?;
+        Ok(Standing {
+            at,
+            idle,
+            lent,
+            pending,
+            closed: false,
+        })
     }
 
     // Puts idle ones in place, where their moments are in order.
