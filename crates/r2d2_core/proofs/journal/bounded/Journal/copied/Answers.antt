@@ -1,6 +1,5 @@
-use Rattle.std.proofs.Common.{◌≡◌, ◌∙◌, ap, map, Vec}
+use Rattle.std.proofs.Common.{◌≡◌, ◌∙◌, ap, map}
 use Rattle.std.proofs.lemmas.Result.{IfOk-weaker}
-use Rattle.r2d2_core.specs.declared.journal.record.Record.{Record}
 use Rattle.r2d2_core.specs.Journal.{SeenJournal}
 use Rattle.r2d2_core.specs.Records.{seen_record}
 use Rattle.r2d2_core.proofs.journal.bounded.Journal.copied.Goals as goal
