@@ -3,7 +3,7 @@
 use crate::books::seeded_report;
 use crate::same::are_same;
 use pool_reports::{from_json, to_json};
-use r2d2_core::{AwayList, Base, IdList, Limits, Record, RecordList, Report, RestingList};
+use r2d2_core::{LentConnections, Base, IdList, Limits, Record, RecordList, Report, IdleConnections};
 use std::alloc::Global;
 use std::test::Fail;
 use std::time::Duration;
@@ -46,8 +46,8 @@ fn greatest(alloc: Global) -> Result<Report, Fail> {
         limits,
         base: Base {
             at,
-            idle: RestingList::of(Vec::from_array(alloc, [(id, at, at), (0, at, at)])?),
-            lent: AwayList::of(Vec::from_array(alloc, [(id, at), (0, at)])?),
+            idle: IdleConnections::of(Vec::from_array(alloc, [(id, at, at), (0, at, at)])?),
+            lent: LentConnections::of(Vec::from_array(alloc, [(id, at), (0, at)])?),
             connections: ordered,
             pending: ordered,
             closed: true,

@@ -3,8 +3,8 @@
 use crate::replays::{Found, read};
 use crate::steps::{admit, begin, close, limits, number, put_back, reap, take, want};
 use r2d2_core::{
-    AwayList, Base, Book, Fault, IdList, LendingOrder, Limits, Record, RecordList, Report,
-    RestingList, Step,
+    LentConnections, Base, Book, Fault, IdList, LendingOrder, Limits, Record, RecordList, Report,
+    IdleConnections, Step,
 };
 use std::alloc::{AllocError, Allocator, Global};
 use std::test::Fail;
@@ -91,20 +91,20 @@ impl Countdown {
         }
     }
 
-    fn idle(&mut self, alloc: Global, idle: &RestingList) -> Result<RestingList, AllocError> {
+    fn idle(&mut self, alloc: Global, idle: &IdleConnections) -> Result<IdleConnections, AllocError> {
         let mut list = Vec::new(alloc);
         for (id, birth, since) in idle.as_slice() {
             list.push((self.id(*id), self.moment(*birth), self.moment(*since)))?;
         }
-        Ok(RestingList::of(list))
+        Ok(IdleConnections::of(list))
     }
 
-    fn lent(&mut self, alloc: Global, lent: &AwayList) -> Result<AwayList, AllocError> {
+    fn lent(&mut self, alloc: Global, lent: &LentConnections) -> Result<LentConnections, AllocError> {
         let mut list = Vec::new(alloc);
         for (id, birth) in lent.as_slice() {
             list.push((self.id(*id), self.moment(*birth)))?;
         }
-        Ok(AwayList::of(list))
+        Ok(LentConnections::of(list))
     }
 
     fn records(&mut self, alloc: Global, records: &[Record]) -> Result<RecordList, AllocError> {

@@ -4,7 +4,7 @@ use crate::VERSION;
 use crate::error::{FromJsonError, Place, Wanted};
 use found::{Found, Object};
 use r2d2_core::{
-    AwayList, Base, IdList, LendingOrder, Limits, Record, RecordList, Report, RestingList,
+    LentConnections, Base, IdList, LendingOrder, Limits, Record, RecordList, Report, IdleConnections,
 };
 use serde_json::Value;
 use std::alloc::Global;
@@ -144,12 +144,12 @@ fn read_base(alloc: Global, report: Object<'_>) -> Result<Base, FromJsonError> {
     })
 }
 
-fn read_resting(alloc: Global, items: &[Value]) -> Result<RestingList, FromJsonError> {
+fn read_resting(alloc: Global, items: &[Value]) -> Result<IdleConnections, FromJsonError> {
     let mut list = Vec::with_capacity(alloc, items.len())?;
     for (number, value) in items.iter().enumerate() {
         list.push(read_idle(Found::new(value, Place::item_of("base.idle", number)))?)?;
     }
-    Ok(RestingList::of(list))
+    Ok(IdleConnections::of(list))
 }
 
 // An idle connection: id, birth, and since when it is idle.
@@ -164,12 +164,12 @@ fn read_idle(found: Found<'_>) -> Result<(u64, Duration, Duration), FromJsonErro
     }
 }
 
-fn read_away(alloc: Global, items: &[Value]) -> Result<AwayList, FromJsonError> {
+fn read_away(alloc: Global, items: &[Value]) -> Result<LentConnections, FromJsonError> {
     let mut list = Vec::with_capacity(alloc, items.len())?;
     for (number, value) in items.iter().enumerate() {
         list.push(read_lent(Found::new(value, Place::item_of("base.lent", number)))?)?;
     }
-    Ok(AwayList::of(list))
+    Ok(LentConnections::of(list))
 }
 
 // A lent connection: id and birth.

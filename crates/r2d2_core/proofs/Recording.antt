@@ -3,7 +3,7 @@ pub mod Takes
 pub mod Returns
 pub mod Reaps
 pub mod Folding
-pub mod Standing
+pub mod RunningBase
 pub mod Replaying
 pub mod Moments
 pub mod Counting

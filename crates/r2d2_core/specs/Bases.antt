@@ -9,22 +9,22 @@ use Rattle.r2d2_core.specs.Ids.{copies_of}
 use Rattle.r2d2_core.specs.Connections.{SeenIdleConnection, SeenLentConnection, idle_connection, lent_connection, id_of_idle, id_of_lent, since_of}
 
 -- an idle connection without its payload
-abbrev pub Resting : Type 0
-Resting = SeenIdleConnection (Unit {0})
+abbrev pub BareConnection : Type 0
+BareConnection = SeenIdleConnection (Unit {0})
 
 -- an idle connection as a report has it: id, birth, and since when it is idle
-abbrev pub seen_resting : ℕ × Duration × Duration → Resting
-seen_resting c = idle_connection c.0 (as_nanos c.1) (as_nanos c.2) tt
+abbrev pub seen_bare : ℕ × Duration × Duration → BareConnection
+seen_bare c = idle_connection c.0 (as_nanos c.1) (as_nanos c.2) tt
 
 -- a lent one: id and birth
-abbrev pub seen_away : ℕ × Duration → SeenLentConnection
-seen_away c = lent_connection c.0 (as_nanos c.1)
+abbrev pub seen_lent : ℕ × Duration → SeenLentConnection
+seen_lent c = lent_connection c.0 (as_nanos c.1)
 
 pub record SeenBase : Type 0 where
   -- the moment up to which it tells
   pub at : ℕ
   -- the oldest first
-  pub idle : List Resting
+  pub idle : List BareConnection
   -- in the order of the takes
   pub lent : List SeenLentConnection
   pub connections : ℕ

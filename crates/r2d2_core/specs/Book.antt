@@ -4,7 +4,7 @@ use Rattle.r2d2_core.specs.Limits.{SeenLimits}
 use Rattle.r2d2_core.specs.Connections.{SeenIdleConnection, idle_connection}
 use Rattle.r2d2_core.specs.Picture.{Picture, IsSound}
 use Rattle.r2d2_core.specs.Records.{SeenRecord}
-use Rattle.r2d2_core.specs.Bases.{SeenBase, Resting, IsLegalBase}
+use Rattle.r2d2_core.specs.Bases.{SeenBase, BareConnection, IsLegalBase}
 use Rattle.r2d2_core.specs.Folding.{replay, AreLegalFrom}
 use Rattle.r2d2_core.specs.Journal.{SeenJournal}
 
@@ -17,7 +17,7 @@ abbrev pub seen_book : {T : Type 0} → Picture T → SeenJournal → SeenBook T
 seen_book picture journal = record { picture = picture; journal = journal }
 
 -- an idle connection without its payload
-abbrev pub bare : {T : Type 0} → SeenIdleConnection T → Resting
+abbrev pub bare : {T : Type 0} → SeenIdleConnection T → BareConnection
 bare c = idle_connection c.id c.birth c.since tt
 
 -- a base says what a picture shows

@@ -5,7 +5,7 @@ use Rattle.r2d2_core.specs.Ids.{found, without, copies_of}
 use Rattle.r2d2_core.specs.Lending.{lent_next}
 use Rattle.r2d2_core.specs.Connections.{SeenLentConnection, idle_connection, lent_connection, id_of_idle, id_of_lent, birth_in, is_expired, is_kept}
 use Rattle.r2d2_core.specs.Records.{SeenRecord, Taken, Ordered, Admitted, Kept, Closed, Reaped, ClosedAll}
-use Rattle.r2d2_core.specs.Bases.{SeenBase, Resting, ids_of}
+use Rattle.r2d2_core.specs.Bases.{SeenBase, BareConnection, ids_of}
 
 -- the moment of a record
 abbrev pub moment_in : SeenRecord → ℕ
@@ -18,15 +18,15 @@ moment_in (Reaped at n) = at
 moment_in (ClosedAll at) = at
 
 -- the birth of the idle one with the id, and of the lent one
-abbrev pub birth_at_rest : ℕ → List Resting → ℕ
-birth_at_rest id idle = unwrap_or (option_map (λ c. c.birth) (found id_of_idle id idle)) 0
+abbrev pub birth_of_idle : ℕ → List BareConnection → ℕ
+birth_of_idle id idle = unwrap_or (option_map (λ c. c.birth) (found id_of_idle id idle)) 0
 
-abbrev pub birth_away : ℕ → List SeenLentConnection → ℕ
-birth_away id lent = unwrap_or (birth_in id lent) 0
+abbrev pub birth_of_lent : ℕ → List SeenLentConnection → ℕ
+birth_of_lent id lent = unwrap_or (birth_in id lent) 0
 
 -- the idle ones that a reap at the moment keeps, and how many it closes
-abbrev pub still_resting : SeenLimits → ℕ → SeenBase → List Resting
-still_resting limits at b = filter (is_kept limits at) b.idle
+abbrev pub idle_after_reap : SeenLimits → ℕ → SeenBase → List BareConnection
+idle_after_reap limits at b = filter (is_kept limits at) b.idle
 
 abbrev pub expired_in : SeenLimits → ℕ → SeenBase → ℕ
 expired_in limits at b = length (filter (is_expired limits at) b.idle)
@@ -35,12 +35,12 @@ expired_in limits at b = length (filter (is_expired limits at) b.idle)
 
 -- the base with a record
 abbrev pub folded : SeenLimits → SeenRecord → SeenBase → SeenBase
-folded limits (Taken at id n) b = record b { at = at; idle = without id_of_idle id b.idle; lent = b.lent ++ lent_connection id (birth_at_rest id b.idle) ∷ []; pending = b.pending + n }
+folded limits (Taken at id n) b = record b { at = at; idle = without id_of_idle id b.idle; lent = b.lent ++ lent_connection id (birth_of_idle id b.idle) ∷ []; pending = b.pending + n }
 folded limits (Ordered at n) b = record b { at = at; pending = b.pending + n }
 folded limits (Admitted at id) b = record b { at = at; idle = b.idle ++ idle_connection id at at tt ∷ []; connections = b.connections + 1; pending = b.pending - 1 }
-folded limits (Kept at id) b = record b { at = at; idle = b.idle ++ idle_connection id (birth_away id b.lent) at tt ∷ []; lent = without id_of_lent id b.lent }
+folded limits (Kept at id) b = record b { at = at; idle = b.idle ++ idle_connection id (birth_of_lent id b.lent) at tt ∷ []; lent = without id_of_lent id b.lent }
 folded limits (Closed at id n) b = record b { at = at; lent = without id_of_lent id b.lent; connections = b.connections - 1; pending = b.pending + n }
-folded limits (Reaped at n) b = record b { at = at; idle = still_resting limits at b; connections = b.connections - expired_in limits at b; pending = b.pending + n }
+folded limits (Reaped at n) b = record b { at = at; idle = idle_after_reap limits at b; connections = b.connections - expired_in limits at b; pending = b.pending + n }
 folded limits (ClosedAll at) b = record b { at = at; idle = []; connections = b.connections - length b.idle; pending = 0; closed = true }
 
 -- the base with all of them
@@ -61,9 +61,9 @@ abbrev pub fits : SeenLimits → SeenRecord → SeenBase → Bool
 fits limits (Taken at id n) b = is_next limits id b && (n == top_up limits b.closed (length b.idle - 1) b.connections b.pending)
 fits limits (Ordered at n) b = (length b.idle == 0) && ((n == 1) && (not b.closed && nat_lt (b.connections + b.pending) limits.max_size))
 fits limits (Admitted at id) b = nat_lt 0 b.pending
-fits limits (Kept at id) b = is_some (birth_in id b.lent) && (not b.closed && not (has_reached limits.max_lifetime (at - birth_away id b.lent)))
+fits limits (Kept at id) b = is_some (birth_in id b.lent) && (not b.closed && not (has_reached limits.max_lifetime (at - birth_of_lent id b.lent)))
 fits limits (Closed at id n) b = is_some (birth_in id b.lent) && (n == top_up limits b.closed (length b.idle) (b.connections - 1) b.pending)
-fits limits (Reaped at n) b = (n == top_up limits b.closed (length (still_resting limits at b)) (b.connections - expired_in limits at b) b.pending) && (nat_lt 0 n || nat_lt 0 (expired_in limits at b))
+fits limits (Reaped at n) b = (n == top_up limits b.closed (length (idle_after_reap limits at b)) (b.connections - expired_in limits at b) b.pending) && (nat_lt 0 n || nat_lt 0 (expired_in limits at b))
 fits limits (ClosedAll at) b = not b.closed
 
 -- and moments never fall

@@ -8,14 +8,14 @@ use Rattle.r2d2_core.specs.Limits.{SeenLimits, seen_limits}
 use Rattle.r2d2_core.specs.Records.{SeenRecord, seen_record}
 use Rattle.r2d2_core.specs.Bases.{SeenBase, IsLegalBase, first_base}
 use Rattle.r2d2_core.specs.Folding.{AreLegalFrom, moment_in}
-use Rattle.r2d2_core.specs.Standing.{rooms}
+use Rattle.r2d2_core.specs.RunningBase.{rooms}
 use Rattle.r2d2_core.specs.Journal.{SeenJournal, CountsTakes, added, with_noted, one_more, takes_with}
 
 module _ {A : Type 0} where
   -- the base of what was folded; where nothing is, the moment up to which a machine tells, and nothing else
   abbrev pub base_before : SeenLimits → Before A → SeenBase
   base_before limits (before.Shown at) = first_base limits (as_nanos at)
-  base_before limits (before.Folded standing) = standing.base
+  base_before limits (before.Folded running_base) = running_base.base
 
   abbrev pub journal_in : Inside A → SeenJournal
   journal_in a = record {
@@ -31,7 +31,7 @@ module _ {A : Type 0} where
   -- records are folded where there is room for one; the base has room then for all that it may come to
   abbrev pub HasRoom : SeenLimits → ℕ → Before A → Type 0
   HasRoom limits room (before.Shown at) = room ≡ 0
-  HasRoom limits room (before.Folded standing) = (0 < room) × (standing.room ≡ rooms limits.max_size limits.max_size)
+  HasRoom limits room (before.Folded running_base) = (0 < room) × (running_base.room ≡ rooms limits.max_size limits.max_size)
 
   pub record IsKeptUp (a : Inside A) : Type 0 where
     pub within : length a.records.items ≤ a.records.capacity
@@ -42,7 +42,7 @@ module _ {A : Type 0} where
   -- what is before the records of a journal
   abbrev pub IsBefore : SeenJournal → Before A → Type 0
   IsBefore l (before.Shown at) = (l.room ≡ 0) × (l.base ≡ first_base l.limits (as_nanos at))
-  IsBefore l (before.Folded standing) = (0 < l.room) × (l.base ≡ standing.base)
+  IsBefore l (before.Folded running_base) = (0 < l.room) × (l.base ≡ running_base.base)
 
 -- a journal where the record may be noted
 pub record MayNote (made : Option SeenRecord) (l : SeenJournal) : Type 0 where

@@ -24,7 +24,7 @@ pub mod Reuse
 pub mod Records
 pub mod Bases
 pub mod Folding
-pub mod Standing
+pub mod RunningBase
 pub mod Recorded
 pub mod Journal
 pub mod JournalParts

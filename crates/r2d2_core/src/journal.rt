@@ -4,7 +4,7 @@ ghost use Rattle.std.specs.Duration.{as_nanos};
 
 use crate::machine::{Core, Gone, Leftover, Refusal, Released, Returned, Take};
 use crate::schedule::{Job, Limits};
-pub use base::{AwayList, Base, RestingList};
+pub use base::{LentConnections, Base, IdleConnections};
 use bounded::{Before, Journal};
 pub use faults::Fault;
 pub use record::Record;
@@ -19,7 +19,7 @@ pub mod faults;
 pub mod record;
 mod replaying;
 pub mod report;
-mod standing;
+mod running_base;
 
 /// A core that notes what each step did, in a journal of bounded room. Where there is no room for one more record, the oldest is
 /// folded into the journal's base, which tells what stood before the others.
@@ -188,7 +188,7 @@ impl<T, A: Allocator> Book<T, A> {
         let _max_size = self.machine.limits().max_size();
         match self.journal.before() {
             Before::Shown(at) => Base::shown(alloc, &self.machine, *at),
-            Before::Folded(standing) => standing.copied(alloc),
+            Before::Folded(running_base) => running_base.copied(alloc),
         }
     }
 }

@@ -28,7 +28,7 @@ pub mod run;
 pub mod schedule;
 pub mod steps;
 
-pub use journal::{AwayList, Base, Book, Fault, IdList, Record, RecordList, Report, RestingList};
+pub use journal::{LentConnections, Base, Book, Fault, IdList, Record, RecordList, Report, IdleConnections};
 pub use machine::{Core, Gone, Leftover, Refusal, Released, Returned, Take};
 pub use run::{Answer, Step};
 pub use schedule::{Job, LendingOrder, Limits, Schedule};

@@ -16,14 +16,14 @@ use Rattle.r2d2_core.specs.Limits.{SeenLimits}
 use Rattle.r2d2_core.specs.Ids.{copies_of, without}
 use Rattle.r2d2_core.specs.Connections.{SeenLentConnection, idle_connection, lent_connection, id_of_idle, id_of_lent, since_of, is_kept}
 use Rattle.r2d2_core.specs.Records.{seen_record, SeenRecord, Taken, Ordered, Admitted, Kept, Closed, Reaped, ClosedAll}
-use Rattle.r2d2_core.specs.Bases.{SeenBase, Resting, ids_of, IsLegalBase}
-use Rattle.r2d2_core.specs.Folding.{birth_at_rest, birth_away, folded, replay, may_follow, all_follow, admitted_by, admitted_in, known_in, AreLegalFrom}
+use Rattle.r2d2_core.specs.Bases.{SeenBase, BareConnection, ids_of, IsLegalBase}
+use Rattle.r2d2_core.specs.Folding.{birth_of_idle, birth_of_lent, folded, replay, may_follow, all_follow, admitted_by, admitted_in, known_in, AreLegalFrom}
 use Rattle.r2d2_core.specs.declared.journal.report.Report.{Report}
 use Rattle.r2d2_core.specs.Limits.{seen_limits}
-use Rattle.r2d2_core.specs.Standing.{SeenStanding, standing, rest_by, leave_by, rest_in, leave_in, rooms_for}
+use Rattle.r2d2_core.specs.RunningBase.{SeenRunningBase, running_base, made_idle_by, made_lent_by, made_idle_in, made_lent_in, rooms_for}
 use Rattle.r2d2_core.specs.Reports.{seen_base, told_in, DoesReplay}
 use Rattle.r2d2_core.specs.Auditing.{counts_fit, are_in_order, are_born, ShowsCounts}
-use Rattle.r2d2_core.specs.declared.journal.standing.Rooms.{Rooms}
+use Rattle.r2d2_core.specs.declared.journal.running_base.Rooms.{Rooms}
 use Rattle.r2d2_core.specs.declared.journal.replaying.Wrong.{Wrong}
 use Rattle.r2d2_core.specs.declared.journal.replaying.Wrong.TheVariants as wrong
 use Rattle.r2d2_core.specs.Faults.{IsWrong, IsFirstWrong, AreApartUpTo}
@@ -49,14 +49,14 @@ pub counts_of_legal : (limits : SeenLimits) (b : SeenBase) → IsLegalBase limit
 counts_of_legal limits b legal =
     both _ _ (eq-eqb b.connections _ legal.counted)
     (both _ _ (le_is _ _ legal.fits)
-    (is_or b.closed _ (λ c. both _ _ (eq-eqb (length b.idle) 0 (ap (λ (l : List Resting). length l) (legal.none_idle c))) (eq-eqb b.pending 0 (legal.none_pending c)))))
+    (is_or b.closed _ (λ c. both _ _ (eq-eqb (length b.idle) 0 (ap (λ (l : List BareConnection). length l) (legal.none_idle c))) (eq-eqb b.pending 0 (legal.none_pending c)))))
 
 -- MOMENTS
 
-tail_rises : (c : Resting) (cs : List Resting) → IsNonDecreasingBy since_of (c ∷ cs) → IsNonDecreasingBy since_of cs
+tail_rises : (c : BareConnection) (cs : List BareConnection) → IsNonDecreasingBy since_of (c ∷ cs) → IsNonDecreasingBy since_of cs
 tail_rises c cs h = λ i j d ij lt. h (suc i) (suc j) d (omega (arith, ij)) (omega (arith, lt))
 
-pub order_of_legal : (at last : ℕ) (cs : List Resting) → IsNonDecreasingBy since_of cs → ((d : Resting) → 0 < length cs → last ≤ since_of (get_or cs 0 d)) → All (λ c. c.since ≤ at) cs → All (λ c. c.birth ≤ c.since) cs → are_in_order at last cs ≡ true
+pub order_of_legal : (at last : ℕ) (cs : List BareConnection) → IsNonDecreasingBy since_of cs → ((d : BareConnection) → 0 < length cs → last ≤ since_of (get_or cs 0 d)) → All (λ c. c.since ≤ at) cs → All (λ c. c.birth ≤ c.since) cs → are_in_order at last cs ≡ true
 order_of_legal at last [] rises first seen born = refl
 order_of_legal at last (c ∷ cs) rises first seen born =
     both _ _ (both _ _ (le_is c.birth c.since (born 0 c (omega arith))) (both _ _ (le_is last c.since (first c (omega arith))) (le_is c.since at (seen 0 c (omega arith)))))
@@ -67,19 +67,19 @@ born_of_legal at [] born = refl
 born_of_legal at (l ∷ ls) born = both _ _ (le_is l.birth at (born 0 l (omega arith))) (born_of_legal at ls (λ k d lt. born (suc k) d (omega (arith, lt))))
 
 -- and back
-pub record AreOrdered (at last : ℕ) (cs : List Resting) : Type 0 where
+pub record AreOrdered (at last : ℕ) (cs : List BareConnection) : Type 0 where
   pub rises : IsNonDecreasingBy since_of cs
-  pub after : (k : ℕ) (d : Resting) → k < length cs → last ≤ since_of (get_or cs k d)
+  pub after : (k : ℕ) (d : BareConnection) → k < length cs → last ≤ since_of (get_or cs k d)
   pub seen : All (λ c. c.since ≤ at) cs
   pub born : All (λ c. c.birth ≤ c.since) cs
 
-rises_more : (c : Resting) (cs : List Resting) → ((k : ℕ) (d : Resting) → k < length cs → c.since ≤ since_of (get_or cs k d)) → IsNonDecreasingBy since_of cs → IsNonDecreasingBy since_of (c ∷ cs)
+rises_more : (c : BareConnection) (cs : List BareConnection) → ((k : ℕ) (d : BareConnection) → k < length cs → c.since ≤ since_of (get_or cs k d)) → IsNonDecreasingBy since_of cs → IsNonDecreasingBy since_of (c ∷ cs)
 rises_more c cs after rises zero zero d ij lt = omega arith
 rises_more c cs after rises zero (suc j) d ij lt = after j d (omega (arith, lt))
 rises_more c cs after rises (suc i) zero d ij lt = absurd (omega (arith, ij))
 rises_more c cs after rises (suc i) (suc j) d ij lt = rises i j d (omega (arith, ij)) (omega (arith, lt))
 
-after_more : (last : ℕ) (c : Resting) (cs : List Resting) → last ≤ c.since → ((k : ℕ) (d : Resting) → k < length cs → c.since ≤ since_of (get_or cs k d)) → (k : ℕ) (d : Resting) → k < suc (length cs) → last ≤ since_of (get_or (c ∷ cs) k d)
+after_more : (last : ℕ) (c : BareConnection) (cs : List BareConnection) → last ≤ c.since → ((k : ℕ) (d : BareConnection) → k < length cs → c.since ≤ since_of (get_or cs k d)) → (k : ℕ) (d : BareConnection) → k < suc (length cs) → last ≤ since_of (get_or (c ∷ cs) k d)
 after_more last c cs le after zero d lt = le
 after_more last c cs le after (suc k) d lt = omega (arith, le, after k d (omega (arith, lt)))
 
@@ -87,7 +87,7 @@ all_more : {X : Type 0} (P : X → Type 0) (x : X) (xs : List X) → P x → All
 all_more P x xs p all zero d lt = p
 all_more P x xs p all (suc k) d lt = all k d (omega (arith, lt))
 
-pub ordered_by : (at last : ℕ) (cs : List Resting) → are_in_order at last cs ≡ true → AreOrdered at last cs
+pub ordered_by : (at last : ℕ) (cs : List BareConnection) → are_in_order at last cs ≡ true → AreOrdered at last cs
 ordered_by at last [] e = record {
   rises = λ i j d ij lt. absurd (omega (arith, lt));
   after = λ k d lt. absurd (omega (arith, lt));
@@ -211,8 +211,8 @@ copies-permutation i xs ys h = IsPermutation-keeps xs (λ (l : List ℕ). copies
 pub record IsFollowing (limits : SeenLimits) (rs : List SeenRecord) (b : SeenBase) (k : ℕ) (now : SeenBase) (room : Rooms) : Type 0 where
   pub legal : IsLegalBase limits now
   pub apart : (i : ℕ) → copies_of i (known_in now (drop k rs)) ≤ 1
-  pub idle_room : length now.idle + rest_in (drop k rs) ≤ room.idle
-  pub lent_room : length now.lent + leave_in (drop k rs) ≤ room.lent
+  pub idle_room : length now.idle + made_idle_in (drop k rs) ≤ room.idle
+  pub lent_room : length now.lent + made_lent_in (drop k rs) ≤ room.lent
   pub may : all_follow limits (take k rs) b ≡ true
   pub folds : replay limits (take k rs) b ≡ now
 
@@ -233,17 +233,17 @@ fewer_kept p [] = omega arith
 fewer_kept p (x ∷ xs) = kept_step (p x) x xs (filter p xs) (fewer_kept p xs)
 
 -- so many are idle and lent with a record
-rested : (limits : SeenLimits) (r : SeenRecord) (b : SeenBase) → (let now = folded limits r b in length now.idle) ≤ length b.idle + rest_by r
+rested : (limits : SeenLimits) (r : SeenRecord) (b : SeenBase) → (let now = folded limits r b in length now.idle) ≤ length b.idle + made_idle_by r
 rested limits (Taken at id n) b = omega (arith, fewer_without id_of_idle id b.idle)
 rested limits (Ordered at n) b = omega arith
 rested limits (Admitted at id) b = omega (arith, length_push b.idle (idle_connection id at at tt))
-rested limits (Kept at id) b = omega (arith, length_push b.idle (idle_connection id (birth_away id b.lent) at tt))
+rested limits (Kept at id) b = omega (arith, length_push b.idle (idle_connection id (birth_of_lent id b.lent) at tt))
 rested limits (Closed at id n) b = omega arith
 rested limits (Reaped at n) b = omega (arith, fewer_kept (is_kept limits at) b.idle)
 rested limits (ClosedAll at) b = omega arith
 
-left : (limits : SeenLimits) (r : SeenRecord) (b : SeenBase) → (let now = folded limits r b in length now.lent) ≤ length b.lent + leave_by r
-left limits (Taken at id n) b = omega (arith, length_push b.lent (lent_connection id (birth_at_rest id b.idle)))
+left : (limits : SeenLimits) (r : SeenRecord) (b : SeenBase) → (let now = folded limits r b in length now.lent) ≤ length b.lent + made_lent_by r
+left limits (Taken at id n) b = omega (arith, length_push b.lent (lent_connection id (birth_of_idle id b.idle)))
 left limits (Ordered at n) b = omega arith
 left limits (Admitted at id) b = omega arith
 left limits (Kept at id) b = omega (arith, fewer_without id_of_lent id b.lent)
@@ -266,8 +266,8 @@ pub following_more : (limits : SeenLimits) (rs : List SeenRecord) (b : SeenBase)
 following_more limits rs b k now room r next front may h =
     let rest = drop (k + 1) rs in
     let apart : (i : ℕ) → copies_of i (known_in now (r ∷ rest)) ≤ 1 = λ i. subst (λ (l : List SeenRecord). copies_of i (known_in now l) ≤ 1) next (h.apart i) in
-    let idle_room : length now.idle + rest_in (r ∷ rest) ≤ room.idle = subst (λ (l : List SeenRecord). length now.idle + rest_in l ≤ room.idle) next h.idle_room in
-    let lent_room : length now.lent + leave_in (r ∷ rest) ≤ room.lent = subst (λ (l : List SeenRecord). length now.lent + leave_in l ≤ room.lent) next h.lent_room in
+    let idle_room : length now.idle + made_idle_in (r ∷ rest) ≤ room.idle = subst (λ (l : List SeenRecord). length now.idle + made_idle_in l ≤ room.idle) next h.idle_room in
+    let lent_room : length now.lent + made_lent_in (r ∷ rest) ≤ room.lent = subst (λ (l : List SeenRecord). length now.lent + made_lent_in l ≤ room.lent) next h.lent_room in
     record {
       legal = legal_folded limits r now h.legal may (λ i. omega (arith, apart i, known_first i now r rest));
       apart = λ i. omega (arith, apart i, known_folded limits r rest now h.legal.apart may i);
@@ -285,10 +285,10 @@ following_stop limits rs b k now room r front may h =
     ∙ (ap (λ c. c && may_follow limits r (replay limits (take k rs) b)) h.may ∙ (ap (may_follow limits r) h.folds ∙ may)))
 
 pub following_fits : (limits : SeenLimits) (rs : List SeenRecord) (b : SeenBase) (k : ℕ) (now : SeenBase) (room : Rooms) (r : SeenRecord) → drop k rs ≡ r ∷ drop (k + 1) rs → IsFollowing limits rs b k now room
-    → (length now.idle + rest_by r ≤ room.idle) × (length now.lent + leave_by r ≤ room.lent)
+    → (length now.idle + made_idle_by r ≤ room.idle) × (length now.lent + made_lent_by r ≤ room.lent)
 following_fits limits rs b k now room r next h =
-    let idle_room : length now.idle + rest_in (r ∷ drop (k + 1) rs) ≤ room.idle = subst (λ (l : List SeenRecord). length now.idle + rest_in l ≤ room.idle) next h.idle_room in
-    let lent_room : length now.lent + leave_in (r ∷ drop (k + 1) rs) ≤ room.lent = subst (λ (l : List SeenRecord). length now.lent + leave_in l ≤ room.lent) next h.lent_room in
+    let idle_room : length now.idle + made_idle_in (r ∷ drop (k + 1) rs) ≤ room.idle = subst (λ (l : List SeenRecord). length now.idle + made_idle_in l ≤ room.idle) next h.idle_room in
+    let lent_room : length now.lent + made_lent_in (r ∷ drop (k + 1) rs) ≤ room.lent = subst (λ (l : List SeenRecord). length now.lent + made_lent_in l ≤ room.lent) next h.lent_room in
     (omega (arith, idle_room), omega (arith, lent_room))
 
 pub following_end : (limits : SeenLimits) (rs : List SeenRecord) (b : SeenBase) (k : ℕ) (now : SeenBase) (room : Rooms) → length rs ≤ k → IsFollowing limits rs b k now room → replay limits rs b ≡ now
@@ -337,27 +337,27 @@ next_admitted seen (x ∷ xs) (suc k) d lt =
 pub admitted_next : {P : Type 0} (seen : P → SeenRecord) (xs : List P) (k : ℕ) (d : P) (ids : List ℕ) → k < length xs → admitted_by (seen (get_or xs k d)) ≡ ids → admitted_in (take (k + 1) (map seen xs)) ≡ admitted_in (take k (map seen xs)) ++ ids
 admitted_next seen xs k d ids lt e = ap (λ n. admitted_in (take n (map seen xs))) (add-one k) ∙ (next_admitted seen xs k d lt ∙ ap (λ l. admitted_in (take k (map seen xs)) ++ l) e)
 
-rest-push : (rs : List SeenRecord) (r : SeenRecord) → rest_in (rs ++ r ∷ []) ≡ rest_in rs + rest_by r
+rest-push : (rs : List SeenRecord) (r : SeenRecord) → made_idle_in (rs ++ r ∷ []) ≡ made_idle_in rs + made_idle_by r
 rest-push [] r = omega arith
 rest-push (s ∷ rs) r = omega (arith, rest-push rs r)
 
-leave-push : (rs : List SeenRecord) (r : SeenRecord) → leave_in (rs ++ r ∷ []) ≡ leave_in rs + leave_by r
+leave-push : (rs : List SeenRecord) (r : SeenRecord) → made_lent_in (rs ++ r ∷ []) ≡ made_lent_in rs + made_lent_by r
 leave-push [] r = omega arith
 leave-push (s ∷ rs) r = omega (arith, leave-push rs r)
 
 -- what comes with the next of some records
-pub rest_next : {P : Type 0} (seen : P → SeenRecord) (xs : List P) (k : ℕ) (d : P) → k < length xs → rest_in (take (k + 1) (map seen xs)) ≡ rest_in (take k (map seen xs)) + rest_by (seen (get_or xs k d))
-rest_next seen xs k d lt = ap (λ (l : List SeenRecord). rest_in l) (seen_taken seen xs k d lt) ∙ rest-push (take k (map seen xs)) (seen (get_or xs k d))
+pub rest_next : {P : Type 0} (seen : P → SeenRecord) (xs : List P) (k : ℕ) (d : P) → k < length xs → made_idle_in (take (k + 1) (map seen xs)) ≡ made_idle_in (take k (map seen xs)) + made_idle_by (seen (get_or xs k d))
+rest_next seen xs k d lt = ap (λ (l : List SeenRecord). made_idle_in l) (seen_taken seen xs k d lt) ∙ rest-push (take k (map seen xs)) (seen (get_or xs k d))
 
-pub leave_next : {P : Type 0} (seen : P → SeenRecord) (xs : List P) (k : ℕ) (d : P) → k < length xs → leave_in (take (k + 1) (map seen xs)) ≡ leave_in (take k (map seen xs)) + leave_by (seen (get_or xs k d))
-leave_next seen xs k d lt = ap (λ (l : List SeenRecord). leave_in l) (seen_taken seen xs k d lt) ∙ leave-push (take k (map seen xs)) (seen (get_or xs k d))
+pub leave_next : {P : Type 0} (seen : P → SeenRecord) (xs : List P) (k : ℕ) (d : P) → k < length xs → made_lent_in (take (k + 1) (map seen xs)) ≡ made_lent_in (take k (map seen xs)) + made_lent_by (seen (get_or xs k d))
+leave_next seen xs k d lt = ap (λ (l : List SeenRecord). made_lent_in l) (seen_taken seen xs k d lt) ∙ leave-push (take k (map seen xs)) (seen (get_or xs k d))
 
 -- idle ones in order, one by one
-pub order_more : (at last k : ℕ) (cs : List Resting) (c : Resting) (whole : Bool) → drop k cs ≡ c ∷ drop (k + 1) cs → (nat_le c.birth c.since && (nat_le last c.since && nat_le c.since at)) ≡ true
+pub order_more : (at last k : ℕ) (cs : List BareConnection) (c : BareConnection) (whole : Bool) → drop k cs ≡ c ∷ drop (k + 1) cs → (nat_le c.birth c.since && (nat_le last c.since && nat_le c.since at)) ≡ true
     → whole ≡ are_in_order at last (drop k cs) → whole ≡ are_in_order at c.since (drop (k + 1) cs)
 order_more at last k cs c whole next fits e = e ∙ (ap (are_in_order at last) next ∙ ap (λ b. b && are_in_order at c.since (drop (k + 1) cs)) fits)
 
-pub order_stops : (at last k : ℕ) (cs : List Resting) (c : Resting) (whole : Bool) → drop k cs ≡ c ∷ drop (k + 1) cs → (nat_le c.birth c.since && (nat_le last c.since && nat_le c.since at)) ≡ false
+pub order_stops : (at last k : ℕ) (cs : List BareConnection) (c : BareConnection) (whole : Bool) → drop k cs ≡ c ∷ drop (k + 1) cs → (nat_le c.birth c.since && (nat_le last c.since && nat_le c.since at)) ≡ false
     → whole ≡ are_in_order at last (drop k cs) → false ≡ whole
 order_stops at last k cs c whole next fits e = sym (e ∙ (ap (are_in_order at last) next ∙ ap (λ b. b && are_in_order at c.since (drop (k + 1) cs)) fits))
 
@@ -377,24 +377,24 @@ apart_in xs ys h up i = omega (arith, copies-permutation i xs ys h, apart_rising
 -- THE AUDIT
 
 -- a base is put in place where its moments are in order, and there alone
-abbrev pub IsPut : SeenBase → Rooms → Option SeenStanding → Type 0
-IsPut b room made = MatchOption made ((are_in_order b.at 0 b.idle && are_born b.at b.lent) ≡ false) (λ there. ((are_in_order b.at 0 b.idle && are_born b.at b.lent) ≡ true) × (there ≡ standing b room))
+abbrev pub IsPut : SeenBase → Rooms → Option SeenRunningBase → Type 0
+IsPut b room made = MatchOption made ((are_in_order b.at 0 b.idle && are_born b.at b.lent) ≡ false) (λ there. ((are_in_order b.at 0 b.idle && are_born b.at b.lent) ≡ true) × (there ≡ running_base b room))
 
 -- it is put where it is legal, and there alone
-abbrev pub IsStart : SeenLimits → SeenBase → Rooms → Option SeenStanding → Type 0
-IsStart limits b room made = MatchOption made (IsLegalBase limits b → ⊥) (λ there. IsLegalBase limits b × (there ≡ standing b room))
+abbrev pub IsStart : SeenLimits → SeenBase → Rooms → Option SeenRunningBase → Type 0
+IsStart limits b room made = MatchOption made (IsLegalBase limits b → ⊥) (λ there. IsLegalBase limits b × (there ≡ running_base b room))
 
-pub starts : (limits : SeenLimits) (b : SeenBase) (room : Rooms) (made : Option SeenStanding) → counts_fit limits b ≡ true → ((i : ℕ) → copies_of i (ids_of b) ≤ 1) → IsPut b room made → IsStart limits b room made
+pub starts : (limits : SeenLimits) (b : SeenBase) (room : Rooms) (made : Option SeenRunningBase) → counts_fit limits b ≡ true → ((i : ℕ) → copies_of i (ids_of b) ≤ 1) → IsPut b room made → IsStart limits b room made
 starts limits b room None counts apart none = λ legal. cc (none, order_in limits b legal)
 starts limits b room (Some there) counts apart put = (legal_by limits b counts apart put.0, put.1)
 
 pub no_start : (limits : SeenLimits) (b : SeenBase) → counts_fit limits b ≡ false → IsLegalBase limits b → ⊥
 no_start limits b wrong legal = cc (wrong, counts_of_legal limits b legal)
 
-pub start_there : (limits : SeenLimits) (b : SeenBase) (room : Rooms) (made : Option SeenStanding) (s : SeenStanding) → made ≡ Some s → IsStart limits b room made → IsLegalBase limits b × (s ≡ standing b room)
+pub start_there : (limits : SeenLimits) (b : SeenBase) (room : Rooms) (made : Option SeenRunningBase) (s : SeenRunningBase) → made ≡ Some s → IsStart limits b room made → IsLegalBase limits b × (s ≡ running_base b room)
 start_there limits b room made s is h = subst (IsStart limits b room) is h
 
-pub start_none : (limits : SeenLimits) (b : SeenBase) (room : Rooms) (made : Option SeenStanding) → made ≡ None → IsStart limits b room made → IsLegalBase limits b → ⊥
+pub start_none : (limits : SeenLimits) (b : SeenBase) (room : Rooms) (made : Option SeenRunningBase) → made ≡ None → IsStart limits b room made → IsLegalBase limits b → ⊥
 start_none limits b room made is h = subst (IsStart limits b room) is h
 
 -- the ids of a base are apart where those that are known are

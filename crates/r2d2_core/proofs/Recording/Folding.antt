@@ -15,8 +15,8 @@ use Rattle.r2d2_core.specs.Ids.{found, without, copies_of}
 use Rattle.r2d2_core.specs.Lending.{lent_next, still_idle}
 use Rattle.r2d2_core.specs.Connections.{SeenLentConnection, idle_connection, lent_connection, birth_in, id_of_idle, id_of_lent, since_of, is_expired, is_kept}
 use Rattle.r2d2_core.specs.Records.{SeenRecord, Taken, Ordered, Admitted, Kept, Closed, Reaped, ClosedAll}
-use Rattle.r2d2_core.specs.Bases.{SeenBase, Resting, ids_of, IsLegalBase}
-use Rattle.r2d2_core.specs.Folding.{moment_in, birth_at_rest, birth_away, still_resting, expired_in, folded, replay, is_next, fits, may_follow, all_follow, admitted_by, admitted_in, known_in, AreLegalFrom}
+use Rattle.r2d2_core.specs.Bases.{SeenBase, BareConnection, ids_of, IsLegalBase}
+use Rattle.r2d2_core.specs.Folding.{moment_in, birth_of_idle, birth_of_lent, idle_after_reap, expired_in, folded, replay, is_next, fits, may_follow, all_follow, admitted_by, admitted_in, known_in, AreLegalFrom}
 use Rattle.r2d2_core.proofs.Lists.Filters.{copies_of-filter}
 use Rattle.r2d2_core.proofs.Lists.Ids.{copies_of-append, copies_of-push, copies_of-without, length-without, All-without, All-found, All-push, All-weaker}
 use Rattle.r2d2_core.proofs.Lists.Lending.{found-next, without-next, IsNonDecreasingBy-still_idle}
@@ -53,11 +53,11 @@ ordered_fits false n wanted size idle connections pending le e = omega (arith, l
 -- THE ONE THAT A RECORD NAMES
 
 pub record NextIs (limits : SeenLimits) (id : ℕ) (b : SeenBase) : Type 0 where
-  pub c : Resting
+  pub c : BareConnection
   pub next : lent_next limits.order b.idle ≡ Some c
   pub same : c.id ≡ id
 
-next_by : (limits : SeenLimits) (id : ℕ) (b : SeenBase) (o : Option Resting) → lent_next limits.order b.idle ≡ o → unwrap_or (option_map (λ c. c.id == id) o) false ≡ true → NextIs limits id b
+next_by : (limits : SeenLimits) (id : ℕ) (b : SeenBase) (o : Option BareConnection) → lent_next limits.order b.idle ≡ o → unwrap_or (option_map (λ c. c.id == id) o) false ≡ true → NextIs limits id b
 next_by limits id b None e is = absurd cc
 next_by limits id b (Some c) e is = record { c = c; next = e; same = eqb-true c.id id is }
 
@@ -66,7 +66,7 @@ next_is limits id b is = next_by limits id b (lent_next limits.order b.idle) ref
 
 -- it is the one with the id
 pub record StandsNext (limits : SeenLimits) (id : ℕ) (b : SeenBase) : Type 0 where
-  pub c : Resting
+  pub c : BareConnection
   pub there : found id_of_idle id b.idle ≡ Some c
   pub others : without id_of_idle id b.idle ≡ still_idle limits.order b.idle
 
@@ -102,7 +102,7 @@ lent_apart b apart i = omega (arith, apart i, copies_of-append i (map id_of_idle
 pub ids_folded : (limits : SeenLimits) (r : SeenRecord) (b : SeenBase) → ((i : ℕ) → copies_of i (ids_of b) ≤ 1) → fits limits r b ≡ true → (i : ℕ)
     → copies_of i (ids_of (folded limits r b)) ≤ copies_of i (ids_of b) + copies_of i (admitted_by r)
 ids_folded limits (Taken at id n) b apart fit i =
-    let l = lent_connection id (birth_at_rest id b.idle) in
+    let l = lent_connection id (birth_of_idle id b.idle) in
     let s = stands_next limits id b (idle_apart b apart) ((split _ _ fit).0) in
     omega (
       arith,
@@ -120,7 +120,7 @@ ids_folded limits (Admitted at id) b apart fit i =
       copies_of-push id_of_idle i b.idle (idle_connection id at at tt),
     )
 ids_folded limits (Kept at id) b apart fit i =
-    let c = idle_connection id (birth_away id b.lent) at tt in
+    let c = idle_connection id (birth_of_lent id b.lent) at tt in
     let s = is_there id b ((split _ _ fit).0) in
     omega (
       arith,
@@ -141,7 +141,7 @@ ids_folded limits (Reaped at n) b apart fit i =
     omega (
       arith,
       copies_of-append i (map id_of_idle b.idle) (map id_of_lent b.lent),
-      copies_of-append i (map id_of_idle (still_resting limits at b)) (map id_of_lent b.lent),
+      copies_of-append i (map id_of_idle (idle_after_reap limits at b)) (map id_of_lent b.lent),
       copies_of-filter (is_kept limits at) id_of_idle i b.idle,
     )
 ids_folded limits (ClosedAll at) b apart fit i = omega (arith, copies_of-append i (map id_of_idle b.idle) (map id_of_lent b.lent))
@@ -157,7 +157,7 @@ module _ (limits : SeenLimits) (b : SeenBase) (legal : IsLegalBase limits b) whe
   born_at at later = All-weaker (λ l. l.birth ≤ b.at) (λ l. l.birth ≤ at) b.lent (λ l le. omega (arith, le, later)) legal.born_lent
 
   -- one more is idle since the latest moment
-  sorted_more : (c : Resting) → b.at ≤ c.since → IsNonDecreasingBy since_of (b.idle ++ c ∷ [])
+  sorted_more : (c : BareConnection) → b.at ≤ c.since → IsNonDecreasingBy since_of (b.idle ++ c ∷ [])
   sorted_more c later =
       IsNonDecreasingBy-push since_of b.idle c legal.is_sorted
       (λ d some. omega (arith, legal.seen (length b.idle - 1) d (omega (arith, some)), later))
@@ -166,11 +166,11 @@ module _ (limits : SeenLimits) (b : SeenBase) (legal : IsLegalBase limits b) whe
   legal_taken at id n later fit apart =
       let f = split _ _ fit in
       let s = stands_next limits id b (idle_apart b legal.apart) f.0 in
-      let l = lent_connection id (birth_at_rest id b.idle) in
+      let l = lent_connection id (birth_of_idle id b.idle) in
       let is : n ≡ top_up limits b.closed (length b.idle - 1) b.connections b.pending = eqb-true n _ f.1 in
       let since : s.c.since ≤ b.at = All-found (λ c. c.since ≤ b.at) id_of_idle id b.idle s.c legal.seen s.there in
       let birth : s.c.birth ≤ s.c.since = All-found (λ c. c.birth ≤ c.since) id_of_idle id b.idle s.c legal.born s.there in
-      let born : birth_at_rest id b.idle ≡ s.c.birth = ap (λ o. unwrap_or (option_map (λ (c : Resting). c.birth) o) 0) s.there in
+      let born : birth_of_idle id b.idle ≡ s.c.birth = ap (λ o. unwrap_or (option_map (λ (c : BareConnection). c.birth) o) 0) s.there in
       record {
         apart = apart;
         counted = omega (arith, legal.counted, length-without id_of_idle id b.idle s.c s.there, length_push b.lent l);
@@ -222,9 +222,9 @@ module _ (limits : SeenLimits) (b : SeenBase) (legal : IsLegalBase limits b) whe
       let f = split _ _ fit in
       let g = split _ _ f.1 in
       let s = is_there id b f.0 in
-      let c = idle_connection id (birth_away id b.lent) at tt in
+      let c = idle_connection id (birth_of_lent id b.lent) at tt in
       let birth : s.l.birth ≤ b.at = All-found (λ l. l.birth ≤ b.at) id_of_lent id b.lent s.l legal.born_lent s.there in
-      let born : birth_away id b.lent ≡ s.l.birth = ap (λ o. unwrap_or (option_map (λ (c : SeenLentConnection). c.birth) o) 0) s.there in
+      let born : birth_of_lent id b.lent ≡ s.l.birth = ap (λ o. unwrap_or (option_map (λ (c : SeenLentConnection). c.birth) o) 0) s.there in
       record {
         apart = apart;
         counted = omega (arith, legal.counted, length-without id_of_lent id b.lent s.l s.there, length_push b.idle c);
@@ -258,11 +258,11 @@ module _ (limits : SeenLimits) (b : SeenBase) (legal : IsLegalBase limits b) whe
   unfolding is_kept is_expired
   legal_reaped at n later fit apart =
       let f = split _ _ fit in
-      let is : n ≡ top_up limits b.closed (length (still_resting limits at b)) (b.connections - expired_in limits at b) b.pending = eqb-true n _ f.0 in
+      let is : n ≡ top_up limits b.closed (length (idle_after_reap limits at b)) (b.connections - expired_in limits at b) b.pending = eqb-true n _ f.0 in
       record {
         apart = apart;
         counted = omega (arith, legal.counted, length-filter_both (is_expired limits at) (is_kept limits at) (λ c. refl) b.idle);
-        fits = ordered_fits b.closed n (wanted_of limits) limits.max_size (length (still_resting limits at b)) (b.connections - expired_in limits at b) b.pending (omega (arith, legal.fits)) is;
+        fits = ordered_fits b.closed n (wanted_of limits) limits.max_size (length (idle_after_reap limits at b)) (b.connections - expired_in limits at b) b.pending (omega (arith, legal.fits)) is;
         is_sorted = IsNonDecreasingBy-filter since_of (is_kept limits at) b.idle legal.is_sorted;
         seen = All-filter (is_kept limits at) (λ c. c.since ≤ at) b.idle (seen_at at later);
         born = All-filter (is_kept limits at) (λ c. c.birth ≤ c.since) b.idle legal.born;

@@ -10,12 +10,12 @@ use Rattle.r2d2_core.specs.Records.{SeenRecord, Taken, Ordered, Admitted, Kept, 
 use Rattle.r2d2_core.specs.Bases.{SeenBase, IsLegalBase}
 use Rattle.r2d2_core.specs.Connections.{SeenLentConnection, birth_in}
 use Rattle.r2d2_core.specs.Folding.{is_next, folded, may_follow, all_follow, AreLegalFrom}
-use Rattle.r2d2_core.specs.Standing.{rest_by, leave_by}
+use Rattle.r2d2_core.specs.RunningBase.{made_idle_by, made_lent_by}
 use Rattle.r2d2_core.specs.Journal.{SeenJournal, one_more, takes_with, with_oldest, with_record}
 use Rattle.r2d2_core.proofs.Recording.Folding.{split, is_lt, next_is}
 use Rattle.r2d2_core.proofs.Lists.Lending.{length-still_idle}
 
--- what is away is one of the lent ones, and what is next one of the idle ones
+-- what is lent is one of the lent ones, and what is next one of the idle ones
 away_some : (id : ℕ) (lent : List SeenLentConnection) → is_some (birth_in id lent) ≡ true → 0 < length lent
 away_some id [] is = absurd cc
 away_some id (l ∷ ls) is = omega arith
@@ -24,7 +24,7 @@ next_some : (limits : SeenLimits) (id : ℕ) (b : SeenBase) → is_next limits i
 next_some limits id b is = let n = next_is limits id b is in omega (arith, length-still_idle limits.order b.idle n.c n.next)
 
 -- a base with room for `max_size`, idle and lent, has room for what a record brings
-rest_room : (limits : SeenLimits) (r : SeenRecord) (b : SeenBase) → IsLegalBase limits b → may_follow limits r b ≡ true → length b.idle + rest_by r ≤ limits.max_size
+rest_room : (limits : SeenLimits) (r : SeenRecord) (b : SeenBase) → IsLegalBase limits b → may_follow limits r b ≡ true → length b.idle + made_idle_by r ≤ limits.max_size
 rest_room limits (Taken at id n) b legal may = omega (arith, legal.counted, legal.fits)
 rest_room limits (Ordered at n) b legal may = omega (arith, legal.counted, legal.fits)
 rest_room limits (Admitted at id) b legal may = let some : 0 < b.pending = is_lt 0 b.pending ((split _ _ may).1) in omega (arith, legal.counted, legal.fits, some)
@@ -33,7 +33,7 @@ rest_room limits (Closed at id n) b legal may = omega (arith, legal.counted, leg
 rest_room limits (Reaped at n) b legal may = omega (arith, legal.counted, legal.fits)
 rest_room limits (ClosedAll at) b legal may = omega (arith, legal.counted, legal.fits)
 
-leave_room : (limits : SeenLimits) (r : SeenRecord) (b : SeenBase) → IsLegalBase limits b → may_follow limits r b ≡ true → length b.lent + leave_by r ≤ limits.max_size
+leave_room : (limits : SeenLimits) (r : SeenRecord) (b : SeenBase) → IsLegalBase limits b → may_follow limits r b ≡ true → length b.lent + made_lent_by r ≤ limits.max_size
 leave_room limits (Taken at id n) b legal may = let some = next_some limits id b ((split _ _ ((split _ _ may).1)).0) in omega (arith, legal.counted, legal.fits, some)
 leave_room limits (Ordered at n) b legal may = omega (arith, legal.counted, legal.fits)
 leave_room limits (Admitted at id) b legal may = omega (arith, legal.counted, legal.fits)
@@ -47,8 +47,8 @@ pub record GivesUp (limits : SeenLimits) (b : SeenBase) (items : List Record) (m
   pub full : nat_lt (length items) capacity ≡ false
   pub may : may_follow limits (seen_record oldest) b ≡ true
   pub base : folded limits (seen_record oldest) b ≡ with_oldest limits (map seen_record items ++ seen_record made ∷ []) b
-  pub idle_room : length b.idle + rest_by (seen_record oldest) ≤ limits.max_size
-  pub lent_room : length b.lent + leave_by (seen_record oldest) ≤ limits.max_size
+  pub idle_room : length b.idle + made_idle_by (seen_record oldest) ≤ limits.max_size
+  pub lent_room : length b.lent + made_lent_by (seen_record oldest) ≤ limits.max_size
 
 first_may : (limits : SeenLimits) (b : SeenBase) (items : List Record) (made oldest : Record) → all_follow limits (map seen_record items ++ seen_record made ∷ []) b ≡ true → slice_get (items ++ made ∷ []) 0 ≡ Some oldest
     → (may_follow limits (seen_record oldest) b ≡ true) × (folded limits (seen_record oldest) b ≡ with_oldest limits (map seen_record items ++ seen_record made ∷ []) b)

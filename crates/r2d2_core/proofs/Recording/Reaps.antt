@@ -11,7 +11,7 @@ use Rattle.r2d2_core.specs.Picture.{Picture, IsSound}
 use Rattle.r2d2_core.specs.Table.{top_up_of, topped_up, swept, after_close}
 use Rattle.r2d2_core.specs.Records.{SeenRecord, Reaped, ClosedAll}
 use Rattle.r2d2_core.specs.Recorded.{record_of_reap, record_of_close}
-use Rattle.r2d2_core.specs.Bases.{SeenBase, Resting}
+use Rattle.r2d2_core.specs.Bases.{SeenBase, BareConnection}
 use Rattle.r2d2_core.specs.Journal.{added}
 use Rattle.r2d2_core.specs.Book.{bare}
 use Rattle.r2d2_core.specs.BookParts.{KeepReplaying}
@@ -55,7 +55,7 @@ orders_same : (closed : Bool) (n m wanted size c d pending : ℕ) → n ≡ m �
 orders_same closed n m wanted size c d pending e f = eq-eqb _ _ (ap (λ k. cond closed 0 (min (wanted - k) (size - d - pending))) (sym e) ∙ ap (λ k. cond closed 0 (min (wanted - n) (size - k - pending))) (sym f))
 
 module _ {T : Type 0} where
-  filter_bare : (p : Resting → Bool) (xs : List (SeenIdleConnection T)) → filter p (map bare xs) ≡ map bare (filter (λ c. p (bare c)) xs)
+  filter_bare : (p : BareConnection → Bool) (xs : List (SeenIdleConnection T)) → filter p (map bare xs) ≡ map bare (filter (λ c. p (bare c)) xs)
   filter_bare p [] = refl
   filter_bare p (x ∷ xs) = ap (λ l. cond (p (bare x)) (bare x ∷ l) l) (filter_bare p xs) ∙ sym (map_cond bare (p (bare x)) x (filter (λ c. p (bare c)) xs))
 

@@ -7,7 +7,7 @@ use Rattle.r2d2_core.specs.Ids.{copies_of}
 use Rattle.r2d2_core.specs.Connections.{SeenIdleConnection, SeenLentConnection, id_of_idle, id_of_lent}
 use Rattle.r2d2_core.specs.Picture.{Picture, IsSound}
 use Rattle.r2d2_core.specs.Records.{SeenRecord, Taken, Ordered, Admitted, Kept, Closed, Reaped, ClosedAll}
-use Rattle.r2d2_core.specs.Bases.{SeenBase, Resting}
+use Rattle.r2d2_core.specs.Bases.{SeenBase, BareConnection}
 use Rattle.r2d2_core.specs.Folding.{moment_in, folded, replay, fits, may_follow, all_follow, admitted_by, known_in}
 use Rattle.r2d2_core.specs.Book.{ComesTo, bare}
 use Rattle.r2d2_core.specs.BookParts.{KeepReplaying, shown_at}
@@ -43,7 +43,7 @@ module _ {T : Type 0} where
   idle_apart p sound i =
       omega (arith, ap (copies_of i) (ids_bare p.idle), sound.steady.apart i, copies_of-append3 i (map id_of_idle p.idle) (map id_of_lent p.lent) p.on_order.numbered)
 
-  shown_by : (at : ℕ) (i : List Resting) (l : List SeenLentConnection) (n m : ℕ) (c : Bool) (p : Picture T) → i ≡ map bare p.idle → l ≡ p.lent → n ≡ p.connections → m ≡ p.on_order.pending → c ≡ p.on_order.closed
+  shown_by : (at : ℕ) (i : List BareConnection) (l : List SeenLentConnection) (n m : ℕ) (c : Bool) (p : Picture T) → i ≡ map bare p.idle → l ≡ p.lent → n ≡ p.connections → m ≡ p.on_order.pending → c ≡ p.on_order.closed
       → ◌≡◌ {A = SeenBase} (record { at = at; idle = i; lent = l; connections = n; pending = m; closed = c }) (shown_at at p)
   shown_by at i l n m c p e1 e2 e3 e4 e5 = rw (e1, e2, e3, e4, e5) refl
 

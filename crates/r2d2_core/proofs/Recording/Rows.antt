@@ -34,15 +34,15 @@ legal limits rs = all_follow limits rs (first_base limits 0)
 abbrev replay : SeenLimits → List SeenRecord → SeenBase
 replay limits rs = replay_from limits rs (first_base limits 0)
 
-abbrev standing : ℕ → ℕ → ℕ → Bool → SeenBase
-standing at connections pending closed = record { at = at; idle = []; lent = []; connections = connections; pending = pending; closed = closed }
+abbrev running_base : ℕ → ℕ → ℕ → Bool → SeenBase
+running_base at connections pending closed = record { at = at; idle = []; lent = []; connections = connections; pending = pending; closed = closed }
 
 -- ONE CONNECTION, taken and kept
 
 abbrev one_kept : List SeenRecord
 one_kept = Admitted (ms 1) 0 ∷ Taken (ms 2) 0 0 ∷ Kept (ms 3) 0 ∷ []
 
-one_kept-replays : replay small one_kept ≡ record (standing (ms 3) 1 0 false) { idle = idle_connection 0 (ms 1) (ms 3) tt ∷ [] }
+one_kept-replays : replay small one_kept ≡ record (running_base (ms 3) 1 0 false) { idle = idle_connection 0 (ms 1) (ms 3) tt ∷ [] }
 unfolding is_expired is_kept
 one_kept-replays = refl
 
@@ -50,7 +50,7 @@ one_kept-legal : legal small one_kept ≡ true
 unfolding is_expired is_kept
 one_kept-legal = refl
 
-one_lent-replays : replay small (Admitted (ms 1) 0 ∷ Taken (ms 2) 0 0 ∷ []) ≡ record (standing (ms 2) 1 0 false) { lent = lent_connection 0 (ms 1) ∷ [] }
+one_lent-replays : replay small (Admitted (ms 1) 0 ∷ Taken (ms 2) 0 0 ∷ []) ≡ record (running_base (ms 2) 1 0 false) { lent = lent_connection 0 (ms 1) ∷ [] }
 unfolding is_expired is_kept
 one_lent-replays = refl
 
@@ -62,11 +62,11 @@ idling = limited 2 None None (Some (seconds 1))
 abbrev two_reaped : List SeenRecord
 two_reaped = Admitted 0 0 ∷ Admitted 0 1 ∷ Reaped (ms 1000) 2 ∷ []
 
-two_reaped-replays : replay idling two_reaped ≡ standing (ms 1000) 0 2 false
+two_reaped-replays : replay idling two_reaped ≡ running_base (ms 1000) 0 2 false
 unfolding is_expired is_kept
 two_reaped-replays = refl
 
-two_closed-replays : folded idling (ClosedAll (ms 1001)) (replay idling two_reaped) ≡ standing (ms 1001) 0 0 true
+two_closed-replays : folded idling (ClosedAll (ms 1001)) (replay idling two_reaped) ≡ running_base (ms 1001) 0 0 true
 unfolding is_expired is_kept
 two_closed-replays = refl
 
@@ -76,17 +76,17 @@ two_closed-legal = refl
 
 -- a reap closes those that came first and leaves the others; here it finds one of two
 one_reaped-replays : replay idling (Admitted 0 0 ∷ Admitted 0 1 ∷ Taken (ms 400) 1 0 ∷ Kept (ms 500) 1 ∷ Reaped (ms 1000) 1 ∷ [])
-    ≡ record (standing (ms 1000) 1 1 false) { idle = idle_connection 1 0 (ms 500) tt ∷ [] }
+    ≡ record (running_base (ms 1000) 1 1 false) { idle = idle_connection 1 0 (ms 500) tt ∷ [] }
 unfolding is_expired is_kept
 one_reaped-replays = refl
 
 -- after a base: one is lent from before, and comes back
-after_base-replays : replay_from pair (Kept (ms 7) 4 ∷ []) (record (standing (ms 5) 1 1 false) { lent = lent_connection 4 (ms 2) ∷ [] }) ≡ record (standing (ms 7) 1 1 false) { idle = idle_connection 4 (ms 2) (ms 7) tt ∷ [] }
+after_base-replays : replay_from pair (Kept (ms 7) 4 ∷ []) (record (running_base (ms 5) 1 1 false) { lent = lent_connection 4 (ms 2) ∷ [] }) ≡ record (running_base (ms 7) 1 1 false) { idle = idle_connection 4 (ms 2) (ms 7) tt ∷ [] }
 unfolding is_expired is_kept
 after_base-replays = refl
 
 -- the oldest record of three is folded in, and the other two go on from there
-one_folded : folded small (Admitted (ms 1) 0) (first_base small 0) ≡ record (standing (ms 1) 1 0 false) { idle = idle_connection 0 (ms 1) (ms 1) tt ∷ [] }
+one_folded : folded small (Admitted (ms 1) 0) (first_base small 0) ≡ record (running_base (ms 1) 1 0 false) { idle = idle_connection 0 (ms 1) (ms 1) tt ∷ [] }
 unfolding is_expired is_kept
 one_folded = refl
 
@@ -150,7 +150,7 @@ orders_one = refl
 admits_twice : copies_of 0 (known_in (first_base pair 0) (Admitted 0 0 ∷ Admitted 5 0 ∷ [])) ≡ 2
 admits_twice = refl
 
-admits_one_of_the_base : copies_of 4 (known_in (record (standing 0 1 1 false) { lent = lent_connection 4 0 ∷ [] }) (Admitted 5 4 ∷ [])) ≡ 2
+admits_one_of_the_base : copies_of 4 (known_in (record (running_base 0 1 1 false) { lent = lent_connection 4 0 ∷ [] }) (Admitted 5 4 ∷ [])) ≡ 2
 admits_one_of_the_base = refl
 
 admits_unordered : legal small (Admitted 0 0 ∷ Admitted 5 1 ∷ []) ≡ false

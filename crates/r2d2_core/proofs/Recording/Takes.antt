@@ -14,8 +14,8 @@ use Rattle.r2d2_core.specs.Table.{raised_to, ordered, top_up_of, topped_up, miss
 use Rattle.r2d2_core.specs.Seen.{take_with}
 use Rattle.r2d2_core.specs.Records.{SeenRecord, Taken, Ordered, Admitted}
 use Rattle.r2d2_core.specs.Recorded.{record_of_take}
-use Rattle.r2d2_core.specs.Bases.{SeenBase, Resting}
-use Rattle.r2d2_core.specs.Folding.{birth_at_rest}
+use Rattle.r2d2_core.specs.Bases.{SeenBase, BareConnection}
+use Rattle.r2d2_core.specs.Folding.{birth_of_idle}
 use Rattle.r2d2_core.specs.Journal.{added}
 use Rattle.r2d2_core.specs.Book.{bare}
 use Rattle.r2d2_core.specs.BookParts.{KeepReplaying}
@@ -49,11 +49,11 @@ module _ {T : Type 0} where
       let next : lent_next o idle ≡ Some (bare c) = next-map bare o p.idle c e in
       let apart = idle_apart p sound in
       let there : found id_of_idle c.id idle ≡ Some (bare c) = found-next id_of_idle o idle (bare c) next apart in
-      let born : birth_at_rest c.id idle ≡ c.birth = ap (λ o. unwrap_or (option_map (λ (c : Resting). c.birth) o) 0) there in
+      let born : birth_of_idle c.id idle ≡ c.birth = ap (λ o. unwrap_or (option_map (λ (c : BareConnection). c.birth) o) 0) there in
       let less : length idle - 1 ≡ length (still_idle o p.idle) = omega (arith, length-map p.idle bare, length-still_idle o p.idle c e) in
       record {
         fit = both _ _
-            (ap (λ o. unwrap_or (option_map (λ (x : Resting). x.id == c.id) o) false) next ∙ eq-eqb c.id c.id refl)
+            (ap (λ o. unwrap_or (option_map (λ (x : BareConnection). x.id == c.id) o) false) next ∙ eq-eqb c.id c.id refl)
             (orders_alike p.on_order.closed (length idle - 1) (length (still_idle o p.idle)) (wanted_of p.on_order.limits) (room_beside p.connections p.on_order) less);
         comes = record {
           idle = without-next id_of_idle o idle (bare c) next apart ∙ still_idle-map bare o p.idle c e;

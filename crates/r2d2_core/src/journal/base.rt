@@ -1,7 +1,7 @@
 // What stood before the oldest record of a report.
 ghost use Rattle.std.specs.Prelude.{◌≡◌, map, IfOk};
 ghost use Rattle.std.specs.Duration.{as_nanos};
-ghost use Rattle.r2d2_core.specs.Bases.{seen_resting, seen_away};
+ghost use Rattle.r2d2_core.specs.Bases.{seen_bare, seen_lent};
 ghost use Rattle.r2d2_core.specs.Book.{bare};
 ghost use Rattle.r2d2_core.specs.BookParts.{shown_at};
 ghost use Rattle.r2d2_core.specs.Reports.{seen_base};
@@ -21,9 +21,9 @@ pub struct Base<A: Allocator = Global> {
     /// The moment of the newest record that it stands for; where there is none, that of the making.
     pub at: Duration,
     /// The idle connections, in the order in which they came to be idle.
-    pub idle: RestingList<A>,
+    pub idle: IdleConnections<A>,
     /// The lent connections, in the order of their takes.
-    pub lent: AwayList<A>,
+    pub lent: LentConnections<A>,
     /// How many connections there were, idle and lent ones together.
     pub connections: u32,
     /// How many openings were ordered and not yet admitted.
@@ -43,8 +43,8 @@ impl<A: Allocator> Base<A> {
         A: Copy,
         ensures { IfOk result (λ base. seen_base base ≡ shown_at (as_nanos at) machine.now) }
     {
-        let idle = RestingList::copied(alloc, machine.idle_ones())?;
-        let lent = AwayList::copied(alloc, machine.lent_ones())?;
+        let idle = IdleConnections::copied(alloc, machine.idle_ones())?;
+        let lent = LentConnections::copied(alloc, machine.lent_ones())?;
         Ok(Base {
             at,
             idle,
@@ -58,32 +58,32 @@ impl<A: Allocator> Base<A> {
 
 /// The idle connections of a base: the id of each, the moment of its admission, and the moment since which it is idle.
 #[derive(Drop)]
-pub struct RestingList<A: Allocator = Global> {
+pub struct IdleConnections<A: Allocator = Global> {
     list: Vec<(u64, Duration, Duration), A>,
 }
 
-impl<A: Allocator> Model for RestingList<A> {
+impl<A: Allocator> Model for IdleConnections<A> {
     ghost use Rattle.std.specs.Prelude.{List, map};
-    ghost use Rattle.r2d2_core.specs.Bases.{Resting, seen_resting};
+    ghost use Rattle.r2d2_core.specs.Bases.{BareConnection, seen_bare};
 
-    ghost Value = { List Resting };
+    ghost Value = { List BareConnection };
 
-    ghost view = { λ a. map seen_resting a.list.items };
+    ghost view = { λ a. map seen_bare a.list.items };
 }
 
-impl<A: Allocator> RestingList<A> {
+impl<A: Allocator> IdleConnections<A> {
     /// The connections of a list, which it keeps.
-    pub fn of(list: Vec<(u64, Duration, Duration), A>) -> RestingList<A>
-        ensures { result ≡ map seen_resting list.items }
+    pub fn of(list: Vec<(u64, Duration, Duration), A>) -> IdleConnections<A>
+        ensures { result ≡ map seen_bare list.items }
     {
-        RestingList { list }
+        IdleConnections { list }
     }
 
     // The idle ones, without what their owner keeps of them.
     pub(super) fn copied<T, B: Allocator>(
         alloc: A,
         idle: &Idle<T, B>,
-    ) -> Result<RestingList<A>, AllocError>
+    ) -> Result<IdleConnections<A>, AllocError>
         ensures { IfOk result (λ list. list ≡ map bare idle.now.items) }
     {
         let count = idle.len();
@@ -93,19 +93,19 @@ impl<A: Allocator> RestingList<A> {
                 list.push_reserved((entry.id(), entry.birth(), entry.since()));
             }
         }
-        Ok(RestingList { list })
+        Ok(IdleConnections { list })
     }
 
     /// The connections, the oldest first.
     pub fn as_slice(&self) -> &[(u64, Duration, Duration)]
-        ensures { map seen_resting result.now ≡ self.now }
+        ensures { map seen_bare result.now ≡ self.now }
     {
         self.list.as_slice()
     }
 
     /// Gives the list back.
     pub fn into_vec(self) -> Vec<(u64, Duration, Duration), A>
-        ensures { map seen_resting result.items ≡ self }
+        ensures { map seen_bare result.items ≡ self }
     {
         self.list
     }
@@ -113,52 +113,52 @@ impl<A: Allocator> RestingList<A> {
 
 /// The lent connections of a base: the id of each, and the moment of its admission.
 #[derive(Drop)]
-pub struct AwayList<A: Allocator = Global> {
+pub struct LentConnections<A: Allocator = Global> {
     list: Vec<(u64, Duration), A>,
 }
 
-impl<A: Allocator> Model for AwayList<A> {
+impl<A: Allocator> Model for LentConnections<A> {
     ghost use Rattle.std.specs.Prelude.{List, map};
     ghost use Rattle.r2d2_core.specs.Connections.{SeenLentConnection};
-    ghost use Rattle.r2d2_core.specs.Bases.{seen_away};
+    ghost use Rattle.r2d2_core.specs.Bases.{seen_lent};
 
     ghost Value = { List SeenLentConnection };
 
-    ghost view = { λ a. map seen_away a.list.items };
+    ghost view = { λ a. map seen_lent a.list.items };
 }
 
-impl<A: Allocator> AwayList<A> {
+impl<A: Allocator> LentConnections<A> {
     /// The connections of a list, which it keeps.
-    pub fn of(list: Vec<(u64, Duration), A>) -> AwayList<A>
-        ensures { result ≡ map seen_away list.items }
+    pub fn of(list: Vec<(u64, Duration), A>) -> LentConnections<A>
+        ensures { result ≡ map seen_lent list.items }
     {
-        AwayList { list }
+        LentConnections { list }
     }
 
     // The lent ones.
     pub(super) fn copied<B: Allocator>(
         alloc: A,
         lent: &Roster<LentConnection, B>,
-    ) -> Result<AwayList<A>, AllocError>
+    ) -> Result<LentConnections<A>, AllocError>
         ensures { IfOk result (λ list. list ≡ lent.now.items) }
     {
         let mut list = Vec::with_capacity(alloc, lent.len())?;
         for loan in lent.items() {
             list.push_reserved((loan.id(), loan.birth()));
         }
-        Ok(AwayList { list })
+        Ok(LentConnections { list })
     }
 
     /// The connections, in the order of their takes.
     pub fn as_slice(&self) -> &[(u64, Duration)]
-        ensures { map seen_away result.now ≡ self.now }
+        ensures { map seen_lent result.now ≡ self.now }
     {
         self.list.as_slice()
     }
 
     /// Gives the list back.
     pub fn into_vec(self) -> Vec<(u64, Duration), A>
-        ensures { map seen_away result.items ≡ self }
+        ensures { map seen_lent result.items ≡ self }
     {
         self.list
     }

@@ -7,7 +7,7 @@ ghost use Rattle.r2d2_core.specs.Journal.{first_journal, takes_with, CountsTakes
 ghost use Rattle.r2d2_core.specs.JournalParts.{IsBefore, MayNote, kept_alone};
 
 use super::record::Record;
-use super::standing::{Rooms, Standing};
+use super::running_base::{Rooms, RunningBase};
 use crate::schedule::Limits;
 use circular_buffer::HeapCircularBuffer;
 use std::alloc::{AllocError, Allocator, Global};
@@ -20,7 +20,7 @@ pub(crate) enum Before<A: Allocator = Global> {
     /// Without room for a record: what the machine shows now. The moment is that of the latest record, or of the making.
     Shown(Duration),
     /// What the records come to that were kept once.
-    Folded(Standing<A>),
+    Folded(RunningBase<A>),
 }
 
 /// The moment of the making, as many records as it has room for, what stood before the oldest of them, how many were folded into that, and how many takes
@@ -67,7 +67,7 @@ impl<A: Allocator> Journal<A> {
         let before = if room == 0 {
             Before::Shown(now)
         } else {
-            Before::Folded(Standing::new(alloc, now, limits.wanted(), both)?)
+            Before::Folded(RunningBase::new(alloc, now, limits.wanted(), both)?)
         };
         let records = HeapCircularBuffer::with_capacity(alloc, room)?;
         Ok(Journal {
@@ -108,9 +108,9 @@ impl<A: Allocator> Journal<A> {
                     *at = made.at();
                     self.lost = self.lost.saturating_add(1);
                 }
-                Before::Folded(standing) => {
+                Before::Folded(running_base) => {
                     if let Some(oldest) = self.records.push_back(made) {
-                        standing.follow(&self.limits, &oldest);
+                        running_base.follow(&self.limits, &oldest);
                         self.lost = self.lost.saturating_add(1);
                     }
                 }

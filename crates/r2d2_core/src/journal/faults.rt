@@ -58,11 +58,11 @@ impl<A: Allocator> Report<A> {
         ensures { IfOk result (λ base. seen_base base ≡ replay (seen_limits self.now.limits) (take count self.now.records) (seen_base self.now.base)) }
     {
         let records = &self.records.as_slice()[..count];
-        let Some(mut standing) = self.start(records)? else {
+        let Some(mut running_base) = self.start(records)? else {
             unreachable!();
         };
-        standing.follow_all(&self.limits, records);
+        running_base.follow_all(&self.limits, records);
         let _max_size = self.limits.max_size();
-        standing.copied(*self.records.allocator())
+        running_base.copied(*self.records.allocator())
     }
 }

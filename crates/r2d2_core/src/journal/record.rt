@@ -30,7 +30,7 @@ impl Record {
     ghost use Rattle.r2d2_core.specs.Seen.{seen_take, seen_returned, seen_gone, map_ok};
     ghost use Rattle.r2d2_core.specs.Records.{seen_record};
     ghost use Rattle.r2d2_core.specs.Folding.{moment_in, admitted_by};
-    ghost use Rattle.r2d2_core.specs.Standing.{rest_by, leave_by};
+    ghost use Rattle.r2d2_core.specs.RunningBase.{made_idle_by, made_lent_by};
     ghost use Rattle.r2d2_core.specs.Recorded.{record_of_take, record_of_admission, record_of_return, record_of_check, record_of_reap, record_of_close};
 
     /// The moment of the record: that of its step, or the latest one before it where that is later.
@@ -60,8 +60,8 @@ impl Record {
     }
 
     /// How many come to be idle by the record.
-    pub(crate) fn rests(&self) -> usize
-        ensures is { result ≡ rest_by (seen_record self.now) }
+    pub(crate) fn made_idle(&self) -> usize
+        ensures is { result ≡ made_idle_by (seen_record self.now) }
         ensures few { result ≤ 1 }
     {
         match self {
@@ -71,8 +71,8 @@ impl Record {
     }
 
     /// How many come to be lent by the record.
-    pub(crate) fn leaves(&self) -> usize
-        ensures is { result ≡ leave_by (seen_record self.now) }
+    pub(crate) fn made_lent(&self) -> usize
+        ensures is { result ≡ made_lent_by (seen_record self.now) }
         ensures few { result ≤ 1 }
     {
         match self {

@@ -4,17 +4,17 @@ ghost use Rattle.r2d2_core.specs.Limits.{seen_limits};
 ghost use Rattle.r2d2_core.specs.Ids.{copies_of};
 ghost use Rattle.r2d2_core.specs.Connections.{id_of_idle, id_of_lent};
 ghost use Rattle.r2d2_core.specs.Records.{seen_record};
-ghost use Rattle.r2d2_core.specs.Bases.{seen_resting, seen_away, ids_of, IsLegalBase};
+ghost use Rattle.r2d2_core.specs.Bases.{seen_bare, seen_lent, ids_of, IsLegalBase};
 ghost use Rattle.r2d2_core.specs.Folding.{admitted_in, known_in};
 ghost use Rattle.r2d2_core.specs.Reports.{seen_base, DoesReplay};
 ghost use Rattle.r2d2_core.specs.Auditing.{counts_fit, ShowsCounts};
-ghost use Rattle.r2d2_core.specs.Standing.{standing, rooms_for};
+ghost use Rattle.r2d2_core.specs.RunningBase.{running_base, rooms_for};
 ghost use Rattle.r2d2_core.specs.Faults.{HasWrongBase, IsWrong, AreApartUpTo};
 
 use super::base::Base;
 use super::record::Record;
 use super::report::Report;
-use super::standing::{Rooms, Standing};
+use super::running_base::{Rooms, RunningBase};
 use crate::schedule::Limits;
 use std::alloc::{AllocError, Allocator};
 use std::time::Duration;
@@ -55,14 +55,14 @@ impl<A: Allocator> Report<A> {
         let Some(apart) = self.count_apart()? else {
             return Ok(Some(Wrong::Base));
         };
-        let Some(mut standing) = self.start(&records[..apart])? else {
+        let Some(mut running_base) = self.start(&records[..apart])? else {
             return Ok(Some(Wrong::Base));
         };
-        let followed = standing.follow_all(&self.limits, &records[..apart]);
+        let followed = running_base.follow_all(&self.limits, &records[..apart]);
         if followed < records.len() {
             return Ok(Some(Wrong::Record(followed)));
         }
-        if !self.shows(&standing) {
+        if !self.shows(&running_base) {
             return Ok(Some(Wrong::Counts));
         }
         Ok(None)
@@ -105,25 +105,25 @@ impl<A: Allocator> Report<A> {
     }
 
     /// What stands at the base, with room for what the records bring. None where the base is not legal.
-    pub(crate) fn start(&self, records: &[Record]) -> Result<Option<Standing<A>>, AllocError>
+    pub(crate) fn start(&self, records: &[Record]) -> Result<Option<RunningBase<A>>, AllocError>
     where
         A: Copy,
         requires apart { (i : ℕ) → copies_of i (ids_of (seen_base self.now.base)) ≤ 1 }
-        ensures { IfOk result (λ made. MatchOption made (HasWrongBase self.now) (λ there. IsLegalBase (seen_limits self.now.limits) (seen_base self.now.base) × (there ≡ standing (seen_base self.now.base) (rooms_for (seen_base self.now.base) (map seen_record records.now))))) }
+        ensures { IfOk result (λ made. MatchOption made (HasWrongBase self.now) (λ there. IsLegalBase (seen_limits self.now.limits) (seen_base self.now.base) × (there ≡ running_base (seen_base self.now.base) (rooms_for (seen_base self.now.base) (map seen_record records.now))))) }
     {
         if !has_fitting_counts(&self.base, &self.limits) {
             return Ok(None);
         }
         let room = Rooms::of(&self.base, records);
-        Standing::of(*self.records.allocator(), &self.base, room)
+        RunningBase::of(*self.records.allocator(), &self.base, room)
     }
 
     // Whether the ids and counts are those of what stands.
-    fn shows(&self, standing: &Standing<A>) -> bool
-        ensures { IsTrue result ↔ ShowsCounts standing.now.base self.now }
+    fn shows(&self, running_base: &RunningBase<A>) -> bool
+        ensures { IsTrue result ↔ ShowsCounts running_base.now.base self.now }
     {
-        standing.has_ids(self.idle.as_slice(), self.lent.as_slice())
-            && standing.has_counts(self.connections, self.pending, self.closed)
+        running_base.has_ids(self.idle.as_slice(), self.lent.as_slice())
+            && running_base.has_counts(self.connections, self.pending, self.closed)
     }
 }
 
@@ -148,8 +148,8 @@ fn known_ids<A: Allocator + Copy>(
     ensures { IfOk result (λ ids. ids.items ≡ known_in (seen_base base.now) (map seen_record records.now)) }
 {
     let mut ids = Vec::with_capacity(alloc, most_ids(base, records))?;
-    add_resting(&mut ids, base.idle.as_slice())?;
-    add_away(&mut ids, base.lent.as_slice())?;
+    add_idle(&mut ids, base.idle.as_slice())?;
+    add_lent(&mut ids, base.lent.as_slice())?;
     add_admitted(&mut ids, records)?;
     Ok(ids)
 }
@@ -168,11 +168,11 @@ fn most_ids<A: Allocator>(base: &Base<A>, records: &[Record]) -> usize {
     there.saturating_add(admitted)
 }
 
-fn add_resting<A: Allocator>(
+fn add_idle<A: Allocator>(
     ids: &mut Vec<u64, A>,
     idle: &[(u64, Duration, Duration)],
 ) -> Result<(), AllocError>
-    ensures { OnOk result (ids.new.items ≡ ids.old.items ++ map id_of_idle (map seen_resting idle.now)) }
+    ensures { OnOk result (ids.new.items ≡ ids.old.items ++ map id_of_idle (map seen_bare idle.now)) }
 {
     for entry in idle {
         ids.push(entry.0)?;
@@ -180,8 +180,8 @@ fn add_resting<A: Allocator>(
     Ok(())
 }
 
-fn add_away<A: Allocator>(ids: &mut Vec<u64, A>, lent: &[(u64, Duration)]) -> Result<(), AllocError>
-    ensures { OnOk result (ids.new.items ≡ ids.old.items ++ map id_of_lent (map seen_away lent.now)) }
+fn add_lent<A: Allocator>(ids: &mut Vec<u64, A>, lent: &[(u64, Duration)]) -> Result<(), AllocError>
+    ensures { OnOk result (ids.new.items ≡ ids.old.items ++ map id_of_lent (map seen_lent lent.now)) }
 {
     for entry in lent {
         ids.push(entry.0)?;

@@ -5,7 +5,7 @@ use Rattle.r2d2_core.specs.Ids.{copies_of}
 use Rattle.r2d2_core.specs.Records.{seen_record, SeenRecord}
 use Rattle.r2d2_core.specs.Bases.{SeenBase}
 use Rattle.r2d2_core.specs.Folding.{replay, all_follow, known_in}
-use Rattle.r2d2_core.specs.Standing.{SeenStanding, rooms_for}
+use Rattle.r2d2_core.specs.RunningBase.{SeenRunningBase, rooms_for}
 use Rattle.r2d2_core.specs.Reports.{seen_base}
 use Rattle.r2d2_core.proofs.Recording.Folding.{comes_to_legal}
 use Rattle.r2d2_core.proofs.Recording.Auditing.{start_there, follows_all, apart_same, if_ok}
@@ -18,8 +18,8 @@ follow_all-requires-clause-apart g c =
     let base = seen_base r.base in
     let rs = map seen_record (take c.args.count c.as_slice.result.now) in
     let same : take c.args.count r.records ≡ rs = ap (take c.args.count) (sym c.as_slice.ensures) ∙ take-map seen_record c.args.count c.as_slice.result.now in
-    let there = start_there limits base (rooms_for base rs) c.in_ok-standing.field-0 c.in-Some.standing c.in-Some.is c.in_ok-standing.ensures in
-    subst (λ (s : SeenStanding). (i : ℕ) → copies_of i (known_in s.base rs) ≤ 1) (sym there.1) (apart_same base (take c.args.count r.records) rs same c.requires.legal.apart)
+    let there = start_there limits base (rooms_for base rs) c.in_ok-running_base.field-0 c.in-Some.running_base c.in-Some.is c.in_ok-running_base.ensures in
+    subst (λ (s : SeenRunningBase). (i : ℕ) → copies_of i (known_in s.base rs) ≤ 1) (sym there.1) (apart_same base (take c.args.count r.records) rs same c.requires.legal.apart)
 
 pub copied-requires : goal.copied-requires
 copied-requires g c =
@@ -29,12 +29,12 @@ copied-requires g c =
     let front = take c.args.count c.as_slice.result.now in
     let rs = map seen_record front in
     let same : take c.args.count r.records ≡ rs = ap (take c.args.count) (sym c.as_slice.ensures) ∙ take-map seen_record c.args.count c.as_slice.result.now in
-    let there = start_there limits base (rooms_for base rs) c.in_ok-standing.field-0 c.in-Some.standing c.in-Some.is c.in_ok-standing.ensures in
-    let start : c.in-Some.standing.base ≡ base = ap (λ (s : SeenStanding). s.base) there.1 in
-    let all : all_follow limits rs c.in-Some.standing.base ≡ true = ap (all_follow limits rs) start ∙ (ap (λ (l : List SeenRecord). all_follow limits l base) (sym same) ∙ c.requires.legal.follow) in
-    let whole = follows_all limits rs c.in-Some.standing.base c.follow_all.result (omega (arith, c.follow_all.ensures.within, length-map front seen_record)) all (λ lt. c.follow_all.ensures.stops (omega (arith, lt, length-map front seen_record))) in
+    let there = start_there limits base (rooms_for base rs) c.in_ok-running_base.field-0 c.in-Some.running_base c.in-Some.is c.in_ok-running_base.ensures in
+    let start : c.in-Some.running_base.base ≡ base = ap (λ (s : SeenRunningBase). s.base) there.1 in
+    let all : all_follow limits rs c.in-Some.running_base.base ≡ true = ap (all_follow limits rs) start ∙ (ap (λ (l : List SeenRecord). all_follow limits l base) (sym same) ∙ c.requires.legal.follow) in
+    let whole = follows_all limits rs c.in-Some.running_base.base c.follow_all.result (omega (arith, c.follow_all.ensures.within, length-map front seen_record)) all (λ lt. c.follow_all.ensures.stops (omega (arith, lt, length-map front seen_record))) in
     let is : c.follow_all.new.self.base ≡ replay limits (take c.args.count r.records) base =
-    ap (λ (s : SeenStanding). s.base) (c.follow_all.ensures.folded (omega (arith, whole, length-map front seen_record)))
+    ap (λ (s : SeenRunningBase). s.base) (c.follow_all.ensures.folded (omega (arith, whole, length-map front seen_record)))
     ∙ (ap (replay limits rs) start ∙ ap (λ (l : List SeenRecord). replay limits l base) (sym same)) in
     let legal = comes_to_legal limits (take c.args.count r.records) base c.requires.base c.requires.legal in
     omega (arith, ap (λ (b : SeenBase). b.connections) is, legal.legal.fits, c.max_size-max_size.ensures)
@@ -47,11 +47,11 @@ returns g c =
     let front = take c.args.count c.as_slice.result.now in
     let rs = map seen_record front in
     let same : take c.args.count r.records ≡ rs = ap (take c.args.count) (sym c.as_slice.ensures) ∙ take-map seen_record c.args.count c.as_slice.result.now in
-    let there = start_there limits base (rooms_for base rs) c.in_ok-standing.field-0 c.in-Some.standing c.in-Some.is c.in_ok-standing.ensures in
-    let start : c.in-Some.standing.base ≡ base = ap (λ (s : SeenStanding). s.base) there.1 in
-    let all : all_follow limits rs c.in-Some.standing.base ≡ true = ap (all_follow limits rs) start ∙ (ap (λ (l : List SeenRecord). all_follow limits l base) (sym same) ∙ c.requires.legal.follow) in
-    let whole = follows_all limits rs c.in-Some.standing.base c.follow_all.result (omega (arith, c.follow_all.ensures.within, length-map front seen_record)) all (λ lt. c.follow_all.ensures.stops (omega (arith, lt, length-map front seen_record))) in
+    let there = start_there limits base (rooms_for base rs) c.in_ok-running_base.field-0 c.in-Some.running_base c.in-Some.is c.in_ok-running_base.ensures in
+    let start : c.in-Some.running_base.base ≡ base = ap (λ (s : SeenRunningBase). s.base) there.1 in
+    let all : all_follow limits rs c.in-Some.running_base.base ≡ true = ap (all_follow limits rs) start ∙ (ap (λ (l : List SeenRecord). all_follow limits l base) (sym same) ∙ c.requires.legal.follow) in
+    let whole = follows_all limits rs c.in-Some.running_base.base c.follow_all.result (omega (arith, c.follow_all.ensures.within, length-map front seen_record)) all (λ lt. c.follow_all.ensures.stops (omega (arith, lt, length-map front seen_record))) in
     let is : c.follow_all.new.self.base ≡ replay limits (take c.args.count r.records) base =
-    ap (λ (s : SeenStanding). s.base) (c.follow_all.ensures.folded (omega (arith, whole, length-map front seen_record)))
+    ap (λ (s : SeenRunningBase). s.base) (c.follow_all.ensures.folded (omega (arith, whole, length-map front seen_record)))
     ∙ (ap (replay limits rs) start ∙ ap (λ (l : List SeenRecord). replay limits l base) (sym same)) in
     if_ok (λ made. seen_base made ≡ c.follow_all.new.self.base) (λ made. seen_base made ≡ replay limits (take c.args.count r.records) base) c.copied.result (λ made e. e ∙ is) c.copied.ensures

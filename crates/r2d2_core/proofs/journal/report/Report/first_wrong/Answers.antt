@@ -5,7 +5,7 @@ use Rattle.r2d2_core.specs.Ids.{copies_of}
 use Rattle.r2d2_core.specs.Records.{seen_record, SeenRecord}
 use Rattle.r2d2_core.specs.Bases.{SeenBase}
 use Rattle.r2d2_core.specs.Folding.{replay, all_follow, known_in}
-use Rattle.r2d2_core.specs.Standing.{SeenStanding, rooms_for}
+use Rattle.r2d2_core.specs.RunningBase.{SeenRunningBase, rooms_for}
 use Rattle.r2d2_core.specs.Reports.{seen_base, told_in}
 use Rattle.r2d2_core.specs.Auditing.{ShowsCounts}
 use Rattle.r2d2_core.specs.Faults.{HasWrongBase, AreApartUpTo}
@@ -28,8 +28,8 @@ follow_all-followed-requires-clause-apart g c =
     let rs = map seen_record (take apart all) in
     let same : rs ≡ take apart r.records = sym (take-map seen_record apart all) ∙ ap (take apart) c.as_slice-records.ensures in
     let upto = some_in (HasWrongBase r) (λ n. AreApartUpTo r n) c.in_ok-apart.field-0 apart c.in-Some.is c.in_ok-apart.ensures in
-    let there = start_there limits base (rooms_for base rs) c.in_ok-standing.field-0 c.in-Some-2.standing c.in-Some-2.is c.in_ok-standing.ensures in
-    subst (λ (s : SeenStanding). (i : ℕ) → copies_of i (known_in s.base rs) ≤ 1) (sym there.1) (apart_same base (take apart r.records) rs (sym same) upto.apart)
+    let there = start_there limits base (rooms_for base rs) c.in_ok-running_base.field-0 c.in-Some-2.running_base c.in-Some-2.is c.in_ok-running_base.ensures in
+    subst (λ (s : SeenRunningBase). (i : ℕ) → copies_of i (known_in s.base rs) ≤ 1) (sym there.1) (apart_same base (take apart r.records) rs (sym same) upto.apart)
 
 pub returns-then-followed-records : goal.returns-then-followed-records
 returns-then-followed-records g c =
@@ -41,8 +41,8 @@ returns-then-followed-records g c =
     let rs = map seen_record (take apart all) in
     let same : rs ≡ take apart r.records = sym (take-map seen_record apart all) ∙ ap (take apart) c.as_slice-records.ensures in
     let upto = some_in (HasWrongBase r) (λ n. AreApartUpTo r n) c.in_ok-apart.field-0 apart c.in-Some.is c.in_ok-apart.ensures in
-    let there = start_there limits base (rooms_for base rs) c.in_ok-standing.field-0 c.in-Some-2.standing c.in-Some-2.is c.in_ok-standing.ensures in
-    let start : c.in-Some-2.standing.base ≡ base = ap (λ (s : SeenStanding). s.base) there.1 in
+    let there = start_there limits base (rooms_for base rs) c.in_ok-running_base.field-0 c.in-Some-2.running_base c.in-Some-2.is c.in_ok-running_base.ensures in
+    let start : c.in-Some-2.running_base.base ≡ base = ap (λ (s : SeenRunningBase). s.base) there.1 in
     let followed = c.follow_all-followed.result in
     let many : length all ≡ length r.records = sym (length-map all seen_record) ∙ ap (λ (l : List SeenRecord). length l) c.as_slice-records.ensures in
     let some : length (take apart all) ≡ apart = length-take-le apart all (omega (arith, upto.within, many)) in
@@ -63,8 +63,8 @@ returns-then-not-shows g c =
     let rs = map seen_record (take apart all) in
     let same : rs ≡ take apart r.records = sym (take-map seen_record apart all) ∙ ap (take apart) c.as_slice-records.ensures in
     let upto = some_in (HasWrongBase r) (λ n. AreApartUpTo r n) c.in_ok-apart.field-0 apart c.in-Some.is c.in_ok-apart.ensures in
-    let there = start_there limits base (rooms_for base rs) c.in_ok-standing.field-0 c.in-Some-2.standing c.in-Some-2.is c.in_ok-standing.ensures in
-    let start : c.in-Some-2.standing.base ≡ base = ap (λ (s : SeenStanding). s.base) there.1 in
+    let there = start_there limits base (rooms_for base rs) c.in_ok-running_base.field-0 c.in-Some-2.running_base c.in-Some-2.is c.in_ok-running_base.ensures in
+    let start : c.in-Some-2.running_base.base ≡ base = ap (λ (s : SeenRunningBase). s.base) there.1 in
     let followed = c.follow_all-followed.result in
     let many : length all ≡ length r.records = sym (length-map all seen_record) ∙ ap (λ (l : List SeenRecord). length l) c.as_slice-records.ensures in
     let some : length (take apart all) ≡ apart = length-take-le apart all (omega (arith, upto.within, many)) in
@@ -75,7 +75,7 @@ returns-then-not-shows g c =
     let legal = all_legal r apart followed upto within past may in
     let whole : take apart r.records ≡ r.records = take_all apart r.records (omega (arith, within, past)) in
     let told : c.follow_all-followed.new.self.base ≡ told_in r =
-    ap (λ (s : SeenStanding). s.base) (c.follow_all-followed.ensures.folded (omega (arith, within, past, upto.within, some)))
+    ap (λ (s : SeenRunningBase). s.base) (c.follow_all-followed.ensures.folded (omega (arith, within, past, upto.within, some)))
     ∙ (ap (replay limits rs) start ∙ ap (λ (l : List SeenRecord). replay limits l base) (same ∙ whole)) in
     record {
       base = there.0;
@@ -93,8 +93,8 @@ returns g c =
     let rs = map seen_record (take apart all) in
     let same : rs ≡ take apart r.records = sym (take-map seen_record apart all) ∙ ap (take apart) c.as_slice-records.ensures in
     let upto = some_in (HasWrongBase r) (λ n. AreApartUpTo r n) c.in_ok-apart.field-0 apart c.in-Some.is c.in_ok-apart.ensures in
-    let there = start_there limits base (rooms_for base rs) c.in_ok-standing.field-0 c.in-Some-2.standing c.in-Some-2.is c.in_ok-standing.ensures in
-    let start : c.in-Some-2.standing.base ≡ base = ap (λ (s : SeenStanding). s.base) there.1 in
+    let there = start_there limits base (rooms_for base rs) c.in_ok-running_base.field-0 c.in-Some-2.running_base c.in-Some-2.is c.in_ok-running_base.ensures in
+    let start : c.in-Some-2.running_base.base ≡ base = ap (λ (s : SeenRunningBase). s.base) there.1 in
     let followed = c.follow_all-followed.result in
     let many : length all ≡ length r.records = sym (length-map all seen_record) ∙ ap (λ (l : List SeenRecord). length l) c.as_slice-records.ensures in
     let some : length (take apart all) ≡ apart = length-take-le apart all (omega (arith, upto.within, many)) in
@@ -105,6 +105,6 @@ returns g c =
     let legal = all_legal r apart followed upto within past may in
     let whole : take apart r.records ≡ r.records = take_all apart r.records (omega (arith, within, past)) in
     let told : c.follow_all-followed.new.self.base ≡ told_in r =
-    ap (λ (s : SeenStanding). s.base) (c.follow_all-followed.ensures.folded (omega (arith, within, past, upto.within, some)))
+    ap (λ (s : SeenRunningBase). s.base) (c.follow_all-followed.ensures.folded (omega (arith, within, past, upto.within, some)))
     ∙ (ap (replay limits rs) start ∙ ap (λ (l : List SeenRecord). replay limits l base) (same ∙ whole)) in
     does r there.0 legal (subst (λ (b : SeenBase). ShowsCounts b r) told (c.shows.ensures.0 cc))

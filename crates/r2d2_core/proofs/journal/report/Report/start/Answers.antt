@@ -3,7 +3,7 @@ use Rattle.r2d2_core.specs.Limits.{seen_limits}
 use Rattle.r2d2_core.specs.Records.{seen_record}
 use Rattle.r2d2_core.specs.Reports.{seen_base}
 use Rattle.r2d2_core.specs.Auditing.{counts_fit}
-use Rattle.r2d2_core.specs.Standing.{rooms_for}
+use Rattle.r2d2_core.specs.RunningBase.{rooms_for}
 use Rattle.r2d2_core.proofs.Recording.Auditing.{IsPut, IsStart, starts, if_ok}
 use Rattle.r2d2_core.proofs.journal.report.Report.start.Goals as goal
 

@@ -1,0 +1,9 @@
+use Rattle.std.proofs.Common.{◌≡◌, ◌++◌, map, take}
+use Rattle.r2d2_core.specs.Connections.{id_of_lent}
+use Rattle.r2d2_core.specs.Bases.{seen_lent}
+use Rattle.r2d2_core.proofs.journal.replaying.add_lent.Given as goal
+
+abbrev pub invariant-loop-entry : goal.invariant-loop-entry
+invariant-loop-entry g l = record {
+  added : l.ids.items ≡ l.fn.ids.items ++ take l.entry-index (map id_of_lent (map seen_lent l.lent));
+}
