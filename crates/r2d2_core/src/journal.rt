@@ -4,7 +4,7 @@ ghost use Rattle.std.specs.Duration.{as_nanos};
 
 use crate::machine::{Core, Gone, Leftover, Refusal, Released, Returned, Take};
 use crate::schedule::{Job, Limits};
-pub use base::{LentConnections, Base, IdleConnections};
+pub use base::{Base, IdleConnections, LentConnections};
 use bounded::{Before, Journal};
 pub use faults::Fault;
 pub use record::Record;

@@ -28,7 +28,9 @@ pub mod run;
 pub mod schedule;
 pub mod steps;
 
-pub use journal::{LentConnections, Base, Book, Fault, IdList, Record, RecordList, Report, IdleConnections};
+pub use journal::{
+    Base, Book, Fault, IdList, IdleConnections, LentConnections, Record, RecordList, Report,
+};
 pub use machine::{Core, Gone, Leftover, Refusal, Released, Returned, Take};
 pub use run::{Answer, Step};
 pub use schedule::{Job, LendingOrder, Limits, Schedule};

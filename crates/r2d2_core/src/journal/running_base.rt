@@ -11,7 +11,7 @@ ghost use Rattle.r2d2_core.specs.Folding.{birth_of_lent, is_next, expired_in, ma
 ghost use Rattle.r2d2_core.specs.Reports.{seen_base};
 ghost use Rattle.r2d2_core.specs.RunningBase.{running_base, rooms_for, made_idle_by, made_lent_by, empty_base, with_more, lent_out, admitted_to, kept_in, with_one_idle, parted_from, swept_of, closed_in};
 
-use super::base::{LentConnections, Base, IdleConnections};
+use super::base::{Base, IdleConnections, LentConnections};
 use super::record::Record;
 use crate::machine::idle::{Idle, IdleConnection, reached};
 use crate::machine::is_before;

@@ -47,7 +47,9 @@ impl<A: Allocator> RunningBase<A> {
             (λ there. ((are_in_order (as_nanos base.now.at) 0 base.now.idle && are_born (as_nanos base.now.at) base.now.lent) ≡ true) × (there ≡ running_base (seen_base base.now) room))) }
     {
         let mut running_base = RunningBase::tight(alloc, base.at, base.pending, room)?;
-        if !running_base.put_idle(base.idle.as_slice()) || !running_base.put_lent(base.lent.as_slice()) {
+        if !running_base.put_idle(base.idle.as_slice())
+            || !running_base.put_lent(base.lent.as_slice())
+        {
             return Ok(None);
         }
         running_base.closed = base.closed;
@@ -55,7 +57,12 @@ impl<A: Allocator> RunningBase<A> {
     }
 
     // What stands where nothing is idle or lent, with no memory but for so many.
-    fn tight(alloc: A, at: Duration, pending: u32, room: Rooms) -> Result<RunningBase<A>, AllocError>
+    fn tight(
+        alloc: A,
+        at: Duration,
+        pending: u32,
+        room: Rooms,
+    ) -> Result<RunningBase<A>, AllocError>
     where
         A: Copy,
         ensures { IfOk result (λ made. made ≡ running_base (empty_base (as_nanos at) pending) room) }
