@@ -3,8 +3,8 @@
 use crate::replays::{Found, read};
 use crate::steps::{admit, begin, close, limits, number, put_back, reap, take, want};
 use r2d2_core::{
-    LentConnections, Base, Book, Fault, IdList, LendingOrder, Limits, Record, RecordList, Report,
-    IdleConnections, Step,
+    Base, Book, Fault, IdList, IdleConnections, LendingOrder, LentConnections, Limits, Record,
+    RecordList, Report, Step,
 };
 use std::alloc::{AllocError, Allocator, Global};
 use std::test::Fail;
@@ -91,7 +91,11 @@ impl Countdown {
         }
     }
 
-    fn idle(&mut self, alloc: Global, idle: &IdleConnections) -> Result<IdleConnections, AllocError> {
+    fn idle(
+        &mut self,
+        alloc: Global,
+        idle: &IdleConnections,
+    ) -> Result<IdleConnections, AllocError> {
         let mut list = Vec::new(alloc);
         for (id, birth, since) in idle.as_slice() {
             list.push((self.id(*id), self.moment(*birth), self.moment(*since)))?;
@@ -99,7 +103,11 @@ impl Countdown {
         Ok(IdleConnections::of(list))
     }
 
-    fn lent(&mut self, alloc: Global, lent: &LentConnections) -> Result<LentConnections, AllocError> {
+    fn lent(
+        &mut self,
+        alloc: Global,
+        lent: &LentConnections,
+    ) -> Result<LentConnections, AllocError> {
         let mut list = Vec::new(alloc);
         for (id, birth) in lent.as_slice() {
             list.push((self.id(*id), self.moment(*birth)))?;

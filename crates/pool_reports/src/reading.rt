@@ -4,7 +4,8 @@ use crate::VERSION;
 use crate::error::{FromJsonError, Place, Wanted};
 use found::{Found, Object};
 use r2d2_core::{
-    LentConnections, Base, IdList, LendingOrder, Limits, Record, RecordList, Report, IdleConnections,
+    Base, IdList, IdleConnections, LendingOrder, LentConnections, Limits, Record, RecordList,
+    Report,
 };
 use serde_json::Value;
 use std::alloc::Global;
