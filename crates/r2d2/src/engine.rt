@@ -100,6 +100,7 @@ impl<T> Settled<T> {
 }
 
 /// Takes the idle connection that is lent next, as `Book::take`.
+#[inline(always)]
 pub fn lend<T, A: Allocator>(
     book: &mut Book<T, A>,
     now: Duration,
@@ -119,6 +120,7 @@ pub fn lend<T, A: Allocator>(
 }
 
 /// Gives a lent connection back, as `Book::put_back`. One that is closed is handed over, and so is one that is refused.
+#[inline(always)]
 pub fn give_back<T, A: Allocator>(
     book: &mut Book<T, A>,
     now: Duration,

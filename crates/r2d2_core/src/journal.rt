@@ -201,6 +201,7 @@ impl<T, A: Allocator> Book<T, A> {
     ghost use Rattle.r2d2_core.specs.Noted.{noted_take, noted_admission, noted_return, noted_check, noted_reap, noted_close};
 
     /// As `Core::take`. A take that found is noted, and one that ordered.
+    #[inline(always)]
     pub fn take(&mut self, now: Duration, or_order: bool) -> Take<T>
         ensures answer { seen_take result ≡ table.take_answer or_order self.old.picture }
         ensures after { self.new.picture ≡ table.after_take (as_nanos now) or_order self.old.picture }
@@ -280,6 +281,7 @@ impl<T, A: Allocator> Book<T, A> {
     }
 
     /// As `Core::put_back`. It is noted where it is accepted.
+    #[inline(always)]
     pub fn put_back(
         &mut self,
         now: Duration,

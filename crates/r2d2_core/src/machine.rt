@@ -187,6 +187,7 @@ impl<T, A: Allocator> Core<T, A> {
 
     /// Lends the idle connection that is next in the order of the limits, and tops up; where none is idle, orders one
     /// if `or_order` says so and there is room.
+    #[inline(always)]
     pub fn take(&mut self, now: Duration, or_order: bool) -> Take<T>
         ensures answer { seen_take result ≡ table.take_answer or_order self.old }
         ensures after { self.new ≡ table.after_take (as_nanos now) or_order self.old }
@@ -308,6 +309,7 @@ impl<T, A: Allocator> Core<T, A> {
     /// Takes back a lent connection: it is the newest idle one, or comes back to be closed where it is broken, where it is as
     /// old as `max_lifetime`, and where the core is closed; then the core tops up. It is refused, and the value comes
     /// back, where the id is not lent.
+    #[inline(always)]
     pub fn put_back(
         &mut self,
         now: Duration,

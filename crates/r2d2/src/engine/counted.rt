@@ -184,6 +184,7 @@ impl<T, C: Ties> Tied<T, C> {
     }
 
     /// As `give_back`.
+    #[inline(always)]
     pub fn give_back(
         &mut self,
         now: Duration,
@@ -286,6 +287,7 @@ impl<T, C: Ties> Tied<T, C> {
 
 impl<T, C: Counter> Tied<T, C> {
     /// As `lend` of a book. A take that found is counted with the tally, which has a part at least.
+    #[inline(always)]
     pub fn lend(&mut self, now: Duration, or_order: bool, tally: &mut C::Tally) -> (Take<T>, Wakes)
         requires { 0 < C.parts tally.old }
         ensures answer { seen_take result.0 ≡ table.take_answer or_order self.old.book.picture }

@@ -55,6 +55,7 @@ impl<B, M, K, R> Shared<B, M, K, R> {
     }
 
     // Makes a step: takes the lock, reads the moment, calls, lets the lock go, wakes. What the call did to the book, nobody can say after it.
+    #[inline(always)]
     fn step<X, F: FnOnce(&mut B, Duration) -> (X, Wakes)>(&self, call: F) -> X
     where
         R: Clock + Wait,
@@ -89,6 +90,7 @@ impl<P: Drop, C: Ties, M, K, R: Clock + Wait> Shared<Tied<P, C>, M, K, R> {
     }
 
     /// Puts a lent connection back. One that is closed, or refused, comes back.
+    #[inline(always)]
     pub(super) fn put_back(
         &self,
         lent: Lent<P>,

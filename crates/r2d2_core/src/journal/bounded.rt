@@ -97,6 +97,7 @@ impl<A: Allocator> Journal<A> {
 
     /// Notes the record that a step made, if it made one. Where there is no room left the oldest is folded into the base; without any room the moment
     /// alone is kept.
+    #[inline(always)]
     pub(crate) fn note(&mut self, made: Option<Record>)
         requires { 0 < self.old.room → MayNote (option_map seen_record made) self.old }
         ensures { self.new ≡ kept_alone (option_map seen_record made) self.old }

@@ -90,6 +90,7 @@ impl<A: Allocator> OnOrder<A> {
     }
 
     /// Orders what is wanted beside so many idle connections, as far as there is room beside them and the lent ones.
+    #[inline(always)]
     pub(crate) fn top_up(&mut self, idle: usize, lent: usize, due: Duration) -> u32
         requires { idle + lent + self.old.pending ≤ self.old.limits.max_size }
         ensures answer { result ≡ on_order.top_up_beside idle (idle + lent) self.old }

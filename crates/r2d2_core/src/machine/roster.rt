@@ -129,6 +129,7 @@ impl<X: HasId, A: Allocator> Roster<X, A> {
     }
 
     /// Adds one at the end.
+    #[inline(always)]
     pub(crate) fn add(&mut self, x: X)
         requires { length self.old.items < self.old.room }
         ensures { self.new ≡ roster (self.old.items ++ x ∷ []) self.old.room }
@@ -140,6 +141,7 @@ impl<X: HasId, A: Allocator> Roster<X, A> {
     }
 
     /// The one with the id, which leaves the list; None where there is none. The others keep their order.
+    #[inline(always)]
     pub(crate) fn remove(&mut self, id: u64) -> Option<X>
         requires { copies_of id (map X.id_of self.old.items) ≤ 1 }
         ensures gone { result ≡ found X.id_of id self.old.items }
