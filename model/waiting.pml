@@ -78,6 +78,7 @@ bool waiting[CALLERS];
 #define UNTIL 2           /* or until the first moment that something falls due */
 byte resting[WORKERS];
 
+byte counted;             /* Guarded::waiting: those who began to wait and have not the lock again */
 byte holders = CALLERS;   /* those who hold the pool */
 bool built = (BUILD == 0);
 hidden byte ordered, k;   /* for use inside one step alone */
@@ -121,6 +122,25 @@ inline wake_workers(step) {
   fi
 }
 
+/* Guarded::begin_wait and end_wait, under the lock. */
+inline begin_wait() {
+#ifndef NOBODY_IS_COUNTED
+  if :: !waits -> waits = true; counted++ :: else fi
+#else
+  skip
+#endif
+}
+inline end_wait() {
+  if :: waits -> waits = false; counted-- :: else fi
+}
+
+/* Guarded::who_waits, under the lock: whether there is a caller to be woken once it is free. */
+#ifdef WAKES_ONLY_WHERE_TWO_WAIT
+#define somebody_waits (counted > 1)
+#else
+#define somebody_waits (counted > 0)
+#endif
+
 #define IS_IMPATIENT (_pid < IMPATIENT)
 #define IS_TRYING (_pid >= CALLERS - TRYING)
 #define MAY_STAY (_pid >= CALLERS - CALLERS_STAY)
@@ -128,19 +148,23 @@ inline wake_workers(step) {
 /* AnyPool::lend_within, the drop of what was lent, and the drop of the pool. */
 active [CALLERS] proctype caller() {
   bool orders;            /* the step just made has ordered openings */
+  bool wakes;             /* it is to wake a caller, and one waits */
+  bool waits;             /* this caller is among those who are counted */
 #if BUILD
   if
   :: _pid == 0 ->
 building: /* Shared::wait_for: it looks, and waits again, until there are as many as are wanted */
      atomic {
        if
-       :: connections >= WANTED -> built = true; goto calls
-       :: else -> waiting[_pid] = true
+       :: connections >= WANTED -> end_wait(); built = true; goto calls
+       :: else -> begin_wait(); waiting[_pid] = true
        fi
      };
      if
      :: !waiting[_pid] -> goto building
-     :: BUILD == 2 -> waiting[_pid] = false; holders = 1; goto let_go  /* `build` drops the pool that nobody else has */
+     :: BUILD == 2 ->      /* `build` drops the pool that nobody else has */
+        atomic { waiting[_pid] = false; end_wait(); holders = 1 };
+        goto let_go
      fi
   :: else ->
      if :: built :: closed -> goto gone fi
@@ -158,6 +182,7 @@ look: /* Shared::lend_until; of a `try_get` it has no end, and a miss changes no
   atomic { wake_workers(MISS) };
 #endif
   atomic {
+    end_wait();
     if
     :: idle > 0 -> idle--; lent++; top_up(); orders = ordered > 0; goto took
     :: idle == 0 && IS_TRYING -> goto calls
@@ -169,6 +194,7 @@ look: /* Shared::lend_until; of a `try_get` it has no end, and a miss changes no
 #if !defined(WAKES_BEFORE_THE_STEP) && !defined(WAKES_AFTER_THE_WAIT)
        if :: ordered > 0 -> wake_workers(MISS) :: else fi;
 #endif
+       begin_wait();
 #ifdef WAITS_AFTER_UNLOCKING
        goto unlocked
 #else
@@ -197,14 +223,13 @@ woken:
 #endif
   goto look;
 
-gives_up: /* Shared::lend_until, which has taken the latest error and let the lock go */
-  atomic {
+gives_up: /* Shared::lend_until, which has the lock again and takes the latest error */
 #ifdef PASSES_ON_ONLY_WHERE_ONE_IS_IDLE
-    if :: idle > 0 -> wake_caller(GIVING_UP) :: else fi
+  atomic { end_wait(); wakes = somebody_waits && idle > 0 };
 #else
-    wake_caller(GIVING_UP)
+  atomic { end_wait(); wakes = somebody_waits };
 #endif
-  };
+  if :: wakes -> atomic { wakes = false; wake_caller(GIVING_UP) } :: else fi;
   goto calls;
 
 took: /* Shared::wake, after a take that found */
@@ -213,15 +238,15 @@ took: /* Shared::wake, after a take that found */
 has: /* Shared::if_sound, then the caller's own use, then AnyConnection::drop */
   if
   :: MAY_STAY -> goto stays
-  :: atomic { CHECKS -> lent--; top_up(); orders = ordered > 0 };    /* Shared::settle, of one that is unsound */
-     atomic { wake_caller(CHECK) };
+  :: atomic { CHECKS -> lent--; top_up(); orders = ordered > 0; wakes = somebody_waits };  /* Shared::settle, of one that is unsound */
+     if :: wakes -> atomic { wakes = false; wake_caller(CHECK) } :: else fi;
      if :: orders -> atomic { orders = false; wake_workers(CHECK) } :: else fi;
      if :: MAY_STAY -> goto stays :: true fi;                       /* Hooks::release */
      goto look
-  :: atomic { lent--; idle++; sound() };                            /* Shared::put_back, kept */
-     atomic { wake_caller(KEPT) }
-  :: atomic { lent--; top_up(); orders = ordered > 0 };              /* Shared::put_back, closed */
-     atomic { wake_caller(CLOSED) };
+  :: atomic { lent--; idle++; sound(); wakes = somebody_waits };     /* Shared::put_back, kept */
+     if :: wakes -> atomic { wakes = false; wake_caller(KEPT) } :: else fi
+  :: atomic { lent--; top_up(); orders = ordered > 0; wakes = somebody_waits };  /* Shared::put_back, closed */
+     if :: wakes -> atomic { wakes = false; wake_caller(CLOSED) } :: else fi;
      if :: orders -> atomic { orders = false; wake_workers(CLOSED) } :: else fi;
      if :: MAY_STAY -> goto stays :: true fi                        /* Hooks::release */
   fi;
@@ -252,6 +277,7 @@ gone:
 /* Shared::work */
 active [WORKERS] proctype worker() {
   bool orders, closes;    /* what the reap just made has done */
+  bool wakes;             /* the step just made is to wake a caller, and one waits */
 begins: /* Tied::begin; what is closed has nothing due any more */
   atomic {
     if
@@ -263,7 +289,7 @@ begins: /* Tied::begin; what is closed has nothing due any more */
        :: idle > 0 -> idle--; closes = true
        :: break
        od;
-       top_up(); orders = ordered > 0;
+       top_up(); orders = ordered > 0; wakes = closes && somebody_waits; closes = false;
        goto reaped
     :: !closed && due == 0 && !reap_due ->
 #ifdef RESTS_AFTER_UNLOCKING
@@ -285,9 +311,9 @@ opens: /* Shared::open: the manager, the customizer, and the event between the n
   if
   :: WORKER_MAY_STAY -> goto stays
   :: atomic {                                                       /* Shared::settle, of one that was opened */
-       if :: closed -> goto begins :: else -> in_work--; idle++; sound() fi
+       if :: closed -> goto begins :: else -> in_work--; idle++; sound(); wakes = somebody_waits fi
      };
-     atomic { wake_caller(ADMISSION) }
+     if :: wakes -> atomic { wakes = false; wake_caller(ADMISSION) } :: else fi
   :: FAILURES ->
      atomic {                                                       /* Shared::settle, of one that failed */
        if :: closed -> goto begins :: else -> in_work--; later++; sound() fi
@@ -298,7 +324,7 @@ opens: /* Shared::open: the manager, the customizer, and the event between the n
   goto begins;
 
 reaped: /* Shared::wake, then Shared::release_all */
-  if :: closes -> atomic { closes = false; wake_caller(REAP) } :: else fi;
+  if :: wakes -> atomic { wakes = false; wake_caller(REAP) } :: else fi;
   if :: orders -> atomic { orders = false; wake_workers(REAP) } :: else fi;
   if :: WORKER_MAY_STAY -> goto stays :: true fi;
   goto begins;

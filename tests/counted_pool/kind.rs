@@ -3,7 +3,7 @@
 use r2d2::{
     Builder, CountedConnection, CountedPool, CustomizeConnection, Error, HandleError, HandleEvent,
     ManageConnection, NopConnectionCustomizer, NopErrorHandler, NopEventHandler, PoolRuntime,
-    State,
+    State, Status,
 };
 use r2d2_core::Report;
 use std::marker::Brand;
@@ -73,6 +73,10 @@ impl<
 
     pub(crate) fn state(&self) -> State {
         self.pool.state()
+    }
+
+    pub(crate) fn status(&self) -> Status {
+        self.pool.status()
     }
 
     pub(crate) fn journal(&self) -> Result<Report, Error> {

@@ -24,6 +24,8 @@ mod opening;
 #[cfg(test)]
 mod order;
 #[cfg(test)]
+mod status;
+#[cfg(test)]
 mod stress;
 #[cfg(test)]
 mod taking_turns;

@@ -36,6 +36,8 @@ mod order;
 #[cfg(test)]
 mod settings;
 #[cfg(test)]
+mod status;
+#[cfg(test)]
 mod stress;
 #[cfg(test)]
 mod surface;

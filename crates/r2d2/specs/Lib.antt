@@ -7,3 +7,4 @@ pub mod Settled
 pub use Rattle.r2d2_core.specs.Limits
 pub mod Counted
 pub mod Lent
+pub mod Status

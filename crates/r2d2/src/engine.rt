@@ -29,6 +29,16 @@ pub struct Wakes {
 impl Wakes {
     ghost use Rattle.r2d2.specs.Wakes.{nobody, workers_for, caller_and_workers_for};
 
+    // One caller alone.
+    pub(crate) fn a_caller() -> Wakes
+        ensures { result ≡ caller_and_workers_for 0 }
+    {
+        Wakes {
+            caller: true,
+            workers: false,
+        }
+    }
+
     // After a refusal, or a reading.
     pub(crate) fn nobody() -> Wakes
         ensures { result ≡ nobody }

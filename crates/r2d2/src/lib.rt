@@ -42,7 +42,7 @@ pub use error::{Error, ErrorKind};
 pub use event::{HandleEvent, NopEventHandler};
 pub use extensions::{Extension, Extensions};
 pub use pool::{
-    CountedConnection, CountedPool, PlainPool, Pool, PoolRuntime, PooledConnection, State,
+    CountedConnection, CountedPool, PlainPool, Pool, PoolRuntime, PooledConnection, State, Status,
 };
 pub use r2d2_core::{LendingOrder, journal, machine, reuse, run, schedule, steps};
 

@@ -6,7 +6,7 @@ ghost use Rattle.r2d2_core.specs.Reports.{DoesReplay, HasSoundCounts, CountsItsT
 use self::closing::Closer;
 use self::lent::AnyConnection;
 use self::locking::SharedOf;
-pub use self::state::State;
+pub use self::state::{State, Status};
 use crate::config::{Builder, Config};
 use crate::engine::{NoCount, Takes, Ties};
 use crate::event::{HandleEvent, NopEventHandler};
@@ -78,6 +78,7 @@ impl<C: Ties, M: ManageConnection, K: Hooks<M>, R: PoolRuntime> Model for AnyPoo
 
 impl<C: Ties, M: ManageConnection, K: Hooks<M>, R: PoolRuntime> AnyPool<C, M, K, R> {
     ghost use Rattle.r2d2.specs.Failures.{IsOfMemory};
+    ghost use Rattle.r2d2.specs.Status.{IsStatus};
 
     // What it shares with its workers and with what it lends.
     fn shared(&self) -> &SharedOf<C, M, K, R>
@@ -91,6 +92,13 @@ impl<C: Ties, M: ManageConnection, K: Hooks<M>, R: PoolRuntime> AnyPool<C, M, K,
         ensures { result.idle_connections ≤ result.connections }
     {
         self.shared().state()
+    }
+
+    /// What the pool is doing at this moment, in one look at it.
+    pub fn status(&self) -> Status
+        ensures { IsStatus result }
+    {
+        self.shared().status()
     }
 
     /// What happened last, as far back as the setting `journal_room` reaches, what stood before that, and what there

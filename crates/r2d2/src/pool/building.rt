@@ -5,7 +5,7 @@ ghost use Rattle.std.specs.Arc.{arc_value};
 ghost use Rattle.r2d2.specs.Failures.{IsOfMemoryOrThreads};
 
 use super::closing::Closer;
-use super::locking::{Shared, SharedOf};
+use super::locking::{Guarded, Shared, SharedOf};
 use super::{AnyPool, CountedPool, Pool, PoolRuntime};
 use crate::config::{Builder, Config};
 use crate::engine::{Counted, Tied, Ties};
@@ -104,7 +104,7 @@ type Prepared<M, H, V, Z> = (
 // The pool over what its lock is to guard, with a worker for each list.
 fn open_pool<C: Ties + Send + 'static, M: ManageConnection, K: Hooks<M>, R: PoolRuntime>(
     rt: R,
-    guarded: Tied<PayloadOf<M>, C>,
+    book: Tied<PayloadOf<M>, C>,
     hooks: K,
     manager: M,
     lists: Vec<Vec<Released<PayloadOf<M>>>>,
@@ -112,7 +112,7 @@ fn open_pool<C: Ties + Send + 'static, M: ManageConnection, K: Hooks<M>, R: Pool
     ensures settings { IfOk result (λ pool. pool ≡ hooks) }
     ensures refused { IfErr result IsOfMemoryOrThreads }
 {
-    let closer = shared_state(rt, guarded, hooks, manager).map_err(|_| Error::memory())?;
+    let closer = shared_state(rt, book, hooks, manager).map_err(|_| Error::memory())?;
     start_workers(&closer, lists)?;
     Ok(AnyPool { closer })
 }
@@ -149,7 +149,7 @@ fn reap_lists<P: Drop>(
 // The state that workers, pools and lent connections share.
 fn shared_state<P: Drop, C: Ties, M: Drop, K: Drop, R: PoolRuntime>(
     rt: R,
-    guarded: Tied<P, C>,
+    book: Tied<P, C>,
     hooks: K,
     manager: M,
 ) -> Result<Arc<Closer<P, C, M, K, R>>, AllocError>
@@ -157,7 +157,7 @@ fn shared_state<P: Drop, C: Ties, M: Drop, K: Drop, R: PoolRuntime>(
 {
     let made = Instant::now(&rt).ok();
     let shared = Shared {
-        guarded: Mutex::new(guarded),
+        guarded: Mutex::new(Guarded::new(book)),
         callers: Condvar::new(),
         workers: Condvar::new(),
         manager,

@@ -62,6 +62,21 @@ impl<C: Ties, M: ManageConnection, K: Hooks<M>, R: PoolRuntime> AnyConnection<C,
     ghost use Rattle.r2d2.specs.contracts.extensions.Extensions.{the_row as extensions_row};
     ghost use Rattle.r2d2.specs.contracts.pool.lent.AnyConnection.{the_row};
 
+    /// The number that the pool gave the connection when it was opened: that of the events and of the journal. No other
+    /// connection of the pool ever has it.
+    pub fn id(this: &Self) -> u64
+        ensures { result ≡ this.now.id }
+    {
+        this.lent.id
+    }
+
+    /// When it was lent, as a time since the pool was made: the moment that the checkout event tells.
+    pub fn lent_at(this: &Self) -> Duration
+        ensures { result ≡ this.now.lent_at }
+    {
+        this.lent_at
+    }
+
     /// What is kept beside the connection. It stays with the connection from one caller to the next, until it is
     /// closed.
     pub fn extensions(this: &Self) -> &Extensions<M::Extension>

@@ -1,9 +1,9 @@
 // The lock of a pool, and each step that is made under it.
-ghost use Rattle.std.specs.Prelude.{◌≤◌, IfOk};
+ghost use Rattle.std.specs.Prelude.{◌≡◌, ◌≤◌, ◌+◌, ◌-◌, ◌^◌, min, IfOk};
 ghost use Rattle.r2d2_core.specs.Reports.{DoesReplay, HasSoundCounts, CountsItsTakes, BeginsAtAMaking};
 
-use super::State;
 use super::lent::Lent;
+use super::{State, Status};
 use crate::engine::{Outcome, Settled, Tied, Ties, Wakes};
 use crate::payload::PayloadOf;
 use r2d2_core::machine::Leftover;
@@ -13,10 +13,56 @@ use std::rt::Clock;
 use std::sync::{Condvar, Mutex, Wait};
 use std::time::{Duration, Instant};
 
+/// What the lock guards: the book, and how many callers wait.
+#[derive(Drop)]
+pub struct Guarded<B> {
+    pub(super) book: B,
+    /// Those at a wait who have not the lock again. So it is at least the number of those whom a wake can reach.
+    waiting: u64,
+}
+
+impl<B> Guarded<B> {
+    ghost use Rattle.r2d2.specs.Wakes.{who_waits};
+
+    /// A book for which nobody waits yet.
+    pub(super) fn new(book: B) -> Guarded<B>
+        ensures book { result.book ≡ book }
+        ensures waiting { result.waiting ≡ 0 }
+    {
+        Guarded { book, waiting: 0 }
+    }
+
+    /// One caller more waits.
+    pub(super) fn begin_wait(&mut self)
+        ensures book { self.new.book ≡ self.old.book }
+        ensures waiting { self.new.waiting ≡ min (self.old.waiting + 1) (2 ^ 64 - 1) }
+    {
+        self.waiting = self.waiting.saturating_add(1);
+    }
+
+    /// One caller less waits.
+    pub(super) fn end_wait(&mut self)
+        ensures book { self.new.book ≡ self.old.book }
+        ensures waiting { self.new.waiting ≡ self.old.waiting - 1 }
+    {
+        self.waiting = self.waiting.saturating_sub(1);
+    }
+
+    /// Of those to be woken, who is there: no caller where none waits.
+    pub(super) fn who_waits(&self, wakes: Wakes) -> Wakes
+        ensures { result ≡ who_waits self.now.waiting wakes }
+    {
+        Wakes {
+            caller: wakes.caller && self.waiting > 0,
+            workers: wakes.workers,
+        }
+    }
+}
+
 /// What workers, pools and lent connections share. The lock is held for the book's steps alone.
 #[derive(Drop)]
 pub struct Shared<B, M, K, R> {
-    pub(super) guarded: Mutex<B>,
+    pub(super) guarded: Mutex<Guarded<B>>,
     /// Where callers wait for a connection.
     pub(super) callers: Condvar,
     /// Where workers wait for something to do.
@@ -64,7 +110,8 @@ impl<B, M, K, R> Shared<B, M, K, R> {
     {
         // Modelled in model/waiting.pml: keep both alike.
         let mut guarded = self.guarded.lock(&self.rt);
-        let (answer, wakes) = call(&mut guarded, self.moment());
+        let (answer, wakes) = call(&mut guarded.book, self.moment());
+        let wakes = guarded.who_waits(wakes);
         drop(guarded);
         self.wake(wakes);
         answer
@@ -72,11 +119,21 @@ impl<B, M, K, R> Shared<B, M, K, R> {
 }
 
 impl<P: Drop, C: Ties, M, K, R: Clock + Wait> Shared<Tied<P, C>, M, K, R> {
+    ghost use Rattle.r2d2.specs.Status.{IsStatus};
+
     /// The counts.
     pub(super) fn state(&self) -> State
         ensures { result.idle_connections ≤ result.connections }
     {
         self.step(|guarded, _now| (State::of(guarded.book()), Wakes::nobody()))
+    }
+
+    /// The counts, with those of the callers who wait.
+    pub(super) fn status(&self) -> Status
+        ensures { IsStatus result }
+    {
+        let guarded = self.guarded.lock(&self.rt);
+        Status::of(guarded.book.book(), guarded.waiting)
     }
 
     /// What the book reports.

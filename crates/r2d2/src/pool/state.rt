@@ -1,5 +1,6 @@
 // The counts of a pool.
 ghost use Rattle.std.specs.Prelude.{◌≡◌, ◌≤◌, length};
+ghost use Rattle.r2d2_core.specs.Limits.{wanted_of};
 
 use r2d2_core::Book;
 use std::fmt;
@@ -25,6 +26,56 @@ impl State {
             connections: book.connections(),
             idle_connections: book.idle(),
             of_a_pool: (),
+        }
+    }
+}
+
+/// What a pool is doing at one moment. `lent` and `idle` together are `connections`; `connections` and `opening`
+/// together are at most `max_size`; and unless the pool is closed, `idle` and `opening` together reach `wanted`, or
+/// there is no room for more.
+#[derive(Clone, Copy, PartialEq, Eq, Debug)]
+pub struct Status {
+    /// How many connections there are at most.
+    pub max_size: u32,
+    /// How many the pool tries to keep idle: `min_idle`, or else `max_size`.
+    pub wanted: u32,
+    /// How many there are, idle and lent.
+    pub connections: u32,
+    pub idle: u32,
+    pub lent: u32,
+    /// How many are ordered and not there yet, those among them that failed and will be tried again.
+    pub opening: u32,
+    /// How many callers wait for a connection.
+    pub waiting: u64,
+    /// Whether it is closed: then nothing is idle, and nothing is opened.
+    pub closed: bool,
+}
+
+impl Status {
+    ghost use Rattle.r2d2.specs.Status.{IsStatus};
+
+    // What the book shows, with so many callers who wait.
+    pub(super) fn of<P>(book: &Book<P>, waiting: u64) -> Status
+        ensures sums { IsStatus result }
+        ensures max_size { result.max_size ≡ book.now.picture.on_order.limits.max_size }
+        ensures wanted { result.wanted ≡ wanted_of book.now.picture.on_order.limits }
+        ensures idle { result.idle ≡ length book.now.picture.idle }
+        ensures lent { result.lent ≡ length book.now.picture.lent }
+        ensures opening { result.opening ≡ book.now.picture.on_order.pending }
+        ensures waiting { result.waiting ≡ waiting }
+        ensures closed { result.closed ≡ book.now.picture.on_order.closed }
+    {
+        let limits = book.limits();
+        let (connections, idle) = (book.connections(), book.idle());
+        Status {
+            max_size: limits.max_size(),
+            wanted: limits.wanted(),
+            connections,
+            idle,
+            lent: connections - idle,
+            opening: book.pending(),
+            waiting,
+            closed: book.is_closed(),
         }
     }
 }

@@ -39,7 +39,7 @@ impl<P: Drop, C: Counter, M, K, R: Clock + Wait> Shared<Tied<P, C>, M, K, R> {
         let mut guarded = self.guarded.lock(&self.rt);
         for _ in self.rt.forever() {
             let now = self.moment();
-            let (taken, wakes) = guarded.lend(now, end.is_some(), tally);
+            let (taken, wakes) = guarded.book.lend(now, end.is_some(), tally);
             let found = Lent::of(taken);
             let (Some(end), None) = (end, &found) else {
                 drop(guarded);
@@ -49,13 +49,16 @@ impl<P: Drop, C: Counter, M, K, R: Clock + Wait> Shared<Tied<P, C>, M, K, R> {
             // Before the wait, which lets the lock go.
             self.wake(wakes);
             let left = end.saturating_sub(now);
+            guarded.begin_wait();
             let (again, outcome) = self.callers.wait_timeout(&self.rt, guarded, left);
             guarded = again;
+            guarded.end_wait();
             if outcome.timed_out() {
-                let error = guarded.take_error();
-                drop(guarded);
+                let error = guarded.book.take_error();
                 // A wait tells a timeout by the clock after it woke: the wake may have been this caller's, and is another's now.
-                self.callers.notify_one();
+                let wakes = guarded.who_waits(Wakes::a_caller());
+                drop(guarded);
+                self.wake(wakes);
                 return Err(error);
             }
         }
@@ -65,14 +68,17 @@ impl<P: Drop, C: Counter, M, K, R: Clock + Wait> Shared<Tied<P, C>, M, K, R> {
     /// Waits until there are so many connections, and as long as this at most. Past that it answers the latest error of an opening or a check.
     pub(super) fn wait_for(&self, wanted: u32, timeout: Duration) -> Result<(), Option<String>> {
         // Modelled in model/waiting.pml: keep both alike.
+        let mut guarded = self.guarded.lock(&self.rt);
+        guarded.begin_wait();
         let (mut guarded, outcome) = self.callers.wait_timeout_while(
             &self.rt,
-            self.guarded.lock(&self.rt),
+            guarded,
             timeout,
-            |guarded| guarded.book().connections() < wanted,
+            |guarded| guarded.book.book().connections() < wanted,
         );
+        guarded.end_wait();
         if outcome.timed_out() {
-            return Err(guarded.take_error());
+            return Err(guarded.book.take_error());
         }
         Ok(())
     }
@@ -85,13 +91,14 @@ impl<C: Ties, M: ManageConnection, K: Hooks<M>, R: PoolRuntime> SharedOf<C, M, K
         for _ in self.rt.forever() {
             let mut guarded = self.guarded.lock(&self.rt);
             let now = self.moment();
-            match guarded.begin(now) {
+            match guarded.book.begin(now) {
                 Job::Open { tries } => {
                     drop(guarded);
                     self.open(tries);
                 }
                 Job::Reap => {
-                    let wakes = guarded.reap(self.moment(), &mut expired);
+                    let wakes = guarded.book.reap(self.moment(), &mut expired);
+                    let wakes = guarded.who_waits(wakes);
                     drop(guarded);
                     self.wake(wakes);
                     self.release_all(&mut expired);
@@ -148,6 +155,6 @@ impl<P: Drop, L: Ledger, M, K, R: Clock + Wait> Shared<Counted<P, L>, M, K, R> {
         ensures amount { all.new.amount ≡ all.old.amount }
         ensures parts { all.new.parts ≡ all.old.parts }
     {
-        self.guarded.lock(&self.rt).audit(all)
+        self.guarded.lock(&self.rt).book.audit(all)
     }
 }
