@@ -43,6 +43,13 @@
 #define BUILD 0           /* 1: the first caller is `build` before the others have the pool; 2: and may give up */
 #endif
 
+#ifndef CLOSERS
+#define CLOSERS 0         /* so many call `drain` while the others have the pool */
+#endif
+#ifndef HASTY
+#define HASTY 0           /* 1: a drain may give up */
+#endif
+
 /* The steps after which somebody is woken, so that a wake can be left out: -DNO_CALLER_AFTER=KEPT */
 #define KEPT 1            /* a return that was kept */
 #define CLOSED 2          /* a return that was closed */
@@ -53,7 +60,8 @@
 #define MISS 7            /* a take that found none */
 #define TAKE 8            /* a take that found one */
 #define FAILURE 9         /* a failed opening */
-#define CLOSE 10          /* the last drop */
+#define CLOSE 10          /* the last drop, or a call of `close` */
+#define DRAIN 11          /* the end of a drain */
 #ifndef NO_CALLER_AFTER
 #define NO_CALLER_AFTER 0
 #endif
@@ -72,14 +80,15 @@ bool reap_due, closed;
 #define room (SIZE - connections - pending)
 
 /* The two variables. Who waits at one is awake again as soon as its place here says so. */
-bool waiting[CALLERS];
+#define WAITERS (CALLERS + CLOSERS)
+bool waiting[WAITERS];
 #define AWAKE 0
 #define NOTHING 1         /* rests until it is woken */
 #define UNTIL 2           /* or until the first moment that something falls due */
 byte resting[WORKERS];
 
 byte counted;             /* Guarded::waiting: those who began to wait and have not the lock again */
-byte holders = CALLERS;   /* those who hold the pool */
+byte holders = WAITERS;   /* those who hold the pool */
 bool built = (BUILD == 0);
 hidden byte ordered, k;   /* for use inside one step alone */
 
@@ -100,13 +109,13 @@ inline top_up() {
 inline wake_caller(step) {
   if
   :: step != NO_CALLER_AFTER && waiting[0] -> waiting[0] = false
-#if CALLERS > 1
+#if WAITERS > 1
   :: step != NO_CALLER_AFTER && waiting[1] -> waiting[1] = false
 #endif
-#if CALLERS > 2
+#if WAITERS > 2
   :: step != NO_CALLER_AFTER && waiting[2] -> waiting[2] = false
 #endif
-#if CALLERS > 3
+#if WAITERS > 3
   :: step != NO_CALLER_AFTER && waiting[3] -> waiting[3] = false
 #endif
   :: else
@@ -120,6 +129,24 @@ inline wake_workers(step) {
      for (k : 0 .. WORKERS - 1) { resting[k] = AWAKE }
   :: else
   fi
+}
+
+/* Shared::close, of all callers: `notify_all`. */
+inline wake_callers(step) {
+#ifdef CLOSE_WAKES_ONE
+  wake_caller(step)
+#else
+  if
+  :: step != NO_CALLER_AFTER ->
+     for (k : 0 .. WAITERS - 1) { waiting[k] = false }
+  :: else
+  fi
+#endif
+}
+
+/* Book::close */
+inline close() {
+  idle = 0; due = 0; later = 0; in_work = 0; reap_due = false; closed = true
 }
 
 /* Guarded::begin_wait and end_wait, under the lock. */
@@ -186,8 +213,13 @@ look: /* Shared::lend_until; of a `try_get` it has no end, and a miss changes no
     if
     :: idle > 0 -> idle--; lent++; top_up(); orders = ordered > 0; goto took
     :: idle == 0 && IS_TRYING -> goto calls
+#ifndef WAITS_WHERE_IT_IS_CLOSED
+    :: idle == 0 && !IS_TRYING && closed -> goto calls
+    :: idle == 0 && !IS_TRYING && !closed ->
+#else
     :: idle == 0 && !IS_TRYING ->
-       ordered = (room > 0 -> 1 : 0);
+#endif
+       ordered = (!closed && room > 0 -> 1 : 0);
        due = due + ordered;
        sound();
        /* Woken while the lock is still held, and then the wait lets it go: nobody can step in between. */
@@ -243,9 +275,9 @@ has: /* Shared::if_sound, then the caller's own use, then AnyConnection::drop */
      if :: orders -> atomic { orders = false; wake_workers(CHECK) } :: else fi;
      if :: MAY_STAY -> goto stays :: true fi;                       /* Hooks::release */
      goto look
-  :: atomic { lent--; idle++; sound(); wakes = somebody_waits };     /* Shared::put_back, kept */
+  :: atomic { !closed -> lent--; idle++; sound(); wakes = somebody_waits };     /* Shared::put_back, kept */
      if :: wakes -> atomic { wakes = false; wake_caller(KEPT) } :: else fi
-  :: atomic { lent--; top_up(); orders = ordered > 0; wakes = somebody_waits };  /* Shared::put_back, closed */
+  :: atomic { lent--; top_up(); orders = ordered > 0; wakes = somebody_waits };  /* Shared::put_back, closed; or AnyConnection::detach */
      if :: wakes -> atomic { wakes = false; wake_caller(CLOSED) } :: else fi;
      if :: orders -> atomic { orders = false; wake_workers(CLOSED) } :: else fi;
      if :: MAY_STAY -> goto stays :: true fi                        /* Hooks::release */
@@ -261,7 +293,7 @@ let_go: /* Closer::drop, where it was the last one, and Shared::close */
     holders--;
     if :: holders > 0 -> goto gone :: else fi
   };
-  atomic { idle = 0; due = 0; later = 0; in_work = 0; reap_due = false; closed = true };   /* Shared::close */
+  atomic { close() };
 #ifdef DROPS_BEFORE_IT_WAKES
   if :: MAY_STAY -> goto stays :: true fi;
 #endif
@@ -366,11 +398,46 @@ end_after_it:
 /* Where nobody can go on any more: no caller sleeps unless all connections are with those who stay for good, and no
    worker rests while an opening is due, or once the pool is closed. */
 active proctype judge() {
-  byte asleep;
+  byte asleep, draining;
   atomic {
     timeout ->
     for (k : 0 .. CALLERS - 1) { asleep = asleep + waiting[k] };
-    assert(asleep == 0 || (built && idle == 0 && due == 0 && (lent + in_work == SIZE || asleep <= in_work)));
+    assert(asleep == 0 || (!closed && built && idle == 0 && due == 0 && (lent + in_work == SIZE || asleep <= in_work)));
     for (k : 0 .. WORKERS - 1) { assert(resting[k] == AWAKE || (!closed && due == 0)) }
+#if CLOSERS
+    for (k : CALLERS .. WAITERS - 1) { draining = draining + waiting[k] };
+    assert(draining == 0 || lent > 0)
+#endif
   }
 }
+
+#if CLOSERS
+#define SEAT (_pid - WORKERS - 2)
+
+/* AnyPool::drain, by one who has the pool as the callers do. */
+active [CLOSERS] proctype closer() {
+  bool wakes;             /* it is to wake another one, and one waits */
+  bool waits;
+  atomic { close() };                                               /* Shared::close */
+  atomic { wake_workers(CLOSE) };
+  atomic { wake_callers(CLOSE) };
+
+looks: /* Shared::wait_for_returns */
+  atomic {
+    if
+    :: lent == 0 -> end_wait(); wakes = somebody_waits; goto drained
+    :: lent > 0 -> begin_wait(); waiting[SEAT] = true
+    fi
+  };
+end_draining:
+  if
+  :: !waiting[SEAT] -> goto looks
+  :: HASTY -> waiting[SEAT] = false
+  fi;
+  atomic { end_wait(); wakes = somebody_waits };
+
+drained:
+  if :: wakes -> atomic { wakes = false; wake_caller(DRAIN) } :: else fi;
+  holders--                                                         /* what is closed has nothing more to close */
+}
+#endif

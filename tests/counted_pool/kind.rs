@@ -79,6 +79,14 @@ impl<
         self.pool.status()
     }
 
+    pub(crate) fn close(&self) {
+        self.pool.close();
+    }
+
+    pub(crate) fn drain(&self, timeout: Duration) -> Result<(), Status> {
+        self.pool.drain(timeout)
+    }
+
     pub(crate) fn journal(&self) -> Result<Report, Error> {
         self.pool.journal()
     }

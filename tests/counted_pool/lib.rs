@@ -8,6 +8,10 @@ mod closing;
 #[cfg(test)]
 mod closing_amid;
 #[cfg(test)]
+mod detaching;
+#[cfg(test)]
+mod draining;
+#[cfg(test)]
 mod extremes;
 #[cfg(test)]
 mod journal;

@@ -12,6 +12,10 @@ mod closing_amid;
 #[cfg(test)]
 mod counting;
 #[cfg(test)]
+mod detaching;
+#[cfg(test)]
+mod draining;
+#[cfg(test)]
 mod engine;
 #[cfg(test)]
 mod extensions;

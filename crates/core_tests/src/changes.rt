@@ -1,5 +1,6 @@
 // Each field of a report's base and records, changed by itself: the report replays where a second reading says that it does.
 
+use crate::checks::answered;
 use crate::replays::{Found, read};
 use crate::steps::{admit, begin, close, limits, number, put_back, reap, take, want};
 use r2d2_core::{
@@ -213,9 +214,9 @@ impl Story {
     // What a book of it reports that keeps so many records.
     fn report(self, alloc: Global, order: LendingOrder, room: usize) -> Result<Report, Fail> {
         let limits = self.limits().ok_or("limits")?.with_order(order);
-        let mut book = Book::new(alloc, limits, Duration::ZERO, room)?;
+        let mut book = Book::<u64>::new(alloc, limits, Duration::ZERO, room)?;
         for step in self.steps(alloc)? {
-            book.answer(alloc, step)?;
+            answered(alloc, &mut book, step)?;
         }
         Ok(book.report()?)
     }

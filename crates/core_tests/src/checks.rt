@@ -2,8 +2,8 @@
 // it fails.
 
 use crate::replays::replays;
-use r2d2_core::{Book, Core, Limits, Report, Step};
-use std::alloc::Allocator;
+use r2d2_core::{Answer, Book, Core, Limits, Report, Step};
+use std::alloc::{AllocError, Allocator, Global};
 use std::fmt::Debug;
 use std::process::Abort;
 use std::time::Duration;
@@ -42,6 +42,15 @@ pub(crate) fn listed<R: Abort + AllocGlobal, const N: usize>(
     Vec::from_array(rt.alloc(), steps).expect(rt, "a list")
 }
 
+// Takes a step by a book.
+pub(crate) fn answered<A: Allocator>(
+    alloc: Global,
+    book: &mut Book<u64, A>,
+    step: Step<u64>,
+) -> Result<Answer<u64, A>, AllocError> {
+    book.answer(alloc, step)
+}
+
 // Takes the steps by a book.
 pub(crate) fn take_all<R: Abort + AllocGlobal, A: Allocator>(
     rt: &R,
@@ -49,7 +58,7 @@ pub(crate) fn take_all<R: Abort + AllocGlobal, A: Allocator>(
     steps: Vec<Step<u64>>,
 ) {
     for step in steps {
-        book.answer(rt.alloc(), step).expect(rt, "an answer");
+        answered(rt.alloc(), book, step).expect(rt, "an answer");
     }
 }
 

@@ -1,7 +1,7 @@
 // Steps at random, from fixed seeds: what `run` and a book answer is what the plain reading answers, what a book shows is what it
 // shows, and each report replays.
 
-use crate::checks::legal;
+use crate::checks::{answered, legal};
 use crate::drafts::{Draft, limits, next_draft};
 use crate::plain::History;
 use crate::replays::replays;
@@ -79,7 +79,7 @@ fn first_unlike_by_book<A: Allocator>(
     book: &mut Book<u64, A>,
 ) -> Result<Option<usize>, AllocError> {
     for (place, (draft, wanted)) in story.drafts.iter().zip(story.answers.iter()).enumerate() {
-        let answer = book.answer(alloc, draft.step(alloc)?)?;
+        let answer = answered(alloc, book, draft.step(alloc)?)?;
         if Said::of(alloc, answer)? != *wanted {
             return Ok(Some(place));
         }
@@ -139,12 +139,17 @@ fn a_hundred_thousand_steps(rt: HostRuntime) {
     }
 }
 
+// Takes a step by the book: whether its report replays then.
+fn replays_after(alloc: Global, book: &mut Book<u64>, draft: &Draft) -> Result<bool, AllocError> {
+    answered(alloc, book, draft.step(alloc)?)?;
+    does_replay(alloc, &book.report()?)
+}
+
 // Whether each report replays that a book with room for so many records makes, step by step.
 fn replays_at_each_step(alloc: Global, story: &Story, room: usize) -> Result<bool, AllocError> {
     let mut book = Book::new(alloc, story.limits, story.made, room)?;
     for draft in story.drafts.iter() {
-        book.answer(alloc, draft.step(alloc)?)?;
-        if !does_replay(alloc, &book.report()?)? {
+        if !replays_after(alloc, &mut book, draft)? {
             return Ok(false);
         }
     }

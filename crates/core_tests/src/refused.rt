@@ -37,11 +37,17 @@ fn is_made_on(heap: &LocalHeap, maker: Maker, limits: Limits) -> bool {
         Maker::Schedule => Schedule::new(heap, limits, now).is_ok(),
         Maker::Core => Core::<u64, &LocalHeap>::new(heap, limits, now).is_ok(),
         Maker::CoreFromId => Core::<u64, &LocalHeap>::with_first_id(heap, limits, now, 9).is_ok(),
-        Maker::Book => Book::<u64, &LocalHeap>::new(heap, limits, now, 8).is_ok(),
-        Maker::BookFromId => {
-            Book::<u64, &LocalHeap>::with_first_id(heap, limits, now, 9, 8).is_ok()
-        }
+        Maker::Book => is_a_book_made_on(heap, limits),
+        Maker::BookFromId => is_a_book_made_from_an_id(heap, limits),
     }
+}
+
+fn is_a_book_made_on(heap: &LocalHeap, limits: Limits) -> bool {
+    Book::<u64, &LocalHeap>::new(heap, limits, Duration::ZERO, 8).is_ok()
+}
+
+fn is_a_book_made_from_an_id(heap: &LocalHeap, limits: Limits) -> bool {
+    Book::<u64, &LocalHeap>::with_first_id(heap, limits, Duration::ZERO, 9, 8).is_ok()
 }
 
 // Whether there was room to make it in so many bytes, and how many are in use when it is gone.

@@ -8,7 +8,7 @@ use pool_lines::program::line::{Line, limits};
 use pool_lines::program::{Fault, serve};
 use r2d2_core::run::run;
 use r2d2_core::{Book, Core, Limits, Step};
-use std::alloc::Global;
+use std::alloc::{AllocError, Global};
 use std::io::BufWriter;
 use std::time::Duration;
 
@@ -118,6 +118,11 @@ fn by_a_book(alloc: Global, script: &str) -> Result<(Vec<u8>, bool), Fault> {
     let mut book: Book<u64, &LocalHeap> = Book::new(&heap, limits, Duration::ZERO, RECORDS)?;
     let _rest: Vec<u8, &LocalHeap> = Vec::with_capacity(&heap, heap.free())?;
     let written = lines_of(alloc, &mut book, lines)?;
+    Ok((written, is_replayed(alloc, &book)?))
+}
+
+// By itself, so that it is proved without the script.
+fn is_replayed(alloc: Global, book: &Book<u64, &LocalHeap>) -> Result<bool, AllocError> {
     let report = book.report_in(alloc)?;
-    Ok((written, replays(alloc, &report)?))
+    replays(alloc, &report)
 }

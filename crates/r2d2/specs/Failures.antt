@@ -1,7 +1,7 @@
 -- What the errors of a pool say.
 use Rattle.std.specs.Prelude.{◌≡◌, ◌⊎◌, ℕ, List, ◌++◌, Option, Some, None, codes}
 use Rattle.r2d2.specs.declared.error.ErrorKind.{ErrorKind}
-use Rattle.r2d2.specs.declared.error.ErrorKind.TheVariants.{Timeout, Memory, Threads}
+use Rattle.r2d2.specs.declared.error.ErrorKind.TheVariants.{Timeout, Memory, Threads, Closed}
 
 -- what a contract sees of an error: why the call failed, and the bytes of the latest error of an opening or a check, where one is known
 pub record Failure : Type 0 where
@@ -14,6 +14,7 @@ text_of Timeout None = codes "timed out waiting for connection"
 text_of Timeout (Some message) = codes "timed out waiting for connection: " ++ message
 text_of Memory _ = codes "out of memory"
 text_of Threads _ = codes "a worker could not be started"
+text_of Closed _ = codes "the pool is closed"
 
 -- what an error displays
 abbrev pub error_text : Failure → List ℕ
@@ -23,9 +24,9 @@ error_text e = text_of e.kind e.message
 abbrev pub IsOfMemory : Failure → Type 0
 IsOfMemory e = e.kind ≡ Memory
 
--- memory was refused, or no connection came in time
-abbrev pub IsOfMemoryOrTime : Failure → Type 0
-IsOfMemoryOrTime e = (e.kind ≡ Memory) ⊎ (e.kind ≡ Timeout)
+-- memory was refused, no connection came in time, or the pool is closed
+abbrev pub IsOfAGet : Failure → Type 0
+IsOfAGet e = (e.kind ≡ Memory) ⊎ ((e.kind ≡ Timeout) ⊎ (e.kind ≡ Closed))
 
 -- memory was refused, or a thread
 abbrev pub IsOfMemoryOrThreads : Failure → Type 0

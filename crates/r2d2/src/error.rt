@@ -16,10 +16,13 @@ pub enum ErrorKind {
     Memory,
     /// A worker's thread could not be started.
     Threads,
+    /// The pool was closed.
+    Closed,
 }
 
 /// Why a call failed, and for a timeout the latest error of an opening or a check, where one is known. It displays as
-/// `timed out waiting for connection`, then `: ` and that text; as `out of memory`; or as `a worker could not be started`.
+/// `timed out waiting for connection`, then `: ` and that text; as `out of memory`; as `a worker could not be started`; or as
+/// `the pool is closed`.
 #[derive(Debug, Drop)]
 pub struct Error {
     kind: ErrorKind,
@@ -67,6 +70,16 @@ impl Error {
         }
     }
 
+    /// The pool was closed.
+    pub(crate) fn closed() -> Error
+        ensures kind { result.kind ≡ ErrorKind.Closed }
+    {
+        Error {
+            kind: ErrorKind::Closed,
+            message: None,
+        }
+    }
+
     /// Why the call failed.
     pub fn kind(&self) -> ErrorKind
         ensures { result ≡ self.now.kind }
@@ -100,6 +113,7 @@ impl fmt::Display for Error {
             (ErrorKind::Timeout, None) => write!(f, "timed out waiting for connection"),
             (ErrorKind::Memory, _) => write!(f, "out of memory"),
             (ErrorKind::Threads, _) => write!(f, "a worker could not be started"),
+            (ErrorKind::Closed, _) => write!(f, "the pool is closed"),
         }
     }
 }

@@ -33,6 +33,9 @@ pub trait Hooks<M: ManageConnection>: Send + Sync + Drop + 'static {
     /// What was lent at `lent_at` came back at `now`.
     fn check_in(&self, id: u64, lent_at: Duration, now: Duration);
 
+    /// A connection is no longer the pool's: its event alone.
+    fn gone(&self, id: u64, age: Duration);
+
     /// A connection was closed: its event, then the customizer.
     fn release(&self, id: u64, age: Duration, connection: M::Connection);
 }
@@ -75,8 +78,12 @@ impl<
         self.event_handler.handle_checkin(event);
     }
 
-    fn release(&self, id: u64, age: Duration, connection: M::Connection) {
+    fn gone(&self, id: u64, age: Duration) {
         self.event_handler.handle_release(ReleaseEvent::of(id, age));
+    }
+
+    fn release(&self, id: u64, age: Duration, connection: M::Connection) {
+        Hooks::<M>::gone(self, id, age);
         self.connection_customizer.on_release(connection);
     }
 }

@@ -1,5 +1,5 @@
 //! The pool: one lock round its book, workers that open connections, and what it lends.
-ghost use Rattle.std.specs.Prelude.{◌≡◌, ℕ, ◌≤◌, IfOk, IfErr, IfSome};
+ghost use Rattle.std.specs.Prelude.{◌≡◌, ℕ, ◌≤◌, ◌<◌, IfOk, IfErr, IfSome};
 ghost use Rattle.std.specs.Arc.{arc_value};
 ghost use Rattle.r2d2_core.specs.Reports.{DoesReplay, HasSoundCounts, CountsItsTakes, BeginsAtAMaking};
 
@@ -114,6 +114,23 @@ impl<C: Ties, M: ManageConnection, K: Hooks<M>, R: PoolRuntime> AnyPool<C, M, K,
         self.shared().report().map_err(|_| Error::memory())
     }
 
+    /// Closes the pool now, though pools over it and lent connections are still there. What is idle is dropped, as by the
+    /// last drop, and nothing is opened any more. Who waits in a `get`, or calls one later, gets
+    /// `ErrorKind::Closed` at once; `try_get` finds none. Lent connections are closed as they come back, the
+    /// workers end. A second close does nothing.
+    pub fn close(&self) {
+        drop(self.shared().close());
+    }
+
+    /// Closes the pool, and waits until nothing is lent any more, about as long as `timeout` at most. The error is the status
+    /// past that, in which at least one connection is lent.
+    pub fn drain(&self, timeout: Duration) -> Result<(), Status>
+        ensures { IfErr result (λ status. IsStatus status × (0 < status.lent)) }
+    {
+        self.close();
+        self.shared().wait_for_returns(timeout)
+    }
+
     /// Another pool over the same connections, for another thread. The error is lack of memory.
     pub fn try_clone(&self) -> Result<AnyPool<C, M, K, R>, Error>
         ensures settings { IfOk result (λ pool. pool ≡ self.now) }
@@ -183,7 +200,7 @@ impl<
     Z: CustomizeConnection<M::Connection, M::Error>,
     R: PoolRuntime,
 > Pool<M, H, V, Z, R> {
-    ghost use Rattle.r2d2.specs.Failures.{IsOfMemory, IsOfMemoryOrTime};
+    ghost use Rattle.r2d2.specs.Failures.{IsOfMemory, IsOfAGet};
     ghost use Rattle.r2d2.specs.Settings.{AreDefaults};
 
     /// A builder with the default of each setting. `Builder::new()` is the same, and shorter: here the pool's types
@@ -198,7 +215,7 @@ impl<
     /// `get_timeout`.
     pub fn get(&self) -> Result<PooledConnection<M, H, V, Z, R>, Error>
         ensures settings { IfOk result (λ lent. lent.settings ≡ self.now) }
-        ensures refused { IfErr result IsOfMemoryOrTime }
+        ensures refused { IfErr result IsOfAGet }
     {
         self.get_timeout(self.connection_timeout())
     }
@@ -209,11 +226,12 @@ impl<
     /// If the setting `test_on_check_out` is on, the connection is checked first; one that fails is closed, and
     /// another is looked for.
     ///
-    /// The error is a timeout, with the text of the latest error of an opening or a check if there was one; or lack
-    /// of memory for a shared pointer, and then nothing has changed.
+    /// The error is a timeout, with the text of the latest error of an opening or a check if there was one; or
+    /// `ErrorKind::Closed`, at once, where the pool was closed; or lack of memory for a shared pointer, and then nothing
+    /// has changed.
     pub fn get_timeout(&self, timeout: Duration) -> Result<PooledConnection<M, H, V, Z, R>, Error>
         ensures settings { IfOk result (λ lent. lent.settings ≡ self.now) }
-        ensures refused { IfErr result IsOfMemoryOrTime }
+        ensures refused { IfErr result IsOfAGet }
     {
         match self.lend_within(Some(timeout), &mut ())? {
             Some(lent) => Ok(lent),

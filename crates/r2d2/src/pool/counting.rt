@@ -17,7 +17,7 @@ impl<
     R: PoolRuntime,
     L: Ledger + Send + Sync + 'static,
 > CountedPool<M, H, V, Z, R, L> {
-    ghost use Rattle.r2d2.specs.Failures.{IsOfMemory, IsOfMemoryOrTime};
+    ghost use Rattle.r2d2.specs.Failures.{IsOfMemory, IsOfAGet};
     ghost use Rattle.r2d2.specs.Counted.{counted_up_to};
 
     /// As `Pool::get`. Each take adds one to the share, which has a part at least: one where a connection is lent, and
@@ -25,7 +25,7 @@ impl<
     pub fn get(&self, share: &mut Share<L>) -> Result<CountedConnection<M, H, V, Z, R, L>, Error>
         requires { 0 < share.old.parts }
         ensures settings { IfOk result (λ lent. lent.settings ≡ self.now) }
-        ensures refused { IfErr result IsOfMemoryOrTime }
+        ensures refused { IfErr result IsOfAGet }
         ensures parts { share.new.parts ≡ share.old.parts }
         ensures amount { share.old.amount ≤ share.new.amount }
         ensures lent { IfOk result (λ _. share.old.amount + 1 ≤ share.new.amount) }
@@ -41,7 +41,7 @@ impl<
     ) -> Result<CountedConnection<M, H, V, Z, R, L>, Error>
         requires { 0 < share.old.parts }
         ensures settings { IfOk result (λ lent. lent.settings ≡ self.now) }
-        ensures refused { IfErr result IsOfMemoryOrTime }
+        ensures refused { IfErr result IsOfAGet }
         ensures parts { share.new.parts ≡ share.old.parts }
         ensures amount { share.old.amount ≤ share.new.amount }
         ensures lent { IfOk result (λ _. share.old.amount + 1 ≤ share.new.amount) }

@@ -4,6 +4,7 @@ ghost use Rattle.std.specs.Option.{IsNone};
 
 use super::lent::{AnyConnection, Lent};
 use super::locking::SharedOf;
+use super::waiting::Vain;
 use super::{AnyPool, PoolRuntime};
 use crate::engine::{Counter, Outcome, Settled, Ties};
 use crate::error::text_of;
@@ -14,7 +15,7 @@ use std::sync::Arc;
 use std::time::Duration;
 
 impl<C: Counter, M: ManageConnection, K: Hooks<M>, R: PoolRuntime> AnyPool<C, M, K, R> {
-    ghost use Rattle.r2d2.specs.Failures.{IsOfMemory, IsOfMemoryOrTime};
+    ghost use Rattle.r2d2.specs.Failures.{IsOfMemory, IsOfAGet};
 
     /// Lends a connection that passed its check, and waits for one at most so long. With no timeout it does not wait, and orders none: it
     /// answers None where none is idle.
@@ -25,7 +26,7 @@ impl<C: Counter, M: ManageConnection, K: Hooks<M>, R: PoolRuntime> AnyPool<C, M,
     ) -> Result<Option<AnyConnection<C, M, K, R>>, Error>
         requires { 0 < C.parts tally.old }
         ensures settings { IfOk result (λ found. IfSome found (λ lent. lent.settings ≡ self.now)) }
-        ensures refused { IfErr result IsOfMemoryOrTime }
+        ensures refused { IfErr result IsOfAGet }
         ensures waits { IsSome timeout → IfOk result IsSome }
         ensures at_once { IsNone timeout → IfErr result IsOfMemory }
         ensures parts { C.parts tally.new ≡ C.parts tally.old }
@@ -51,7 +52,8 @@ impl<C: Counter, M: ManageConnection, K: Hooks<M>, R: PoolRuntime> AnyPool<C, M,
                     }
                 }
                 Ok(None) => return Ok(None),
-                Err(message) => {
+                Err(Vain::Closed) => return Err(Error::closed()),
+                Err(Vain::Late(message)) => {
                     // Who brings no timeout never waited.
                     shared.hooks.timeout(timeout.unwrap_or(Duration::ZERO));
                     return Err(Error::timeout(message));

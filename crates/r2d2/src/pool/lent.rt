@@ -3,7 +3,7 @@ ghost use Rattle.std.specs.Prelude.{◌≡◌};
 
 use super::PoolRuntime;
 use super::closing::Closer;
-use crate::engine::Ties;
+use crate::engine::{Outcome, Settled, Ties};
 use crate::hooks::Hooks;
 use crate::payload::{Payload, PayloadOf};
 use crate::{Extensions, ManageConnection};
@@ -75,6 +75,28 @@ impl<C: Ties, M: ManageConnection, K: Hooks<M>, R: PoolRuntime> AnyConnection<C,
         ensures { result ≡ this.now.lent_at }
     {
         this.lent_at
+    }
+
+    /// Takes the connection out of the pool for good: it is the caller's from now on, and what was kept beside it is
+    /// dropped. The pool orders another one by the same rules as after a broken return. The checkin event is sent, then the
+    /// release event; the customizer is not told, since the connection is not closed.
+    pub fn detach(this: Self) -> M::Connection
+        ensures { result ≡ this.connection }
+    {
+        // Modelled in model/waiting.pml, as a return that is closed: keep both alike.
+        let AnyConnection {
+            closer,
+            lent_at,
+            lent,
+        } = this;
+        let Lent { id, payload } = lent;
+        let shared = &closer.shared;
+        shared.hooks.check_in(id, lent_at, shared.moment());
+        if let Settled::Gone(gone) = shared.settle(Outcome::Unsound { id, text: None }) {
+            shared.hooks.gone(id, gone.age);
+        }
+        let Payload { connection, .. } = payload;
+        connection
     }
 
     /// What is kept beside the connection. It stays with the connection from one caller to the next, until it is

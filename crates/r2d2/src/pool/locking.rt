@@ -59,6 +59,17 @@ impl<B> Guarded<B> {
     }
 }
 
+impl<P, C: Ties> Guarded<Tied<P, C>> {
+    ghost use Rattle.r2d2.specs.Status.{IsStatus};
+
+    /// The counts, with those of the callers who wait.
+    pub(super) fn status(&self) -> Status
+        ensures { IsStatus result }
+    {
+        Status::of(self.book.book(), self.waiting)
+    }
+}
+
 /// What workers, pools and lent connections share. The lock is held for the book's steps alone.
 #[derive(Drop)]
 pub struct Shared<B, M, K, R> {
@@ -132,8 +143,7 @@ impl<P: Drop, C: Ties, M, K, R: Clock + Wait> Shared<Tied<P, C>, M, K, R> {
     pub(super) fn status(&self) -> Status
         ensures { IsStatus result }
     {
-        let guarded = self.guarded.lock(&self.rt);
-        Status::of(guarded.book.book(), guarded.waiting)
+        self.guarded.lock(&self.rt).status()
     }
 
     /// What the book reports.
@@ -167,12 +177,14 @@ impl<P: Drop, C: Ties, M, K, R: Clock + Wait> Shared<Tied<P, C>, M, K, R> {
         self.step(|guarded, now| guarded.settle(now, outcome))
     }
 
-    /// Closes the book, tells the workers, and hands over what was idle.
+    /// Closes the book, tells all who wait, and hands over what was idle.
     pub(super) fn close(&self) -> Leftover<P> {
         let wakes = Wakes {
             caller: false,
             workers: true,
         };
-        self.step(|guarded, _now| (guarded.close(), wakes))
+        let left = self.step(|guarded, _now| (guarded.close(), wakes));
+        self.callers.notify_all();
+        left
     }
 }

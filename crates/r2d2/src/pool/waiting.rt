@@ -1,14 +1,15 @@
 // Those who take the lock by themselves: a caller, the maker of a pool and a worker, who hand it to a wait, and an audit, which brings a share.
 // Each other step is made by `Shared::step`.
-ghost use Rattle.std.specs.Prelude.{◌≡◌, ◌≤◌, ◌<◌, ◌+◌, IsTrue, IsSome, MatchOption, OnErr, IfOk, vec_len, vec_capacity};
+ghost use Rattle.std.specs.Prelude.{◌≡◌, ◌≤◌, ◌<◌, ◌+◌, IsTrue, IsSome, MatchOption, OnErr, IfOk, IfErr, vec_len, vec_capacity};
 ghost use Rattle.std.specs.Option.{IsNone};
 ghost use Rattle.std.specs.Result.{IsOk};
 ghost use Rattle.r2d2_core.specs.Reports.{DoesReplay, HasSoundCounts, CountsItsTakes, BeginsAtAMaking};
 ghost use Rattle.r2d2.specs.Counted.{counted_up_to};
+ghost use Rattle.r2d2.specs.Status.{IsStatus};
 
-use super::PoolRuntime;
 use super::lent::Lent;
 use super::locking::{Shared, SharedOf};
+use super::{PoolRuntime, Status};
 use crate::ManageConnection;
 use crate::engine::{Counted, Counter, Tied, Ties, Wakes};
 use crate::hooks::Hooks;
@@ -20,14 +21,23 @@ use std::sync::Wait;
 use std::sync::ledger::{Ledger, Share};
 use std::time::Duration;
 
+/// Why a caller who waited is lent nothing.
+#[derive(Drop)]
+pub enum Vain {
+    /// Its time ran out: the latest error of an opening or a check, where one is known.
+    Late(Option<String>),
+    /// The pool was closed.
+    Closed,
+}
+
 impl<P: Drop, C: Counter, M, K, R: Clock + Wait> Shared<Tied<P, C>, M, K, R> {
-    /// Takes the idle connection that is lent next. Where there is none it orders one and waits, until the moment `end`; past that it
-    /// answers the latest error of an opening or a check. With no end it neither orders nor waits, and answers None.
+    /// Takes the idle connection that is lent next. Where there is none it orders one and waits, until the moment `end`, or until the
+    /// pool is closed. With no end it neither orders nor waits, and answers None.
     pub(super) fn lend_until(
         &self,
         end: Option<Duration>,
         tally: &mut C::Tally,
-    ) -> Result<Option<Lent<P>>, Option<String>>
+    ) -> Result<Option<Lent<P>>, Vain>
         requires { 0 < C.parts tally.old }
         ensures parts { C.parts tally.new ≡ C.parts tally.old }
         ensures lent { IfOk result (λ found. MatchOption found (C.amount tally.new ≡ C.amount tally.old) (λ _. C.amount tally.new ≡ C.amount tally.old + C.per_take)) }
@@ -46,6 +56,10 @@ impl<P: Drop, C: Counter, M, K, R: Clock + Wait> Shared<Tied<P, C>, M, K, R> {
                 self.wake(wakes);
                 return Ok(found);
             };
+            if guarded.book.book().is_closed() {
+                // So nothing was ordered, and there is nobody to wake.
+                return Err(Vain::Closed);
+            }
             // Before the wait, which lets the lock go.
             self.wake(wakes);
             let left = end.saturating_sub(now);
@@ -59,12 +73,14 @@ impl<P: Drop, C: Counter, M, K, R: Clock + Wait> Shared<Tied<P, C>, M, K, R> {
                 let wakes = guarded.who_waits(Wakes::a_caller());
                 drop(guarded);
                 self.wake(wakes);
-                return Err(error);
+                return Err(Vain::Late(error));
             }
         }
         unreachable!()
     }
+}
 
+impl<P: Drop, C: Ties, M, K, R: Clock + Wait> Shared<Tied<P, C>, M, K, R> {
     /// Waits until there are so many connections, and as long as this at most. Past that it answers the latest error of an opening or a check.
     pub(super) fn wait_for(&self, wanted: u32, timeout: Duration) -> Result<(), Option<String>> {
         // Modelled in model/waiting.pml: keep both alike.
@@ -79,6 +95,31 @@ impl<P: Drop, C: Counter, M, K, R: Clock + Wait> Shared<Tied<P, C>, M, K, R> {
         guarded.end_wait();
         if outcome.timed_out() {
             return Err(guarded.book.take_error());
+        }
+        Ok(())
+    }
+
+    /// Waits until nothing is lent, and as long as this at most. Past that it answers what there is.
+    pub(super) fn wait_for_returns(&self, timeout: Duration) -> Result<(), Status>
+        ensures { IfErr result (λ status. IsStatus status × (0 < status.lent)) }
+    {
+        // Modelled in model/waiting.pml: keep both alike.
+        let mut guarded = self.guarded.lock(&self.rt);
+        guarded.begin_wait();
+        let (mut guarded, _outcome) = self.callers.wait_timeout_while(
+            &self.rt,
+            guarded,
+            timeout,
+            |guarded| guarded.status().lent > 0,
+        );
+        guarded.end_wait();
+        let status = guarded.status();
+        // The wake of the last return may have been this caller's, and others wait for that return too.
+        let wakes = guarded.who_waits(Wakes::a_caller());
+        drop(guarded);
+        self.wake(wakes);
+        if status.lent > 0 {
+            return Err(status);
         }
         Ok(())
     }
