@@ -45,7 +45,7 @@ pub struct Status {
     pub lent: u32,
     /// How many are ordered and not there yet, those among them that failed and will be tried again.
     pub opening: u32,
-    /// How many callers wait for a connection.
+    /// How many callers wait, for a connection or in a `drain`.
     pub waiting: u64,
     /// Whether it is closed: then nothing is idle, and nothing is opened.
     pub closed: bool,
