@@ -1,5 +1,5 @@
 """A program of this repository as a script of its own: proved and built where it is missing or older than a source, and run.
-`tools/play` and `tools/audit` have it in common."""
+`tools/play`, `tools/audit` and `tools/times` have it in common."""
 import os
 import signal
 import subprocess
@@ -82,6 +82,11 @@ class Program:
         print(f"{self.script}, by the rules of r2d2 0.8.10")
         print("commit:", first_line("git", "log", "-1", "--format=%h of %cs"))
         print("toolchain:", first_line("rt", "version"))
+
+
+def pool_steps(script):
+    """The program of scripts, for a script of this name."""
+    return Program(script, "pool_steps", ["r2d2_core", "pool_lines"], b"limits 1 - - - 30000 30000\n")
 
 
 def status_of(process):

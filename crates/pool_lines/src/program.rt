@@ -16,6 +16,7 @@ use std::time::Duration;
 
 pub mod answer;
 pub mod line;
+pub mod why;
 
 /// Why the program stops before the end of its input.
 #[derive(Clone, Copy, Debug, PartialEq, Eq)]
