@@ -6,6 +6,7 @@
 mod choices;
 mod handlers;
 mod journal;
+mod kept;
 mod pool_uses;
 mod rounds;
 mod service;
@@ -66,6 +67,7 @@ fn main(rt: HostRuntime) -> Result<ExitCode, anyhow::Error> {
     settings::tried(rt)?;
     starting::waited_for(rt)?;
     service::audited(rt)?;
+    kept::answered(rt)?;
     rounds::gone(&rt)?;
     choices::compared(&rt)?;
     stories::told(&rt)?;
