@@ -1,5 +1,6 @@
-//! The program `pool-steps`: it reads the steps of a pool from standard input and writes each answer on standard output. With
-//! an argument it says why the line on standard input is not what it has to be, and nothing where it is.
+//! The program `pool-steps`: it reads the steps of a pool from standard input and writes each
+//! answer on standard output. With an argument it says why the line on standard input is not what
+//! it has to be, and nothing where it is.
 #![tactic(auto)]
 
 use pool_lines::program::{self, Fault, why};

@@ -1,13 +1,18 @@
 // The lines of the input.
-ghost use Rattle.std.specs.Prelude.{◌≡◌, ◌*◌, ◌↔◌, ◌⊎◌, None, Some, IsSome, IfSome, IfOk, IfErr, option_map, option_copied, string_bytes};
+ghost use Rattle.std.specs.Prelude.{◌≡◌, ◌*◌, ◌↔◌, ◌⊎◌, None, Some, IsSome, IfSome, IfOk, IfErr};
+ghost use Rattle.std.specs.Prelude.{option_map, option_copied, string_bytes};
 ghost use Rattle.std.specs.Duration.{as_nanos};
 ghost use Rattle.r2d2_core.specs.Limits.{SeenLimits as Bounds, seen_limits, AreLegal};
 ghost use Rattle.pool_lines.specs.declared.program.Fault.TheVariants.{NotAStep, LimitsRefused};
 ghost use Rattle.pool_lines.specs.Number.{IsNumber, number_of};
-ghost use Rattle.pool_lines.specs.Lines.{number_in, time_in, optional_in, text_in, connection_in, failure_in};
-ghost use Rattle.pool_lines.specs.Lines.{lengths_in, order_in, last_in, fields_in, sizes_in, sizes_of, limits_in};
-ghost use Rattle.pool_lines.specs.Lines.{seen_line, said_alone, said_with, said_of_connection, said_of_outcome, said_in, step_in};
-ghost use Rattle.pool_lines.specs.Lines.{failed_opening_in, failed_check_in, Take, Begin, Number, Admit, PutBack, Reap};
+ghost use Rattle.pool_lines.specs.Lines.{number_in, time_in, optional_in, text_in, connection_in};
+ghost use Rattle.pool_lines.specs.Lines.{failure_in};
+ghost use Rattle.pool_lines.specs.Lines.{lengths_in, order_in, last_in, fields_in, sizes_in};
+ghost use Rattle.pool_lines.specs.Lines.{sizes_of, limits_in};
+ghost use Rattle.pool_lines.specs.Lines.{seen_line, said_alone, said_with, said_of_connection};
+ghost use Rattle.pool_lines.specs.Lines.{said_of_outcome, said_in, step_in};
+ghost use Rattle.pool_lines.specs.Lines.{failed_opening_in, failed_check_in, Take, Begin, Number};
+ghost use Rattle.pool_lines.specs.Lines.{Admit, PutBack, Reap};
 ghost use Rattle.pool_lines.specs.Lines as spec;
 
 use super::Fault;
