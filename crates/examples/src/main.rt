@@ -1,6 +1,7 @@
 //! First programs with the pool, its reports and its core, one after another: a module for each,
 //! and here the first one, threads that share a pool. With the argument `text`, `svg` or `html` it
-//! draws the script on standard input in their place, and with `metrics` it prints those of a service.
+//! draws the script on standard input in their place, and with `metrics` it prints those of a
+//! service.
 #![tactic(auto)]
 
 mod choices;
@@ -18,6 +19,7 @@ use r2d2::{Builder, ManageConnection, PlainPool, PoolRuntime};
 use std::alloc::AllocError;
 use std::process::ExitCode;
 use std::{env, thread};
+use watched_service::Prints;
 
 /// Opens connections that are numbers.
 #[derive(Drop)]
@@ -46,7 +48,11 @@ impl ManageConnection for Numbers {
 fn main(rt: HostRuntime) -> Result<ExitCode, anyhow::Error> {
     if let Some(word) = env::args(&rt)?.nth(1) {
         if word.as_str() == "metrics" {
-            watched_service::served(rt, true, |app| Ok(thread::spawn(&rt, move || app.answer())?))?;
+            watched_service::served(
+                rt,
+                Prints::Pages,
+                |app| Ok(thread::spawn(&rt, move || app.answer())?),
+            )?;
             return Ok(ExitCode::SUCCESS);
         }
         return stories::drawn(&rt, word.as_str());
@@ -71,7 +77,11 @@ fn main(rt: HostRuntime) -> Result<ExitCode, anyhow::Error> {
     settings::tried(rt)?;
     starting::waited_for(rt)?;
     service::audited(rt)?;
-    watched_service::served(rt, false, |app| Ok(thread::spawn(&rt, move || app.answer())?))?;
+    watched_service::served(
+        rt,
+        Prints::Findings,
+        |app| Ok(thread::spawn(&rt, move || app.answer())?),
+    )?;
     rounds::gone(&rt)?;
     choices::compared(&rt)?;
     stories::told(&rt)?;

@@ -15,13 +15,7 @@ use std::{env, thread};
 /// How many requests a thread answers each second.
 const REQUESTS: u32 = 50;
 
-type Watched<R> = Pool<
-    Timed<Numbers, R>,
-    NopErrorHandler,
-    Metrics<R>,
-    NopConnectionCustomizer,
-    R,
->;
+type Watched<R> = Pool<Timed<Numbers, R>, NopErrorHandler, Metrics<R>, NopConnectionCustomizer, R>;
 
 /// What a thread of the service has: its own pool over the shared connections, and their metrics.
 #[derive(Drop)]
@@ -56,7 +50,10 @@ fn number<R: Env + Alloc<A = Global>>(
     otherwise: u32,
 ) -> Result<u32, anyhow::Error> {
     match env::var(rt, name) {
-        Ok(text) => text.as_str().parse::<u32>().context(format_args!("reading {name}")),
+        Ok(text) => text
+            .as_str()
+            .parse::<u32>()
+            .context(format_args!("reading {name}")),
         Err(_) => Ok(otherwise),
     }
 }
@@ -105,9 +102,17 @@ impl<R: PoolRuntime> App<R> {
     }
 }
 
-/// Serves for some seconds, as the environment says. `start` starts a thread that answers requests;
-/// with `with_pages` the metrics are printed each second, and else what a person looks for.
-pub fn served<R, S>(rt: R, with_pages: bool, start: S) -> Result<(), anyhow::Error>
+/// What a service prints.
+#[derive(Clone, Copy, PartialEq)]
+pub enum Prints {
+    /// Each second the page that Prometheus reads.
+    Pages,
+    /// What a person looks for.
+    Findings,
+}
+
+/// Serves for some seconds, as the environment says. `start` starts a thread that answers requests.
+pub fn served<R, S>(rt: R, prints: Prints, start: S) -> Result<(), anyhow::Error>
 where
     R: PoolRuntime + Print + Env,
     S: Fn(App<R>) -> Result<JoinHandle<u32>, anyhow::Error> + Drop,
@@ -120,13 +125,13 @@ where
     for _ in 0..settings.seconds {
         let answered = answer_in_threads(&app, settings.threads, &start)?;
         thread::sleep(&rt, Duration::from_secs(1));
-        if with_pages {
+        if prints == Prints::Pages {
             print!(rt; "{}", app.page(rt.alloc())?)?;
         } else {
             println!(rt; "{answered} requests were answered")?;
         }
     }
-    if with_pages {
+    if prints == Prints::Pages {
         return Ok(());
     }
     let long = app.metrics.lent_longer_than(Duration::from_millis(500))?;

@@ -9,13 +9,13 @@ pub set_below : {X : Type 0} (P : ℕ → X → Type 0) (xs : List X) (i : ℕ) 
 set_below {X} P xs i y within here below k d upto =
     let most : k ≤ i = omega arith in
     elim (eq-or-lt_of_le most) [
-        inl is ↦
-            let at : get_or (set xs i y) k d ≡ y = get_or-set_at xs i k y d is within in
-            let there : P k y = subst (λ n. P n y) (sym is) here in
-            subst (λ v. P k v) (sym at) there
+      | inl is ↦
+          let at : get_or (set xs i y) k d ≡ y = get_or-set_at xs i k y d is within in
+          let there : P k y = subst (λ n. P n y) (sym is) here in
+          subst (λ v. P k v) (sym at) there
       | inr less ↦
-            let other : k ≢ i = omega arith in
-            subst (λ v. P k v) (sym (get_or-set_other xs i k y d other)) (below k d less)
+          let other : k ≢ i = omega arith in
+          subst (λ v. P k v) (sym (get_or-set_other xs i k y d other)) (below k d less)
     ]
 
 -- and what stands above i stays

@@ -1,4 +1,5 @@
-// The buckets of a histogram. They are fixed, so that the histograms of several services can be added up.
+// The buckets of a histogram. They are fixed, so that the histograms of several services can be
+// added up.
 ghost use Rattle.std.specs.Prelude.{◌≡◌, ℕ, ◌<◌, ◌≤◌, ◌-◌, ◌^◌, length, min, slice_index};
 ghost use Rattle.std.specs.List.Sorted.{IsStrictlyIncreasing};
 ghost use Rattle.pool_metrics.specs.Bounds.{bounds_of};
@@ -71,8 +72,8 @@ impl Scale {
     }
 }
 
-/// Which bucket a length of so many nanoseconds falls in: the first whose bound is not below it, or else the one after
-/// the last bound.
+/// Which bucket a length of so many nanoseconds falls in: the first whose bound is not below it, or
+/// else the one after the last bound.
 pub fn bucket_of(bounds: &[u64], nanos: u64) -> usize
     ensures within { result ≤ length bounds.now }
     ensures above { (i : ℕ) → i < result → slice_index bounds.now i < nanos }

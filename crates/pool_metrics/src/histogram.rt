@@ -9,10 +9,9 @@ ghost use Rattle.pool_metrics.specs.Counted.{counted_up_to};
 
 use crate::buckets::{BOUNDS, BUCKETS, Scale, bucket_of, nanos_of};
 use crate::text::Seconds;
-use std::array;
-use std::fmt;
 use std::sync::atomic::{AtomicU64, Ordering};
 use std::time::Duration;
+use std::{array, fmt};
 
 /// Counts lengths, each in its bucket.
 #[derive(Drop)]
@@ -39,7 +38,8 @@ impl Histogram {
         self.counts[bucket].fetch_add(1, Ordering::SeqCst);
     }
 
-    /// What was counted so far. Each count is read once; all that is told of them comes from that one reading.
+    /// What was counted so far. Each count is read once; all that is told of them comes from that
+    /// one reading.
     pub(crate) fn read(&self) -> Distribution {
         let mut counts = [0; BUCKETS];
         for bucket in 0..BUCKETS {

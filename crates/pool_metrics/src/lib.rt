@@ -1,24 +1,25 @@
-//! What a pool did, counted and timed as it happens, and printed as Prometheus reads it, under the names that
-//! OpenTelemetry gives to the metrics of connection pools. It stands over `r2d2` and needs nothing that the pool does
-//! not tell every event handler.
+//! The metrics of a pool: what it did, counted and timed as it happens, and printed as Prometheus
+//! reads it, under the names that OpenTelemetry gives to the metrics of connection pools. It stands
+//! over `r2d2`, and uses what a pool tells every event handler.
 //!
 //! ```rust
-//! let metrics = Metrics::new(rt, 10)?;
+//! let metrics = Metrics::new(rt, max_size)?;
 //! let pool = Builder::new()
-//!     .max_size(10)
+//!     .max_size(max_size)
 //!     .event_handler(metrics.try_clone()?)
-//!     .build(rt, Timed::new(manager, &metrics)?)?;
+//!     .build(rt, Timed::new(Numbers, &metrics)?)?;
 //! // ..
 //! let reading = Reading {
-//!     pool: "orders",
-//!     status: pool.status(),
-//!     snapshot: metrics.snapshot(),
+//!     pool: "numbers",
+//!     status: self.pool.status(),
+//!     snapshot: self.metrics.snapshot(),
 //! };
-//! write(&[reading], &mut text)?;
+//! let mut page = String::new(alloc);
+//! write(&[reading], &mut page)?;
 //! ```
 //!
-//! [`Metrics`] is the handler, and what is read; [`Timed`] round the manager also times the openings;
-//! `lent_longer_than` lists the connections that somebody forgot to give back.
+//! [`Metrics`] is the handler, and what is read of it; its `lent_longer_than` lists the connections
+//! that somebody forgot to give back. [`Timed`] round a manager times its openings too.
 #![tactic(auto)]
 
 mod buckets;

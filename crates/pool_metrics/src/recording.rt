@@ -13,12 +13,13 @@ use std::sync::atomic::{AtomicBool, AtomicU64, Ordering};
 use std::sync::{Arc, Mutex, Wait};
 use std::time::{Duration, Instant};
 
-/// Counts and times what a pool tells. It is the pool's event handler, and what the service reads: `try_clone` makes
-/// another one over the same counts. An event costs some atomic additions; a checkout and a checkin also take a
-/// lock of the metrics' own, for as long as it takes to look through what is lent.
+/// Counts and times what a pool tells. It is the pool's event handler, and what the service reads:
+/// `try_clone` makes another one over the same counts. An event costs some atomic additions; a
+/// checkout and a checkin also take a lock of the metrics' own, for as long as it takes to look
+/// through what is lent.
 ///
-/// Counted is what is told: a connection that is dropped idle as the pool closes is told of by no event, and not
-/// counted as closed.
+/// Counted is what is told: a connection that is dropped idle as the pool closes is told of by no
+/// event, and not counted as closed.
 #[derive(Drop)]
 pub struct Metrics<R> {
     records: Arc<Records<R>>,
@@ -58,8 +59,8 @@ pub struct Snapshot {
 }
 
 impl<R> Metrics<R> {
-    /// Metrics of one pool, with memory for all that it may lend at a time: `max_size` is that of the pool. The
-    /// error is lack of memory; none is asked for later.
+    /// Metrics of one pool, with memory for all that it may lend at a time: `max_size` is that of
+    /// the pool. The error is lack of memory; none is asked for later.
     pub fn new(rt: R, max_size: u32) -> Result<Metrics<R>, AllocError>
     where
         R: Clock + AllocGlobal + Drop,
@@ -82,8 +83,8 @@ impl<R> Metrics<R> {
         })
     }
 
-    /// The same counts again, for a builder, for a `Timed` manager, or for another thread. The error is lack of
-    /// memory.
+    /// The same counts again, for a builder, for a `Timed` manager, or for another thread. The
+    /// error is lack of memory.
     pub fn try_clone(&self) -> Result<Metrics<R>, AllocError> {
         Ok(Metrics {
             records: Arc::try_clone(&self.records)?,
@@ -106,10 +107,11 @@ impl<R> Metrics<R> {
         }
     }
 
-    /// The connections that are lent for longer than `length` now, those first that are lent for longest: what
-    /// somebody forgot to give back. A connection is lent from its checkout event to its checkin event; the moment is
-    /// read while the first is told, so it is never said to be lent for longer than it is. Where the clock can't be
-    /// read, the latest moment that could be read counts as now. The error is lack of memory for the list.
+    /// The connections that are lent for longer than `length` now, those first that are lent for
+    /// longest: what somebody forgot to give back. A connection is lent from its checkout event to
+    /// its checkin event; the moment is read while the first is told, so it is never said to be
+    /// lent for longer than it is. Where the clock can't be read, the latest moment that could be
+    /// read counts as now. The error is lack of memory for the list.
     pub fn lent_longer_than(&self, length: Duration) -> Result<Vec<Overdue>, AllocError>
     where
         R: Clock + Wait + AllocGlobal,
@@ -119,8 +121,9 @@ impl<R> Metrics<R> {
         lent.longer_than(records.rt.alloc(), nanos_of(length), records.moment())
     }
 
-    /// How many connections were lent that `lent_longer_than` knows nothing of, since there was no room to list them:
-    /// none, if `max_size` was that of the pool, and these are the metrics of that pool alone.
+    /// How many connections were lent that `lent_longer_than` knows nothing of, since there was no
+    /// room to list them: none, if `max_size` was that of the pool, and these are the metrics of
+    /// that pool alone.
     pub fn unlisted(&self) -> u64
     where
         R: Wait,
@@ -142,7 +145,8 @@ impl<R> Metrics<R> {
         Instant::now(&self.records.rt).ok()
     }
 
-    /// An opening that began then has succeeded now. It is not counted where the clock can't be read.
+    /// An opening that began then has succeeded now. It is not counted where the clock can't be
+    /// read.
     pub(crate) fn end_opening(&self, begun: Option<Instant>)
     where
         R: Clock,
@@ -169,7 +173,8 @@ impl<R> Records<R> {
 impl<R: Clock + Wait> Records<R> {
     fn lend(&self, id: u64, waited: Duration) {
         self.waits.observe(waited);
-        // The moment is read under the lock, so that those in the list are in the order of their moments.
+        // The moment is read under the lock, so that those in the list are in the order of their
+        // moments.
         let mut lent = self.lent.lock(&self.rt);
         lent.enter(id, self.moment());
     }

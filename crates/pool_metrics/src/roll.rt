@@ -43,7 +43,7 @@ pub(crate) struct Roll {
 
 impl Roll {
     /// With room for so many.
-    pub(crate) fn new(alloc: Global, room: usize) -> Result<Roll, AllocError> 
+    pub(crate) fn new(alloc: Global, room: usize) -> Result<Roll, AllocError>
         ensures none { IfOk result (λ roll. roll.entries.items ≡ []) }
         ensures room { IfOk result (λ roll. vec_capacity roll.entries ≡ room) }
         ensures all_listed { IfOk result (λ roll. roll.unlisted ≡ 0) }
@@ -86,7 +86,8 @@ impl Roll {
         self.unlisted
     }
 
-    /// Those that are lent for longer than so many nanoseconds, the longest first. The error is lack of memory.
+    /// Those that are lent for longer than so many nanoseconds, the longest first. The error is
+    /// lack of memory.
     pub(crate) fn longer_than(
         &self,
         alloc: Global,
@@ -96,7 +97,8 @@ impl Roll {
         ensures all { IfOk result (λ v. v.items ≡ longer_than nanos (max self.now.latest now) self.now.entries.items) }
         ensures longest_first { IfOk result (λ v. IsLongestFirst v.items) }
     {
-        self.in_order_of_lending(alloc, nanos, self.latest.max(now))
+        let now = self.latest.max(now);
+        self.in_order_of_lending(alloc, nanos, now)
     }
 
     // The same. That the longest come first follows from the order of the roll.

@@ -18,9 +18,9 @@ pub struct Reading<'a> {
     pub snapshot: Snapshot,
 }
 
-/// Writes the metrics of some pools in Prometheus' text format, each metric once, with a line or a histogram for each
-/// pool: the body of an answer whose content type is `text/plain; version=0.0.4`. The error is that of `out`, which has
-/// then got a part of the text.
+/// Writes the metrics of some pools in Prometheus' text format, each metric once, with a line or a
+/// histogram for each pool: the body of an answer whose content type is `text/plain;
+/// version=0.0.4`. The error is that of `out`, which has then got a part of the text.
 pub fn write<W: fmt::Write>(readings: &[Reading<'_>], out: &mut W) -> fmt::Result {
     write_counts(readings, out)?;
     for number in NUMBERS {
@@ -225,7 +225,10 @@ fn write_histogram<W: fmt::Write>(
     let pool = Escaped(pool);
     for bucket in distribution.buckets() {
         let (up_to, count) = (bucket.up_to, bucket.count);
-        writeln!(out, "{name}_bucket{{pool=\"{pool}\",le=\"{up_to}\"}} {count}")?;
+        writeln!(
+            out,
+            "{name}_bucket{{pool=\"{pool}\",le=\"{up_to}\"}} {count}"
+        )?;
     }
     let (sum, count) = (Seconds(distribution.nanos()), distribution.count());
     writeln!(out, "{name}_sum{{pool=\"{pool}\"}} {sum}")?;
@@ -244,7 +247,17 @@ impl fmt::Display for Seconds {
         if rest > 0 {
             f.write_str(".")?;
         }
-        for place in [100_000_000u64, 10_000_000, 1_000_000, 100_000, 10_000, 1000, 100, 10, 1] {
+        for place in [
+            100_000_000u64,
+            10_000_000,
+            1_000_000,
+            100_000,
+            10_000,
+            1000,
+            100,
+            10,
+            1,
+        ] {
             if rest == 0 {
                 break;
             }

@@ -4,7 +4,8 @@ use crate::recording::Metrics;
 use r2d2::{ManageConnection, PoolRuntime};
 use std::alloc::AllocError;
 
-/// A manager, the time of whose openings goes to the metrics of its pool. All else is as with the manager in it.
+/// A manager, the time of whose openings goes to the metrics of its pool. All else is as with the
+/// manager in it.
 #[derive(Drop)]
 pub struct Timed<M, R> {
     manager: M,
