@@ -1,7 +1,7 @@
 // Each number of a report's text, changed by itself: what is said of it is true, whatever it was.
 
-use crate::kept::replays;
 use crate::books::seeded_report;
+use crate::kept::replays;
 use pool_reports::{RecordReason, Verdict, audit, from_json, to_json};
 use r2d2_core::{Record, RecordList, Report};
 use std::alloc::{AllocError, Global};

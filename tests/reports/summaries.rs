@@ -54,7 +54,7 @@ impl Played {
     }
 }
 
-fn played(alloc: Global, report: &Report) -> Result<Played, Fail> {
+fn replayed(alloc: Global, report: &Report) -> Result<Played, Fail> {
     let mut lent = Vec::new(alloc);
     for (id, _) in report.base.lent.as_slice() {
         lent.push(Loan {
@@ -85,7 +85,7 @@ fn says_what_a_replay_in_lists_says(rt: HostRuntime) -> Result<(), Fail> {
     for seed in 0..60 {
         let room = if seed % 2 == 0 { 1000 } else { seed as usize };
         let report = seeded_report(alloc, seed, 150, room)?;
-        let (said, played) = (summarize(alloc, &report)?, played(alloc, &report)?);
+        let (said, played) = (summarize(alloc, &report)?, replayed(alloc, &report)?);
         assert_eq!(rt; said.lent.as_slice(), played.lent.as_slice(), "{seed}");
         assert_eq!(rt; said.most_lent, played.most_lent, "{seed}");
         assert_eq!(rt; said.exhausted, played.exhausted, "{seed}");
