@@ -45,7 +45,7 @@ const BASE_FIELDS: [&str; 6] = ["at", "idle", "lent", "connections", "pending", 
 /// The report that a text of JSON says, as [`to_json`](crate::to_json) writes it. White space and
 /// the order of the fields do not matter; where a field stands twice, the last one counts.
 ///
-/// It takes about ten times the memory of the text, and that of the report. The error says what is
+/// It takes memory in proportion to the text, and that of the report. The error says what is
 /// wrong, and where: `records[17].id: not a whole number up to 18446744073709551615`. Whether the
 /// report is one of a pool is not asked here: `audit` tells.
 pub fn from_json(alloc: Global, text: &str) -> Result<Report, FromJsonError> {
