@@ -51,7 +51,7 @@ class Program:
         begun = time.time_ns()
         try:
             with open(self.log, "wb") as out:
-                subprocess.run(["rt", "run"], cwd=self.folder, input=self.sample, stdout=out, stderr=out, check=True)
+                self.run_build(out)
             # A source that was edited meanwhile is newer than the program.
             os.utime(self.path, ns=(begun, begun))
         except FileNotFoundError as error:
@@ -61,6 +61,22 @@ class Program:
             self.say(f"not built: {log} tells why")
             return False
         return True
+
+    def run_build(self, out):
+        """Runs `rt`, in a group of its own: an interrupt ends all of it, and leaves no program that is half written."""
+        words = ["rt", "run"]
+        with subprocess.Popen(words, cwd=self.folder, stdin=subprocess.PIPE, stdout=out, stderr=out, start_new_session=True) as process:
+            try:
+                process.communicate(self.sample)
+            except KeyboardInterrupt:
+                os.killpg(process.pid, signal.SIGTERM)
+                process.wait()
+                if os.path.exists(self.path):
+                    os.unlink(self.path)
+                self.say("interrupted: the program is not built; the next call goes on with what is proved so far")
+                raise
+        if process.returncode != 0:
+            raise subprocess.CalledProcessError(process.returncode, words)
 
     def is_ready(self):
         return self.is_built() or self.build()

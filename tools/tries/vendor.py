@@ -83,6 +83,15 @@ def try_a_repository(theirs, lines):
     check("its lines stay", read(theirs, "crates.txt") == "# mine\nown: anyhow\n" + lines, read(theirs, "crates.txt"))
 
 
+def try_reports(logged):
+    """With what writes reports of the journal as text."""
+    os.mkdir(logged)
+    answers("with reports", 0, "put there: crates.txt: made, with three lines", "--reports", logged)
+    lines = re.findall(r"^(?:r2d2|r2d2_core|pool_reports)[ :].*\n", read(TOP, "crates.txt"), re.M)
+    check("the lines of all arrive", sorted(read(logged, "crates.txt").splitlines(True)) == sorted(lines), read(logged, "crates.txt"))
+    arrives(logged, "pool_reports")
+
+
 def try_refusals(place):
     strict, lines = os.path.join(place, "strict"), os.path.join(place, "lines")
     os.mkdir(strict)
@@ -98,7 +107,7 @@ def try_refusals(place):
     none = os.path.join(place, "none")
     answers("no folder is refused", 1, f"vendor: {none} is no folder", none)
     answers("itself is refused", 1, f"vendor: {TOP} is this repository itself", TOP)
-    answers("no word shows how", 2, "Puts the pool into a repository of your own: vendor FOLDER")
+    answers("no word shows how", 2, "Puts the pool into a repository of your own: vendor [--reports] FOLDER")
 
 
 def tried():
@@ -106,5 +115,6 @@ def tried():
     with tempfile.TemporaryDirectory() as place:
         try_an_empty_folder(os.path.join(place, "mine"), lines)
         try_a_repository(os.path.join(place, "theirs"), lines)
+        try_reports(os.path.join(place, "logged"))
         try_refusals(place)
     return TALLY
