@@ -43,6 +43,9 @@
 #define BUILD 0           /* 1: the first caller is `build` before the others have the pool; 2: and may give up */
 #endif
 
+#ifndef EVICTS
+#define EVICTS 0          /* 1: callers evict, between two calls */
+#endif
 #ifndef CLOSERS
 #define CLOSERS 0         /* so many call `drain` while the others have the pool */
 #endif
@@ -62,6 +65,7 @@
 #define FAILURE 9         /* a failed opening */
 #define CLOSE 10          /* the last drop, or a call of `close` */
 #define DRAIN 11          /* the end of a drain */
+#define EVICTION 12
 #ifndef NO_CALLER_AFTER
 #define NO_CALLER_AFTER 0
 #endif
@@ -131,7 +135,7 @@ inline wake_workers(step) {
   fi
 }
 
-/* Shared::close, of all callers: `notify_all`. */
+/* Shared::wake_all, of all callers: `notify_all`. */
 inline wake_callers(step) {
 #ifdef CLOSE_WAKES_ONE
   wake_caller(step)
@@ -201,8 +205,21 @@ building: /* Shared::wait_for: it looks, and waits again, until there are as man
 calls: /* between two calls */
   if
   :: goto look
+  :: EVICTS -> goto evicts
   :: goto let_go
   fi;
+
+evicts: /* Shared::evict: what is lent then is closed as it comes back, as each that comes back may be here anyway */
+  atomic {
+    do
+    :: idle > 0 -> idle--; lent++; top_up(); lent--; top_up()       /* Tied::evict_next */
+    :: else -> break
+    od
+  };
+  atomic { wake_callers(EVICTION) };
+  atomic { wake_workers(EVICTION) };
+  if :: MAY_STAY -> goto stays :: true fi;                          /* Hooks::release */
+  goto calls;
 
 look: /* Shared::lend_until; of a `try_get` it has no end, and a miss changes nothing */
 #ifdef WAKES_BEFORE_THE_STEP

@@ -72,6 +72,13 @@ impl<
         found
     }
 
+    pub(crate) fn evict(&self) -> Result<usize, Error> {
+        let mut part = self.parts.lock(&self.rt).split_off(1, 0);
+        let evicted = self.pool.evict(&mut part);
+        self.parts.lock(&self.rt).merge(part);
+        evicted
+    }
+
     pub(crate) fn state(&self) -> State {
         self.pool.state()
     }

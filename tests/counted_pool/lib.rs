@@ -12,6 +12,8 @@ mod detaching;
 #[cfg(test)]
 mod draining;
 #[cfg(test)]
+mod evicting;
+#[cfg(test)]
 mod extremes;
 #[cfg(test)]
 mod journal;

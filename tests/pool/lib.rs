@@ -18,6 +18,8 @@ mod draining;
 #[cfg(test)]
 mod engine;
 #[cfg(test)]
+mod evicting;
+#[cfg(test)]
 mod extensions;
 #[cfg(test)]
 mod extremes;

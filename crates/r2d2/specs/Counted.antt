@@ -1,5 +1,5 @@
 -- What contracts see of a book whose takes a ledger counts.
-use Rattle.std.specs.Prelude.{◌≡◌, ℕ, ◌-◌, ◌^◌, min}
+use Rattle.std.specs.Prelude.{◌≡◌, ℕ, ◌-◌, ◌^◌, min, Option, Some, None}
 use Rattle.r2d2_core.specs.Seen.{SeenTake, Found, Empty}
 use Rattle.r2d2_core.specs.Book.{SeenBook}
 
@@ -14,6 +14,11 @@ counted_up_to total = min total (2 ^ 64 - 1)
 
 abbrev pub seen_counted : {T C : Type 0} → SeenBook T → C → SeenCounted T C
 seen_counted book total = record { book = book; total = total }
+
+-- one where there is something
+abbrev pub number_of : {X : Type 0} → Option X → ℕ
+number_of None = 0
+number_of (Some x) = 1
 
 module _ {T : Type 0} where
   -- by how much a take raises what is counted

@@ -8,3 +8,4 @@ pub use Rattle.r2d2_core.specs.Limits
 pub mod Counted
 pub mod Lent
 pub mod Status
+pub mod Evicted

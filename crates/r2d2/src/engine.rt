@@ -10,6 +10,7 @@ ghost use Rattle.r2d2.specs.Wakes.{wakes_of_take, wakes_of_return, wakes_of_reap
 ghost use Rattle.r2d2.specs.Settled.{seen_settled, settle_answer, after_settle, noted_settle, wakes_of_settled};
 
 mod counted;
+mod evicting;
 
 pub use crate::payload::{Payload, open};
 pub use counted::{Counted, Counter, NoCount, Takes, Tied, Ties, lend_counted};

@@ -1,5 +1,5 @@
 //! The pool: one lock round its book, workers that open connections, and what it lends.
-ghost use Rattle.std.specs.Prelude.{◌≡◌, ℕ, ◌≤◌, ◌<◌, IfOk, IfErr, IfSome};
+ghost use Rattle.std.specs.Prelude.{◌≡◌, ℕ, ◌≤◌, ◌<◌, ◌+◌, ◌*◌, IfOk, IfErr, IfSome, OnErr};
 ghost use Rattle.std.specs.Arc.{arc_value};
 ghost use Rattle.r2d2_core.specs.Reports.{DoesReplay, HasSoundCounts, CountsItsTakes, BeginsAtAMaking};
 
@@ -8,7 +8,7 @@ use self::lent::AnyConnection;
 use self::locking::SharedOf;
 pub use self::state::{State, Status};
 use crate::config::{Builder, Config};
-use crate::engine::{NoCount, Takes, Ties};
+use crate::engine::{Counter, NoCount, Takes, Ties};
 use crate::event::{HandleEvent, NopEventHandler};
 use crate::hooks::Hooks;
 use crate::payload::PayloadOf;
@@ -131,6 +131,19 @@ impl<C: Ties, M: ManageConnection, K: Hooks<M>, R: PoolRuntime> AnyPool<C, M, K,
         self.shared().wait_for_returns(timeout)
     }
 
+    // As `Pool::evict`, with what its takes are counted with.
+    fn evict_with(&self, tally: &mut C::Tally) -> Result<usize, Error>
+    where
+        C: Counter,
+        requires { 0 < C.parts tally.old }
+        ensures parts { C.parts tally.new ≡ C.parts tally.old }
+        ensures amount { IfOk result (λ n. C.amount tally.new ≡ C.amount tally.old + n * C.per_take) }
+        ensures unchanged { OnErr result (C.amount tally.new ≡ C.amount tally.old) }
+        ensures refused { IfErr result IsOfMemory }
+    {
+        self.shared().evict(tally).map_err(|_| Error::memory())
+    }
+
     /// Another pool over the same connections, for another thread. The error is lack of memory.
     pub fn try_clone(&self) -> Result<AnyPool<C, M, K, R>, Error>
         ensures settings { IfOk result (λ pool. pool ≡ self.now) }
@@ -247,6 +260,19 @@ impl<
         ensures refused { IfErr result IsOfMemory }
     {
         self.lend_within(None, &mut ())
+    }
+
+    /// Closes each connection that is idle now, and each that is lent now when it comes back, as where a database has moved. What is
+    /// opened from now on stays, and as many are ordered as are wanted. One that is being opened stays too, unless it has its id by
+    /// now: then it is closed when it first comes back.
+    ///
+    /// It answers how many were idle: each is told by its release event and to the customizer before the call returns. The
+    /// journal notes a take and a return for each. The error is lack of memory for a list of `max_size` connections; then
+    /// nothing has changed.
+    pub fn evict(&self) -> Result<usize, Error>
+        ensures refused { IfErr result IsOfMemory }
+    {
+        self.evict_with(&mut ())
     }
 }
 

@@ -119,6 +119,14 @@ impl<T, A: Allocator> Book<T, A> {
         self.machine.is_closed()
     }
 
+    /// As `Core::next_id`.
+    pub fn next_id(&self) -> u64
+        ensures value { result ≡ self.now.picture.on_order.next_id }
+        ensures facts { HasFacts self.now }
+    {
+        self.machine.next_id()
+    }
+
     /// The limits that the book was made with.
     pub fn limits(&self) -> Limits
         ensures value { seen_limits result ≡ self.now.picture.on_order.limits }

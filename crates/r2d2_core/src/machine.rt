@@ -125,6 +125,14 @@ impl<T, A: Allocator> Core<T, A> {
         self.on_order.is_closed()
     }
 
+    /// The id that the next opening is given. Each that was given is below it.
+    pub fn next_id(&self) -> u64
+        ensures value { result ≡ self.now.on_order.next_id }
+        ensures sound { IsSound self.now }
+    {
+        self.on_order.next_id()
+    }
+
     /// The limits that the core was made with.
     pub fn limits(&self) -> Limits
         ensures value { seen_limits result ≡ self.now.on_order.limits }

@@ -1,5 +1,5 @@
 // The calls of a pool that counts its takes.
-ghost use Rattle.std.specs.Prelude.{◌≡◌, ◌≤◌, ◌<◌, ◌+◌, IfOk, IfErr, IfSome};
+ghost use Rattle.std.specs.Prelude.{◌≡◌, ◌≤◌, ◌<◌, ◌+◌, IfOk, IfErr, IfSome, OnErr};
 ghost use Rattle.r2d2_core.specs.Reports.{DoesReplay, HasSoundCounts, CountsItsTakes, BeginsAtAMaking};
 
 use super::{CountedConnection, CountedPool, PoolRuntime};
@@ -65,6 +65,17 @@ impl<
         ensures lent { IfOk result (λ found. IfSome found (λ _. share.old.amount + 1 ≤ share.new.amount)) }
     {
         self.lend_within(None, share)
+    }
+
+    /// As `Pool::evict`. Each connection that it closes is a take, which adds one to the share.
+    pub fn evict(&self, share: &mut Share<L>) -> Result<usize, Error>
+        requires { 0 < share.old.parts }
+        ensures parts { share.new.parts ≡ share.old.parts }
+        ensures amount { IfOk result (λ n. share.new.amount ≡ share.old.amount + n) }
+        ensures unchanged { OnErr result (share.new.amount ≡ share.old.amount) }
+        ensures refused { IfErr result IsOfMemory }
+    {
+        self.evict_with(share)
     }
 
     /// What happened, as `journal` says it, at a moment when `all` has all parts of the ledger: so the report's

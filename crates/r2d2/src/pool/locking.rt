@@ -1,49 +1,52 @@
 // The lock of a pool, and each step that is made under it.
-ghost use Rattle.std.specs.Prelude.{◌≡◌, ◌≤◌, ◌+◌, ◌-◌, ◌^◌, min, IfOk};
+ghost use Rattle.std.specs.Prelude.{◌≡◌, ◌≤◌, ◌<◌, ◌+◌, ◌-◌, ◌*◌, ◌^◌, min, map, length, vec_len, vec_capacity, IfOk};
 ghost use Rattle.r2d2_core.specs.Reports.{DoesReplay, HasSoundCounts, CountsItsTakes, BeginsAtAMaking};
 
 use super::lent::Lent;
 use super::{State, Status};
-use crate::engine::{Outcome, Settled, Tied, Ties, Wakes};
+use crate::engine::{Counter, Outcome, Settled, Tied, Ties, Wakes};
 use crate::payload::PayloadOf;
 use r2d2_core::machine::Leftover;
-use r2d2_core::{Refusal, Report, Returned};
+use r2d2_core::{Refusal, Released, Report, Returned};
 use std::alloc::AllocError;
 use std::rt::Clock;
 use std::sync::{Condvar, Mutex, Wait};
 use std::time::{Duration, Instant};
 
-/// What the lock guards: the book, and how many callers wait.
+/// What the lock guards: the book, how many callers wait, and which connections stay.
 #[derive(Drop)]
 pub struct Guarded<B> {
     pub(super) book: B,
     /// Those at a wait who have not the lock again. So it is at least the number of those whom a wake can reach.
     waiting: u64,
+    /// The least id that no eviction has reached: those below it are closed as they come back.
+    first_kept: u64,
 }
 
 impl<B> Guarded<B> {
     ghost use Rattle.r2d2.specs.Wakes.{who_waits};
 
-    /// A book for which nobody waits yet.
+    /// A book for which nobody waits yet, and of which nothing was evicted.
     pub(super) fn new(book: B) -> Guarded<B>
-        ensures book { result.book ≡ book }
-        ensures waiting { result.waiting ≡ 0 }
+        ensures { result ≡ record { book = book; waiting = 0; first_kept = 0 } }
     {
-        Guarded { book, waiting: 0 }
+        Guarded {
+            book,
+            waiting: 0,
+            first_kept: 0,
+        }
     }
 
     /// One caller more waits.
     pub(super) fn begin_wait(&mut self)
-        ensures book { self.new.book ≡ self.old.book }
-        ensures waiting { self.new.waiting ≡ min (self.old.waiting + 1) (2 ^ 64 - 1) }
+        ensures { self.new ≡ record self.old { waiting = min (self.old.waiting + 1) (2 ^ 64 - 1) } }
     {
         self.waiting = self.waiting.saturating_add(1);
     }
 
     /// One caller less waits.
     pub(super) fn end_wait(&mut self)
-        ensures book { self.new.book ≡ self.old.book }
-        ensures waiting { self.new.waiting ≡ self.old.waiting - 1 }
+        ensures { self.new ≡ record self.old { waiting = self.old.waiting - 1 } }
     {
         self.waiting = self.waiting.saturating_sub(1);
     }
@@ -67,6 +70,51 @@ impl<P, C: Ties> Guarded<Tied<P, C>> {
         ensures { IsStatus result }
     {
         Status::of(self.book.book(), self.waiting)
+    }
+}
+
+impl<P: Drop, C: Ties> Guarded<Tied<P, C>> {
+    ghost use Rattle.std.specs.Duration.{as_nanos};
+    ghost use Rattle.r2d2_core.specs.Seen.{seen_returned, seen_released, map_ok};
+    ghost use Rattle.r2d2_core.specs.Table.{return_answer, after_return};
+    ghost use Rattle.r2d2.specs.Wakes.{wakes_of_return};
+    ghost use Rattle.r2d2.specs.Evicted.{is_to_close, evicted_of, IsEvicted};
+
+    /// Puts a lent connection back. One that was opened before the latest eviction is closed, as a broken one is.
+    #[inline(always)]
+    pub(super) fn give_back(
+        &mut self,
+        now: Duration,
+        id: u64,
+        value: P,
+        broken: bool,
+    ) -> (Result<Returned<P>, (Refusal, P)>, Wakes)
+        ensures answer { map_ok seen_returned result.0 ≡ return_answer (as_nanos now) id value (is_to_close broken id self.old.first_kept) self.old.book.book.picture }
+        ensures after { self.new.book.book.picture ≡ after_return (as_nanos now) id value (is_to_close broken id self.old.first_kept) self.old.book.book.picture }
+        ensures wakes { result.1 ≡ wakes_of_return (map_ok seen_returned result.0) }
+        ensures kept { self.new.first_kept ≡ self.old.first_kept }
+        ensures waiting { self.new.waiting ≡ self.old.waiting }
+    {
+        let is_evicted = id < self.first_kept;
+        self.book.give_back(now, id, value, broken || is_evicted)
+    }
+
+    /// Closes all that is idle, into the list, and has what is lent closed as it comes back. What is opened from now on stays.
+    pub(super) fn evict(&mut self, now: Duration, tally: &mut C::Tally, evicted: &mut Vec<Released<P>>)
+    where
+        C: Counter,
+        requires parts { 0 < C.parts tally.old }
+        requires empty { vec_len evicted.old ≡ 0 }
+        requires room { self.old.book.book.picture.on_order.limits.max_size ≤ vec_capacity evicted.old }
+        ensures released { map seen_released evicted.new.items ≡ evicted_of (as_nanos now) self.old.book.book.picture }
+        ensures after { IsEvicted self.old.book.book.picture self.new.book.book.picture }
+        ensures kept { self.new.first_kept ≡ self.old.book.book.picture.on_order.next_id }
+        ensures waiting { self.new.waiting ≡ self.old.waiting }
+        ensures parts { C.parts tally.new ≡ C.parts tally.old }
+        ensures amount { C.amount tally.new ≡ C.amount tally.old + length evicted.new.items * C.per_take }
+    {
+        self.book.evict(now, tally, evicted);
+        self.first_kept = self.book.book().next_id();
     }
 }
 
@@ -111,17 +159,24 @@ impl<B, M, K, R> Shared<B, M, K, R> {
         }
     }
 
+    /// Wakes all callers and all workers.
+    pub(super) fn wake_all(&self) {
+        // Modelled in model/waiting.pml: keep both alike.
+        self.callers.notify_all();
+        self.workers.notify_all();
+    }
+
     // Makes a step: takes the lock, reads the moment, calls, lets the lock go, wakes. What the call did to the book, nobody can say after it.
     #[inline(always)]
-    fn step<X, F: FnOnce(&mut B, Duration) -> (X, Wakes)>(&self, call: F) -> X
+    fn step<X, F: FnOnce(&mut Guarded<B>, Duration) -> (X, Wakes)>(&self, call: F) -> X
     where
         R: Clock + Wait,
-        requires { (b : _) (now : _) → F.pre call b now }
-        ensures { (b : _) × (now : _) × (w : _) × (b' : _) × F.post call b now (result, w) b' }
+        requires { (g : _) (now : _) → F.pre call g now }
+        ensures { (g : _) × (now : _) × (w : _) × (g' : _) × F.post call g now (result, w) g' }
     {
         // Modelled in model/waiting.pml: keep both alike.
         let mut guarded = self.guarded.lock(&self.rt);
-        let (answer, wakes) = call(&mut guarded.book, self.moment());
+        let (answer, wakes) = call(&mut guarded, self.moment());
         let wakes = guarded.who_waits(wakes);
         drop(guarded);
         self.wake(wakes);
@@ -136,7 +191,7 @@ impl<P: Drop, C: Ties, M, K, R: Clock + Wait> Shared<Tied<P, C>, M, K, R> {
     pub(super) fn state(&self) -> State
         ensures { result.idle_connections ≤ result.connections }
     {
-        self.step(|guarded, _now| (State::of(guarded.book()), Wakes::nobody()))
+        self.step(|guarded, _now| (State::of(guarded.book.book()), Wakes::nobody()))
     }
 
     /// The counts, with those of the callers who wait.
@@ -153,7 +208,7 @@ impl<P: Drop, C: Ties, M, K, R: Clock + Wait> Shared<Tied<P, C>, M, K, R> {
         ensures counted { IfOk result CountsItsTakes }
         ensures whole { IfOk result BeginsAtAMaking }
     {
-        self.step(|guarded, _now| (guarded.book().report(), Wakes::nobody()))
+        self.step(|guarded, _now| (guarded.book.report(), Wakes::nobody()))
     }
 
     /// Puts a lent connection back. One that is closed, or refused, comes back.
@@ -169,22 +224,18 @@ impl<P: Drop, C: Ties, M, K, R: Clock + Wait> Shared<Tied<P, C>, M, K, R> {
 
     /// Gives an opened connection its id.
     pub(super) fn number(&self, tries: u32) -> Result<u64, Refusal> {
-        self.step(|guarded, _now| (guarded.number(tries), Wakes::nobody()))
+        self.step(|guarded, _now| (guarded.book.number(tries), Wakes::nobody()))
     }
 
     /// Tells the book of an outcome.
     pub(super) fn settle(&self, outcome: Outcome<P>) -> Settled<P> {
-        self.step(|guarded, now| guarded.settle(now, outcome))
+        self.step(|guarded, now| guarded.book.settle(now, outcome))
     }
 
     /// Closes the book, tells all who wait, and hands over what was idle.
     pub(super) fn close(&self) -> Leftover<P> {
-        let wakes = Wakes {
-            caller: false,
-            workers: true,
-        };
-        let left = self.step(|guarded, _now| (guarded.close(), wakes));
-        self.callers.notify_all();
+        let left = self.step(|guarded, _now| (guarded.book.close(), Wakes::nobody()));
+        self.wake_all();
         left
     }
 }

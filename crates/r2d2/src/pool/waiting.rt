@@ -1,6 +1,7 @@
-// Those who take the lock by themselves: a caller, the maker of a pool and a worker, who hand it to a wait, and an audit, which brings a share.
+// Those who take the lock by themselves: a caller, the maker of a pool and a worker, who hand it to a wait, and an eviction and an audit,
+// which bring a tally.
 // Each other step is made by `Shared::step`.
-ghost use Rattle.std.specs.Prelude.{◌≡◌, ◌≤◌, ◌<◌, ◌+◌, IsTrue, IsSome, MatchOption, OnErr, IfOk, IfErr, vec_len, vec_capacity};
+ghost use Rattle.std.specs.Prelude.{◌≡◌, ◌≤◌, ◌<◌, ◌+◌, ◌*◌, IsTrue, IsSome, MatchOption, OnErr, IfOk, IfErr, vec_len, vec_capacity};
 ghost use Rattle.std.specs.Option.{IsNone};
 ghost use Rattle.std.specs.Result.{IsOk};
 ghost use Rattle.r2d2_core.specs.Reports.{DoesReplay, HasSoundCounts, CountsItsTakes, BeginsAtAMaking};
@@ -156,13 +157,38 @@ impl<C: Ties, M: ManageConnection, K: Hooks<M>, R: PoolRuntime> SharedOf<C, M, K
         }
     }
 
-    // Releases what a reap closed, and empties the list.
-    fn release_all(&self, expired: &mut Vec<Released<PayloadOf<M>>>) {
-        for released in expired.drain(..) {
+    // Releases what was closed under the lock, and empties the list.
+    fn release_all(&self, closed: &mut Vec<Released<PayloadOf<M>>>) {
+        for released in closed.drain(..) {
             let Released { id, age, value } = released;
             let Payload { connection, .. } = value;
             self.hooks.release(id, age, connection);
         }
+    }
+}
+
+impl<C: Counter, M: ManageConnection, K: Hooks<M>, R: PoolRuntime> SharedOf<C, M, K, R> {
+    /// Closes what is idle now, and has what is lent now closed as it comes back. It answers how many were idle. The error is lack of
+    /// memory for the list of those; then nothing has changed.
+    pub(super) fn evict(&self, tally: &mut C::Tally) -> Result<usize, AllocError>
+        requires { 0 < C.parts tally.old }
+        ensures parts { C.parts tally.new ≡ C.parts tally.old }
+        ensures amount { IfOk result (λ n. C.amount tally.new ≡ C.amount tally.old + n * C.per_take) }
+        ensures refused { OnErr result (C.amount tally.new ≡ C.amount tally.old) }
+    {
+        // Modelled in model/waiting.pml: keep both alike.
+        let max_size = self.status().max_size as usize;
+        let mut evicted = Vec::with_capacity(self.rt.alloc(), max_size)?;
+        let mut guarded = self.guarded.lock(&self.rt);
+        let now = self.moment();
+        if has_room(guarded.book.book(), &evicted) {
+            guarded.evict(now, tally, &mut evicted);
+        }
+        drop(guarded);
+        self.wake_all();
+        let count = evicted.len();
+        self.release_all(&mut evicted);
+        Ok(count)
     }
 }
 
@@ -177,7 +203,7 @@ impl<P: Drop, C: Ties> Tied<P, C> {
     }
 }
 
-// Whether a reap can use the list. It has room from the making on; but of a locked book its type alone is known, so this asks.
+// Whether a reap or an eviction can use the list. It has room from the making on; but of a locked book its type alone is known, so this asks.
 fn has_room<P>(book: &Book<P>, expired: &Vec<Released<P>>) -> bool
     ensures { IsTrue result → (vec_len expired.now ≡ 0) × (book.now.picture.on_order.limits.max_size ≤ vec_capacity expired.now) }
 {

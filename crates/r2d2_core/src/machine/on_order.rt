@@ -89,6 +89,12 @@ impl<A: Allocator> OnOrder<A> {
         self.closed
     }
 
+    pub(crate) fn next_id(&self) -> u64
+        ensures { result ≡ self.now.next_id }
+    {
+        self.next_id
+    }
+
     /// Orders what is wanted beside so many idle connections, as far as there is room beside them and the lent ones.
     #[inline(always)]
     pub(crate) fn top_up(&mut self, idle: usize, lent: usize, due: Duration) -> u32

@@ -1,0 +1,20 @@
+use Rattle.std.proofs.Common.{◌≡◌, ℕ, ◌+◌, ◌*◌, map, length}
+use Rattle.std.specs.Prelude.{vec_capacity}
+use Rattle.std.specs.Duration.{as_nanos}
+use Rattle.r2d2_core.specs.Seen.{seen_released}
+use Rattle.r2d2_core.specs.Picture.{IsSound}
+use Rattle.r2d2.proofs.Evicting.{Evicting}
+use Rattle.r2d2.proofs.engine.counted.Tied.evict.Given as goal
+
+abbrev pub invariant-loop-released : goal.invariant-loop-released
+invariant-loop-released g l = record {
+  evicting : Evicting (as_nanos l.now) l.fn.self.book.picture l.self.book.picture (map seen_released l.out.items);
+  sound : IsSound l.fn.self.book.picture;
+  room : vec_capacity l.out ≡ vec_capacity l.fn.out;
+  parts : g.C.Counter.parts l.tally ≡ g.C.Counter.parts l.fn.tally;
+  amount : g.C.Counter.amount l.tally ≡ g.C.Counter.amount l.fn.tally + length l.out.items * g.C.Counter.per_take;
+}
+
+-- how many are left
+abbrev pub decreases-loop-released : goal.decreases-loop-released
+decreases-loop-released g l = length l.self.book.picture.idle

@@ -1,0 +1,47 @@
+use Rattle.std.proofs.Common.{◌-◌, max, Ok, sym, ◌∙◌, ap}
+use Rattle.std.specs.Duration.{as_nanos}
+use Rattle.r2d2_core.specs.Seen.{seen_take, seen_returned, map_ok}
+use Rattle.r2d2.proofs.Evicting.{next, idle_of_none, lent_after, closing, lent_then, released_next, never_refused, same_age, same_value, latest_after}
+use Rattle.r2d2.proofs.engine.counted.Tied.evict_next.Goals as goal
+
+pub returns-in_default-clause-idle : goal.returns-in_default-clause-idle
+returns-in_default-clause-idle g c =
+    let t = as_nanos c.args.now in
+    let p = c.args.self.now.book.picture in
+    idle_of_none t _ p c.lend-taken.new.self.book.picture (sym (ap seen_take c.in_default.is) ∙ c.lend-taken.ensures.answer) c.lend-taken.ensures.after
+
+pub unreachable-requires-in-Err : goal.unreachable-requires-in-Err
+unreachable-requires-in-Err g c =
+    let t = as_nanos c.args.now in
+    let p = c.args.self.now.book.picture in
+    let q = c.lend-taken.new.self.book.picture in
+    let n = next _ _ c.in-Found.id (as_nanos c.in-Found.birth) _ c.in-Found.value (sym (ap seen_take c.in-Found.is) ∙ c.lend-taken.ensures.answer) in
+    let lent = lent_after t c.in-Found.id (as_nanos c.in-Found.birth) c.in-Found.value p q n c.lend-taken.ensures.after in
+    let closed = closing t c.in-Found.id (as_nanos c.in-Found.birth) c.in-Found.value q p.lent c.lend-taken.ensures.sound lent in
+    let came = sym (ap (map_ok seen_returned) c.in-Err.is) ∙ (c.give_back-answer.ensures.answer ∙ closed) in
+    never_refused _ _ _ _ came
+
+pub returns-clause-released : goal.returns-clause-released
+returns-clause-released g c =
+    let t = as_nanos c.args.now in
+    let p = c.args.self.now.book.picture in
+    let q = c.lend-taken.new.self.book.picture in
+    let n = next _ _ c.in-Found.id (as_nanos c.in-Found.birth) _ c.in-Found.value (sym (ap seen_take c.in-Found.is) ∙ c.lend-taken.ensures.answer) in
+    let lent = lent_after t c.in-Found.id (as_nanos c.in-Found.birth) c.in-Found.value p q n c.lend-taken.ensures.after in
+    let closed = closing t c.in-Found.id (as_nanos c.in-Found.birth) c.in-Found.value q p.lent c.lend-taken.ensures.sound lent in
+    let back = map_ok seen_returned c.give_back-answer.result.0 in
+    let is = ap (map_ok seen_returned) (c.in-Ok-Closed.is ∙ ap Ok c.in-Ok-Closed.field-0-is) in
+    let was = c.give_back-answer.ensures.answer ∙ closed in
+    let birth = as_nanos c.in-Found.birth in
+    let age = same_age back c.in-Found.value c.in-Ok-Closed.value (as_nanos c.in-Ok-Closed.age) (max q.latest t - birth) _ _ is was in
+    let value = same_value back c.in-Found.value c.in-Ok-Closed.value (as_nanos c.in-Ok-Closed.age) (max q.latest t - birth) _ _ is was in
+    released_next t c.in-Found.id birth (as_nanos c.in-Ok-Closed.age) c.in-Found.value c.in-Ok-Closed.value p n (age ∙ ap (λ m. m - birth) (latest_after t p q c.lend-taken.ensures.after)) value
+
+pub returns-clause-lent : goal.returns-clause-lent
+returns-clause-lent g c =
+    let t = as_nanos c.args.now in
+    let p = c.args.self.now.book.picture in
+    let q = c.lend-taken.new.self.book.picture in
+    let n = next _ _ c.in-Found.id (as_nanos c.in-Found.birth) _ c.in-Found.value (sym (ap seen_take c.in-Found.is) ∙ c.lend-taken.ensures.answer) in
+    let lent = lent_after t c.in-Found.id (as_nanos c.in-Found.birth) c.in-Found.value p q n c.lend-taken.ensures.after in
+    lent_then t c.in-Found.id (as_nanos c.in-Found.birth) c.in-Found.value q c.give_back-answer.new.self.book.picture p.lent c.lend-taken.ensures.sound lent c.give_back-answer.ensures.after

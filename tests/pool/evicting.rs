@@ -1,0 +1,224 @@
+// What is closed because its database has moved, and what stays.
+
+use crate::callers::watched;
+use crate::kind::{Makes, PlainPool, PooledConnection};
+use crate::listening::{Listener, Told};
+use crate::managers::{Blammo, Breaks, Counts, Line, Manager};
+use r2d2::{Builder, CustomizeConnection, PoolRuntime};
+use r2d2_core::Record;
+use std::sync::atomic::{AtomicU64, Ordering};
+use std::sync::{Arc, Mutex};
+use std::test::Fail;
+use std::thread;
+use std::time::Duration;
+
+// A pool of at most so many, so many of which are kept idle.
+fn of<R: PoolRuntime>(
+    rt: R,
+    counts: &Arc<Counts>,
+    size: u32,
+    idle: u32,
+) -> Result<PlainPool<Manager, R>, Fail> {
+    Builder::new()
+        .max_size(size)
+        .min_idle(Some(idle))
+        .connection_timeout(Duration::from_secs(10))
+        .journal_room(100)
+        .make(rt, Manager::new(counts, u64::MAX, Breaks::Never)?)
+}
+
+#[test]
+fn what_is_idle_is_closed_at_once(rt: HostRuntime) -> Result<(), Fail> {
+    let counts = Counts::new(rt.alloc())?;
+    let pool = of(rt, &counts, 3, 3)?;
+    assert_eq!(rt; pool.evict()?, 3);
+    assert_eq!(rt; counts.dropped(), 3);
+    assert_eq!(rt; watched(&rt, &counts.connects, 6, 1000), 6);
+    for _ in 0..3 {
+        let lent = pool.get()?;
+        assert!(rt; PooledConnection::id(&lent) >= 3);
+    }
+    assert_eq!(rt; counts.dropped(), 3);
+    Ok(())
+}
+
+#[test]
+fn what_is_lent_is_closed_as_it_comes_back(rt: HostRuntime) -> Result<(), Fail> {
+    let counts = Counts::new(rt.alloc())?;
+    let pool = of(rt, &counts, 2, 0)?;
+    let (first, second) = (pool.get()?, pool.get()?);
+    assert_eq!(rt; pool.evict()?, 0);
+    let status = pool.status();
+    assert_eq!(rt; (status.lent, status.connections, counts.dropped()), (2, 2, 0));
+    drop(first);
+    assert_eq!(rt; (pool.status().connections, counts.dropped()), (1, 1));
+    drop(second);
+    assert_eq!(rt; (pool.status().connections, counts.dropped()), (0, 2));
+    Ok(())
+}
+
+#[test]
+fn what_is_opened_afterwards_stays(rt: HostRuntime) -> Result<(), Fail> {
+    let counts = Counts::new(rt.alloc())?;
+    let pool = of(rt, &counts, 2, 0)?;
+    let old = pool.get()?;
+    assert_eq!(rt; pool.evict()?, 0);
+    let new = pool.get()?;
+    assert_eq!(rt; (PooledConnection::id(&old), PooledConnection::id(&new)), (0, 1));
+    drop(new);
+    assert_eq!(rt; (pool.status().idle, counts.dropped()), (1, 0));
+    drop(old);
+    assert_eq!(rt; (pool.status().idle, counts.dropped()), (1, 1));
+    assert_eq!(rt; PooledConnection::id(&pool.get()?), 1);
+    assert_eq!(rt; pool.evict()?, 1);
+    assert_eq!(rt; counts.dropped(), 2);
+    Ok(())
+}
+
+// Waits for a connection, and tells its id, one more.
+fn be_served<R: PoolRuntime>(pool: PlainPool<Manager, R>, served: Arc<AtomicU64>) {
+    if let Ok(lent) = pool.get() {
+        served.store(PooledConnection::id(&lent).saturating_add(1), Ordering::SeqCst);
+    }
+}
+
+#[test]
+fn who_waits_is_served_by_a_new_one(rt: HostRuntime) -> Result<(), Fail> {
+    let counts = Counts::new(rt.alloc())?;
+    let served = Arc::new(rt.alloc(), AtomicU64::new(0))?;
+    let pool = of(rt, &counts, 1, 1)?;
+    let lent = pool.get()?;
+    let (theirs, told) = (pool.try_clone()?, Arc::try_clone(&served)?);
+    thread::spawn(&rt, move || be_served(theirs, told))?;
+    for _ in 0..2_000 {
+        if pool.status().waiting == 1 {
+            break;
+        }
+        thread::sleep(&rt, Duration::from_millis(5));
+    }
+    assert_eq!(rt; (pool.evict()?, served.load(Ordering::SeqCst)), (0, 0));
+    drop(lent);
+    assert_eq!(rt; watched(&rt, &served, 1, 1000), 2);
+    Ok(())
+}
+
+/// Counts what it is told of the end of connections.
+#[derive(Debug, Drop)]
+struct Ends {
+    ends: Arc<AtomicU64>,
+}
+
+impl CustomizeConnection<Line, Blammo> for Ends {
+    fn on_release(&self, _connection: Line) {
+        self.ends.fetch_add(1, Ordering::SeqCst);
+    }
+}
+
+#[test]
+fn events_and_the_customizer_are_told_in_the_lending_order(rt: HostRuntime) -> Result<(), Fail> {
+    let counts = Counts::new(rt.alloc())?;
+    let told = Arc::new(rt.alloc(), Mutex::new(Vec::new(rt.alloc())))?;
+    let ends = Arc::new(rt.alloc(), AtomicU64::new(0))?;
+    let pool = Builder::new()
+        .max_size(2)
+        .min_idle(Some(0))
+        .event_handler(Listener::new(rt, &told)?)
+        .connection_customizer(Ends {
+            ends: Arc::try_clone(&ends)?,
+        })
+        .make(rt, Manager::new(&counts, 100, Breaks::Never)?)?;
+    let (first, second) = (pool.get()?, pool.get()?);
+    let (one, other) = (PooledConnection::id(&first), PooledConnection::id(&second));
+    drop(first);
+    drop(second);
+    told.lock(&rt).clear();
+    assert_eq!(rt; pool.evict()?, 2);
+    let events = [Told::Release(other), Told::Release(one)];
+    assert_eq!(rt; told.lock(&rt).as_slice(), events.as_slice());
+    assert_eq!(rt; ends.load(Ordering::SeqCst), 2);
+    Ok(())
+}
+
+#[test]
+fn the_journal_tells_of_an_eviction(rt: HostRuntime) -> Result<(), Fail> {
+    let counts = Counts::new(rt.alloc())?;
+    let pool = of(rt, &counts, 1, 0)?;
+    drop(pool.get()?);
+    assert_eq!(rt; pool.evict()?, 1);
+    let report = pool.journal()?;
+    assert!(rt; report.replays()?);
+    assert_eq!(rt; (report.connections, report.takes), (0, 2));
+    match report.records.as_slice() {
+        [.., Record::Taken { at, id: 0, .. }, Record::Closed { at: end, id: 0, .. }] => {
+            assert_eq!(rt; at, end);
+        }
+        _ => assert!(rt; false, "the last records are no take and its return"),
+    }
+    Ok(())
+}
+
+#[test]
+fn a_closed_pool_has_nothing_to_evict(rt: HostRuntime) -> Result<(), Fail> {
+    let counts = Counts::new(rt.alloc())?;
+    let pool = of(rt, &counts, 2, 2)?;
+    let lent = pool.get()?;
+    pool.close();
+    assert_eq!(rt; pool.evict()?, 0);
+    drop(lent);
+    assert_eq!(rt; counts.dropped(), 2);
+    assert_eq!(rt; pool.drain(Duration::ZERO), Ok(()));
+    Ok(())
+}
+
+/// What a thread did amid the others: how often it was lent a connection, how many it took out of the pool, and how many it
+/// evicted.
+#[derive(Drop)]
+struct Done {
+    found: u64,
+    evicted: u64,
+}
+
+// Lends a connection so many times; now and then it keeps one for good, or evicts what is idle.
+fn amid<R: PoolRuntime>(pool: PlainPool<Manager, R>, kept: Arc<AtomicU64>) -> Done {
+    let (mut found, mut evicted) = (0u64, 0u64);
+    for time in 0..1_000u32 {
+        if let Ok(lent) = pool.get() {
+            found = found.saturating_add(1);
+            if time % 16 == 7 {
+                drop(PooledConnection::detach(lent));
+                kept.fetch_add(1, Ordering::SeqCst);
+            }
+        }
+        if time % 32 == 9 {
+            evicted = evicted.saturating_add(pool.evict().unwrap_or(0) as u64);
+        }
+    }
+    Done { found, evicted }
+}
+
+#[test]
+fn nothing_is_lost_amid_evictions_detaches_and_a_drain(rt: HostRuntime) -> Result<(), Fail> {
+    let counts = Counts::new(rt.alloc())?;
+    let kept = Arc::new(rt.alloc(), AtomicU64::new(0))?;
+    let pool = of(rt, &counts, 6, 2)?;
+    let mut threads = Vec::new(rt.alloc());
+    for _ in 0..8 {
+        let (theirs, count) = (pool.try_clone()?, Arc::try_clone(&kept)?);
+        threads.push(thread::spawn(&rt, move || amid(theirs, count))?)?;
+    }
+    let mut takes = 0u64;
+    for thread in threads {
+        let done = thread.join(&rt);
+        assert_eq!(rt; done.found, 1_000);
+        takes = takes.saturating_add(done.found).saturating_add(done.evicted);
+    }
+    let report = pool.journal()?;
+    assert!(rt; report.replays()?);
+    assert_eq!(rt; report.takes, takes);
+    assert_eq!(rt; kept.load(Ordering::SeqCst), 8 * 63);
+    assert!(rt; pool.drain(Duration::from_secs(10)).is_ok());
+    drop(pool);
+    assert_eq!(rt; watched(&rt, &counts.managers_dropped, 1, 1000), 1);
+    assert_eq!(rt; counts.dropped(), counts.connects.load(Ordering::SeqCst));
+    Ok(())
+}
