@@ -12,7 +12,7 @@ use std::sync::ledger::{Blank, Share};
 use std::sync::{Arc, Mutex};
 use std::test::Fail;
 use std::thread;
-use std::time::Duration;
+use std::time::{Duration, SystemTime};
 
 /// More than there are calls at once.
 const PARTS: u64 = 1_000_000;
@@ -77,6 +77,10 @@ impl<
         let evicted = self.pool.evict(&mut part);
         self.parts.lock(&self.rt).merge(part);
         evicted
+    }
+
+    pub(crate) fn made_at(&self) -> Option<SystemTime> {
+        self.pool.made_at()
     }
 
     pub(crate) fn state(&self) -> State {

@@ -8,7 +8,7 @@ use std::sync::Arc;
 use std::sync::atomic::{AtomicU64, Ordering};
 use std::test::Fail;
 use std::thread;
-use std::time::{Duration, Instant};
+use std::time::{Duration, Instant, SystemTime};
 
 // A pool of at most three that keeps one idle.
 fn with_one_idle<R: PoolRuntime>(rt: R) -> Result<PlainPool<Sevens, R>, Fail> {
@@ -36,6 +36,18 @@ fn be_served<R: PoolRuntime>(pool: PlainPool<Sevens, R>, served: Arc<AtomicU64>)
     if lent.is_ok() {
         served.fetch_add(1, Ordering::SeqCst);
     }
+}
+
+#[test]
+fn a_pool_tells_when_it_was_made(rt: HostRuntime) -> Result<(), Fail> {
+    let before = SystemTime::now(&rt)?;
+    let pool = with_one_idle(rt)?;
+    let after = SystemTime::now(&rt)?;
+    let made_at = pool.made_at().ok_or("no moment")?;
+    assert!(rt; before <= made_at && made_at <= after);
+    thread::sleep(&rt, Duration::from_millis(20));
+    assert_eq!(rt; pool.made_at(), Some(made_at));
+    Ok(())
 }
 
 #[test]

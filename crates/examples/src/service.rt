@@ -2,7 +2,7 @@
 // audit of that log.
 
 use crate::Numbers;
-use pool_reports::{audit, from_json, to_json};
+use pool_reports::{audit, from_json, to_json_of_pool};
 use r2d2::{Builder, PlainPool, PoolRuntime};
 use std::alloc::Global;
 
@@ -49,7 +49,7 @@ fn write_journal<R: PoolRuntime>(
     log: &mut String,
 ) -> Result<(), anyhow::Error> {
     let report = pool.journal()?;
-    log.push_str(to_json(alloc, &report)?.as_str())?;
+    log.push_str(to_json_of_pool(alloc, &report, pool.made_at())?.as_str())?;
     log.push('\n')?;
     Ok(())
 }

@@ -1,5 +1,6 @@
 // A service that watches its pool: a page of metrics for Prometheus each second, the connections
-// that somebody forgot to give back, and an end that waits for what is lent.
+// that somebody forgot to give back, new ones for a database that moved, and an end that waits for
+// what is lent.
 ghost use Rattle.std.specs.Prelude.{◌<◌};
 
 use crate::Numbers;
@@ -142,6 +143,8 @@ where
     }
     let long = app.metrics.lent_longer_than(Duration::from_millis(500))?;
     println!(rt; "lent for more than half a second: {}", long.len())?;
+    // The database has moved: what is lent is closed as it comes back.
+    println!(rt; "closed, since they were idle: {}", app.pool.evict()?)?;
     drop(forgotten);
     match app.pool.drain(Duration::from_secs(5)) {
         Ok(()) => println!(rt; "all came back")?,

@@ -23,7 +23,7 @@ use std::marker::Model;
 use std::rt::Clock;
 use std::sync::{Arc, Wait};
 use std::thread::Threads;
-use std::time::Duration;
+use std::time::{Duration, SystemTime};
 
 mod building;
 mod closing;
@@ -99,6 +99,11 @@ impl<C: Ties, M: ManageConnection, K: Hooks<M>, R: PoolRuntime> AnyPool<C, M, K,
         ensures { IsStatus result }
     {
         self.shared().status()
+    }
+
+    /// What the wall clock showed when the pool was made, from which its moments count; None where it could not be read.
+    pub fn made_at(&self) -> Option<SystemTime> {
+        self.shared().made_at
     }
 
     /// What happened last, as far back as the setting `journal_room` reaches, what stood before that, and what there

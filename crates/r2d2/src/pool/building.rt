@@ -18,7 +18,7 @@ use std::alloc::{AllocError, Global};
 use std::sync::ledger::Ledger;
 use std::sync::{Arc, Condvar, Mutex, ledger};
 use std::thread;
-use std::time::{Duration, Instant};
+use std::time::{Duration, Instant, SystemTime};
 
 impl<
     M: ManageConnection,
@@ -156,6 +156,7 @@ fn shared_state<P: Drop, C: Ties, M: Drop, K: Drop, R: PoolRuntime>(
     ensures { IfOk result (λ closer. (arc_value (arc_value closer).shared).hooks ≡ hooks) }
 {
     let made = Instant::now(&rt).ok();
+    let made_at = SystemTime::now(&rt).ok();
     let shared = Shared {
         guarded: Mutex::new(Guarded::new(book)),
         callers: Condvar::new(),
@@ -163,6 +164,7 @@ fn shared_state<P: Drop, C: Ties, M: Drop, K: Drop, R: PoolRuntime>(
         manager,
         hooks,
         made,
+        made_at,
         rt,
     };
     let shared = Arc::new(rt.alloc(), shared)?;

@@ -11,7 +11,7 @@ use r2d2_core::{Refusal, Released, Report, Returned};
 use std::alloc::AllocError;
 use std::rt::Clock;
 use std::sync::{Condvar, Mutex, Wait};
-use std::time::{Duration, Instant};
+use std::time::{Duration, Instant, SystemTime};
 
 /// What the lock guards: the book, how many callers wait, and which connections stay.
 #[derive(Drop)]
@@ -130,6 +130,8 @@ pub struct Shared<B, M, K, R> {
     pub(super) hooks: K,
     /// When the pool was made; None where the clock could not be read.
     pub(super) made: Option<Instant>,
+    /// What the wall clock showed then, where it could be read.
+    pub(super) made_at: Option<SystemTime>,
     pub(super) rt: R,
 }
 
