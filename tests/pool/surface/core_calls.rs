@@ -123,7 +123,9 @@ fn steps(rt: HostRuntime) -> Result<(), Fail> {
     assert!(rt; !core.is_closed());
 
     let mut core: Core<u32> = Core::with_first_id(rt.alloc(), limits, Duration::ZERO, 5)?;
+    assert_eq!(rt; core.next_id(), 5);
     assert!(rt; opens_and_lends(&mut core));
+    assert_eq!(rt; core.next_id(), 6);
     let mut released: Vec<Released<u32>> = Vec::with_capacity(
         rt.alloc(),
         core.limits().max_size() as usize,
@@ -209,6 +211,7 @@ fn books(rt: HostRuntime) -> Result<(), Fail> {
         (book.connections(), book.idle(), book.pending()),
         (1, 1, 1)
     );
+    assert_eq!(rt; book.next_id(), 1);
     assert!(rt; discards_from(&mut book));
     let mut released = Vec::with_capacity(rt.alloc(), book.limits().max_size() as usize)?;
     assert_eq!(rt; book.reap(seconds(9), &mut released), 0);
