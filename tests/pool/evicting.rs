@@ -222,3 +222,53 @@ fn nothing_is_lost_amid_evictions_detaches_and_a_drain(rt: HostRuntime) -> Resul
     assert_eq!(rt; counts.dropped(), counts.connects.load(Ordering::SeqCst));
     Ok(())
 }
+
+#[test]
+fn callers_are_told_where_nothing_opens_afterwards(rt: HostRuntime) -> Result<(), Fail> {
+    let counts = Counts::new(rt.alloc())?;
+    let pool = Builder::new()
+        .max_size(1)
+        .connection_timeout(Duration::from_secs(1))
+        .make(rt, Manager::new(&counts, 1, Breaks::Never)?)?;
+    assert_eq!(rt; pool.evict()?, 1);
+    let error = pool.get_timeout(Duration::from_millis(500)).err().ok_or("a connection")?;
+    assert_eq!(rt; error.message(), Some("blammo"));
+    let status = pool.status();
+    assert_eq!(rt; (status.connections, status.opening), (0, 1));
+    Ok(())
+}
+
+// Lends and evicts until the pool is closed.
+fn evict_until_closed<R: PoolRuntime>(pool: PlainPool<Manager, R>) -> bool {
+    for _ in 0..1_000_000u32 {
+        if pool.get().is_err() {
+            break;
+        }
+        if pool.evict().is_err() {
+            return false;
+        }
+    }
+    pool.status().closed
+}
+
+#[test]
+fn a_pool_closes_amid_evictions(rt: HostRuntime) -> Result<(), Fail> {
+    for length in 0..10 {
+        let counts = Counts::new(rt.alloc())?;
+        let pool = of(rt, &counts, 3, 2)?;
+        let mut threads = Vec::new(rt.alloc());
+        for _ in 0..4 {
+            let theirs = pool.try_clone()?;
+            threads.push(thread::spawn(&rt, move || evict_until_closed(theirs))?)?;
+        }
+        thread::sleep(&rt, Duration::from_millis(length * 3));
+        assert!(rt; pool.drain(Duration::from_secs(10)).is_ok());
+        for thread in threads {
+            assert!(rt; thread.join(&rt));
+        }
+        drop(pool);
+        assert_eq!(rt; watched(&rt, &counts.managers_dropped, 1, 1000), 1);
+        assert_eq!(rt; counts.dropped(), counts.connects.load(Ordering::SeqCst));
+    }
+    Ok(())
+}
