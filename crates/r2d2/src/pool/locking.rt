@@ -100,7 +100,12 @@ impl<P: Drop, C: Ties> Guarded<Tied<P, C>> {
     }
 
     /// Closes all that is idle, into the list, and has what is lent closed as it comes back. What is opened from now on stays.
-    pub(super) fn evict(&mut self, now: Duration, tally: &mut C::Tally, evicted: &mut Vec<Released<P>>)
+    pub(super) fn evict(
+        &mut self,
+        now: Duration,
+        tally: &mut C::Tally,
+        evicted: &mut Vec<Released<P>>,
+    )
     where
         C: Counter,
         requires parts { 0 < C.parts tally.old }
