@@ -268,8 +268,8 @@ impl<
     }
 
     /// Closes each connection that is idle now, and each that is lent now when it comes back, as where a database has moved. What is
-    /// opened from now on stays, and as many are ordered as are wanted. One that is being opened stays too, unless it has its id by
-    /// now: then it is closed when it first comes back.
+    /// opened from now on stays, and at least as many are ordered as are wanted. One that is being opened stays too, unless it has
+    /// its id by now: then it is closed when it first comes back.
     ///
     /// It answers how many were idle: each is told by its release event and to the customizer before the call returns. The
     /// journal notes a take and a return for each. The error is lack of memory for a list of `max_size` connections; then
