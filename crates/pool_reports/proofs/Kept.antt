@@ -1,5 +1,5 @@
 -- What a report that replays keeps, and that a verdict says just that.
-use Rattle.std.proofs.Common.{◌≡◌, ℕ, zero, suc, ◌+◌, ◌≤◌, List, [], ◌∷◌, map, length, refl, sym, ◌∙◌, ap, subst, arith}
+use Rattle.std.proofs.Common.{◌≡◌, ℕ, ◌+◌, ◌≤◌, List, [], ◌∷◌, length, refl, sym, ◌∙◌, ap, arith}
 use Rattle.std.specs.Prelude.{◌⊎◌, ◌↔◌, false}
 use Rattle.std.proofs.lemmas.List.{length-map}
 use Rattle.r2d2_core.specs.declared.journal.report.Report.{Report}

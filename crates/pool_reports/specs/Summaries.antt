@@ -1,5 +1,5 @@
 -- What a summary counts of a report.
-use Rattle.std.specs.Prelude.{◌≡◌, ℕ, Bool, true, false, List, count_by}
+use Rattle.std.specs.Prelude.{ℕ, Bool, true, false, List, count_by}
 use Rattle.r2d2_core.specs.Records.{SeenRecord, Admitted, Closed}
 
 -- whether a record tells of a connection that came in

@@ -1,5 +1,4 @@
-use Rattle.std.proofs.Common.{◌≡◌, subst}
-use Rattle.r2d2_core.specs.declared.journal.faults.Fault.{Fault}
+use Rattle.std.proofs.Common.{subst}
 use Rattle.r2d2_core.specs.Faults.{IsFault}
 use Rattle.r2d2_core.proofs.Recording.Auditing.{some_in}
 use Rattle.pool_reports.specs.declared.verdict.Verdict.TheVariants as verdict

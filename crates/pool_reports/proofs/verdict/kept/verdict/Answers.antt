@@ -1,4 +1,4 @@
-use Rattle.std.proofs.Common.{◌≡◌, ◌∙◌, ap, arith}
+use Rattle.std.proofs.Common.{◌∙◌, ap, arith}
 use Rattle.r2d2_core.specs.Records.{takes_in}
 use Rattle.pool_reports.specs.Verdicts.{IsSound}
 use Rattle.pool_reports.proofs.Kept.{sound_counts}
@@ -10,13 +10,13 @@ returns g c =
     let r = c.args.report.now in
     let counts = sound_counts r c.requires.replays (c.is_replenished.ensures.0 c.if-not-is_replenished.false) in
     elim c.if-report-eq0.branch as (λ _. IsSound r) [
-      then-report-eq0+else-not-is_first+else-report-due w ↦ record {
+      | then-report-eq0+else-not-is_first+else-report-due w ↦ record {
         replays = c.requires.replays;
         begins = λ none. w.is_first.ensures.0 w.if-not-is_first.false;
         counted = λ none. w.if-report-due.false ∙ (w.takes-due.ensures ∙ ap takes_in w.as_slice.ensures);
         sound = counts;
       }
-    | else-report-eq0 w ↦ record {
+      | else-report-eq0 w ↦ record {
         replays = c.requires.replays;
         begins = λ none. absurd (omega (arith, none, w.if-report-eq0.false));
         counted = λ none. absurd (omega (arith, none, w.if-report-eq0.false));
