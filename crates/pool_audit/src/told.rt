@@ -1,7 +1,7 @@
 // What is written of a report.
 
 use crate::lines::Form;
-use pool_pictures::{html, svg, text};
+use pool_pictures::{Finding, Notes, html, svg, text};
 use pool_reports::Verdict;
 use r2d2_core::Report;
 use serde::Serialize;
@@ -19,8 +19,26 @@ pub(crate) fn of(
         Form::Words => in_words(alloc, line, verdict),
         Form::Json => in_json(alloc, line, verdict),
         Form::Text => with_timeline(alloc, line, report, verdict),
-        Form::Svg => svg(alloc, report),
-        Form::Html => html(alloc, report),
+        Form::Svg => {
+            let words = format!(in alloc; "{verdict}")?;
+            svg(alloc, report, &notes(words.as_str(), verdict))
+        }
+        Form::Html => {
+            let words = format!(in alloc; "{verdict}")?;
+            html(alloc, report, &notes(words.as_str(), verdict))
+        }
+    }
+}
+
+// What a drawing says of a verdict, which the words tell.
+fn notes(words: &str, verdict: Verdict) -> Notes<'_> {
+    Notes {
+        finding: Some(Finding {
+            words,
+            is_sound: verdict == Verdict::Replays,
+            record: place_of(verdict),
+        }),
+        ..Notes::none()
     }
 }
 
@@ -31,7 +49,7 @@ fn with_timeline(
     verdict: Verdict,
 ) -> Result<String, AllocError> {
     let mut told = in_words(alloc, line, verdict)?;
-    told.push_str(text(alloc, report)?.as_str())?;
+    told.push_str(text(alloc, report, &notes("", verdict))?.as_str())?;
     Ok(told)
 }
 
