@@ -1,7 +1,7 @@
 // The text of the program.
 
 use crate::lines::{Fault, Form, serve};
-use pool_pictures::{html, svg, text};
+use pool_pictures::{Finding, Notes, html, svg, text};
 use pool_reports::{FromJsonError, from_json};
 use std::alloc::Global;
 use std::io::{self, BufWriter, ErrorKind, Read, Write};
@@ -63,18 +63,32 @@ fn says_of_each_line_what_it_is(rt: HostRuntime) -> Result<(), Fail> {
     serves(&rt, Form::Json, "\n\n", "", Ok(true))
 }
 
+fn notes(words: &str, is_sound: bool, record: Option<usize>) -> Notes<'_> {
+    Notes {
+        finding: Some(Finding {
+            words,
+            is_sound,
+            record,
+        }),
+        ..Notes::none()
+    }
+}
+
 #[test]
 fn draws_each_report(rt: HostRuntime) -> Result<(), Fail> {
     let report = from_json(rt.alloc(), NEW)?;
-    let timeline = text(rt.alloc(), &report)?;
+    let sound = notes("replays", true, None);
+    let timeline = text(rt.alloc(), &report, &sound)?;
     let told = format!(in rt.alloc(); "line 1: replays\n{timeline}")?;
     serves(&rt, Form::Text, NEW, told.as_str(), Ok(true))?;
-    let drawing = svg(rt.alloc(), &report)?;
+    let drawing = svg(rt.alloc(), &report, &sound)?;
     serves(&rt, Form::Svg, NEW, drawing.as_str(), Ok(true))?;
-    let page = html(rt.alloc(), &report)?;
+    let page = html(rt.alloc(), &report, &sound)?;
     serves(&rt, Form::Html, NEW, page.as_str(), Ok(true))?;
     let wrong = wrong(rt.alloc())?;
-    let drawing = svg(rt.alloc(), &from_json(rt.alloc(), wrong.as_str())?)?;
+    let report = from_json(rt.alloc(), wrong.as_str())?;
+    let words = "record 0: connection 4 is kept, but it is not lent";
+    let drawing = svg(rt.alloc(), &report, &notes(words, false, Some(0)))?;
     serves(&rt, Form::Svg, wrong.as_str(), drawing.as_str(), Ok(false))
 }
 

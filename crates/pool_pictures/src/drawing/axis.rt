@@ -22,7 +22,8 @@ impl Canvas {
     pub(super) fn axis(&mut self, story: &Story) -> Result<(), AllocError> {
         let axis = self.marks();
         self.grid(axis)?;
-        self.labels(story, axis, self.layout.band_bottom().saturating_add(170))?;
+        let above = self.layout.band_bottom().saturating_add(170);
+        self.labels(story, axis, above)?;
         let bottom = self.layout.lanes_bottom();
         if bottom.saturating_sub(self.layout.lanes_top()) > FAR {
             self.labels(story, axis, bottom.saturating_add(170))?;
