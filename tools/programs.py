@@ -1,5 +1,5 @@
 """A program of this repository as a script of its own: proved and built where it is missing or older than a source, and run.
-`tools/play` and `tools/audit` have it in common."""
+`tools/play`, `tools/audit` and `tools/times` have it in common."""
 import os
 import signal
 import subprocess
@@ -51,7 +51,7 @@ class Program:
         begun = time.time_ns()
         try:
             with open(self.log, "wb") as out:
-                subprocess.run(["rt", "run"], cwd=self.folder, input=self.sample, stdout=out, stderr=out, check=True)
+                self.run_build(out)
             # A source that was edited meanwhile is newer than the program.
             os.utime(self.path, ns=(begun, begun))
         except FileNotFoundError as error:
@@ -61,6 +61,22 @@ class Program:
             self.say(f"not built: {log} tells why")
             return False
         return True
+
+    def run_build(self, out):
+        """Runs `rt`, in a group of its own: an interrupt ends all of it, and leaves no program that is half written."""
+        words = ["rt", "run"]
+        with subprocess.Popen(words, cwd=self.folder, stdin=subprocess.PIPE, stdout=out, stderr=out, start_new_session=True) as process:
+            try:
+                process.communicate(self.sample)
+            except KeyboardInterrupt:
+                os.killpg(process.pid, signal.SIGTERM)
+                process.wait()
+                if os.path.exists(self.path):
+                    os.unlink(self.path)
+                self.say("interrupted: the program is not built; the next call goes on with what is proved so far")
+                raise
+        if process.returncode != 0:
+            raise subprocess.CalledProcessError(process.returncode, words)
 
     def is_ready(self):
         return self.is_built() or self.build()
@@ -82,6 +98,11 @@ class Program:
         print(f"{self.script}, by the rules of r2d2 0.8.10")
         print("commit:", first_line("git", "log", "-1", "--format=%h of %cs"))
         print("toolchain:", first_line("rt", "version"))
+
+
+def pool_steps(script):
+    """The program of scripts, for a script of this name."""
+    return Program(script, "pool_steps", ["r2d2_core", "pool_lines"], b"limits 1 - - - 30000 30000\n")
 
 
 def status_of(process):

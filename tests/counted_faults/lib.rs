@@ -1,4 +1,5 @@
-//! The tests of what a pool does with faults round it, over a counted pool: their bodies are those of tests/faults.
+//! The tests of what a pool does with faults round it, over a counted pool: their bodies are those
+//! of tests/faults.
 #![tactic(auto)]
 
 #[cfg(test)]

@@ -1,4 +1,5 @@
-// The kind of pool that the tests run over: a counted one. Each call is lent a part of the ledger, and gives it back.
+// The kind of pool that the tests run over: a counted one. Each call is lent a part of the ledger,
+// and gives it back.
 
 use r2d2::{
     Builder, CountedConnection, CountedPool, CustomizeConnection, Error, HandleError, HandleEvent,

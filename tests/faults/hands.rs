@@ -69,7 +69,8 @@ impl<R: Alloc> Alloc for Hand<R> {
 
 type Ages = Arc<Mutex<Vec<Duration>>>;
 
-/// Sets the clock at the first error and at the second, stops it at a release, and writes down each released one's age.
+/// Sets the clock at the first error and at the second, stops it at a release, and writes down each
+/// released one's age.
 #[derive(Drop)]
 struct Mover<R> {
     hand: Hand<R>,
@@ -167,8 +168,9 @@ fn past_its_end_a_caller_orders_on_its_miss(rt: HostRuntime) -> Result<(), Fail>
     Ok(())
 }
 
-// The worker comes from a second failed opening at 35 s, to a reap that was due at 30 s: it reads the clock for what it is to do,
-// and ten seconds later for the reap. In between the idle connection expires.
+// The worker comes from a second failed opening at 35 s, to a reap that was due at 30 s: it reads
+// the clock for what it is to do, and ten seconds later for the reap. In between the idle
+// connection expires.
 #[test]
 fn a_reap_has_a_moment_of_its_own(rt: HostRuntime) -> Result<(), Fail> {
     let rows = Rows {
@@ -195,8 +197,9 @@ fn a_reap_has_a_moment_of_its_own(rt: HostRuntime) -> Result<(), Fail> {
     Ok(())
 }
 
-// One of two workers is at an opening while the clock jumps; the other one waits, by the true clock, for half a minute. The reap of
-// the first one closes two, and orders two: they are opened at once.
+// One of two workers is at an opening while the clock jumps; the other one waits, by the true
+// clock, for half a minute. The reap of the first one closes two, and orders two: they are opened
+// at once.
 #[test]
 fn a_reap_wakes_the_other_workers(rt: HostRuntime) -> Result<(), Fail> {
     let rows = Rows { unheld: 3, ..GOOD };

@@ -1,5 +1,6 @@
-// What stands where one request for memory is refused, or one thread cannot be started. In the gate nothing is refused, and
-// each test sees that all goes well. `tools/refuse` runs each again and again, and refuses another request each time.
+// What stands where one request for memory is refused, or one thread cannot be started. In the gate
+// nothing is refused, and each test sees that all goes well. `tools/refuse` runs each again and
+// again, and refuses another request each time.
 
 use crate::play::{GOOD, Manager, Others, Play, Rows, watched};
 use r2d2::{Builder, ErrorKind, Extension, Extensions, PoolRuntime};
@@ -70,7 +71,8 @@ fn values_of_a_run(rt: HostRuntime) -> Result<(), Fail> {
     Ok(())
 }
 
-// Of two connections that are idle and one that comes, a take removes the newest, or the oldest, or the second.
+// Of two connections that are idle and one that comes, a take removes the newest, or the oldest, or
+// the second.
 fn compared(alloc: Global, idle: &[Duration]) -> Result<Option<(usize, usize, usize)>, AllocError> {
     if !is_in_order(idle) {
         return Ok(None);
@@ -237,7 +239,8 @@ fn texts_of_errors(rt: HostRuntime) -> Result<(), Fail> {
     let Ok(pool) = built else {
         return Ok(());
     };
-    // The failed opening goes on, and the connection whose check failed is closed, whether their texts find memory or not.
+    // The failed opening goes on, and the connection whose check failed is closed, whether their
+    // texts find memory or not.
     drop(pool.get_timeout(Duration::from_secs(20))?);
     assert_eq!(rt; play.errors.load(Ordering::SeqCst), 2);
     assert_eq!(rt; play.released.load(Ordering::SeqCst), 1);

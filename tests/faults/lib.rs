@@ -1,4 +1,5 @@
-//! Tests of a pool whose manager and customizer answer by a script, whose clock cannot be read, or whose memory is refused.
+//! Tests of a pool whose manager and customizer answer by a script, whose clock cannot be read, or
+//! whose memory is refused.
 #![tactic(auto)]
 
 #[cfg(test)]

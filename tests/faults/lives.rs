@@ -8,7 +8,8 @@ use std::sync::atomic::Ordering;
 use std::test::Fail;
 use std::time::Duration;
 
-/// What is to come of a script: what was opened, told and dropped, in order, and how many connections are left idle.
+/// What is to come of a script: what was opened, told and dropped, in order, and how many
+/// connections are left idle.
 type Row = (Rows<'static>, &'static str, u32);
 
 // What was opened was dropped, each once: its numbers stand in the text.
@@ -21,7 +22,8 @@ fn ends<R: PoolRuntime + Abort>(rt: &R, play: &Play, wanted: &str) -> Result<(),
     Ok(())
 }
 
-// Lends a connection twice, one after the other. Nothing is opened but on order of a caller, by one worker, so all comes in order.
+// Lends a connection twice, one after the other. Nothing is opened but on order of a caller, by one
+// worker, so all comes in order.
 fn two_lendings<R: PoolRuntime + Abort>(rt: &R, row: Row) -> Result<(), Fail> {
     let (rows, wanted, left) = row;
     let play = Play::new(rt.alloc(), rows)?;
@@ -80,17 +82,20 @@ fn opening() -> [Row; 6] {
         ),
         (
             first_connect,
-            "error connect 0; open 0; acquire 0; checkout 0; checkin 0; checkout 0; checkin 0; drop 0; ",
+            "error connect 0; open 0; acquire 0; checkout 0; checkin 0; checkout 0; checkin 0; \
+             drop 0; ",
             1,
         ),
         (
             two_connects,
-            "error connect 0; error connect 1; open 0; acquire 0; checkout 0; checkin 0; checkout 0; checkin 0; drop 0; ",
+            "error connect 0; error connect 1; open 0; acquire 0; checkout 0; checkin 0; \
+             checkout 0; checkin 0; drop 0; ",
             1,
         ),
         (
             first_customizing,
-            "open 0; drop 0; error on_acquire 0; open 1; acquire 0; checkout 0; checkin 0; checkout 0; checkin 0; drop 1; ",
+            "open 0; drop 0; error on_acquire 0; open 1; acquire 0; checkout 0; checkin 0; \
+             checkout 0; checkin 0; drop 1; ",
             1,
         ),
         (
@@ -130,7 +135,8 @@ fn checking() -> [Row; 3] {
         ),
         (
             second,
-            "open 0; acquire 0; checkout 0; checkin 0; error is_valid 1; release 0; on_release 0; drop 0; \
+            "open 0; acquire 0; checkout 0; checkin 0; error is_valid 1; release 0; on_release 0; \
+             drop 0; \
              open 1; acquire 1; checkout 1; checkin 1; drop 1; ",
             1,
         ),
@@ -166,7 +172,8 @@ fn returning() -> [Row; 3] {
         ),
         (
             second,
-            "open 0; acquire 0; checkout 0; checkin 0; checkout 0; checkin 0; release 0; on_release 0; drop 0; ",
+            "open 0; acquire 0; checkout 0; checkin 0; checkout 0; checkin 0; release 0; \
+             on_release 0; drop 0; ",
             0,
         ),
         (
@@ -212,7 +219,8 @@ fn coming_after() -> [Row; 4] {
         (
             customizing,
             "open 0; acquire 0; checkout 0; checkin 0; release 0; on_release 0; drop 0; \
-             open 1; drop 1; error on_acquire 1; open 2; acquire 1; checkout 1; checkin 1; drop 2; ",
+             open 1; drop 1; error on_acquire 1; open 2; acquire 1; checkout 1; checkin 1; \
+             drop 2; ",
             1,
         ),
         (

@@ -1,4 +1,5 @@
-// Callers who are woken as their time runs out, and give up: another one has what they were woken for.
+// Callers who are woken as their time runs out, and give up: another one has what they were woken
+// for.
 
 use crate::clocks::{Fault, Faulty};
 use crate::kind::{Makes, PlainPool};
@@ -24,8 +25,9 @@ fn waits<M: ManageConnection, R: PoolRuntime>(
     is_served
 }
 
-// The only connection is lent. So many callers wait for it, one after the other, and behind them one with more time.
-// The clock jumps past the ends of all but the last; then the connection comes back, and wakes the first of them.
+// The only connection is lent. So many callers wait for it, one after the other, and behind them
+// one with more time. The clock jumps past the ends of all but the last; then the connection comes
+// back, and wakes the first of them.
 fn the_last_one_is_served<R: PoolRuntime>(
     rt: R,
     rows: Rows<'_>,
@@ -74,7 +76,8 @@ fn a_closed_return_reaches_the_next_caller(rt: HostRuntime) -> Result<(), Fail> 
     Ok(())
 }
 
-// A connection comes back round the end of one caller's time; another one has time left. By the true clock, at 60 moments 15 us apart.
+// A connection comes back round the end of one caller's time; another one has time left. By the
+// true clock, at 60 moments 15 us apart.
 #[test]
 fn no_caller_waits_beside_an_idle_connection(rt: HostRuntime) -> Result<(), Fail> {
     let play = Play::new(rt.alloc(), GOOD)?;

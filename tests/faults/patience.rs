@@ -1,4 +1,5 @@
-// Managers, customizers and handlers that are slow, or fail again and again; many callers; and a pool that goes while they wait.
+// Managers, customizers and handlers that are slow, or fail again and again; many callers; and a
+// pool that goes while they wait.
 
 use crate::kind::{Makes, PlainPool, Pool};
 use crate::play::{GOOD, Manager, Others, Play, Rows, watched};
@@ -160,7 +161,8 @@ fn each_return_is_broken(rt: HostRuntime) -> Result<(), Fail> {
     Ok(())
 }
 
-// Three connections are opened and fail their checks at once; the fourth is opened only after the caller's end.
+// Three connections are opened and fail their checks at once; the fourth is opened only after the
+// caller's end.
 #[test]
 fn each_check_fails(rt: HostRuntime) -> Result<(), Fail> {
     let rows = Rows {

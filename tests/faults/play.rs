@@ -1,4 +1,5 @@
-// A manager, a customizer and handlers that answer by a script, and write down what they are asked and told.
+// A manager, a customizer and handlers that answer by a script, and write down what they are asked
+// and told.
 
 use r2d2::event::{AcquireEvent, CheckinEvent, CheckoutEvent, ReleaseEvent, TimeoutEvent};
 use r2d2::{CustomizeConnection, HandleError, HandleEvent, ManageConnection, PoolRuntime};
@@ -9,7 +10,8 @@ use std::sync::{Arc, Mutex, Wait};
 use std::time::Duration;
 use std::{fmt, thread};
 
-/// How each call goes, in the order of the calls: `+` for well and `-` for badly. Each call after the last sign goes well.
+/// How each call goes, in the order of the calls: `+` for well and `-` for badly. Each call after
+/// the last sign goes well.
 #[derive(Clone, Copy)]
 pub(crate) struct Rows<'a> {
     pub(crate) connect: &'a str,
@@ -300,7 +302,8 @@ impl<R: PoolRuntime> HandleEvent for Others<R> {
     }
 }
 
-/// Looks at a count until it has reached what is awaited, so many times at most, 10 ms apart. It answers what it saw last.
+/// Looks at a count until it has reached what is awaited, so many times at most, 10 ms apart. It
+/// answers what it saw last.
 pub(crate) fn watched<R: Clock>(rt: &R, count: &AtomicU64, awaited: u64, looks: u32) -> u64 {
     for _ in 0..looks {
         let seen = count.load(Ordering::SeqCst);

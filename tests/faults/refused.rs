@@ -1,5 +1,5 @@
-// Memory that is refused where a pool is built: each list, ring or array that no address space has room for is refused before
-// the system is asked.
+// Memory that is refused where a pool is built: each list, ring or array that no address space has
+// room for is refused before the system is asked.
 
 use crate::play::{GOOD, Manager, Others, Play};
 use r2d2::{Builder, ErrorKind};

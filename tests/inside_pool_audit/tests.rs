@@ -1,6 +1,6 @@
 // The text of the program.
 
-use crate::lines::{Fault, Form, serve};
+use crate::lines::{Fault, Form, Lines, serve};
 use pool_pictures::{Finding, Notes, html, svg, text};
 use pool_reports::{FromJsonError, from_json};
 use std::alloc::Global;
@@ -8,6 +8,7 @@ use std::io::{self, BufWriter, ErrorKind, Read, Write};
 use std::process::Abort;
 use std::str;
 use std::test::Fail;
+use std::time::Duration;
 
 // A report of a pool of one, which was just made.
 const NEW: &str = concat!(
@@ -16,6 +17,18 @@ const NEW: &str = concat!(
     r#""order":"newest_first"},"base":{"at":0,"idle":[],"#,
     r#""lent":[],"connections":0,"pending":1,"closed":false},"records":[],"lost":0,"takes":0,"#,
     r#""idle":[],"lent":[],"connections":0,"pending":1,"closed":false}"#,
+);
+
+// What is answered of it.
+const ANSWERS: &str = concat!(
+    "  covers 0.000 s, from 0.000 s on: 0 opened, 0 closed at return, 0 closed while idle\n",
+    "  at most 0 of 1 lent at once; all of them lent or opening for 0.000 s\n",
+);
+
+// The same in JSON.
+const SUMMARY: &str = concat!(
+    r#""summary":{"from":0,"until":0,"most_lent":0,"exhausted":0,"opened":0,"closed":0,"#,
+    r#""reaped":0,"lent":[]}"#,
 );
 
 // The same, with a record that can't be.
@@ -34,7 +47,7 @@ fn serves<R: AllocGlobal + Abort>(
 ) -> Result<(), Fail> {
     let mut written = Vec::new(rt.alloc());
     let mut writer = BufWriter::new(rt.alloc(), &mut written)?;
-    let got = serve(rt.alloc(), form, input.as_bytes(), &mut writer);
+    let got = serve(rt.alloc(), form, Lines::Reports, input.as_bytes(), &mut writer);
     drop(writer);
     assert_eq!(rt; str::from_utf8(written.as_slice())?, output);
     assert_eq!(rt; got, outcome, "after {output}");
@@ -46,19 +59,15 @@ fn says_of_each_line_what_it_is(rt: HostRuntime) -> Result<(), Fail> {
     let wrong = wrong(rt.alloc())?;
     let good = format!(in rt.alloc(); "\n{NEW}\r\n \t\n{NEW}")?;
     let input = format!(in rt.alloc(); "{good}\n{wrong}\n")?;
-    let all = "line 2: replays\nline 4: replays\n";
-    serves(&rt, Form::Words, good.as_str(), all, Ok(true))?;
-    let words = concat!(
-        "line 2: replays\nline 4: replays\n",
-        "line 5: record 0: connection 4 is kept, but it is not lent\n",
-    );
-    serves(&rt, Form::Words, input.as_str(), words, Ok(false))?;
-    let json = concat!(
-        "{\"line\":2,\"replays\":true}\n{\"line\":4,\"replays\":true}\n",
-        "{\"line\":5,\"replays\":false,",
-        "\"record\":0,\"why\":\"connection 4 is kept, but it is not lent\"}\n",
-    );
-    serves(&rt, Form::Json, input.as_str(), json, Ok(false))?;
+    let all = format!(in rt.alloc(); "line 2: replays\n{ANSWERS}line 4: replays\n{ANSWERS}")?;
+    serves(&rt, Form::Words, good.as_str(), all.as_str(), Ok(true))?;
+    let why = "connection 4 is kept, but it is not lent";
+    let words = format!(in rt.alloc(); "{all}line 5: record 0: {why}\n")?;
+    serves(&rt, Form::Words, input.as_str(), words.as_str(), Ok(false))?;
+    let json = format!(in rt.alloc();
+        "{{\"line\":2,\"replays\":true,{SUMMARY}}}\n{{\"line\":4,\"replays\":true,{SUMMARY}}}\n{}\n",
+        r#"{"line":5,"replays":false,"record":0,"why":"connection 4 is kept, but it is not lent"}"#)?;
+    serves(&rt, Form::Json, input.as_str(), json.as_str(), Ok(false))?;
     serves(&rt, Form::Words, "", "", Ok(true))?;
     serves(&rt, Form::Json, "\n\n", "", Ok(true))
 }
@@ -74,12 +83,25 @@ fn notes(words: &str, is_sound: bool, record: Option<usize>) -> Notes<'_> {
     }
 }
 
+// The lines of a text, without what they are indented by.
+fn lines(alloc: Global, text: &str) -> Result<Vec<String>, Fail> {
+    let mut lines = Vec::new(alloc);
+    for line in text.lines() {
+        lines.push(String::from_str(alloc, line.trim_start())?)?;
+    }
+    Ok(lines)
+}
+
 #[test]
 fn draws_each_report(rt: HostRuntime) -> Result<(), Fail> {
     let report = from_json(rt.alloc(), NEW)?;
-    let sound = notes("replays", true, None);
+    let answers = lines(rt.alloc(), ANSWERS)?;
+    let sound = Notes {
+        answers: answers.as_slice(),
+        ..notes("replays", true, None)
+    };
     let timeline = text(rt.alloc(), &report, &sound)?;
-    let told = format!(in rt.alloc(); "line 1: replays\n{timeline}")?;
+    let told = format!(in rt.alloc(); "line 1: replays\n{ANSWERS}{timeline}")?;
     serves(&rt, Form::Text, NEW, told.as_str(), Ok(true))?;
     let drawing = svg(rt.alloc(), &report, &sound)?;
     serves(&rt, Form::Svg, NEW, drawing.as_str(), Ok(true))?;
@@ -122,14 +144,19 @@ fn stops_at_a_line_that_is_no_report(rt: HostRuntime) -> Result<(), Fail> {
     let input = format!(in rt.alloc(); "{NEW}\n\n{{}}\n{NEW}\n")?;
     let (front, back) = NEW.split_once(r#""lost":0"#).ok_or("lost")?;
     let missing = format!(in rt.alloc(); r#"{front}"lost":-1{back}"#)?;
-    let fault = "line 3: version: missing";
+    let fault = concat!(
+        "line 3: version: missing ",
+        "(--find looks for reports within the lines of a log)",
+    );
+    let words = format!(in rt.alloc(); "line 1: replays\n{ANSWERS}")?;
+    let json = format!(in rt.alloc(); "{{\"line\":1,\"replays\":true,{SUMMARY}}}\n")?;
     for (form, first) in [
-        (Form::Words, "line 1: replays\n"),
-        (Form::Json, "{\"line\":1,\"replays\":true}\n"),
+        (Form::Words, words.as_str()),
+        (Form::Json, json.as_str()),
     ] {
         let mut written = Vec::new(rt.alloc());
         let mut writer = BufWriter::new(rt.alloc(), &mut written)?;
-        let got = serve(rt.alloc(), form, input.as_bytes(), &mut writer);
+        let got = serve(rt.alloc(), form, Lines::Reports, input.as_bytes(), &mut writer);
         drop(writer);
         assert_eq!(rt; str::from_utf8(written.as_slice())?, first);
         let told = got.err().ok_or("a fault")?;
@@ -139,10 +166,13 @@ fn stops_at_a_line_that_is_no_report(rt: HostRuntime) -> Result<(), Fail> {
         );
     }
     let mut writer = BufWriter::new(rt.alloc(), Vec::new(rt.alloc()))?;
-    let told = serve(rt.alloc(), Form::Words, missing.as_bytes(), &mut writer)
+    let told = serve(rt.alloc(), Form::Words, Lines::Reports, missing.as_bytes(), &mut writer)
         .err()
         .ok_or("a fault")?;
-    let lost = "line 1: lost: not a whole number up to 18446744073709551615";
+    let lost = concat!(
+        "line 1: lost: not a whole number up to 18446744073709551615 ",
+        "(--find looks for reports within the lines of a log)",
+    );
     assert_eq!(rt; told.to_string(rt.alloc())?.as_str(), lost);
     Ok(())
 }
@@ -153,7 +183,10 @@ fn each_fault_has_a_text_and_a_status(rt: HostRuntime) -> Result<(), Fail> {
     for (fault, text, status) in [
         (
             Fault::NoReport { line: 7, why },
-            "line 7: version: 2 is not one that can be read",
+            concat!(
+                "line 7: version: 2 is not one that can be read ",
+                "(--find looks for reports within the lines of a log)",
+            ),
             6,
         ),
         (Fault::NotUtf8(3), "line 3: not UTF-8", 6),
@@ -171,7 +204,7 @@ fn each_fault_has_a_text_and_a_status(rt: HostRuntime) -> Result<(), Fail> {
 fn bytes_that_are_no_text_are_told(rt: HostRuntime) -> Result<(), Fail> {
     let mut writer = BufWriter::new(rt.alloc(), Vec::new(rt.alloc()))?;
     let input: &[u8] = b"\n{\"a\xff\":1}\n";
-    let got = serve(rt.alloc(), Form::Words, input, &mut writer);
+    let got = serve(rt.alloc(), Form::Words, Lines::Reports, input, &mut writer);
     assert_eq!(rt; got, Err(Fault::NotUtf8(2)));
     Ok(())
 }
@@ -220,13 +253,120 @@ fn failed_reads_and_writes_are_told(rt: HostRuntime) -> Result<(), Fail> {
         let mut written = Vec::new(rt.alloc());
         let mut writer = BufWriter::new(rt.alloc(), &mut written)?;
         let text = input.as_bytes();
-        let got = serve(rt.alloc(), Form::Words, Cut { text, error }, &mut writer);
+        let got = serve(rt.alloc(), Form::Words, Lines::Reports, Cut { text, error }, &mut writer);
         drop(writer);
-        assert_eq!(rt; str::from_utf8(written.as_slice())?, "line 1: replays\n");
+        let first = format!(in rt.alloc(); "line 1: replays\n{ANSWERS}")?;
+        assert_eq!(rt; str::from_utf8(written.as_slice())?, first.as_str());
         assert_eq!(rt; got, Err(fault));
     }
     let mut writer = BufWriter::new(rt.alloc(), Full)?;
-    let got = serve(rt.alloc(), Form::Words, input.as_bytes(), &mut writer);
+    let got = serve(rt.alloc(), Form::Words, Lines::Reports, input.as_bytes(), &mut writer);
     assert_eq!(rt; got, Err(Fault::Write));
     Ok(())
+}
+
+// A report of two, of which one is lent since before the base, and one since 104 milliseconds after
+// the making; the pool was made at noon.
+const LENT: &str = concat!(
+    r#"{"version":1,"made_at":"2026-01-31T12:00:00Z","limits":{"max_size":2,"min_idle":0,"#,
+    r#""max_lifetime":null,"idle_timeout":null,"connection_timeout":9,"reap_every":9,"#,
+    r#""order":"newest_first"},"base":{"at":100000000,"idle":[[0,1,1]],"lent":[[1,1]],"#,
+    r#""connections":2,"pending":0,"closed":false},"records":["#,
+    r#"{"kind":"taken","at":104000000,"id":0,"ordered":0},"#,
+    r#"{"kind":"closed","at":500000000,"id":1,"ordered":0},"#,
+    r#"{"kind":"ordered","at":600000000,"ordered":1},"#,
+    r#"{"kind":"admitted","at":700000000,"id":2},"#,
+    r#"{"kind":"taken","at":7804000000,"id":2,"ordered":0}],"lost":9,"takes":4,"#,
+    r#""idle":[],"lent":[0,2],"connections":2,"pending":0,"closed":false}"#,
+);
+
+// What is answered of it.
+const WHO: &str = concat!(
+    "  covers 7.704 s, from 0.100 s (2026-01-31T12:00:00.1Z) on: ",
+    "1 opened, 1 closed at return, 0 closed while idle\n",
+    "  at most 2 of 2 lent at once; all of them lent or opening for 0.496 s, ",
+    "6 % of the time\n",
+    "  lent at the end: connection 0, since 0.104 s (2026-01-31T12:00:00.104Z), for 7.700 s\n",
+    "  lent at the end: connection 2, since 7.804 s (2026-01-31T12:00:07.804Z), for 0.000 s\n",
+);
+
+// Noon of that day, after the beginning of 1970.
+const NOON: Duration = Duration::from_secs(1_769_860_800);
+
+#[test]
+fn answers_who_is_lent_and_how_long_all_were(rt: HostRuntime) -> Result<(), Fail> {
+    let words = format!(in rt.alloc(); "line 1: replays\n{WHO}")?;
+    serves(&rt, Form::Words, LENT, words.as_str(), Ok(true))?;
+    let json = concat!(
+        r#"{"line":1,"replays":true,"summary":{"from":100000000,"until":7804000000,"#,
+        r#""most_lent":2,"exhausted":496000000,"opened":1,"closed":1,"reaped":0,"#,
+        r#""lent":[{"id":0,"since":104000000},{"id":2,"since":7804000000}]}}"#,
+        "\n",
+    );
+    serves(&rt, Form::Json, LENT, json, Ok(true))?;
+    let (front, _) = LENT.split_once(r#",{"kind":"closed""#).ok_or("closed")?;
+    let back = r#"],"lost":9,"takes":4,"idle":[],"lent":[1,0],"connections":2,"pending":0,"closed":false}"#;
+    let early = format!(in rt.alloc(); "{front}{back}")?;
+    let words = concat!(
+        "line 1: replays\n",
+        "  covers 0.004 s, from 0.100 s (2026-01-31T12:00:00.1Z) on: ",
+        "0 opened, 0 closed at return, 0 closed while idle\n",
+        "  at most 2 of 2 lent at once; all of them lent or opening for 0.000 s, 0 % of the time\n",
+        "  lent at the end: connection 1, since before the base\n",
+        "  lent at the end: connection 0, since 0.104 s (2026-01-31T12:00:00.104Z), for 0.000 s\n",
+    );
+    serves(&rt, Form::Words, early.as_str(), words, Ok(true))
+}
+
+#[test]
+fn drawings_have_the_answers_and_the_clock(rt: HostRuntime) -> Result<(), Fail> {
+    let answers = lines(rt.alloc(), WHO)?;
+    let notes = Notes {
+        answers: answers.as_slice(),
+        made_at: Some(NOON),
+        ..notes("replays", true, None)
+    };
+    let report = from_json(rt.alloc(), LENT)?;
+    let drawing = svg(rt.alloc(), &report, &notes)?;
+    serves(&rt, Form::Svg, LENT, drawing.as_str(), Ok(true))?;
+    let page = html(rt.alloc(), &report, &notes)?;
+    serves(&rt, Form::Html, LENT, page.as_str(), Ok(true))?;
+    let timeline = text(rt.alloc(), &report, &notes)?;
+    let told = format!(in rt.alloc(); "line 1: replays\n{WHO}{timeline}")?;
+    serves(&rt, Form::Text, LENT, told.as_str(), Ok(true))
+}
+
+// Serves the lines of a log, and compares.
+fn finds<R: AllocGlobal + Abort>(
+    rt: &R,
+    form: Form,
+    log: &str,
+    output: &str,
+    outcome: bool,
+) -> Result<(), Fail> {
+    let mut written = Vec::new(rt.alloc());
+    let mut writer = BufWriter::new(rt.alloc(), &mut written)?;
+    let got = serve(rt.alloc(), form, Lines::Log, log.as_bytes(), &mut writer);
+    drop(writer);
+    assert_eq!(rt; str::from_utf8(written.as_slice())?, output);
+    assert_eq!(rt; got, Ok(outcome));
+    Ok(())
+}
+
+#[test]
+fn finds_reports_in_the_lines_of_a_log(rt: HostRuntime) -> Result<(), Fail> {
+    let alloc = rt.alloc();
+    let wrong = wrong(alloc)?;
+    let log = format!(in alloc; "{}{}{}{}{}",
+        "2026-01-31 INFO starts {\"a\":1}\n\n{ \"records\": 7 }\n",
+        format!(in alloc; "2026-01-31 INFO pool{{name=\"main\"}}: {NEW} done\n")?.as_str(),
+        format!(in alloc; "{{\"level\":\"IN{{FO\",\"report\":{NEW},\"n\":[{wrong}]}}\n")?.as_str(),
+        "{\"never\": closed \"records\" {{{\n",
+        format!(in alloc; "{{\"open\": {NEW}\n")?.as_str(),
+    )?;
+    let why = "connection 4 is kept, but it is not lent";
+    let words = format!(in alloc; "line 4: replays\n{ANSWERS}line 5: replays\n{ANSWERS}line 5: record 0: {why}\nline 7: replays\n{ANSWERS}lines without a report: 3\n")?;
+    finds(&rt, Form::Words, log.as_str(), words.as_str(), false)?;
+    finds(&rt, Form::Words, "a\nb", "lines without a report: 2\n", true)?;
+    finds(&rt, Form::Json, "a\n\nb", "{\"lines_without_a_report\":2}\n", true)
 }

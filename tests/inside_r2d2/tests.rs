@@ -1,4 +1,5 @@
-// What no clause says, of values that only this crate makes: printed texts of events and errors, and the default bodies.
+// What no clause says, of values that only this crate makes: printed texts of events and errors,
+// and the default bodies.
 
 use super::*;
 use crate::event::{AcquireEvent, CheckinEvent, CheckoutEvent, ReleaseEvent, TimeoutEvent};
@@ -66,7 +67,8 @@ fn events_and_what_does_nothing(rt: HostRuntime) -> Result<(), Fail> {
     )?;
     assert_eq!(rt;
         shown.as_str(),
-        "AcquireEvent { id: 1 } ReleaseEvent { id: 2, age: 1.5s } CheckoutEvent { id: 3, duration: 5ms } TimeoutEvent { timeout: 123ms } CheckinEvent { id: 4, duration: 2s }"
+        "AcquireEvent { id: 1 } ReleaseEvent { id: 2, age: 1.5s } CheckoutEvent { id: 3, \
+         duration: 5ms } TimeoutEvent { timeout: 123ms } CheckinEvent { id: 4, duration: 2s }"
     );
     let releases = Releases {
         seen: AtomicU64::new(0),

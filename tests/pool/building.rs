@@ -108,7 +108,11 @@ fn debug_texts(rt: HostRuntime) -> Result<(), Fail> {
         .build(rt, Sevens)?;
     assert_eq!(rt;
         format!(in alloc; "{pool:?}")?.as_str(),
-        "Pool { state: State { connections: 1, idle_connections: 1 }, config: Config { max_size: 1, min_idle: None, test_on_check_out: true, max_lifetime: Some(1800s), idle_timeout: Some(600s), connection_timeout: 30s, error_handler: NopErrorHandler, event_handler: NopEventHandler, connection_customizer: NopConnectionCustomizer }, manager: Sevens }"
+        "Pool { state: State { connections: 1, idle_connections: 1 }, \
+         config: Config { max_size: 1, min_idle: None, test_on_check_out: true, \
+         max_lifetime: Some(1800s), idle_timeout: Some(600s), connection_timeout: 30s, \
+         error_handler: NopErrorHandler, event_handler: NopEventHandler, \
+         connection_customizer: NopConnectionCustomizer }, manager: Sevens }"
     );
     let mut lent = pool.get()?;
     assert_eq!(rt; format!(in alloc; "{lent:?}")?.as_str(), "7");

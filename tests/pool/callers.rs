@@ -7,7 +7,8 @@ use std::sync::atomic::{AtomicU64, Ordering};
 use std::thread;
 use std::time::Duration;
 
-/// Looks at a count until it has reached what is awaited, so many times at most, 10 ms apart. It answers what it saw last.
+/// Looks at a count until it has reached what is awaited, so many times at most, 10 ms apart. It
+/// answers what it saw last.
 pub(crate) fn watched<R: Clock>(rt: &R, count: &AtomicU64, awaited: u64, looks: u32) -> u64 {
     for _ in 0..looks {
         let seen = count.load(Ordering::SeqCst);

@@ -1,4 +1,5 @@
-// What happens to connections and to the manager where a connection is broken, or its pool goes away.
+// What happens to connections and to the manager where a connection is broken, or its pool goes
+// away.
 
 use crate::callers::{keep, watched};
 use crate::kind::{Makes, Pool};
@@ -161,7 +162,8 @@ fn what_is_idle_at_a_close_is_dropped_without_the_lock(rt: HostRuntime) -> Resul
     };
     let pool = Builder::new().max_size(2).make_unchecked(rt, manager)?;
     assert_eq!(rt; watched(&rt, &drops.connects, 2, 1000), 2);
-    // Waits until the first connection is there, and gives it back. A worker comes with the second one while the first is dropped.
+    // Waits until the first connection is there, and gives it back. A worker comes with the second
+    // one while the first is dropped.
     drop(pool.get()?);
     drop(pool);
     assert_eq!(rt; watched(&rt, &drops.dropped, 2, 1000), 2);

@@ -1,5 +1,5 @@
-// A pool that is closed amid some work: the work ends, each connection is dropped once, no worker is left, and no event is told
-// that a close does not have.
+// A pool that is closed amid some work: the work ends, each connection is dropped once, no worker
+// is left, and no event is told that a close does not have.
 
 use crate::callers::{keep, watched};
 use crate::kind::{Makes, PlainPool, Pool};
@@ -40,7 +40,8 @@ impl Halt {
     }
 }
 
-/// A manager and a customizer that wait at one place until the test lets them go on, for at most five seconds.
+/// A manager and a customizer that wait at one place until the test lets them go on, for at most
+/// five seconds.
 #[derive(Drop)]
 struct Halting<R> {
     place: Place,
@@ -182,8 +183,8 @@ impl<R: PoolRuntime> Scene<R> {
         })
     }
 
-    // Closes the pool, lets the work go on, and waits for its end: that of the manager, the handler and the customizer, and of the connection.
-    // The events are what was told by then.
+    // Closes the pool, lets the work go on, and waits for its end: that of the manager, the handler
+    // and the customizer, and of the connection. The events are what was told by then.
     fn close_amid(self) -> (Events, u64, u64) {
         let Scene {
             pool,

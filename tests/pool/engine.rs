@@ -1,4 +1,5 @@
-// Each call beside the book's own step on a second book, and what opening calls, of which no clause can speak.
+// Each call beside the book's own step on a second book, and what opening calls, of which no clause
+// can speak.
 
 use crate::managers::{Blammo, Sevens};
 use pairs::{Call, Stage, row};

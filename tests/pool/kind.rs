@@ -1,5 +1,5 @@
-// The kind of pool that the tests of this folder and of tests/faults run over: a plain one. tests/counted_pool has the same names
-// for a counted one.
+// The kind of pool that the tests of this folder and of tests/faults run over: a plain one.
+// tests/counted_pool has the same names for a counted one.
 
 pub(crate) use r2d2::{PlainPool, Pool, PooledConnection};
 use r2d2::{Builder, CustomizeConnection, HandleError, HandleEvent, ManageConnection, PoolRuntime};

@@ -41,7 +41,8 @@ impl<R> Listener<R> {
 
 impl<R: Wait> Listener<R> {
     pub(crate) fn note(&self, event: Told) {
-        // Where memory is refused the event is missing in the list, and the test that reads it fails.
+        // Where memory is refused the event is missing in the list, and the test that reads it
+        // fails.
         self.told.lock(&self.rt).push(event).ok();
     }
 }

@@ -69,7 +69,8 @@ impl ManageConnection for Sevens {
     }
 }
 
-/// How often a manager tried to open, how many of its connections were dropped, and whether it was dropped itself.
+/// How often a manager tried to open, how many of its connections were dropped, and whether it was
+/// dropped itself.
 #[derive(Drop)]
 pub(crate) struct Counts {
     pub(crate) connects: AtomicU64,
@@ -189,7 +190,8 @@ pub(crate) enum Wrong {
     HasBroken,
 }
 
-/// Opens sevens. One thing goes wrong the first time that it is done, after 300 ms: time for all others to come to their waits.
+/// Opens sevens. One thing goes wrong the first time that it is done, after 300 ms: time for all
+/// others to come to their waits.
 #[derive(Drop)]
 pub(crate) struct WrongOnce<R> {
     wrong: Wrong,

@@ -113,7 +113,8 @@ fn test_connection_customizer(rt: HostRuntime) -> Result<(), Fail> {
     Ok(())
 }
 
-/// Each of its openings but the first three waits until a sixth one has begun, for at most five seconds.
+/// Each of its openings but the first three waits until a sixth one has begun, for at most five
+/// seconds.
 #[derive(Drop)]
 struct Sixth<R> {
     begun: Arc<AtomicU64>,

@@ -54,7 +54,8 @@ impl<R: Wait> Scribe<R> {
     fn note(&self, call: Called) -> bool {
         let mut calls = self.calls.lock(&self.rt);
         let is_first = !calls.as_slice().contains(&call);
-        // Where memory is refused the call is missing in the list, and the test that reads it fails.
+        // Where memory is refused the call is missing in the list, and the test that reads it
+        // fails.
         calls.push(call).ok();
         is_first
     }
@@ -153,7 +154,8 @@ fn a_failed_check_and_a_broken_return(rt: HostRuntime) -> Result<(), Fail> {
     Ok(())
 }
 
-/// Its first check takes so long, and fails. It opens so many connections; each later opening fails.
+/// Its first check takes so long, and fails. It opens so many connections; each later opening
+/// fails.
 #[derive(Drop)]
 struct FirstFails<R> {
     connects: AtomicU64,
@@ -286,7 +288,8 @@ fn nobody_is_lent_what_is_still_told_of(rt: HostRuntime) -> Result<(), Fail> {
     Ok(())
 }
 
-/// Takes an error, or a connection that is closed, and waits until there was a second opening, for at most five seconds.
+/// Takes an error, or a connection that is closed, and waits until there was a second opening, for
+/// at most five seconds.
 #[derive(Drop)]
 struct Patient<R> {
     counts: Arc<Counts>,

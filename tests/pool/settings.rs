@@ -45,7 +45,10 @@ fn settings(rt: HostRuntime) -> Result<(), Fail> {
     let shown = format!(in rt.alloc(); "{builder:?}")?;
     assert_eq!(rt;
         shown.as_str(),
-        "Builder { max_size: 7, min_idle: None, test_on_check_out: true, max_lifetime: Some(1800s), idle_timeout: Some(600s), connection_timeout: 20s, error_handler: NopErrorHandler, event_handler: Listener { name: 'v' }, connection_customizer: Listener { name: 'z' } }"
+        "Builder { max_size: 7, min_idle: None, test_on_check_out: true, \
+         max_lifetime: Some(1800s), idle_timeout: Some(600s), connection_timeout: 20s, \
+         error_handler: NopErrorHandler, event_handler: Listener { name: 'v' }, \
+         connection_customizer: Listener { name: 'z' } }"
     );
 
     let config = Config {
@@ -66,7 +69,9 @@ fn settings(rt: HostRuntime) -> Result<(), Fail> {
     let shown = format!(in rt.alloc(); "{config:?}")?;
     assert_eq!(rt;
         shown.as_str(),
-        "Config { max_size: 2, min_idle: Some(1), test_on_check_out: false, max_lifetime: None, idle_timeout: None, connection_timeout: 250ms, error_handler: NopErrorHandler, event_handler: NopEventHandler, connection_customizer: NopConnectionCustomizer }"
+        "Config { max_size: 2, min_idle: Some(1), test_on_check_out: false, max_lifetime: None, \
+         idle_timeout: None, connection_timeout: 250ms, error_handler: NopErrorHandler, \
+         event_handler: NopEventHandler, connection_customizer: NopConnectionCustomizer }"
     );
     Ok(())
 }

@@ -1,4 +1,5 @@
-// Each public name of `r2d2`, called from outside: that it is there, and succeeds on its happy path.
+// Each public name of `r2d2`, called from outside: that it is there, and succeeds on its happy
+// path.
 
 mod core_calls;
 mod counted_calls;

@@ -32,7 +32,8 @@ impl ManageConnection for Numbering {
     }
 }
 
-// What six calls are lent, one after the other, from three connections that one worker opened in turn.
+// What six calls are lent, one after the other, from three connections that one worker opened in
+// turn.
 fn lent_to_six<R: PoolRuntime>(rt: R, order: LendingOrder) -> Result<Vec<u64>, Fail> {
     let manager = Numbering {
         opened: AtomicU64::new(0),

@@ -84,7 +84,8 @@ struct Watch<R> {
 
 impl<R: Wait> Watch<R> {
     fn note(&self, length: Length) {
-        // Where memory is refused the length is missing in the list, and the test that reads it fails.
+        // Where memory is refused the length is missing in the list, and the test that reads it
+        // fails.
         self.lengths.lock(&self.rt).push(length).ok();
     }
 }
@@ -125,7 +126,8 @@ fn how_long_events_say(rt: HostRuntime) -> Result<(), Fail> {
         .max_size(1)
         .event_handler(watch)
         .make(rt, Manager::new(&counts, 100, Breaks::Always)?)?;
-    // From here on the time since the pool was made, and that since the first admission, is too long for each length below.
+    // From here on the time since the pool was made, and that since the first admission, is too
+    // long for each length below.
     let pause = Duration::from_millis(400);
     thread::sleep(&rt, Duration::from_secs(2));
     let first = pool.try_get()?.ok_or("a connection")?;
@@ -139,7 +141,8 @@ fn how_long_events_say(rt: HostRuntime) -> Result<(), Fail> {
     drop(second);
 
     let lengths = lengths.lock(&rt);
-    // The first connection came at once, and was as old as the pool when it was closed; the second one is told of later.
+    // The first connection came at once, and was as old as the pool when it was closed; the second
+    // one is told of later.
     assert_eq!(rt; lengths.len(), 6);
     assert!(rt; matches!(lengths[0], Length::Waited(waited) if waited.as_millis() < 300));
     assert!(rt; matches!(lengths[1], Length::Held(_)) && lengths[1].is_of_this_connection());

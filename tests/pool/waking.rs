@@ -1,4 +1,5 @@
-// Whom a step wakes, it wakes at once: not only when what it closed was released, or its error was told.
+// Whom a step wakes, it wakes at once: not only when what it closed was released, or its error was
+// told.
 
 use crate::callers::{keep, watched};
 use crate::kind::{Makes, Pool};
@@ -36,7 +37,8 @@ impl Served {
     }
 }
 
-/// When it is told of an error or of a release it waits until a caller was served, for at most five seconds.
+/// When it is told of an error or of a release it waits until a caller was served, for at most five
+/// seconds.
 #[derive(Drop)]
 struct Patient<R> {
     served: Arc<Served>,
@@ -115,7 +117,8 @@ fn is_served<R: PoolRuntime>(pool: ReleasingPool<R>, served: Arc<Served>) -> boo
 fn a_failed_check_wakes_before_its_release(rt: HostRuntime) -> Result<(), Fail> {
     let served = Served::new(rt.alloc())?;
     let pool = releasing_pool(rt, Wrong::IsValid, &served)?;
-    // The check of the one that comes first fails. It is served last, since its release waits until the other one is.
+    // The check of the one that comes first fails. It is served last, since its release waits until
+    // the other one is.
     let (theirs, others) = (pool.try_clone()?, Arc::try_clone(&served)?);
     let other = thread::spawn(&rt, move || is_served(theirs, others))?;
     assert!(rt; is_served(pool, Arc::try_clone(&served)?));
@@ -143,7 +146,8 @@ fn a_failed_opening_wakes_before_its_error_is_told(rt: HostRuntime) -> Result<()
         .max_size(1)
         .error_handler(Patient::new(rt, &served)?)
         .make_unchecked(rt, WrongOnce::new(rt, Wrong::Connect))?;
-    // The worker whose opening failed waits until this thread was served, so another one has to try again.
+    // The worker whose opening failed waits until this thread was served, so another one has to try
+    // again.
     let lent = pool.get()?;
     served.callers.fetch_add(1, Ordering::SeqCst);
     drop(lent);

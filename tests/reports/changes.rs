@@ -1,6 +1,7 @@
 // Each number of a report's text, changed by itself: what is said of it is true, whatever it was.
 
 use crate::books::seeded_report;
+use crate::kept::replays;
 use pool_reports::{RecordReason, Verdict, audit, from_json, to_json};
 use r2d2_core::{Record, RecordList, Report};
 use std::alloc::{AllocError, Global};
@@ -112,7 +113,7 @@ fn is_past(verdict: Verdict, place: usize, reason: RecordReason) -> bool {
                     ))
         }
         Verdict::Base(_) => false,
-        Verdict::Replays | Verdict::Counts(_) => true,
+        _ => true,
     }
 }
 
@@ -133,10 +134,10 @@ impl Tally {
         };
         self.read = self.read.saturating_add(1);
         let verdict = audit(alloc, &report)?;
-        if report.replays()? != (verdict == Verdict::Replays) {
+        if report.replays()? != replays(verdict) {
             return Ok(false);
         }
-        if verdict == Verdict::Replays {
+        if verdict == Verdict::Sound {
             return Ok(true);
         }
         self.wrong = self.wrong.saturating_add(1);

@@ -178,6 +178,16 @@ fn fields_are_all_there_and_no_others(rt: HostRuntime) -> Result<(), Fail> {
             ),
             (
                 r#""lost":2"#,
+                r#""lost":2,"made_at":"noon""#,
+                "made_at: not a moment like 2026-01-31T06:00:00Z",
+            ),
+            (
+                r#""lost":2"#,
+                r#""lost":2,"made_at":"1969-12-31T23:59:59Z""#,
+                "made_at: not a moment like 2026-01-31T06:00:00Z",
+            ),
+            (
+                r#""lost":2"#,
                 r#""lost":2,"found":1"#,
                 "the report: unknown field \"found\"",
             ),

@@ -9,6 +9,8 @@ mod changes;
 #[cfg(test)]
 mod errors;
 #[cfg(test)]
+mod kept;
+#[cfg(test)]
 mod pictures;
 #[cfg(test)]
 mod reasons;
@@ -20,5 +22,7 @@ mod same;
 mod shown;
 #[cfg(test)]
 mod stories;
+#[cfg(test)]
+mod summaries;
 #[cfg(test)]
 mod within;

@@ -1,6 +1,7 @@
 // Each reason in words, of a report that has that fault and no earlier one.
 
-use pool_reports::{Verdict, audit, from_json};
+use crate::kept::replays;
+use pool_reports::{audit, from_json};
 use std::alloc::Global;
 use std::process::Abort;
 use std::test::Fail;
@@ -32,7 +33,7 @@ fn said(
     let text = format!(in alloc; "{LIMITS}\"{order}\"}},{base}\"records\":[{records}],{counts}")?;
     let report = from_json(alloc, text.as_str())?;
     let verdict = audit(alloc, &report)?;
-    if report.replays()? != (verdict == Verdict::Replays) {
+    if report.replays()? != replays(verdict) {
         return Ok(String::from_str(alloc, "something else than replays says")?);
     }
     Ok(verdict.to_string(alloc)?)

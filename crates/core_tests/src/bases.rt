@@ -7,7 +7,8 @@ use r2d2_core::{Base, LendingOrder, Report};
 use std::process::Abort;
 use std::time::Duration;
 
-// What a book with room for so many records reports of one connection that came in, was taken, and came back.
+// What a book with room for so many records reports of one connection that came in, was taken, and
+// came back.
 fn report<R: Abort + AllocGlobal>(rt: &R, order: LendingOrder, room: usize) -> Report {
     let limits = legal(rt, sized(1)).with_order(order);
     let mut book = book_of(rt, limits, room);

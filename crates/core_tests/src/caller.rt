@@ -1,4 +1,5 @@
-// A user's own code over the core: it keeps a count of the lent connections, and rests on the core's contracts.
+// A user's own code over the core: it keeps a count of the lent connections, and rests on the
+// core's contracts.
 
 ghost use Rattle.std.specs.Prelude.{◌≡◌, ◌+◌, if◌then◌else◌, true, is_some};
 ghost use Rattle.std.specs.Duration.{as_nanos};

@@ -1,4 +1,5 @@
-// Each field of a report's base and records, changed by itself: the report replays where a second reading says that it does.
+// Each field of a report's base and records, changed by itself: the report replays where a second
+// reading says that it does.
 
 use crate::checks::answered;
 use crate::replays::{Found, read};
@@ -158,7 +159,8 @@ impl Countdown {
     }
 }
 
-// Two connections come in; one is taken, kept, and taken again; the other is reaped; then the pool is closed.
+// Two connections come in; one is taken, kept, and taken again; the other is reaped; then the pool
+// is closed.
 fn reaped_and_closed() -> [Step<u64>; 12] {
     [
         begin(0),
@@ -256,7 +258,8 @@ struct Tally {
 }
 
 impl Tally {
-    // Makes each change of the story's report by itself, and says which is the first that is judged otherwise by the second reading.
+    // Makes each change of the story's report by itself, and says which is the first that is judged
+    // otherwise by the second reading.
     fn count(
         &mut self,
         alloc: Global,

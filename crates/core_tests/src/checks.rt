@@ -1,5 +1,5 @@
-// What the tests call. None of it has a contract, so that a test is proved without those of the core; and each stops the test where
-// it fails.
+// What the tests call. None of it has a contract, so that a test is proved without those of the
+// core; and each stops the test where it fails.
 
 use crate::replays::replays;
 use r2d2_core::{Answer, Book, Core, Limits, Report, Step};

@@ -1,4 +1,5 @@
-// Steps at random: a draft is a step without a text of its own, so that it can be taken three times.
+// Steps at random: a draft is a step without a text of its own, so that it can be taken three
+// times.
 
 use crate::plain::History;
 use r2d2_core::{LendingOrder, Limits, Step};

@@ -1,4 +1,5 @@
-// What no line of a script can say: the greatest moment, which is no whole number of milliseconds, and the last ids.
+// What no line of a script can say: the greatest moment, which is no whole number of milliseconds,
+// and the last ids.
 
 use crate::checks::{legal, listed, same};
 use crate::machine::{Machine, lines_of};
@@ -83,7 +84,8 @@ fn uses_ids_up(rt: HostRuntime) {
         sized(2),
         u64::MAX - 1,
         listed(&rt, steps),
-        "open 0\nopen 0\nnumbered 18446744073709551614\nrefused IdsUsedUp\nretry 400\nwait 400\nstate 0 0 2\n",
+        "open 0\nopen 0\nnumbered 18446744073709551614\nrefused IdsUsedUp\nretry 400\nwait 400\n\
+         state 0 0 2\n",
     );
 }
 
@@ -126,7 +128,8 @@ fn lengths_up_to_the_greatest_moment(rt: HostRuntime) {
         Limits::of(1, None, Some(now), None, second, second),
         0,
         listed(&rt, [begin(0), number(0), admit(0, 0, 7), take(0), back]),
-        "open 0\nnumbered 0\nadmitted\ntaken 0 7 ordered 0\ngone 0 age 18446744073709551615999.999999 ordered 1\nstate 0 0 1\n",
+        "open 0\nnumbered 0\nadmitted\ntaken 0 7 ordered 0\n\
+         gone 0 age 18446744073709551615999.999999 ordered 1\nstate 0 0 1\n",
     );
     answers(
         &rt,
@@ -183,7 +186,8 @@ fn the_greatest_numbers_of_strangers(rt: HostRuntime) {
         sized(1),
         0,
         listed(&rt, steps),
-        "open 0\nrefused NoOpening\nrefused NoOpening\nnumbered 0\nrefused NotNumbered\nrefused NotLent\nrefused NotLent\nstate 0 0 1\n",
+        "open 0\nrefused NoOpening\nrefused NoOpening\nnumbered 0\nrefused NotNumbered\n\
+         refused NotLent\nrefused NotLent\nstate 0 0 1\n",
     );
 }
 

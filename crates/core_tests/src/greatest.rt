@@ -19,7 +19,8 @@ fn has_room<R: Abort + AllocGlobal>(rt: &R, size: u32) -> bool {
     Core::<u64, &LocalHeap>::new(&heap, legal(rt, sized(size)), ms(0)).is_ok()
 }
 
-// The greatest `max_size` for which there is room, one binary digit after the other. A connection takes a byte at least.
+// The greatest `max_size` for which there is room, one binary digit after the other. A connection
+// takes a byte at least.
 fn greatest_size<R: Abort + AllocGlobal>(rt: &R) -> u32 {
     let mut greatest = 0u32;
     for place in 0..20u32 {

@@ -68,7 +68,8 @@ fn standing(report: &Report) -> (usize, usize, u64) {
     (idle, lent, report.lost)
 }
 
-// How many it shows as connected and pending, whether it is closed, and whether its records come to what it shows.
+// How many it shows as connected and pending, whether it is closed, and whether its records come to
+// what it shows.
 fn counts<R: Abort + AllocGlobal>(rt: &R, report: &Report) -> (u32, u32, bool, bool) {
     let (connections, pending) = (report.connections, report.pending);
     (connections, pending, report.closed, is_replayed(rt, report))

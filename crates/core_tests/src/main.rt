@@ -1,5 +1,6 @@
-//! Tests of the core of a pool. The program goes through the worked rows, which lie in its folder `data`: scripts, `NAME.steps`, with
-//! the answers that were worked out by hand, `NAME.answers`. Its tests say what no contract and no row says.
+//! Tests of the core of a pool. The program goes through the worked rows, which lie in its folder
+//! `data`: scripts, `NAME.steps`, with the answers that were worked out by hand, `NAME.answers`.
+//! Its tests say what no contract and no row says.
 #![tactic(auto)]
 
 #[cfg(test)]

@@ -1,4 +1,5 @@
-// Memory is taken at the making alone. That no step takes any is shown by the rows, each of which is answered on a full heap too.
+// Memory is taken at the making alone. That no step takes any is shown by the rows, each of which
+// is answered on a full heap too.
 
 use crate::checks::{legal, same};
 use crate::steps::limits;

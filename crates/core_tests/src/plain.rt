@@ -1,5 +1,6 @@
-// What a core does, read a second time from the rules: each question is answered by a look back over the accepted steps and their
-// answers. No state is kept between two steps, and nothing is fast.
+// What a core does, read a second time from the rules: each question is answered by a look back
+// over the accepted steps and their answers. No state is kept between two steps, and nothing is
+// fast.
 
 use crate::drafts::Draft;
 use crate::said::Said;
@@ -480,7 +481,8 @@ impl History {
         })
     }
 
-    // How many openings a step orders that was the last one of this history, where so many were pending before it.
+    // How many openings a step orders that was the last one of this history, where so many were
+    // pending before it.
     fn orders(&self, alloc: Global, draft: Draft, before: usize) -> Result<usize, AllocError> {
         if self.is_closed() {
             return Ok(0);

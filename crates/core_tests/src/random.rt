@@ -1,5 +1,5 @@
-// Steps at random, from fixed seeds: what `run` and a book answer is what the plain reading answers, what a book shows is what it
-// shows, and each report replays.
+// Steps at random, from fixed seeds: what `run` and a book answer is what the plain reading
+// answers, what a book shows is what it shows, and each report replays.
 
 use crate::checks::{answered, legal};
 use crate::drafts::{Draft, limits, next_draft};

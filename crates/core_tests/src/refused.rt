@@ -57,7 +57,8 @@ fn made_in<R: Abort + AllocGlobal>(rt: &R, maker: Maker, size: usize) -> (bool, 
     (is_made, heap.used())
 }
 
-// The last part that was refused, after all before it, where there are such parts and larger ones are not.
+// The last part that was refused, after all before it, where there are such parts and larger ones
+// are not.
 fn is_refused_up_to<R: Abort>(rt: &R, refused_until: usize) {
     assert!(rt;
         refused_until > 0 && refused_until < PARTS - 1,
@@ -123,7 +124,8 @@ fn are_the_same<A: Allocator, B: Allocator>(one: &Report<A>, other: &Report<B>) 
         && one.closed == other.closed
 }
 
-// Whether there is room for the report in so many bytes. Then it is as before; else nothing is left of it.
+// Whether there is room for the report in so many bytes. Then it is as before; else nothing is left
+// of it.
 fn is_reported_in<R: Abort + AllocGlobal>(
     rt: &R,
     book: &Book<u64>,
@@ -167,7 +169,8 @@ fn a_report_that_is_refused_changes_nothing(rt: HostRuntime) {
     is_refused_up_to(&rt, refused_until);
 }
 
-// Whether a report has room to replay where so many bytes are left beside it. Then it does replay, and leaves nothing.
+// Whether a report has room to replay where so many bytes are left beside it. Then it does replay,
+// and leaves nothing.
 fn is_replayed_in<R: Abort + AllocGlobal>(rt: &R, book: &Book<u64>, part: usize) -> bool {
     let heap = heap(rt, 8192);
     let report = book.report_in(&heap).expect(rt, "a report");
@@ -201,7 +204,8 @@ fn a_replay_that_is_refused_changes_nothing(rt: HostRuntime) {
     is_refused_up_to(&rt, refused_until);
 }
 
-// A book of up to 32 connections, each of which was lent and came back, time and again, until some are lent for good.
+// A book of up to 32 connections, each of which was lent and came back, time and again, until some
+// are lent for good.
 fn busy<R: Abort + AllocGlobal>(rt: &R, room: usize) -> Book<u64> {
     let limits = legal(rt, limits(32, None, None, Some(1000), 30_000, 30_000));
     let mut book = book_of(rt, limits, room);

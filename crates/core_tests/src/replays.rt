@@ -234,7 +234,8 @@ fn has_ids(list: &[Known], ids: &[u64]) -> bool {
     true
 }
 
-/// What a reading of a report finds first. Where records are legal up to a place, it says how many are idle, lent and pending there.
+/// What a reading of a report finds first. Where records are legal up to a place, it says how many
+/// are idle, lent and pending there.
 #[derive(Clone, Copy, PartialEq, Eq, Debug)]
 pub(crate) enum Found {
     Sound,
@@ -243,7 +244,8 @@ pub(crate) enum Found {
     Counts([usize; 3]),
 }
 
-// Whether a report's base is one, its records may follow it, and they come to its ids and counts; or what is wrong first.
+// Whether a report's base is one, its records may follow it, and they come to its ids and counts;
+// or what is wrong first.
 pub(crate) fn read<A: Allocator>(alloc: Global, report: &Report<A>) -> Result<Found, AllocError> {
     let mut now = Standing::of(alloc, report)?;
     if now.is_strange {

@@ -1,5 +1,5 @@
-// Newest-first and oldest-first beside other choices. Moments are in milliseconds. No clause says that `compare` answers where memory is
-// there; each of these calls does.
+// Newest-first and oldest-first beside other choices. Moments are in milliseconds. No clause says
+// that `compare` answers where memory is there; each of these calls does.
 
 use crate::checks::same;
 use r2d2_core::reuse::{Move, compare, is_in_order};
@@ -55,7 +55,8 @@ fn worked_rows(rt: HostRuntime) {
         Some((0, 0, 0)),
     );
 
-    // Moments that run backwards count as the latest so far, and a pick that is left over is ignored.
+    // Moments that run backwards count as the latest so far, and a pick that is left over is
+    // ignored.
     let idle = [ms(0), ms(100)];
     same(
         &rt,
@@ -117,7 +118,8 @@ fn idle_of(alloc: Global, size: usize) -> Result<Vec<Duration>, AllocError> {
         .collect(alloc)
 }
 
-// At most six moves: the binary digits of the code without its first, 0 for a take and 1 for an add. Some moments run backwards.
+// At most six moves: the binary digits of the code without its first, 0 for a take and 1 for an
+// add. Some moments run backwards.
 fn moves_of(alloc: Global, code: u32) -> Result<Vec<Move>, AllocError> {
     let mut moves = Vec::new(alloc);
     let mut rest = code;

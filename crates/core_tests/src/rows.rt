@@ -17,7 +17,8 @@ const HEAP: usize = 65_536;
 
 const RECORDS: usize = 256;
 
-// Who does not answer the script by those answers, if anyone does not. The fault is a line that is no step, or lack of memory.
+// Who does not answer the script by those answers, if anyone does not. The fault is a line that is
+// no step, or lack of memory.
 pub(crate) fn who_differs(
     alloc: Global,
     script: &str,

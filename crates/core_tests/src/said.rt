@@ -1,4 +1,5 @@
-// What an answer says, as a value that can be compared. Of a text it says the number that it stands for.
+// What an answer says, as a value that can be compared. Of a text it says the number that it stands
+// for.
 
 use r2d2_core::{Answer, Gone, Job, Refusal, Released, Returned, Take};
 use std::alloc::{AllocError, Allocator, Global};

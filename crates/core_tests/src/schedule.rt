@@ -14,7 +14,8 @@ fn sized(max_size: u32) -> Option<Limits> {
     Limits::of(max_size, None, None, None, ms(30_000), ms(400))
 }
 
-// A schedule with openings, of each when it is due and how often it failed, ordered one after the other.
+// A schedule with openings, of each when it is due and how often it failed, ordered one after the
+// other.
 fn schedule_of<R: Abort + AllocGlobal>(
     rt: &R,
     limits: Option<Limits>,

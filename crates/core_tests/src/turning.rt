@@ -6,8 +6,8 @@ use r2d2_core::{Book, Released, Take};
 use std::alloc::{AllocError, Global};
 use std::process::Abort;
 
-// Takes so many at the moment, and gives them back: at even moments the one that was lent first comes back first, at odd ones
-// last. It answers how many came back.
+// Takes so many at the moment, and gives them back: at even moments the one that was lent first
+// comes back first, at odd ones last. It answers how many came back.
 fn lend_and_return(
     alloc: Global,
     book: &mut Book<u64>,
@@ -84,7 +84,8 @@ fn idle_and_pending(book: &Book<u64>) -> (u32, u32) {
     (book.idle(), book.pending())
 }
 
-// The newest is lent first, and a return is the newest: so 1 is idle since 497, and 0 and then 2 since 500.
+// The newest is lent first, and a return is the newest: so 1 is idle since 497, and 0 and then 2
+// since 500.
 #[test]
 fn reaps_after_a_thousand_returns(rt: HostRuntime) {
     let mut book = three(&rt);

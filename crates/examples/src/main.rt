@@ -1,22 +1,26 @@
 //! First programs with the pool, its reports and its core, one after another: a module for each,
 //! and here the first one, threads that share a pool. With the argument `text`, `svg` or `html` it
-//! draws the script on standard input in their place.
+//! draws the script on standard input in their place, and with `metrics` it prints those of a
+//! service.
 #![tactic(auto)]
 
 mod choices;
 mod handlers;
 mod journal;
+mod kept;
 mod pool_uses;
 mod rounds;
 mod service;
 mod settings;
 mod starting;
 mod stories;
+mod watched_service;
 
 use r2d2::{Builder, ManageConnection, PlainPool, PoolRuntime};
 use std::alloc::AllocError;
 use std::process::ExitCode;
 use std::{env, thread};
+use watched_service::Prints;
 
 /// Opens connections that are numbers.
 #[derive(Drop)]
@@ -44,6 +48,14 @@ impl ManageConnection for Numbers {
 
 fn main(rt: HostRuntime) -> Result<ExitCode, anyhow::Error> {
     if let Some(word) = env::args(&rt)?.nth(1) {
+        if word.as_str() == "metrics" {
+            watched_service::served(
+                rt,
+                Prints::Pages,
+                |app| Ok(thread::spawn(&rt, move || app.answer())?),
+            )?;
+            return Ok(ExitCode::SUCCESS);
+        }
         return stories::drawn(&rt, word.as_str());
     }
     let pool = Builder::new().max_size(15).build(rt, Numbers)?;
@@ -66,6 +78,12 @@ fn main(rt: HostRuntime) -> Result<ExitCode, anyhow::Error> {
     settings::tried(rt)?;
     starting::waited_for(rt)?;
     service::audited(rt)?;
+    kept::answered(rt)?;
+    watched_service::served(
+        rt,
+        Prints::Findings,
+        |app| Ok(thread::spawn(&rt, move || app.answer())?),
+    )?;
     rounds::gone(&rt)?;
     choices::compared(&rt)?;
     stories::told(&rt)?;

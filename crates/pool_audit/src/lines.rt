@@ -2,12 +2,14 @@
 ghost use Rattle.std.specs.Prelude.{◌≡◌};
 ghost use Rattle.pool_audit.specs.Faults.{status_of};
 
-use crate::told;
-use pool_reports::{FromJsonError, Verdict, audit, from_json};
+use crate::finding::next_report;
+use crate::told::{self, Judged};
+use pool_reports::{FromJsonError, Verdict, audit, from_json_of_pool};
 use r2d2_core::Report;
 use std::alloc::{AllocError, AllocFailed, Global};
 use std::error::Error;
 use std::io::{BufRead, BufReader, BufWriter, ErrorKind, Read, Write};
+use std::time::SystemTime;
 use std::{fmt, str};
 
 /// How the verdict on a report is written.
@@ -36,6 +38,15 @@ impl Form {
             _ => None,
         }
     }
+}
+
+/// What the lines of the input are.
+#[derive(Clone, Copy, Debug, PartialEq, Eq)]
+pub enum Lines {
+    /// Reports, one on each line.
+    Reports,
+    /// Those of a log, with reports in some of them.
+    Log,
 }
 
 /// Why the program stops before the end of its input.
@@ -69,7 +80,10 @@ impl Fault {
 impl fmt::Display for Fault {
     fn fmt<W: fmt::Write>(&self, f: &mut fmt::Formatter<W>) -> fmt::Result {
         match self {
-            Fault::NoReport { line, why } => write!(f, "line {line}: {why}"),
+            Fault::NoReport { line, why } => write!(
+                f,
+                "line {line}: {why} (--find looks for reports within the lines of a log)"
+            ),
             Fault::NotUtf8(line) => write!(f, "line {line}: not UTF-8"),
             Fault::Memory => write!(f, "out of memory"),
             Fault::Read => write!(f, "read failed"),
@@ -92,46 +106,86 @@ impl<T: Drop> From<AllocFailed<T>> for Fault {
     }
 }
 
-/// Audits the report on each line of the input, and writes a line on each: whether all replay.
-/// Lines of white space alone are left out, and counted.
+/// Audits the report on each line of the input, or each one in the lines of a log, and writes what
+/// it found on each: whether all are sound. Lines of white space alone are left out, and counted. Of
+/// a log it says in the end how many lines hold no report.
 ///
 /// It stops at the first fault. What it found on the lines before was written by then: where that
 /// failed, the fault is the failed write.
 pub fn serve<R: Read + Drop, W: Write + Drop>(
     alloc: Global,
     form: Form,
+    lines: Lines,
     input: R,
     output: &mut BufWriter<W>,
 ) -> Result<bool, Fault> {
     let mut input = BufReader::new(alloc, input).map_err(|_| Fault::Memory)?;
-    let outcome = audit_lines(alloc, form, &mut input, output);
+    let outcome = audit_lines(alloc, form, lines, &mut input, output);
     flush(output)?;
     outcome
+}
+
+// What was found so far.
+#[derive(Clone, Copy)]
+struct Found {
+    all_sound: bool,
+    passed_over: u64,
 }
 
 fn audit_lines<R: Read + Drop, W: Write + Drop>(
     alloc: Global,
     form: Form,
+    lines: Lines,
     input: &mut BufReader<R>,
     output: &mut BufWriter<W>,
 ) -> Result<bool, Fault> {
     // A loop has a bound. No input has so many lines; std's readers give up so too.
     let too_many_lines = Fault::Read;
-    let mut all_replay = true;
+    let mut found = Found {
+        all_sound: true,
+        passed_over: 0,
+    };
     let mut line = Vec::new(alloc);
     for number in 1..u64::MAX {
         send_before_waiting(input, output)?;
         if !next_line(input, &mut line)? {
-            return Ok(all_replay);
+            end(alloc, form, lines, found, output)?;
+            return Ok(found.all_sound);
         }
         if !line.as_slice().trim_ascii().is_empty() {
-            all_replay &= audit_line(alloc, form, number, line.as_slice(), output)?;
+            match lines {
+                Lines::Reports => {
+                    found.all_sound &= audit_line(alloc, form, number, line.as_slice(), output)?;
+                }
+                Lines::Log => search_line(
+                    alloc,
+                    form,
+                    number,
+                    line.as_slice(),
+                    &mut found,
+                    output,
+                )?,
+            }
         }
     }
     Err(too_many_lines)
 }
 
-// Writes what there is to say of the report on a line, and says whether it replays.
+// Says of a log how many of its lines were passed over.
+fn end<W: Write + Drop>(
+    alloc: Global,
+    form: Form,
+    lines: Lines,
+    found: Found,
+    output: &mut BufWriter<W>,
+) -> Result<(), Fault> {
+    if lines == Lines::Reports {
+        return Ok(());
+    }
+    write(output, told::of_the_rest(alloc, form, found.passed_over)?)
+}
+
+// Writes what there is to say of the report on a line, and says whether it is sound.
 fn audit_line<W: Write + Drop>(
     alloc: Global,
     form: Form,
@@ -139,21 +193,69 @@ fn audit_line<W: Write + Drop>(
     line: &[u8],
     output: &mut BufWriter<W>,
 ) -> Result<bool, Fault> {
-    let report = report_on(alloc, number, line)?;
-    let verdict = audit(alloc, &report)?;
-    let told = told::of(alloc, form, number, &report, verdict)?;
-    match output.write_all(told.as_bytes()) {
-        Ok(()) => Ok(verdict == Verdict::Replays),
-        Err(_) => Err(Fault::Write),
-    }
+    let (report, made_at) = report_on(alloc, number, line)?;
+    tell(alloc, form, number, &report, made_at, output)
 }
 
-fn report_on(alloc: Global, number: u64, line: &[u8]) -> Result<Report, Fault> {
+// The same of each report in a line of a log.
+fn search_line<W: Write + Drop>(
+    alloc: Global,
+    form: Form,
+    number: u64,
+    line: &[u8],
+    found: &mut Found,
+    output: &mut BufWriter<W>,
+) -> Result<(), Fault> {
+    // Bytes that are no text are no report.
+    let text = str::from_utf8(line).unwrap_or("");
+    let mut from = 0;
+    for _ in 0..line.len() {
+        let next = next_report(alloc, text, from).map_err(|_| Fault::Memory)?;
+        let Some((report, made_at, end)) = next else {
+            break;
+        };
+        found.all_sound &= tell(alloc, form, number, &report, made_at, output)?;
+        from = end;
+    }
+    if from == 0 {
+        found.passed_over = found.passed_over.saturating_add(1);
+    }
+    Ok(())
+}
+
+fn tell<W: Write + Drop>(
+    alloc: Global,
+    form: Form,
+    line: u64,
+    report: &Report,
+    made_at: Option<SystemTime>,
+    output: &mut BufWriter<W>,
+) -> Result<bool, Fault> {
+    let verdict = audit(alloc, report)?;
+    let judged = Judged {
+        line,
+        report,
+        made_at,
+        verdict,
+    };
+    write(output, told::of(alloc, form, &judged)?)?;
+    Ok(verdict == Verdict::Sound)
+}
+
+fn write<W: Write + Drop>(output: &mut BufWriter<W>, told: String) -> Result<(), Fault> {
+    output.write_all(told.as_bytes()).map_err(|_| Fault::Write)
+}
+
+fn report_on(
+    alloc: Global,
+    number: u64,
+    line: &[u8],
+) -> Result<(Report, Option<SystemTime>), Fault> {
     let Ok(text) = str::from_utf8(line) else {
         return Err(Fault::NotUtf8(number));
     };
-    match from_json(alloc, text) {
-        Ok(report) => Ok(report),
+    match from_json_of_pool(alloc, text) {
+        Ok(read) => Ok(read),
         Err(FromJsonError::Memory) => Err(Fault::Memory),
         Err(why) => Err(Fault::NoReport { line: number, why }),
     }

@@ -2,10 +2,12 @@
 //! wrong with it on standard output.
 #![tactic(auto)]
 
+mod answers;
+mod finding;
 mod lines;
 mod told;
 
-use lines::{Fault, Form};
+use lines::{Fault, Form, Lines};
 use std::env;
 use std::io::{self, BufWriter, ErrorKind};
 use std::process::ExitCode;
@@ -15,10 +17,10 @@ use std::rt::Env;
 const NOT_UNDERSTOOD: u8 = 5;
 
 fn main(rt: HostRuntime) -> ExitCode {
-    let outcome = match form(&rt) {
-        Ok(Some(form)) => serve(rt, form),
+    let outcome = match asked(&rt) {
+        Ok(Some((form, lines))) => serve(rt, form, lines),
         Ok(None) => {
-            let _ = eprintln!(rt; "pool_audit [--json | --text | --svg | --html]");
+            let _ = eprintln!(rt; "pool_audit [--find] [--json | --text | --svg | --html]");
             return ExitCode::from(NOT_UNDERSTOOD);
         }
         Err(fault) => Err(fault),
@@ -34,23 +36,29 @@ fn main(rt: HostRuntime) -> ExitCode {
     }
 }
 
-// The form that the arguments ask for, if they are understood.
-fn form<R: Env + AllocGlobal>(rt: &R) -> Result<Option<Form>, Fault> {
+// What the arguments ask for, if they are understood.
+fn asked<R: Env + AllocGlobal>(rt: &R) -> Result<Option<(Form, Lines)>, Fault> {
     let mut words = match env::args(rt) {
         Ok(words) => words.skip(1),
         Err(error) if error.kind() == ErrorKind::OutOfMemory => return Err(Fault::Memory),
         Err(_) => return Ok(None),
     };
-    let Some(word) = words.next() else {
-        return Ok(Some(Form::Words));
-    };
+    let mut word = words.next();
+    let mut lines = Lines::Reports;
+    if word.as_deref() == Some("--find") {
+        lines = Lines::Log;
+        word = words.next();
+    }
     if words.next().is_some() {
         return Ok(None);
     }
-    Ok(Form::of(word.as_str()))
+    Ok(match word {
+        None => Some((Form::Words, lines)),
+        Some(word) => Form::of(word.as_str()).map(|form| (form, lines)),
+    })
 }
 
-fn serve(rt: HostRuntime, form: Form) -> Result<bool, Fault> {
+fn serve(rt: HostRuntime, form: Form, lines: Lines) -> Result<bool, Fault> {
     let mut output = BufWriter::new(rt.alloc(), io::writer(&rt)).map_err(|_| Fault::Memory)?;
-    lines::serve(rt.alloc(), form, rt.reader(), &mut output)
+    lines::serve(rt.alloc(), form, lines, rt.reader(), &mut output)
 }

@@ -1,70 +1,67 @@
 // What is written of a report.
 
+use crate::answers;
 use crate::lines::Form;
 use pool_pictures::{Finding, Notes, html, svg, text};
-use pool_reports::Verdict;
+use pool_reports::{Summary, Verdict, summarize};
 use r2d2_core::Report;
 use serde::Serialize;
 use std::alloc::{AllocError, Global};
+use std::time::{Duration, SystemTime, UNIX_EPOCH};
 
-/// What is written of the report on a line, in the form that is asked for.
-pub(crate) fn of(
-    alloc: Global,
-    form: Form,
-    line: u64,
-    report: &Report,
-    verdict: Verdict,
-) -> Result<String, AllocError> {
+/// A report on a line, and what was found.
+#[derive(Drop)]
+pub(crate) struct Judged<'a> {
+    pub(crate) line: u64,
+    pub(crate) report: &'a Report,
+    /// What the wall clock showed when its pool was made, if the line says that.
+    pub(crate) made_at: Option<SystemTime>,
+    pub(crate) verdict: Verdict,
+}
+
+/// What is written of it, in the form that is asked for.
+pub(crate) fn of(alloc: Global, form: Form, judged: &Judged<'_>) -> Result<String, AllocError> {
     match form {
-        Form::Words => in_words(alloc, line, verdict),
-        Form::Json => in_json(alloc, line, verdict),
-        Form::Text => with_timeline(alloc, line, report, verdict),
-        Form::Svg => {
-            let words = format!(in alloc; "{verdict}")?;
-            svg(alloc, report, &notes(words.as_str(), verdict))
-        }
-        Form::Html => {
-            let words = format!(in alloc; "{verdict}")?;
-            html(alloc, report, &notes(words.as_str(), verdict))
-        }
+        Form::Words => in_words(alloc, judged),
+        Form::Json => in_json(alloc, judged),
+        Form::Text => with_timeline(alloc, judged),
+        Form::Svg => svg(alloc, judged.report, &Known::of(alloc, judged)?.notes()),
+        Form::Html => html(alloc, judged.report, &Known::of(alloc, judged)?.notes()),
     }
 }
-
-// What a drawing says of a verdict, which the words tell.
-fn notes(words: &str, verdict: Verdict) -> Notes<'_> {
-    Notes {
-        finding: Some(Finding {
-            words,
-            is_sound: verdict == Verdict::Replays,
-            record: place_of(verdict),
-        }),
-        ..Notes::none()
-    }
-}
-
-fn with_timeline(
-    alloc: Global,
-    line: u64,
-    report: &Report,
-    verdict: Verdict,
-) -> Result<String, AllocError> {
-    let mut told = in_words(alloc, line, verdict)?;
-    told.push_str(text(alloc, report, &notes("", verdict))?.as_str())?;
     Ok(told)
 }
 
-// What an audit found, in words.
-fn in_words(alloc: Global, line: u64, verdict: Verdict) -> Result<String, AllocError> {
-    format!(in alloc; "line {line}: {verdict}\n")
+// What an audit found, and below it the answers, in words.
+fn in_words(alloc: Global, judged: &Judged<'_>) -> Result<String, AllocError> {
+    let (line, verdict) = (judged.line, judged.verdict);
+    let mut told = format!(in alloc; "line {line}: {verdict}\n")?;
+    if let Some(summary) = answers_of(alloc, judged)? {
+        let limits = &judged.report.limits;
+        let answers = answers::in_words(alloc, limits, judged.made_at, &summary)?;
+        told.push_str(answers.as_str())?;
+    }
+    Ok(told)
+}
+
+// A report that does not replay has none.
+fn answers_of(alloc: Global, judged: &Judged<'_>) -> Result<Option<Summary>, AllocError> {
+    match judged.verdict {
+        Verdict::Base(_) | Verdict::Record { .. } | Verdict::Counts(_) => Ok(None),
+        Verdict::Sound | Verdict::Making(_) | Verdict::Takes { .. } | Verdict::Starved(_) => {
+            Ok(Some(summarize(alloc, judged.report)?))
+        }
+    }
 }
 
 // The same as an object of JSON.
-fn in_json(alloc: Global, line: u64, verdict: Verdict) -> Result<String, AllocError> {
+fn in_json(alloc: Global, judged: &Judged<'_>) -> Result<String, AllocError> {
     let told = Told {
-        line,
-        replays: verdict == Verdict::Replays,
-        record: place_of(verdict),
-        why: why(alloc, verdict)?,
+        line: judged.line,
+        replays: judged.verdict == Verdict::Sound,
+        record: place_of(judged.verdict),
+        why: why(alloc, judged.verdict)?,
+        summary: answers_of(alloc, judged)?,
     };
     // Nothing else fails: each part has a text.
     let mut text = serde_json::to_string(alloc, &told).map_err(|_| AllocError)?;
@@ -80,21 +77,23 @@ struct Told {
     record: Option<usize>,
     #[serde(skip_serializing_if = "Option::is_none")]
     why: Option<String>,
+    #[serde(skip_serializing_if = "Option::is_none")]
+    summary: Option<Summary>,
 }
 
 // The number of the record that is wrong, where one is.
 fn place_of(verdict: Verdict) -> Option<usize> {
     match verdict {
         Verdict::Record { place, .. } => Some(place),
-        Verdict::Replays | Verdict::Base(_) | Verdict::Counts(_) => None,
+        _ => None,
     }
 }
 
-// Why it does not replay, without the number of the record.
+// Why it is not sound, without the number of the record.
 fn why(alloc: Global, verdict: Verdict) -> Result<Option<String>, AllocError> {
     match verdict {
-        Verdict::Replays => Ok(None),
+        Verdict::Sound => Ok(None),
         Verdict::Record { reason, .. } => Ok(Some(format!(in alloc; "{reason}")?)),
-        Verdict::Base(_) | Verdict::Counts(_) => Ok(Some(format!(in alloc; "{verdict}")?)),
+        _ => Ok(Some(format!(in alloc; "{verdict}")?)),
     }
 }

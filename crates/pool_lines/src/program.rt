@@ -1,6 +1,7 @@
 // The text of the program: lines in, answers out.
 ghost use Rattle.std.specs.Prelude.{◌≡◌, ◌≢◌, ◌⊎◌, [], Some, IfSome, OnOk, IfOk, IfErr, Contains};
-ghost use Rattle.std.specs.Io.Buffered.{reader_buffer, reader_remaining, writer_buffer, writer_contents};
+ghost use Rattle.std.specs.Io.Buffered.{reader_buffer, reader_remaining, writer_buffer};
+ghost use Rattle.std.specs.Io.Buffered.{writer_contents};
 ghost use Rattle.std.specs.Io.KnownBytes.{Keeps};
 ghost use Rattle.pool_lines.specs.Script.{TakesLine, Goes, Serves};
 ghost use Rattle.pool_lines.specs.Faults.{status_of, text_of, IsCountedFromOne};
@@ -16,11 +17,13 @@ use std::time::Duration;
 
 pub mod answer;
 pub mod line;
+pub mod why;
 
 /// Why the program stops before the end of its input.
 #[derive(Clone, Copy, Debug, PartialEq, Eq)]
 pub enum Fault {
-    /// The line of this number, counted from 1, is not a step; the first one is not of the form of `limits`.
+    /// The line of this number, counted from 1, is not a step; the first one is not of the form of
+    /// `limits`.
     NotAStep(u64),
     /// The first line has limits that no pool may have.
     LimitsRefused,
@@ -69,9 +72,9 @@ impl From<AllocError> for Fault {
     }
 }
 
-/// Answers each line of the input on the output, up to the first fault. The answers of all lines before it were written
-/// by then: where that failed, the fault is the failed write. What stands written after a fault of memory, of a read or of a write is
-/// left open.
+/// Answers each line of the input on the output, up to the first fault. The answers of all lines
+/// before it were written by then: where that failed, the fault is the failed write. What stands
+/// written after a fault of memory, of a read or of a write is left open.
 pub fn serve<R: Read + Drop, W: Write + Drop>(
     alloc: Global,
     input: R,

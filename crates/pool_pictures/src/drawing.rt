@@ -5,7 +5,7 @@ use crate::choice::drawn;
 use crate::lengths::digits;
 use crate::marked::{Marked, find_marked};
 use crate::notes::Notes;
-use crate::story::Story;
+use crate::story::{Life, Story};
 use head::Head;
 use layout::{Layout, Tenths};
 use r2d2_core::Report;
@@ -115,6 +115,11 @@ impl Canvas {
         self.layout.x(moment)
     }
 
+    // The connection whose lane has this number, counted from 0.
+    fn life<'a>(&self, story: &'a Story, number: usize) -> Option<&'a Life> {
+        story.lives.get(*self.places.get(number)?)
+    }
+
     fn open(&mut self) -> Result<(), AllocError> {
         let (width, height) = (Tenths(layout::WIDTH), Tenths(self.layout.height));
         self.out.push_str(OPENING)?;
@@ -165,8 +170,7 @@ impl Canvas {
             "<text class=\"fault\" text-anchor=\"middle\" x=\"{x}\" y=\"{y}\">record {place}</text>"
         )?;
         for number in 0..self.places.len() {
-            let life = story.lives.get(self.places[number]);
-            if wrong.id.is_some() && life.map(|life| life.id) == wrong.id {
+            if wrong.id.is_some() && self.life(story, number).map(|life| life.id) == wrong.id {
                 let (y, reach) = (self.layout.lane(number), self.layout.pitch.mark);
                 let (y, reach) = (Tenths(y), Tenths(reach.saturating_mul(2)));
                 writeln!(

@@ -8,9 +8,9 @@ use std::fmt;
 /// Why a text could not be read as a report.
 #[derive(Debug, Drop, PartialEq, Eq)]
 pub enum FromJsonError {
-    /// Memory was refused.
+    /// Memory was refused, or the text has more than 4 GiB.
     Memory,
-    /// The text is no JSON, or nests deeper than 127; where this was found, both counted from 1,
+    /// The text is no JSON, or nests deeper than 128; where this was found, both counted from 1,
     /// the column in bytes.
     NotJson { line: usize, column: usize },
     /// The text is of another version, which can't be read.
@@ -126,6 +126,8 @@ pub enum Wanted {
     Order,
     /// The name of a kind of record.
     Kind,
+    /// A moment of the wall clock.
+    WallClock,
 }
 
 impl fmt::Display for Wanted {
@@ -139,6 +141,7 @@ impl fmt::Display for Wanted {
             Wanted::Flag => write!(f, "neither true nor false"),
             Wanted::Order => write!(f, "neither newest_first nor oldest_first"),
             Wanted::Kind => write!(f, "not the name of a kind of record"),
+            Wanted::WallClock => write!(f, "not a moment like 2026-01-31T06:00:00Z"),
         }
     }
 }

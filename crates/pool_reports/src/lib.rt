@@ -4,16 +4,21 @@
 //! program and at another time.
 #![tactic(auto)]
 
+mod counting;
 pub mod error;
 mod nanoseconds;
 mod reading;
+pub mod summary;
 pub mod verdict;
 mod writing;
 
 pub use error::{FromJsonError, Place, Wanted};
-pub use reading::from_json;
-pub use verdict::{BaseReason, CountsReason, RecordReason, Verdict, audit};
-pub use writing::to_json;
+pub use reading::{from_json, from_json_of_pool};
+pub use summary::{Loan, Summary, summarize};
+pub use verdict::{
+    BaseReason, CountsReason, MakingReason, RecordReason, StarvedReason, Verdict, audit,
+};
+pub use writing::{to_json, to_json_of_pool};
 
 /// The version of the text that [`to_json`] writes, and the only one that [`from_json`] reads.
 pub const VERSION: u64 = 1;

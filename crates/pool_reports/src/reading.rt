@@ -3,18 +3,21 @@
 use crate::VERSION;
 use crate::error::{FromJsonError, Place, Wanted};
 use found::{Found, Object};
+use json::{Scratch, Tape};
+use place::not_json;
 use r2d2_core::{
     Base, IdList, IdleConnections, LendingOrder, LentConnections, Limits, Record, RecordList,
     Report,
 };
-use serde_json::Value;
 use std::alloc::Global;
-use std::time::Duration;
+use std::time::{Duration, SystemTime};
 
 mod found;
+mod place;
 
-const REPORT_FIELDS: [&str; 11] = [
+const REPORT_FIELDS: [&str; 12] = [
     "version",
+    "made_at",
     "limits",
     "base",
     "records",
@@ -42,18 +45,37 @@ const BASE_FIELDS: [&str; 6] = ["at", "idle", "lent", "connections", "pending", 
 /// The report that a text of JSON says, as [`to_json`](crate::to_json) writes it. White space and
 /// the order of the fields do not matter; where a field stands twice, the last one counts.
 ///
-/// It takes the memory of the text as a tree of `Value`s, and of the report. The error says what is
+/// It takes memory in proportion to the text, and that of the report. The error says what is
 /// wrong, and where: `records[17].id: not a whole number up to 18446744073709551615`. Whether the
-/// report is one of a pool is not asked here: `Report::replays` tells.
+/// report is one of a pool is not asked here: `audit` tells.
 pub fn from_json(alloc: Global, text: &str) -> Result<Report, FromJsonError> {
-    let value = Value::from_str(alloc, text)?;
-    let found = Found::new(&value, Place::report());
-    read_version(found.object()?)?;
-    read_report(alloc, found.object_of(alloc, &REPORT_FIELDS)?)
+    Ok(from_json_of_pool(alloc, text)?.0)
+}
+
+/// The same, and what the wall clock showed when the report's pool was made, if the text says that,
+/// as [`to_json_of_pool`](crate::to_json_of_pool) writes it.
+pub fn from_json_of_pool(
+    alloc: Global,
+    text: &str,
+) -> Result<(Report, Option<SystemTime>), FromJsonError> {
+    let mut scratch = Scratch::new(alloc);
+    let tape = match Tape::parse(text, &mut scratch, Vec::new(alloc)) {
+        Ok(tape) => tape,
+        Err(json::Error::Invalid) => return Err(not_json(alloc, text)),
+        Err(_) => return Err(FromJsonError::Memory),
+    };
+    let found = Found::new(tape.root(), Place::report());
+    read_version(&found.object()?)?;
+    let object = found.object_of(alloc, &REPORT_FIELDS)?;
+    let made_at = match object.optional("made_at") {
+        Some(moment) => Some(moment.wall_clock()?),
+        None => None,
+    };
+    Ok((read_report(alloc, &object)?, made_at))
 }
 
 // Other versions may have other fields, so this one comes first.
-fn read_version(report: Object<'_>) -> Result<(), FromJsonError> {
+fn read_version(report: &Object<'_, '_>) -> Result<(), FromJsonError> {
     let version = report.field("version")?.number()?;
     if version != VERSION {
         return Err(FromJsonError::Version(version));
@@ -71,7 +93,7 @@ struct Counts {
     closed: bool,
 }
 
-fn read_counts(report: Object<'_>) -> Result<Counts, FromJsonError> {
+fn read_counts(report: &Object<'_, '_>) -> Result<Counts, FromJsonError> {
     Ok(Counts {
         lost: report.field("lost")?.number()?,
         takes: report.field("takes")?.number()?,
@@ -81,7 +103,7 @@ fn read_counts(report: Object<'_>) -> Result<Counts, FromJsonError> {
     })
 }
 
-fn read_report(alloc: Global, report: Object<'_>) -> Result<Report, FromJsonError> {
+fn read_report(alloc: Global, report: &Object<'_, '_>) -> Result<Report, FromJsonError> {
     let limits = read_limits(alloc, report)?;
     let counts = read_counts(report)?;
     let base = read_base(alloc, report)?;
@@ -102,15 +124,16 @@ fn read_report(alloc: Global, report: Object<'_>) -> Result<Report, FromJsonErro
     })
 }
 
-fn read_limits(alloc: Global, report: Object<'_>) -> Result<Limits, FromJsonError> {
-    let limits = report.named("limits")?.object_of(alloc, &LIMITS_FIELDS)?;
+fn read_limits(alloc: Global, report: &Object<'_, '_>) -> Result<Limits, FromJsonError> {
+    let found = report.named("limits")?;
+    let limits = found.object_of(alloc, &LIMITS_FIELDS)?;
     let max_size = limits.field("max_size")?.count()?;
     let min_idle = limits.field("min_idle")?.count_or_null()?;
     let max_lifetime = limits.field("max_lifetime")?.nanoseconds_or_null()?;
     let idle_timeout = limits.field("idle_timeout")?.nanoseconds_or_null()?;
     let connection_timeout = limits.field("connection_timeout")?.nanoseconds()?;
     let reap_every = limits.field("reap_every")?.nanoseconds()?;
-    let order = read_order(limits.field("order")?)?;
+    let order = read_order(&limits.field("order")?)?;
     Limits::of(
         max_size,
         min_idle,
@@ -123,7 +146,7 @@ fn read_limits(alloc: Global, report: Object<'_>) -> Result<Limits, FromJsonErro
     .ok_or(FromJsonError::Limits)
 }
 
-fn read_order(found: Found<'_>) -> Result<LendingOrder, FromJsonError> {
+fn read_order(found: &Found<'_>) -> Result<LendingOrder, FromJsonError> {
     match found.text(Wanted::Order)? {
         "newest_first" => Ok(LendingOrder::NewestFirst),
         "oldest_first" => Ok(LendingOrder::OldestFirst),
@@ -131,10 +154,11 @@ fn read_order(found: Found<'_>) -> Result<LendingOrder, FromJsonError> {
     }
 }
 
-fn read_base(alloc: Global, report: Object<'_>) -> Result<Base, FromJsonError> {
-    let base = report.named("base")?.object_of(alloc, &BASE_FIELDS)?;
-    let idle = read_resting(alloc, base.field("idle")?.items()?)?;
-    let lent = read_away(alloc, base.field("lent")?.items()?)?;
+fn read_base(alloc: Global, report: &Object<'_, '_>) -> Result<Base, FromJsonError> {
+    let found = report.named("base")?;
+    let base = found.object_of(alloc, &BASE_FIELDS)?;
+    let idle = read_resting(alloc, &base.field("idle")?)?;
+    let lent = read_away(alloc, &base.field("lent")?)?;
     Ok(Base {
         at: base.field("at")?.nanoseconds()?,
         idle,
@@ -145,69 +169,61 @@ fn read_base(alloc: Global, report: Object<'_>) -> Result<Base, FromJsonError> {
     })
 }
 
-fn read_resting(alloc: Global, items: &[Value]) -> Result<IdleConnections, FromJsonError> {
-    let mut list = Vec::with_capacity(alloc, items.len())?;
-    for (number, value) in items.iter().enumerate() {
-        list.push(read_idle(Found::new(value, Place::item_of("base.idle", number)))?)?;
+fn read_resting(alloc: Global, found: &Found<'_>) -> Result<IdleConnections, FromJsonError> {
+    let mut list = Vec::with_capacity(alloc, found.count_items()?)?;
+    let mut items = found.list("base.idle")?;
+    while let Some(item) = items.next() {
+        list.push(read_idle(&item)?)?;
     }
     Ok(IdleConnections::of(list))
 }
 
 // An idle connection: id, birth, and since when it is idle.
-fn read_idle(found: Found<'_>) -> Result<(u64, Duration, Duration), FromJsonError> {
-    match found.items()? {
-        [id, birth, since] => Ok((
-            found.item(0, id).number()?,
-            found.item(1, birth).nanoseconds()?,
-            found.item(2, since).nanoseconds()?,
-        )),
-        _ => Err(found.is_not(Wanted::ListOf(3))),
-    }
+fn read_idle(found: &Found<'_>) -> Result<(u64, Duration, Duration), FromJsonError> {
+    let (id, birth, since) = found.triple()?;
+    Ok((id.number()?, birth.nanoseconds()?, since.nanoseconds()?))
 }
 
-fn read_away(alloc: Global, items: &[Value]) -> Result<LentConnections, FromJsonError> {
-    let mut list = Vec::with_capacity(alloc, items.len())?;
-    for (number, value) in items.iter().enumerate() {
-        list.push(read_lent(Found::new(value, Place::item_of("base.lent", number)))?)?;
+fn read_away(alloc: Global, found: &Found<'_>) -> Result<LentConnections, FromJsonError> {
+    let mut list = Vec::with_capacity(alloc, found.count_items()?)?;
+    let mut items = found.list("base.lent")?;
+    while let Some(item) = items.next() {
+        list.push(read_lent(&item)?)?;
     }
     Ok(LentConnections::of(list))
 }
 
 // A lent connection: id and birth.
-fn read_lent(found: Found<'_>) -> Result<(u64, Duration), FromJsonError> {
-    match found.items()? {
-        [id, birth] => Ok((
-            found.item(0, id).number()?,
-            found.item(1, birth).nanoseconds()?,
-        )),
-        _ => Err(found.is_not(Wanted::ListOf(2))),
-    }
+fn read_lent(found: &Found<'_>) -> Result<(u64, Duration), FromJsonError> {
+    let (id, birth) = found.pair()?;
+    Ok((id.number()?, birth.nanoseconds()?))
 }
 
 fn read_ids(
     alloc: Global,
-    report: Object<'_>,
+    report: &Object<'_, '_>,
     name: &'static str,
 ) -> Result<IdList, FromJsonError> {
-    let items = report.field(name)?.items()?;
-    let mut list = Vec::with_capacity(alloc, items.len())?;
-    for (number, value) in items.iter().enumerate() {
-        list.push(Found::new(value, Place::item_of(name, number)).number()?)?;
+    let found = report.field(name)?;
+    let mut list = Vec::with_capacity(alloc, found.count_items()?)?;
+    let mut items = found.list(name)?;
+    while let Some(item) = items.next() {
+        list.push(item.number()?)?;
     }
     Ok(IdList::of(list))
 }
 
-fn read_records(alloc: Global, report: Object<'_>) -> Result<RecordList, FromJsonError> {
-    let items = report.field("records")?.items()?;
-    let mut list = Vec::with_capacity(alloc, items.len())?;
-    for (number, value) in items.iter().enumerate() {
-        let found = Found::new(value, Place::item_of("records", number));
-        list.push(read_record(alloc, found)?)?;
+fn read_records(alloc: Global, report: &Object<'_, '_>) -> Result<RecordList, FromJsonError> {
+    let found = report.field("records")?;
+    let mut list = Vec::with_capacity(alloc, found.count_items()?)?;
+    let mut items = found.list("records")?;
+    while let Some(item) = items.next() {
+        list.push(read_record(alloc, &item)?)?;
     }
     Ok(RecordList::of(list))
 }
 
-fn read_record(alloc: Global, found: Found<'_>) -> Result<Record, FromJsonError> {
+fn read_record(alloc: Global, found: &Found<'_>) -> Result<Record, FromJsonError> {
     let kind = found.object()?.field("kind")?;
     match kind.text(Wanted::Kind)? {
         "taken" => {
@@ -232,12 +248,16 @@ fn read_record(alloc: Global, found: Found<'_>) -> Result<Record, FromJsonError>
                 id: record.id()?,
             })
         }
-        _ => read_ending(alloc, found, kind),
+        _ => read_ending(alloc, found, &kind),
     }
 }
 
 // A record of a connection that came back, or of connections that are gone.
-fn read_ending(alloc: Global, found: Found<'_>, kind: Found<'_>) -> Result<Record, FromJsonError> {
+fn read_ending(
+    alloc: Global,
+    found: &Found<'_>,
+    kind: &Found<'_>,
+) -> Result<Record, FromJsonError> {
     match kind.text(Wanted::Kind)? {
         "kept" => {
             let record = found.object_of(alloc, &["kind", "at", "id"])?;

@@ -1,9 +1,11 @@
 // What is wrong with a report, in words.
-ghost use Rattle.std.specs.Prelude.{IfOk};
-ghost use Rattle.pool_reports.specs.Verdicts.{IsVerdictOn};
+ghost use Rattle.std.specs.Prelude.{◌≡◌, ◌↔◌, IfOk};
+ghost use Rattle.pool_reports.specs.declared.verdict.Verdict.TheVariants.{Sound};
+ghost use Rattle.pool_reports.specs.Verdicts.{IsVerdictOn, IsSound};
 
 pub use base::BaseReason;
 pub use counts::CountsReason;
+pub use kept::{MakingReason, StarvedReason};
 use r2d2_core::{Fault, Report};
 pub use record::RecordReason;
 use std::alloc::{AllocError, Global};
@@ -11,43 +13,60 @@ use std::fmt;
 
 mod base;
 mod counts;
+mod kept;
 mod record;
 
-/// What an audit of a report found: that it replays, or the first thing that is wrong.
+/// What an audit of a report found: that it is sound, or the first thing that is wrong.
 ///
 /// Records are counted from 0, as in `records[17]` of the JSON.
 #[derive(Clone, Copy, Debug, PartialEq, Eq)]
 pub enum Verdict {
-    /// The report is in itself as each report of a pool is.
-    Replays,
+    /// The report is as each report of a pool is: it replays, none of the rest is wrong. Its text is `replays`.
+    Sound,
     /// The base is none that a pool with the limits may come to.
     Base(BaseReason),
     /// The record at this place may not follow what stood before it.
     Record { place: usize, reason: RecordReason },
     /// The records are legal, but the report shows something else than they come to.
     Counts(CountsReason),
+    /// It replays, but from a base that is not that of a pool just made, though `lost` is 0.
+    Making(MakingReason),
+    /// It replays, and `lost` is 0, but it shows other takes than its records tell of.
+    Takes { shown: u64, due: u64 },
+    /// It replays, but what is wanted is neither idle nor on its way.
+    Starved(StarvedReason),
 }
 
 impl fmt::Display for Verdict {
     fn fmt<W: fmt::Write>(&self, f: &mut fmt::Formatter<W>) -> fmt::Result {
         match self {
-            Verdict::Replays => write!(f, "replays"),
+            Verdict::Sound => write!(f, "replays"),
             Verdict::Base(reason) => write!(f, "the base: {reason}"),
             Verdict::Record { place, reason } => write!(f, "record {place}: {reason}"),
             Verdict::Counts(reason) => write!(f, "the counts: {reason}"),
+            Verdict::Making(reason) => write!(f, "the base: {reason}"),
+            Verdict::Takes { shown, due } => {
+                write!(
+                    f,
+                    "the counts: takes is {shown}, but the records tell of {due}"
+                )
+            }
+            Verdict::Starved(reason) => write!(f, "the counts: {reason}"),
         }
     }
 }
 
-/// Audits a report: whether it replays, and if it does not, what is wrong first.
+/// Audits a report: whether it has all that a pool promises of each of its reports, and if it has
+/// not, what is wrong first.
 ///
 /// It takes about the time and the memory of `Report::first_fault`. The error comes only where
 /// memory is refused.
 pub fn audit(alloc: Global, report: &Report) -> Result<Verdict, AllocError>
-    ensures { IfOk result (λ verdict. IsVerdictOn verdict report.now) }
+    ensures on { IfOk result (λ verdict. IsVerdictOn verdict report.now) }
+    ensures sound { IfOk result (λ verdict. (verdict ≡ Sound) ↔ IsSound report.now) }
 {
     let Some(fault) = report.first_fault()? else {
-        return Ok(Verdict::Replays);
+        return Ok(kept::verdict(report));
     };
     Ok(match fault {
         Fault::Base => Verdict::Base(base::reason(alloc, &report.limits, &report.base)?),

@@ -2,10 +2,11 @@
 
 use crate::VERSION;
 use crate::nanoseconds::Nanoseconds;
+use jiff::Timestamp;
 use r2d2_core::{Base, LendingOrder, Limits, Record, Report};
 use serde::{Described, Serialize, Serializer};
 use std::alloc::{AllocError, Allocator, Global};
-use std::time::Duration;
+use std::time::{Duration, SystemTime};
 
 /// The report as one object of JSON, on one line without a line feed. `docs/JOURNAL.md` lists
 /// its fields.
@@ -14,8 +15,19 @@ use std::time::Duration;
 /// strings of digits above. What [`from_json`](crate::from_json) makes of the line is this report.
 /// The error comes only where memory is refused.
 pub fn to_json<A: Allocator>(alloc: Global, report: &Report<A>) -> Result<String, AllocError> {
+    to_json_of_pool(alloc, report, None)
+}
+
+/// The same, with a field `made_at`: what the wall clock showed when the report's pool was made, from
+/// which its moments count. It is left out where that is not known, or past the year 9999.
+pub fn to_json_of_pool<A: Allocator>(
+    alloc: Global,
+    report: &Report<A>,
+    made_at: Option<SystemTime>,
+) -> Result<String, AllocError> {
     let written = ReportText {
         version: VERSION,
+        made_at: made_at.and_then(WallClock::of),
         limits: LimitsText::of(&report.limits),
         base: BaseText::of(&report.base),
         records: RecordTexts(report.records.as_slice()),
@@ -34,6 +46,8 @@ pub fn to_json<A: Allocator>(alloc: Global, report: &Report<A>) -> Result<String
 #[derive(Drop, Serialize)]
 struct ReportText<'a> {
     version: u64,
+    #[serde(skip_serializing_if = "Option::is_none")]
+    made_at: Option<WallClock>,
     limits: LimitsText,
     base: BaseText<'a>,
     records: RecordTexts<'a>,
@@ -44,6 +58,24 @@ struct ReportText<'a> {
     connections: u32,
     pending: u32,
     closed: bool,
+}
+
+// A moment of the wall clock, as in RFC 3339.
+#[derive(Clone, Copy)]
+struct WallClock(Timestamp);
+
+impl WallClock {
+    fn of(moment: SystemTime) -> Option<WallClock> {
+        Some(WallClock(Timestamp::try_from(moment).ok()?))
+    }
+}
+
+impl Described for WallClock {}
+
+impl Serialize for WallClock {
+    fn serialize<S: Serializer>(&self, out: &mut S) -> Result<(), S::Error> {
+        out.collect_str(&self.0)
+    }
 }
 
 #[derive(Clone, Copy, Serialize)]

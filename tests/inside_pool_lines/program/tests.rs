@@ -1,4 +1,5 @@
-// Tests of the text: lines of another form, reads and writes that fail. The stories of a pool are the worked rows.
+// Tests of the text: lines of another form, reads and writes that fail. The stories of a pool are
+// the worked rows.
 
 use super::Fault;
 use std::alloc::Global;
@@ -31,7 +32,8 @@ fn serves<R: AllocGlobal + Abort>(
     Ok(())
 }
 
-// Serves the steps of a story, which are separated by `; `. After ` -> ` stands what a step is to answer.
+// Serves the steps of a story, which are separated by `; `. After ` -> ` stands what a step is to
+// answer.
 fn tells<R: AllocGlobal + Abort>(
     rt: &R,
     story: &str,

@@ -1,5 +1,6 @@
-// What a pool closes for its time, and that no lock is held at a call: looks for expired connections come oftener here than a
-// user of the crate can have them. All other tests of the pool stand in a crate of their own.
+// What a pool closes for its time, and that no lock is held at a call: looks for expired
+// connections come oftener here than a user of the crate can have them. All other tests of the pool
+// stand in a crate of their own.
 
 use super::*;
 use std::alloc::{AllocError, Global};
@@ -20,7 +21,8 @@ impl fmt::Display for Blammo {
     }
 }
 
-/// Looks at a count until it has reached what is awaited, so many times at most, 10 ms apart. It answers what it saw last.
+/// Looks at a count until it has reached what is awaited, so many times at most, 10 ms apart. It
+/// answers what it saw last.
 fn watched<R: Clock>(rt: &R, count: &AtomicU64, awaited: u64, looks: u32) -> u64 {
     for _ in 0..looks {
         let seen = count.load(Ordering::SeqCst);

@@ -30,7 +30,8 @@ pub(super) enum Call {
     Sweep,
 }
 
-/// From this stage on each call is the book's own step and wakes these; then both books noted the same, and show the same.
+/// From this stage on each call is the book's own step and wakes these; then both books noted the
+/// same, and show the same.
 pub(super) fn row<R: Abort + AllocGlobal, const N: usize>(
     rt: &R,
     stage: Stage,
@@ -89,7 +90,8 @@ struct Pair {
 }
 
 impl Pair {
-    // Whom the engine wakes, or None where its answer is not the book's own. So it is with each of the calls.
+    // Whom the engine wakes, or None where its answer is not the book's own. So it is with each of
+    // the calls.
     fn call(&mut self, alloc: Global, call: Call) -> Result<Option<Wakes>, AllocError> {
         match call {
             Call::Lend { or_order } => self.lend(alloc, or_order),

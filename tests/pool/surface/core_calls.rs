@@ -1,7 +1,9 @@
 // The core, under the pool's own name.
 ghost use Rattle.std.specs.Prelude.{◌≡◌, ◌<◌, length};
 
-use r2d2::journal::{LentConnections, Base, Book, Fault, IdList, Record, RecordList, Report, IdleConnections};
+use r2d2::journal::{
+    Base, Book, Fault, IdList, IdleConnections, LentConnections, Record, RecordList, Report,
+};
 use r2d2::machine::{Core, Gone, Leftover, Limits, Refusal, Released, Returned, Take};
 use r2d2::reuse::{Comparison, Move, compare, is_in_order};
 use r2d2::run::{Answer, Step, run};
@@ -287,7 +289,8 @@ fn faults(rt: HostRuntime) -> Result<(), Fail> {
 
 #[test]
 fn lists_of_a_base(rt: HostRuntime) -> Result<(), Fail> {
-    let idle: IdleConnections = IdleConnections::of(vec![in rt.alloc(); (1, seconds(1), seconds(2))]?);
+    let idle: IdleConnections =
+        IdleConnections::of(vec![in rt.alloc(); (1, seconds(1), seconds(2))]?);
     let lent: LentConnections = LentConnections::of(vec![in rt.alloc(); (2, seconds(1))]?);
     assert_eq!(rt; (idle.as_slice().len(), lent.as_slice().len()), (1, 1));
     assert_eq!(rt; (idle.into_vec().len(), lent.into_vec().len()), (1, 1));

@@ -7,8 +7,10 @@ ghost use Rattle.r2d2_core.specs.Jobs.{seen_job};
 ghost use Rattle.r2d2_core.specs.Steps.{seen_answer};
 ghost use Rattle.pool_lines.specs.Lines.{seen_line};
 ghost use Rattle.pool_lines.specs.Steps.{answer_text, after_said, id_in, reply_text};
-ghost use Rattle.pool_lines.specs.Texts.{milliseconds, word_of, refusal_text, take_text, task_text, number_text, admission_text};
-ghost use Rattle.pool_lines.specs.Texts.{failure_text, gone_text, check_text, return_text, reap_text, released_text};
+ghost use Rattle.pool_lines.specs.Texts.{milliseconds, word_of, refusal_text, take_text, task_text};
+ghost use Rattle.pool_lines.specs.Texts.{number_text, admission_text};
+ghost use Rattle.pool_lines.specs.Texts.{failure_text, gone_text, check_text, return_text};
+ghost use Rattle.pool_lines.specs.Texts.{reap_text, released_text};
 ghost use Rattle.pool_lines.specs.Texts.{error_text, close_text, left_text, state_text};
 ghost use Rattle.pool_lines.specs.declared.program.Fault.TheVariants.{Memory, Write};
 
@@ -53,8 +55,8 @@ pub fn id_of(step: &Step<u64>) -> u64
     }
 }
 
-/// Writes an answer as a line. The id is that of the step, which the answer does not name. The fault is a
-/// failed write.
+/// Writes an answer as a line. The id is that of the step, which the answer does not name. The
+/// fault is a failed write.
 pub fn write_answer<W: Write, A: Allocator>(
     output: &mut W,
     id: u64,
@@ -262,8 +264,8 @@ fn write_left<W: Write, A: Allocator>(
     Ok(())
 }
 
-/// Writes a state as a line: how many are connected, how many of them are idle, and how many openings are pending. The
-/// fault is a failed write.
+/// Writes a state as a line: how many are connected, how many of them are idle, and how many
+/// openings are pending. The fault is a failed write.
 pub fn write_state<W: Write>(
     output: &mut W,
     connections: u32,
@@ -276,7 +278,8 @@ pub fn write_state<W: Write>(
     writeln!(output, "state {connections} {idle} {pending}").map_err(unwritten)
 }
 
-// A time in whole milliseconds, with the nanoseconds that remain in six digits, where there are any.
+// A time in whole milliseconds, with the nanoseconds that remain in six digits, where there are
+// any.
 #[derive(Clone, Copy)]
 struct Milliseconds(Duration);
 

@@ -1,13 +1,18 @@
 // The lines of the input.
-ghost use Rattle.std.specs.Prelude.{◌≡◌, ◌*◌, ◌↔◌, ◌⊎◌, None, Some, IsSome, IfSome, IfOk, IfErr, option_map, option_copied, string_bytes};
+ghost use Rattle.std.specs.Prelude.{◌≡◌, ◌*◌, ◌↔◌, ◌⊎◌, None, Some, IsSome, IfSome, IfOk, IfErr};
+ghost use Rattle.std.specs.Prelude.{option_map, option_copied, string_bytes};
 ghost use Rattle.std.specs.Duration.{as_nanos};
 ghost use Rattle.r2d2_core.specs.Limits.{SeenLimits as Bounds, seen_limits, AreLegal};
 ghost use Rattle.pool_lines.specs.declared.program.Fault.TheVariants.{NotAStep, LimitsRefused};
 ghost use Rattle.pool_lines.specs.Number.{IsNumber, number_of};
-ghost use Rattle.pool_lines.specs.Lines.{number_in, time_in, optional_in, text_in, connection_in, failure_in};
-ghost use Rattle.pool_lines.specs.Lines.{lengths_in, order_in, last_in, fields_in, sizes_in, sizes_of, limits_in};
-ghost use Rattle.pool_lines.specs.Lines.{seen_line, said_alone, said_with, said_of_connection, said_of_outcome, said_in, step_in};
-ghost use Rattle.pool_lines.specs.Lines.{failed_opening_in, failed_check_in, Take, Begin, Number, Admit, PutBack, Reap};
+ghost use Rattle.pool_lines.specs.Lines.{number_in, time_in, optional_in, text_in, connection_in};
+ghost use Rattle.pool_lines.specs.Lines.{failure_in};
+ghost use Rattle.pool_lines.specs.Lines.{lengths_in, order_in, last_in, fields_in, sizes_in};
+ghost use Rattle.pool_lines.specs.Lines.{sizes_of, limits_in};
+ghost use Rattle.pool_lines.specs.Lines.{seen_line, said_alone, said_with, said_of_connection};
+ghost use Rattle.pool_lines.specs.Lines.{said_of_outcome, said_in, step_in};
+ghost use Rattle.pool_lines.specs.Lines.{failed_opening_in, failed_check_in, Take, Begin, Number};
+ghost use Rattle.pool_lines.specs.Lines.{Admit, PutBack, Reap};
 ghost use Rattle.pool_lines.specs.Lines as spec;
 
 use super::Fault;
@@ -31,21 +36,21 @@ pub fn limits(line: &[u8]) -> Result<Limits, Fault>
 
 // What the first line says, legal or not.
 #[derive(Clone, Copy)]
-struct LimitsLine {
-    max_size: u32,
-    min_idle: Option<u32>,
-    max_lifetime: Option<Duration>,
-    idle_timeout: Option<Duration>,
-    connection_timeout: Duration,
-    reap_every: Duration,
-    order: LendingOrder,
+pub(super) struct LimitsLine {
+    pub(super) max_size: u32,
+    pub(super) min_idle: Option<u32>,
+    pub(super) max_lifetime: Option<Duration>,
+    pub(super) idle_timeout: Option<Duration>,
+    pub(super) connection_timeout: Duration,
+    pub(super) reap_every: Duration,
+    pub(super) order: LendingOrder,
 }
 
 impl LimitsLine {
     ghost use Rattle.pool_lines.specs.LimitsLine.{seen_limits_line, bounds_of};
 
     #[tactic(auto, unfolding(crate::specs::Lines::limits_in))]
-    fn read(line: &[u8]) -> Option<LimitsLine>
+    pub(super) fn read(line: &[u8]) -> Option<LimitsLine>
         ensures { option_map seen_limits_line result ≡ limits_in line.now }
     {
         LimitsLine::parse(text(line)?)
@@ -336,7 +341,7 @@ fn reaps_and_order(fields: &str) -> Option<(Duration, LendingOrder)>
     }
 }
 
-fn lending_order(word: &str) -> Option<LendingOrder>
+pub(super) fn lending_order(word: &str) -> Option<LendingOrder>
     ensures { result ≡ order_in word.now }
 {
     match word {
@@ -348,7 +353,7 @@ fn lending_order(word: &str) -> Option<LendingOrder>
 
 // A field that may be left out by `-`.
 #[tactic(auto, unfolding(crate::specs::Lines::optional_in))]
-fn optional_number(field: &str) -> Option<Option<u32>>
+pub(super) fn optional_number(field: &str) -> Option<Option<u32>>
     ensures { result ≡ optional_in (number_in 32) field.now }
 {
     if field == "-" {
@@ -358,7 +363,7 @@ fn optional_number(field: &str) -> Option<Option<u32>>
 }
 
 #[tactic(auto, unfolding(crate::specs::Lines::optional_in))]
-fn optional_time(field: &str) -> Option<Option<Duration>>
+pub(super) fn optional_time(field: &str) -> Option<Option<Duration>>
     ensures { option_map (option_map as_nanos) result ≡ optional_in time_in field.now }
 {
     if field == "-" {
@@ -377,7 +382,7 @@ fn time(field: &str) -> Option<Duration>
     Some(Duration::from_millis(number(field)?))
 }
 
-fn small_number(field: &str) -> Option<u32>
+pub(super) fn small_number(field: &str) -> Option<u32>
     ensures some { IsSome result ↔ IsNumber 32 field.now }
     ensures value { IfSome result (λ n. n ≡ number_of field.now) }
     ensures exact { result ≡ number_in 32 field.now }
@@ -386,7 +391,7 @@ fn small_number(field: &str) -> Option<u32>
 }
 
 // The number that a field of digits says.
-fn number(field: &str) -> Option<u64>
+pub(super) fn number(field: &str) -> Option<u64>
     ensures some { IsSome result ↔ IsNumber 64 field.now }
     ensures value { IfSome result (λ n. n ≡ number_of field.now) }
     ensures exact { result ≡ number_in 64 field.now }

@@ -18,7 +18,7 @@ impl Canvas {
         };
         writeln!(self.out, "<g class=\"{class}\">")?;
         for number in 0..self.places.len() {
-            if let Some(life) = story.lives.get(self.places[number]) {
+            if let Some(life) = self.life(story, number) {
                 let y = self.layout.lane(number);
                 self.lane(story, life, y)?;
             }

@@ -1,26 +1,36 @@
 // What stands at a place of a text, read as what is wanted there.
+ghost use Rattle.std.specs.Prelude.{◌<◌, length, OnSome};
 
 use crate::error::{FromJsonError, Place, Wanted};
 use crate::nanoseconds;
-use serde_json::Value;
+use jiff::Timestamp;
+use json::{Element, Items};
 use std::alloc::Global;
-use std::time::Duration;
+use std::time::{Duration, SystemTime};
 
 /// A value, and where it stands.
-#[derive(Clone, Copy)]
-pub(super) struct Found<'v> {
-    value: &'v Value,
+#[derive(Drop)]
+pub(super) struct Found<'t> {
+    value: Element<'t, 't>,
     place: Place,
 }
 
 /// A value that is an object.
-#[derive(Clone, Copy)]
-pub(super) struct Object<'v> {
-    found: Found<'v>,
+#[derive(Drop)]
+pub(super) struct Object<'f, 't> {
+    found: &'f Found<'t>,
 }
 
-impl<'v> Found<'v> {
-    pub(super) fn new(value: &'v Value, place: Place) -> Found<'v> {
+/// What is left of a list of this name.
+#[derive(Drop)]
+pub(super) struct List<'t> {
+    items: Items<'t, 't>,
+    name: &'static str,
+    number: usize,
+}
+
+impl<'t> Found<'t> {
+    pub(super) fn new(value: Element<'t, 't>, place: Place) -> Found<'t> {
         Found { value, place }
     }
 
@@ -32,16 +42,11 @@ impl<'v> Found<'v> {
         }
     }
 
-    /// An item of this list, with its number.
-    pub(super) fn item(&self, number: usize, value: &'v Value) -> Found<'v> {
-        Found::new(value, self.place.item(number))
-    }
-
-    pub(super) fn object(&self) -> Result<Object<'v>, FromJsonError> {
-        if !self.value.is_object() {
+    pub(super) fn object(&self) -> Result<Object<'_, 't>, FromJsonError> {
+        if self.value.members().is_none() {
             return Err(self.is_not(Wanted::Object));
         }
-        Ok(Object { found: *self })
+        Ok(Object { found: self })
     }
 
     /// An object that has no other fields than these.
@@ -49,29 +54,72 @@ impl<'v> Found<'v> {
         &self,
         alloc: Global,
         names: &[&str],
-    ) -> Result<Object<'v>, FromJsonError> {
-        let Some(fields) = self.value.as_object() else {
+    ) -> Result<Object<'_, 't>, FromJsonError> {
+        let Some(mut members) = self.value.members() else {
             return Err(self.is_not(Wanted::Object));
         };
-        for name in fields.keys() {
-            if !names.contains(&name.as_str()) {
+        'fields: while let Some((name, _)) = members.next() {
+            if !names.contains(&name) {
                 return Err(FromJsonError::Unknown {
                     place: self.place,
-                    name: String::from_str(alloc, name.as_str())?,
+                    name: String::from_str(alloc, name)?,
                 });
             }
         }
-        Ok(Object { found: *self })
+        Ok(Object { found: self })
     }
 
-    pub(super) fn items(&self) -> Result<&'v [Value], FromJsonError> {
-        match self.value.as_array() {
-            Some(items) => Ok(items.as_slice()),
-            None => Err(self.is_not(Wanted::List)),
+    fn items(&self) -> Result<Items<'t, 't>, FromJsonError> {
+        self.value.items().ok_or(self.is_not(Wanted::List))
+    }
+
+    /// The list of this name.
+    pub(super) fn list(&self, name: &'static str) -> Result<List<'t>, FromJsonError> {
+        Ok(List {
+            items: self.items()?,
+            name,
+            number: 0,
+        })
+    }
+
+    /// How many items this list has.
+    pub(super) fn count_items(&self) -> Result<usize, FromJsonError> {
+        let mut items = self.items()?;
+        let mut count = 0usize;
+        'items: while items.next().is_some() {
+            count = count.saturating_add(1);
+        }
+        Ok(count)
+    }
+
+    // An item of this list, with its number.
+    fn item(&self, number: usize, value: Element<'t, 't>) -> Found<'t> {
+        Found::new(value, self.place.item(number))
+    }
+
+    /// The items of a list of two.
+    pub(super) fn pair(&self) -> Result<(Found<'t>, Found<'t>), FromJsonError> {
+        let mut items = self.items()?;
+        match (items.next(), items.next(), items.next()) {
+            (Some(first), Some(second), None) => Ok((self.item(0, first), self.item(1, second))),
+            _ => Err(self.is_not(Wanted::ListOf(2))),
         }
     }
 
-    pub(super) fn text(&self, wanted: Wanted) -> Result<&'v str, FromJsonError> {
+    /// The items of a list of three.
+    pub(super) fn triple(&self) -> Result<(Found<'t>, Found<'t>, Found<'t>), FromJsonError> {
+        let mut items = self.items()?;
+        match (items.next(), items.next(), items.next(), items.next()) {
+            (Some(first), Some(second), Some(third), None) => Ok((
+                self.item(0, first),
+                self.item(1, second),
+                self.item(2, third),
+            )),
+            _ => Err(self.is_not(Wanted::ListOf(3))),
+        }
+    }
+
+    pub(super) fn text(&self, wanted: Wanted) -> Result<&'t str, FromJsonError> {
         self.value.as_str().ok_or(self.is_not(wanted))
     }
 
@@ -96,9 +144,9 @@ impl<'v> Found<'v> {
     }
 
     pub(super) fn nanoseconds(&self) -> Result<Duration, FromJsonError> {
-        let length = match self.value {
-            Value::String(text) => nanoseconds::of_digits(text.as_str()),
-            _ => self
+        let length = match self.value.as_str() {
+            Some(text) => nanoseconds::of_digits(text),
+            None => self
                 .value
                 .as_u64()
                 .map(|number| Duration::from_nanos(number)),
@@ -116,20 +164,47 @@ impl<'v> Found<'v> {
     pub(super) fn flag(&self) -> Result<bool, FromJsonError> {
         self.value.as_bool().ok_or(self.is_not(Wanted::Flag))
     }
+
+    /// A moment of the wall clock, from 1970 on.
+    pub(super) fn wall_clock(&self) -> Result<SystemTime, FromJsonError> {
+        let text = self.text(Wanted::WallClock)?;
+        text.parse::<Timestamp>()
+            .ok()
+            .and_then(|moment| SystemTime::try_from(moment).ok())
+            .ok_or(self.is_not(Wanted::WallClock))
+    }
 }
 
-impl<'v> Object<'v> {
+impl<'t> List<'t> {
+    /// The next item.
+    pub(super) fn next(&mut self) -> Option<Found<'t>>
+        ensures { OnSome result (length self.new.items < length self.old.items) }
+    {
+        let value = self.items.next()?;
+        let place = Place::item_of(self.name, self.number);
+        self.number = self.number.saturating_add(1);
+        Some(Found::new(value, place))
+    }
+}
+
+impl<'f, 't> Object<'f, 't> {
     /// The field of this name.
-    pub(super) fn field(&self, name: &'static str) -> Result<Found<'v>, FromJsonError> {
+    pub(super) fn field(&self, name: &'static str) -> Result<Found<'t>, FromJsonError> {
         self.field_at(name, self.found.place.field(name))
     }
 
+    /// The field of this name, if it is there.
+    pub(super) fn optional(&self, name: &'static str) -> Option<Found<'t>> {
+        let value = self.found.value.get(name)?;
+        Some(Found::new(value, self.found.place.field(name)))
+    }
+
     /// The object of this name in the report itself, whose fields stand under it.
-    pub(super) fn named(&self, name: &'static str) -> Result<Found<'v>, FromJsonError> {
+    pub(super) fn named(&self, name: &'static str) -> Result<Found<'t>, FromJsonError> {
         self.field_at(name, Place::named(name))
     }
 
-    fn field_at(&self, name: &'static str, place: Place) -> Result<Found<'v>, FromJsonError> {
+    fn field_at(&self, name: &'static str, place: Place) -> Result<Found<'t>, FromJsonError> {
         match self.found.value.get(name) {
             Some(value) => Ok(Found::new(value, place)),
             None => Err(FromJsonError::Missing(place)),

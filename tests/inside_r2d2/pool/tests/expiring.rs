@@ -1,4 +1,5 @@
-// Which connections are closed for their time. Looks beside a reap's own moment go on for up to 500 ms.
+// Which connections are closed for their time. Looks beside a reap's own moment go on for up to 500
+// ms.
 
 use super::*;
 use crate::event::{AcquireEvent, CheckinEvent, CheckoutEvent, ReleaseEvent, TimeoutEvent};
@@ -114,7 +115,8 @@ fn test_max_lifetime(rt: HostRuntime) -> Result<(), Fail> {
     Ok(())
 }
 
-// How many of two connections were closed while one was lent and given back all the time, for twice the idle timeout.
+// How many of two connections were closed while one was lent and given back all the time, for twice
+// the idle timeout.
 fn closed_amid_use<R: PoolRuntime>(rt: R, order: LendingOrder) -> Result<u64, Fail> {
     let dropped = no_drops(rt.alloc())?;
     let pool = Builder::new()

@@ -1,5 +1,6 @@
-// No lock of the pool is held while the manager, a handler, the customizer or a connection's drop is called: each of them has
-// another thread read the pool's state, for which that takes the lock, and waits for it.
+// No lock of the pool is held while the manager, a handler, the customizer or a connection's drop
+// is called: each of them has another thread read the pool's state, for which that takes the lock,
+// and waits for it.
 
 use super::*;
 use crate::event::{AcquireEvent, CheckinEvent, CheckoutEvent, ReleaseEvent, TimeoutEvent};
@@ -38,7 +39,8 @@ struct Probe<R> {
 }
 
 impl<R: Clock> Probe<R> {
-    // Waits for an answer, for at most five seconds. It tells whether this is the first call of its kind.
+    // Waits for an answer, for at most five seconds. It tells whether this is the first call of its
+    // kind.
     fn ask(&self, call: Call) -> bool {
         let ticket = self.asked.fetch_add(1, Ordering::SeqCst).saturating_add(1);
         if !self.is_over.load(Ordering::SeqCst)
@@ -63,7 +65,8 @@ impl<R: Clock + Drop> Drop for Asking<R> {
     }
 }
 
-/// Asks at each call. The first connection is turned away, and the first check fails; each that comes back is broken.
+/// Asks at each call. The first connection is turned away, and the first check fails; each that
+/// comes back is broken.
 #[derive(Drop)]
 struct Prober<R> {
     probe: Arc<Probe<R>>,

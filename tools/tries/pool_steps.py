@@ -1,6 +1,4 @@
-#!/usr/bin/env python3
-"""Tries the script `pool-steps` as a person uses it. The last line is `N passed, M failed`; the status is 0 only where nothing
-failed. What the program itself answers is proved, and tested in its crate."""
+"""The script `pool-steps`."""
 import glob
 import os
 import pty
@@ -8,25 +6,21 @@ import re
 import select
 import shutil
 import subprocess
-import sys
 import tempfile
 import time
 
-TOP = os.path.dirname(os.path.dirname(os.path.abspath(__file__)))
+from tally import TOP, Tally
+
+TALLY = Tally("pool-steps")
+check = TALLY.check
 SCRIPT = os.path.join(TOP, "pool-steps")
 LIMITS = "limits 1 - - - 30000 30000\n"
-# The form of the first line, as `pool-steps` shows it.
+# The form of the first line, and what fields have to be, as `pool-steps` says it.
 FIRST = "limits MAX MIN LIFE IDLE TIMEOUT RATE [ORDER]"
-passed = failed = 0
-
-
-def check(what, holds, seen):
-    global passed, failed
-    if holds:
-        passed += 1
-    else:
-        failed += 1
-        print(f"pool-steps, {what}: FAILED with {seen!r}")
+NUMBER, SMALL = "a number up to 18446744073709551615", "a number up to 4294967295"
+FORMS = ["take T", "want T", "begin T", "number K", "admit T ID V", "fail T K [TEXT]", "return T ID V", "broken T ID V",
+         "bad T ID [TEXT]", "reap T", "error", "close", "state"]
+NO_STEP = "no step begins like this; there are " + " ".join(f"'{form}'" for form in FORMS)
 
 
 def run(words, given=b""):
@@ -59,8 +53,7 @@ def refused(limits, *why):
 
 def try_words():
     status, output, errors = run(["--help"])
-    forms = [FIRST, "take T", "want T", "begin T", "number K", "admit T ID V",
-             "fail T K [TEXT]", "return T ID V", "broken T ID V", "bad T ID [TEXT]", "reap T", "error", "close", "state"]
+    forms = [FIRST, *FORMS]
     lines = [line.strip() for line in output.splitlines()]
     absent = [form for form in forms if not any(line.startswith(form + " ") for line in lines)]
     check("--help names each line", (status, errors, absent) == (0, "", []), (status, errors, absent))
@@ -78,48 +71,52 @@ def try_words():
 
 
 def try_lines():
-    fault("tkae 5", "'tkae' is no step: --help lists them")
-    fault("take", "field 2, T, is missing: take T")
-    fault("take 5 ", "a space at the end")
-    fault("take ", "a space at the end")
-    fault(" take 5", "a space at the beginning")
+    fault("tkae 5", NO_STEP)
+    fault("take", "T is missing: take T")
+    fault("take 5 ", "there is more than take T")
+    fault("take ", "T is empty; fields have one space between them: take T")
+    fault(" take 5", NO_STEP)
     fault("take 5 6", "there is more than take T")
-    fault("take 5\r", "a carriage return at the end", "take 5\\r")
-    fault("take\t5", "a tab: fields have one space between them", "take\\t5")
-    fault("take five", "field 2, T, has to be a number, and is 'five': take T")
-    fault("take -", "field 2, T, has to be a number, and is '-': take T")
-    fault("take 18446744073709551616", "field 2, T, is above 18446744073709551615: take T")
-    fault("number 4294967296", "field 2, K, is above 4294967295: number K")
-    fault("admit 0  7", "two spaces before field 3, ID")
-    fault("admit 0 0", "field 4, V, is missing: admit T ID V", number=4)
-    fault("fail 5 x why", "field 3, K, has to be a number, and is 'x': fail T K [TEXT]")
-    fault("error ", "a space at the end")
+    fault("take 5\r", f"T has to be {NUMBER}: take T", "take 5\\r")
+    fault("take\t5", NO_STEP, "take\\t5")
+    fault("take five", f"T has to be {NUMBER}: take T")
+    fault("take -", f"T has to be {NUMBER}: take T")
+    fault("take 18446744073709551616", f"T has to be {NUMBER}: take T")
+    fault("number 4294967296", f"K has to be {SMALL}: number K")
+    fault("admit 0  7", "ID is empty; fields have one space between them: admit T ID V")
+    fault("admit 0 0", "V is missing: admit T ID V", number=4)
+    fault("fail 5 x why", f"K has to be {SMALL}: fail T K [TEXT]")
+    fault("bad x 5 why", f"T has to be {NUMBER}: bad T ID [TEXT]")
+    fault("error ", "there is more than error")
     fault("close now", "there is more than close")
-    fault("", "it is empty")
-    fault("# a comment", "'#' is no step: --help lists them")
-    fault(b"take \xff", "byte 6 is not UTF-8", "take \\xff")
-    fault("nonsense" * 40, "'" + "nonsense" * 12 + "non ..", ("nonsense" * 40)[:100] + " ..")
+    fault(" ", NO_STEP)
+    fault(b"take \xff", "after 5 bytes it is not UTF-8", "take \\xff")
+    fault("nonsense" * 40, NO_STEP, ("nonsense" * 40)[:100] + " ..")
     runs("a number with zeros in front", [], LIMITS + "take " + "0" * 30 + "5\n", 0, "empty ordered 0\n")
     runs("a text with spaces", [], LIMITS + "begin 0\nfail 5 0  a  b \n", 0, "open 0\nretry 405\n")
 
 
 def try_first_lines():
-    runs("no line at all", [], "", 1, "", "line 1: not a step", f"pool-steps: there is no line 1: a script begins with {FIRST}")
+    other = f"the first line has to be {FIRST}"
+    runs("no line at all", [], "", 1, "", "line 1: not a step", f"pool-steps: there is no line 1: {other}")
     for line, why in [
-        ("take 5", f"the first line has to be {FIRST}"),
-        ("limits 1 - - - 30000", f"field 7, RATE, is missing: {FIRST}"),
-        ("limits 1 x - - 30000 30000", f"field 3, MIN, has to be a number or -, and is 'x': {FIRST}"),
-        ("limits - - - - 30000 30000", f"field 2, MAX, has to be a number, and is '-': {FIRST}"),
-        ("limits 4294967296 - - - 1 1", f"field 2, MAX, is above 4294967295: {FIRST}"),
-        ("limits 1 - - - 30000 30000 ", "a space at the end"),
-        ("limits 1 - - - 30000 30000 middle", f"field 8, [ORDER], has to be newest or oldest, and is 'middle': {FIRST}"),
+        ("take 5", other),
+        ("limits 1 - - - 30000", f"RATE is missing: {FIRST}"),
+        ("limits 1 x - - 30000 30000", f"MIN has to be {SMALL}, or -: {FIRST}"),
+        ("limits 1 - x - 30000 30000", f"LIFE has to be {NUMBER}, or -: {FIRST}"),
+        ("limits - - - - 30000 30000", f"MAX has to be {SMALL}: {FIRST}"),
+        ("limits 4294967296 - - - 1 1", f"MAX has to be {SMALL}: {FIRST}"),
+        ("limits 1 - - - 30000 30000 ", f"[ORDER] is empty; fields have one space between them: {FIRST}"),
+        ("limits 1 - - - 30000 30000 middle", f"[ORDER] has to be newest or oldest: {FIRST}"),
     ]:
         runs(f"the first line {line!r}", [], line + "\n", 1, "", "line 1: not a step",
              f"pool-steps: line 1 reads: {line}", f"pool-steps: {why}")
-    refused("limits 0 - - - 30000 30000", "max_size is 0")
-    refused("limits 2 3 - - 30000 30000", "min_idle is above max_size")
-    refused("limits 0 1 00 0 0 0", "max_size is 0", "max_lifetime is 0", "idle_timeout is 0", "connection_timeout is 0",
-            "the rate of reaps is 0", "min_idle is above max_size")
+    refused("limits 0 - - - 30000 30000", "MAX is 0")
+    refused("limits 2 3 - - 30000 30000", "MIN is above MAX")
+    refused("limits 1 1 00 0 0 0", "LIFE is 0")
+    refused("limits 1 1 - 0 0 0", "IDLE is 0")
+    refused("limits 1 1 - - 0 0", "TIMEOUT is 0")
+    refused("limits 1 1 - - 1 0", "RATE is 0")
     runs("an order of lending", [], "limits 1 - - - 1 1 oldest\nstate\n", 0, "state 0 0 1\n")
     runs("a min_idle of 0", [], "limits 1 0 - - 1 1\nstate\n", 0, "state 0 0 0\n")
 
@@ -134,24 +131,26 @@ def try_files(folder):
     steps = f"# a pool for one\n\n{LIMITS}# what is there\nstate\n\nstate\n"
     runs("a file with comments", [file(steps)], "", 0, "state 0 0 1\nstate 0 0 1\n")
     runs("a fault behind comments", [file(steps + "# wrong:\ntake  5\nstate\n")], "", 1, "state 0 0 1\nstate 0 0 1\n",
-         "line 9: not a step", "pool-steps: line 9 reads: take  5", "pool-steps: two spaces before field 2, T")
+         "line 9: not a step", "pool-steps: line 9 reads: take  5", "pool-steps: T is empty; fields have one space between them: take T")
+    runs("the same on standard input", [], steps + "# wrong:\ntake  5\nstate\n", 1, "state 0 0 1\nstate 0 0 1\n",
+         "line 9: not a step", "pool-steps: line 9 reads: take  5", "pool-steps: T is empty; fields have one space between them: take T")
     runs("a last line without its feed", [file("# one\n" + LIMITS + "state\ntake x")], "", 1, "state 0 0 1\n",
          "line 4: not a step", "pool-steps: line 4 reads: take x",
-         "pool-steps: field 2, T, has to be a number, and is 'x': take T")
+         f"pool-steps: T has to be {NUMBER}: take T")
     runs("limits behind comments", [file("\n# none\nlimits 0 - - - 1 1\n")], "", 1, "", "line 3: limits refused",
-         "pool-steps: line 3 reads: limits 0 - - - 1 1", "pool-steps: max_size is 0")
+         "pool-steps: line 3 reads: limits 0 - - - 1 1", "pool-steps: MAX is 0")
     runs("comments alone", [file("# one\n\n")], "", 1, "", "line 3: not a step",
-         f"pool-steps: there is no line 3: a script begins with {FIRST}")
+         f"pool-steps: there is no line 3: the first line has to be {FIRST}")
     runs("a text that begins like a comment", [file(LIMITS + "begin 0\nfail 5 0 # why\nerror\n")], "", 0,
          "open 0\nretry 405\nerror # why\n")
     runs("a space is no empty line", [file(LIMITS + " \nstate\n")], "", 1, "", "line 2: not a step",
-         "pool-steps: line 2 reads:  ", "pool-steps: a space at the beginning")
+         "pool-steps: line 2 reads:  ", f"pool-steps: {NO_STEP}")
     with open(file("ignored\n" + LIMITS + "state\ntake\n"), "rb") as given:
         # Whoever redirects may have read the beginning.
         os.lseek(given.fileno(), len("ignored\n"), os.SEEK_SET)
         done = subprocess.run([SCRIPT], stdin=given, stdout=subprocess.PIPE, stderr=subprocess.PIPE, timeout=60)
     wanted = (1, b"state 0 0 1\n", b"line 3: not a step\npool-steps: line 3 reads: take\n"
-              b"pool-steps: field 2, T, is missing: take T\n")
+              b"pool-steps: T is missing: take T\n")
     seen = (done.returncode, done.stdout, done.stderr)
     check("a file that is redirected", seen == wanted, seen)
     for path in sorted(glob.glob(os.path.join(TOP, "scripts", "*.steps"))):
@@ -164,9 +163,9 @@ def try_streams():
     many = 700_000
     given = LIMITS + "state\n" * many + "stat\n" + "state\n" * many
     runs("a long stream", [], given, 1, "state 0 0 1\n" * many, f"line {many + 2}: not a step",
-         f"pool-steps: line {many + 2} reads: stat", "pool-steps: 'stat' is no step: --help lists them")
+         f"pool-steps: line {many + 2} reads: stat", f"pool-steps: {NO_STEP}")
     runs("a long line of a stream", [], LIMITS + "state\ntake 5 " + "x" * 5_000_000 + "\n", 1, "state 0 0 1\n",
-         "line 3: not a step", "pool-steps: line 3 is too long to be shown")
+         "line 3: not a step", "pool-steps: line 3 reads: take 5 " + "x" * 93 + " ..", "pool-steps: there is more than take T")
     talk = subprocess.Popen([SCRIPT], stdin=subprocess.PIPE, stdout=subprocess.PIPE, stderr=subprocess.PIPE, bufsize=0)
     talk.stdin.write((LIMITS + "state\n").encode())
     first = talk.stdout.readline() if select.select([talk.stdout], [], [], 60)[0] else b""
@@ -248,26 +247,71 @@ def try_the_document():
         check(f"the document's {command!r}", done.stdout.decode() == wanted, done.stdout.decode())
 
 
+class Terminal:
+    """A person who types at the script."""
+
+    def __init__(self):
+        self.keys, theirs = pty.openpty()
+        how = {"stdin": theirs, "stdout": subprocess.PIPE, "stderr": subprocess.PIPE, "bufsize": 0}
+        self.script = subprocess.Popen([SCRIPT], **how)
+        os.close(theirs)
+
+    def line(self, stream):
+        """The next line of a stream; empty where none comes."""
+        return stream.readline().decode() if select.select([stream], [], [], 60)[0] else ""
+
+    def answer(self, typed):
+        os.write(self.keys, typed.encode() + b"\n")
+        return self.line(self.script.stdout)
+
+    def told(self, typed):
+        os.write(self.keys, typed.encode() + b"\n")
+        return self.line(self.script.stderr)
+
+    def end(self):
+        """Ends the input, as a person does. The answer is the status, and what was still written."""
+        os.write(self.keys, b"\x04")
+        try:
+            rest = self.script.communicate(timeout=60)
+            return (self.script.returncode, *rest)
+        except subprocess.TimeoutExpired:
+            self.script.kill()
+            return "it did not end"
+        finally:
+            os.close(self.keys)
+
+
 def try_a_terminal():
-    ours, theirs = pty.openpty()
-    talk = subprocess.Popen([SCRIPT], stdin=theirs, stdout=subprocess.PIPE, stderr=subprocess.PIPE)
-    os.close(theirs)
-    os.write(ours, (LIMITS + "state\n").encode())
-    first = talk.stdout.readline()
-    # The end of the input, as a person gives it.
-    os.write(ours, b"\x04")
-    try:
-        rest, errors = talk.communicate(timeout=60)
-        seen = (first, rest, errors, talk.returncode)
-    except subprocess.TimeoutExpired:
-        talk.kill()
-        seen = (first, "it did not end")
-    os.close(ours)
-    line = f"pool-steps: type steps, {FIRST} first; see --help, ^D ends\n".encode()
-    check("a terminal", seen == (b"state 0 0 1\n", b"", line, 0), seen)
+    person = Terminal()
+    first = person.line(person.script.stderr)
+    check("a terminal", first.startswith("pool-steps: type steps, first limits"), first)
+    seen = person.told("take 5")
+    check("no limits yet", seen == f"pool-steps: the first line has to be {FIRST}\n", seen)
+    seen = person.told("limits 0 - - - 1 1")
+    check("limits that are refused", seen == "pool-steps: MAX is 0\n", seen)
+    os.write(person.keys, b"# a pool for one\n\n" + LIMITS.encode())
+    seen = person.answer("state")
+    check("a state", seen == "state 0 0 1\n", seen)
+    seen = person.told("tkae 5")
+    check("a line that is no step", seen == f"pool-steps: {NO_STEP}\n", seen)
+    seen = person.told("take five")
+    check("a field that is wrong", seen == f"pool-steps: T has to be {NUMBER}: take T\n", seen)
+    seen = person.answer("begin 0")
+    check("the session goes on", seen == "open 0\n", seen)
+    help = run(["--help"])[1]
+    seen = person.answer("help")
+    seen += "".join(person.line(person.script.stdout) for _ in help.splitlines()[1:])
+    check("help", seen == help, seen)
+    seen = person.answer("state")
+    check("a state after help", seen == "state 0 0 1\n", seen)
+    seen = person.end()
+    check("the end of a session", seen == (0, b"", b""), seen)
+    person = Terminal()
+    seen = person.end()
+    check("a session without a pool", seen[:2] == (0, b""), seen)
 
 
-def main():
+def tried():
     # The first run builds the program, where it is missing.
     build = subprocess.run([SCRIPT], input=LIMITS.encode())
     check("the program is built", build.returncode == 0, build.returncode)
@@ -282,9 +326,4 @@ def main():
         try_streams()
         try_the_document()
         try_a_terminal()
-    print(f"{passed} passed, {failed} failed")
-    return 0 if failed == 0 else 1
-
-
-if __name__ == "__main__":
-    sys.exit(main())
+    return TALLY

@@ -1,0 +1,93 @@
+// The buckets of a histogram. They are fixed, so that the histograms of several services can be
+// added up.
+ghost use Rattle.std.specs.Prelude.{◌≡◌, ℕ, ◌<◌, ◌≤◌, ◌-◌, ◌^◌, length, min, slice_index};
+ghost use Rattle.std.specs.List.Sorted.{IsStrictlyIncreasing};
+ghost use Rattle.pool_metrics.specs.Bounds.{bounds_of};
+ghost use Rattle.std.specs.Duration.{as_nanos};
+
+use std::time::Duration;
+
+/// How many bounds a scale has.
+pub const BOUNDS: usize = 13;
+
+/// How many buckets a histogram has: one for each bound, and one for what is above the last.
+pub const BUCKETS: usize = 14;
+
+const MS: u64 = 1_000_000;
+
+const S: u64 = 1_000_000_000;
+
+// In nanoseconds.
+static SHORT: [u64; BOUNDS] = [
+    MS,
+    5 * MS,
+    10 * MS,
+    25 * MS,
+    50 * MS,
+    100 * MS,
+    250 * MS,
+    500 * MS,
+    S,
+    2500 * MS,
+    5 * S,
+    10 * S,
+    30 * S,
+];
+
+static LONG: [u64; BOUNDS] = [
+    S,
+    10 * S,
+    30 * S,
+    60 * S,
+    300 * S,
+    600 * S,
+    1800 * S,
+    3600 * S,
+    7200 * S,
+    21_600 * S,
+    43_200 * S,
+    86_400 * S,
+    604_800 * S,
+];
+
+/// Which bounds a histogram has.
+#[derive(Clone, Copy, PartialEq, Eq, Debug)]
+pub enum Scale {
+    /// For waiting, use and opening: 1, 5, 10, 25, 50, 100, 250 and 500 ms, 1, 2.5, 5, 10 and 30 s.
+    Short,
+    /// For ages: 1, 10 and 30 s, 1, 5, 10 and 30 min, 1, 2, 6 and 12 h, 1 and 7 days.
+    Long,
+}
+
+impl Scale {
+    /// The bounds in nanoseconds, the least first. A bound is the longest of its bucket.
+    pub fn bounds(self) -> &'static [u64; BOUNDS]
+        ensures values { result.now ≡ bounds_of self }
+        ensures rising { IsStrictlyIncreasing result.now }
+    {
+        match self {
+            Scale::Short => &SHORT,
+            Scale::Long => &LONG,
+        }
+    }
+}
+
+/// Which bucket a length of so many nanoseconds falls in: the first whose bound is not below it, or
+/// else the one after the last bound.
+pub fn bucket_of(bounds: &[u64], nanos: u64) -> usize
+    ensures within { result ≤ length bounds.now }
+    ensures above { (i : ℕ) → i < result → slice_index bounds.now i < nanos }
+    ensures first { result < length bounds.now → nanos ≤ slice_index bounds.now result }
+{
+    bounds
+        .iter()
+        .position(|bound| nanos <= *bound)
+        .unwrap_or(bounds.len())
+}
+
+/// A length in nanoseconds, of at most 584 years.
+pub(crate) fn nanos_of(length: Duration) -> u64
+    ensures { result ≡ min (as_nanos length) (2 ^ 64 - 1) }
+{
+    u64::try_from(length.as_nanos()).unwrap_or(u64::MAX)
+}

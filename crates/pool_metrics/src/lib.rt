@@ -1,0 +1,37 @@
+//! The metrics of a pool: what it did, counted and timed as it happens, and printed as Prometheus
+//! reads it, under the names that OpenTelemetry gives to the metrics of connection pools. It stands
+//! over `r2d2`, and uses what a pool tells every event handler.
+//!
+//! ```rust
+//! let metrics = Metrics::new(rt, max_size)?;
+//! let pool = Builder::new()
+//!     .max_size(max_size)
+//!     .event_handler(metrics.try_clone()?)
+//!     .build(rt, Timed::new(Numbers, &metrics)?)?;
+//! // ..
+//! let reading = Reading {
+//!     pool: "numbers",
+//!     status: self.pool.status(),
+//!     snapshot: self.metrics.snapshot(),
+//! };
+//! let mut page = String::new(alloc);
+//! write(&[reading], &mut page)?;
+//! ```
+//!
+//! [`Metrics`] is the handler, and what is read of it; its `lent_longer_than` lists the connections
+//! that somebody forgot to give back. [`Timed`] round a manager times its openings too.
+#![tactic(auto)]
+
+mod buckets;
+mod histogram;
+mod recording;
+mod roll;
+mod text;
+mod timed;
+
+pub use buckets::{BOUNDS, BUCKETS, Scale, bucket_of};
+pub use histogram::{Bucket, Distribution, UpTo};
+pub use recording::{Metrics, Snapshot};
+pub use roll::Overdue;
+pub use text::{Reading, write};
+pub use timed::Timed;

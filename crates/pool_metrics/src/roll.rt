@@ -1,0 +1,122 @@
+// The connections that are lent, and since when.
+ghost use Rattle.std.specs.Prelude.{◌≡◌, ℕ, ◌+◌, ◌<◌, ◌≤◌, ◌-◌, ◌==◌, ◌++◌, ◌∷◌, [], ◌^◌, min, max, nat_lt, All, IfOk, not, filter, map, vec_len, vec_capacity};
+ghost use Rattle.std.specs.Duration.{as_nanos};
+ghost use Rattle.std.specs.List.Sorted.{IsNonDecreasingBy};
+ghost use Rattle.pool_metrics.specs.Longest.{IsLongestFirst, longer_than};
+
+use std::alloc::{AllocError, Global};
+use std::time::Duration;
+
+/// A connection that is lent for long.
+#[derive(Clone, Copy, PartialEq, Eq, Debug)]
+pub struct Overdue {
+    /// Its id.
+    pub id: u64,
+    nanos: u64,
+}
+
+impl Overdue {
+    /// For how long it is lent.
+    pub fn lent_for(&self) -> Duration
+        ensures { as_nanos result ≡ self.now.nanos }
+    {
+        Duration::from_nanos(self.nanos)
+    }
+}
+
+/// A line of the roll. Moments are nanoseconds.
+#[derive(Clone, Copy, PartialEq, Eq, Debug)]
+pub(crate) struct Entry {
+    id: u64,
+    since: u64,
+}
+
+/// Who is lent, in the order of lending. It asks for memory when it is made, and never again.
+#[derive(Drop)]
+pub(crate) struct Roll {
+    entries: Vec<Entry>,
+    latest: u64,
+    unlisted: u64,
+    ghost in_order: { IsNonDecreasingBy (λ e. e.since) entries.items },
+    ghost until_now: { All (λ e. e.since ≤ latest) entries.items },
+}
+
+impl Roll {
+    /// With room for so many.
+    pub(crate) fn new(alloc: Global, room: usize) -> Result<Roll, AllocError>
+        ensures none { IfOk result (λ roll. roll.entries.items ≡ []) }
+        ensures room { IfOk result (λ roll. vec_capacity roll.entries ≡ room) }
+        ensures all_listed { IfOk result (λ roll. roll.unlisted ≡ 0) }
+    {
+        Ok(Roll {
+            entries: Vec::with_capacity(alloc, room)?,
+            latest: 0,
+            unlisted: 0,
+        })
+    }
+
+    /// One is lent now. Where there is no more room, it is counted, and not listed.
+    pub(crate) fn enter(&mut self, id: u64, now: u64)
+        ensures listed { vec_len self.old.entries < vec_capacity self.old.entries → self.new.entries.items ≡ self.old.entries.items ++ record { id = id; since = max self.old.latest now } ∷ [] }
+        ensures room { vec_capacity self.new.entries ≡ vec_capacity self.old.entries }
+        ensures full { vec_capacity self.old.entries ≤ vec_len self.old.entries → self.new.entries.items ≡ self.old.entries.items × (self.new.unlisted ≡ min (self.old.unlisted + 1) (2 ^ 64 - 1)) }
+    {
+        self.latest = self.latest.max(now);
+        if self.entries.len() < self.entries.capacity() {
+            let since = self.latest;
+            self.entries.push_reserved(Entry { id, since });
+        } else {
+            self.unlisted = self.unlisted.saturating_add(1);
+        }
+    }
+
+    /// One is not lent any more.
+    pub(crate) fn strike(&mut self, id: u64)
+        ensures struck { self.new.entries.items ≡ filter (λ e. not (e.id == id)) self.old.entries.items }
+        ensures room { vec_capacity self.new.entries ≡ vec_capacity self.old.entries }
+        ensures unlisted { self.new.unlisted ≡ self.old.unlisted }
+    {
+        self.entries.retain(|entry| entry.id != id);
+    }
+
+    /// How many could not be listed.
+    pub(crate) fn unlisted(&self) -> u64
+        ensures { result ≡ self.now.unlisted }
+    {
+        self.unlisted
+    }
+
+    /// Those that are lent for longer than so many nanoseconds, the longest first. The error is
+    /// lack of memory.
+    pub(crate) fn longer_than(
+        &self,
+        alloc: Global,
+        nanos: u64,
+        now: u64,
+    ) -> Result<Vec<Overdue>, AllocError>
+        ensures all { IfOk result (λ v. v.items ≡ longer_than nanos (max self.now.latest now) self.now.entries.items) }
+        ensures longest_first { IfOk result (λ v. IsLongestFirst v.items) }
+    {
+        let now = self.latest.max(now);
+        self.in_order_of_lending(alloc, nanos, now)
+    }
+
+    // The same. That the longest come first follows from the order of the roll.
+    fn in_order_of_lending(
+        &self,
+        alloc: Global,
+        nanos: u64,
+        now: u64,
+    ) -> Result<Vec<Overdue>, AllocError>
+        ensures { IfOk result (λ v. v.items ≡ longer_than nanos now self.now.entries.items) }
+    {
+        self.entries
+            .iter()
+            .filter(|entry| now.saturating_sub(entry.since) > nanos)
+            .map(|entry| Overdue {
+                id: entry.id,
+                nanos: now.saturating_sub(entry.since),
+            })
+            .collect(alloc)
+    }
+}

@@ -1,0 +1,120 @@
+// What else is wrong with a report that replays: each report of a pool keeps more than that.
+ghost use Rattle.std.specs.Prelude.{◌≡◌, ◌≤◌, ◌+◌, ◌⊎◌, ◌↔◌, false, length, IsTrue};
+ghost use Rattle.std.specs.Duration.{as_nanos};
+ghost use Rattle.r2d2_core.specs.Limits.{seen_limits, wanted_of};
+ghost use Rattle.r2d2_core.specs.Bases.{first_base};
+ghost use Rattle.r2d2_core.specs.Reports.{seen_base, DoesReplay};
+ghost use Rattle.pool_reports.specs.Verdicts.{IsVerdictOn};
+
+use super::Verdict;
+use crate::counting::takes;
+use r2d2_core::{Base, Limits, Report};
+use std::alloc::Allocator;
+use std::fmt;
+
+/// How a base, into which no record was folded, is not that of a pool just made.
+#[derive(Clone, Copy, Debug, PartialEq, Eq)]
+pub enum MakingReason {
+    /// So many are idle.
+    Idle(usize),
+    /// So many are lent.
+    Lent(usize),
+    /// So many openings are pending, and another number is wanted.
+    Pending { shown: u32, due: u32 },
+    /// It is closed.
+    Closed,
+}
+
+impl fmt::Display for MakingReason {
+    fn fmt<W: fmt::Write>(&self, f: &mut fmt::Formatter<W>) -> fmt::Result {
+        write!(f, "lost is 0, so it is that of the making, but ")?;
+        match self {
+            MakingReason::Idle(count) => write!(f, "idle has {count}"),
+            MakingReason::Lent(count) => write!(f, "lent has {count}"),
+            MakingReason::Pending { shown, due } => {
+                write!(f, "pending is {shown} where {due} are wanted")
+            }
+            MakingReason::Closed => write!(f, "it is closed"),
+        }
+    }
+}
+
+/// How a pool that is open has too few: more are wanted, there is room, and none is on its way.
+#[derive(Clone, Copy, Debug, PartialEq, Eq)]
+pub struct StarvedReason {
+    pub wanted: u32,
+    pub idle: usize,
+    pub pending: u32,
+}
+
+impl fmt::Display for StarvedReason {
+    fn fmt<W: fmt::Write>(&self, f: &mut fmt::Formatter<W>) -> fmt::Result {
+        let (wanted, idle, pending) = (self.wanted, self.idle, self.pending);
+        write!(
+            f,
+            "wanted are {wanted}, and there is room, but idle has {idle}, and pending is {pending}"
+        )
+    }
+}
+
+/// What is wrong with a report that replays, if something is.
+pub(super) fn verdict<A: Allocator>(report: &Report<A>) -> Verdict
+    requires replays { DoesReplay report.now }
+    ensures { IsVerdictOn result report.now }
+{
+    if report.lost == 0 {
+        if !is_first(&report.limits, &report.base) {
+            return Verdict::Making(making_reason(&report.limits, &report.base));
+        }
+        let due = takes(report.records.as_slice());
+        if report.takes != due {
+            let shown = report.takes;
+            return Verdict::Takes { shown, due };
+        }
+    }
+    if !is_replenished(report) {
+        return Verdict::Starved(StarvedReason {
+            wanted: report.limits.wanted(),
+            idle: report.idle.as_slice().len(),
+            pending: report.pending,
+        });
+    }
+    Verdict::Sound
+}
+
+// Whether a base is that of a pool just made.
+fn is_first<A: Allocator>(limits: &Limits, base: &Base<A>) -> bool
+    ensures { IsTrue result ↔ (seen_base base.now ≡ first_base (seen_limits limits.now) (as_nanos base.now.at)) }
+{
+    base.idle.as_slice().is_empty()
+        && base.lent.as_slice().is_empty()
+        && base.connections == 0
+        && base.pending == limits.wanted()
+        && !base.closed
+}
+
+// How it is not. Its connections are its idle and its lent ones.
+fn making_reason<A: Allocator>(limits: &Limits, base: &Base<A>) -> MakingReason {
+    let (idle, lent) = (base.idle.as_slice().len(), base.lent.as_slice().len());
+    let (shown, due) = (base.pending, limits.wanted());
+    if idle > 0 {
+        MakingReason::Idle(idle)
+    } else if lent > 0 {
+        MakingReason::Lent(lent)
+    } else if base.closed {
+        MakingReason::Closed
+    } else {
+        MakingReason::Pending { shown, due }
+    }
+}
+
+// Whether as many are idle or pending as are wanted, if there is room and the pool is open.
+fn is_replenished<A: Allocator>(report: &Report<A>) -> bool
+    ensures { IsTrue result ↔ (report.now.closed ≡ false → (wanted_of (seen_limits report.now.limits) ≤ length report.now.idle + report.now.pending) ⊎ (report.now.connections + report.now.pending ≡ report.now.limits.max_size)) }
+{
+    let ready = report.idle.as_slice().len() as u128 + report.pending as u128;
+    let all = report.connections as u64 + report.pending as u64;
+    report.closed
+        || ready >= report.limits.wanted() as u128
+        || all == report.limits.max_size() as u64
+}

@@ -1,0 +1,94 @@
+// What is counted over real pools.
+
+use crate::kind::Makes;
+use crate::managers::{Breaks, Counts, Manager, Sevens};
+use pool_metrics::{Metrics, Snapshot};
+use r2d2::Builder;
+use std::test::Fail;
+use std::thread;
+use std::time::Duration;
+
+#[test]
+fn known_traffic(rt: HostRuntime) -> Result<(), Fail> {
+    let metrics = Metrics::new(rt, 2)?;
+    let pool = Builder::new()
+        .max_size(2)
+        .event_handler(metrics.try_clone()?)
+        .make(rt, Sevens)?;
+    let (first, second) = (pool.get()?, pool.get()?);
+    assert!(rt; pool.get_timeout(Duration::from_millis(20)).is_err());
+    drop(first);
+    assert!(rt; pool.try_get()?.is_some());
+    drop(second);
+    let seen = metrics.snapshot();
+    assert_eq!(rt; seen.opened, 2);
+    assert_eq!(rt; seen.timeouts, 1);
+    assert_eq!(rt; seen.waits.count(), 3);
+    assert_eq!(rt; seen.uses.count(), 3);
+    assert_eq!(rt; seen.ages.count(), 0);
+    assert!(rt; seen.openings.is_none());
+    // The second one was lent for as long as the call waited in vain.
+    assert!(rt; seen.uses.sum() >= Duration::from_millis(20));
+    Ok(())
+}
+
+#[test]
+fn opened_are_closed_or_still_there(rt: HostRuntime) -> Result<(), Fail> {
+    let counts = Counts::new(rt.alloc())?;
+    let metrics = Metrics::new(rt, 3)?;
+    let pool = Builder::new()
+        .max_size(3)
+        .event_handler(metrics.try_clone()?)
+        .make(rt, Manager::new(&counts, 100, Breaks::AtTheSecondReturn)?)?;
+    for _ in 0..9 {
+        drop(pool.get()?);
+    }
+    while pool.status().opening > 0 {
+        thread::sleep(&rt, Duration::from_millis(5));
+    }
+    let seen = metrics.snapshot();
+    assert!(rt; seen.ages.count() > 0);
+    assert_eq!(rt; seen.opened, seen.ages.count() + u64::from(pool.status().connections));
+    assert_eq!(rt; seen.uses.count(), 9);
+    Ok(())
+}
+
+// Whether no bucket counts fewer than the one before it, and the last one all.
+fn adds_up(seen: Snapshot) -> bool {
+    let mut before = 0;
+    for bucket in seen.waits.buckets() {
+        if bucket.count < before {
+            return false;
+        }
+        before = bucket.count;
+    }
+    before == seen.waits.count()
+}
+
+#[test]
+fn a_snapshot_adds_up_while_threads_count(rt: HostRuntime) -> Result<(), Fail> {
+    let metrics = Metrics::new(rt, 4)?;
+    let pool = Builder::new()
+        .max_size(4)
+        .event_handler(metrics.try_clone()?)
+        .make(rt, Sevens)?;
+    let mut threads = Vec::new(rt.alloc());
+    for _ in 0..4 {
+        let pool = pool.try_clone()?;
+        threads.push(thread::spawn(&rt, move || {
+            (0..200).filter(|_| pool.get().is_ok()).count()
+        })?)?;
+    }
+    for _ in 0..100 {
+        let seen = metrics.snapshot();
+        assert!(rt; adds_up(seen));
+        assert!(rt; seen.uses.count() <= seen.waits.count());
+    }
+    for thread in threads {
+        assert_eq!(rt; thread.join(&rt), 200);
+    }
+    assert_eq!(rt; metrics.snapshot().waits.count(), 800);
+    assert_eq!(rt; metrics.snapshot().uses.count(), 800);
+    assert_eq!(rt; metrics.lent_longer_than(Duration::ZERO)?.len(), 0);
+    Ok(())
+}

@@ -1,0 +1,72 @@
+// Which connections somebody forgot to give back.
+
+use crate::kind::{Makes, PooledConnection};
+use crate::managers::Sevens;
+use pool_metrics::Metrics;
+use r2d2::Builder;
+use std::test::Fail;
+use std::thread;
+use std::time::Duration;
+
+#[test]
+fn finds_a_leak(rt: HostRuntime) -> Result<(), Fail> {
+    let metrics = Metrics::new(rt, 3)?;
+    let pool = Builder::new()
+        .max_size(3)
+        .event_handler(metrics.try_clone()?)
+        .make(rt, Sevens)?;
+    let first = pool.get()?;
+    thread::sleep(&rt, Duration::from_millis(60));
+    let second = pool.get()?;
+    thread::sleep(&rt, Duration::from_millis(60));
+    let third = pool.get()?;
+    drop(third);
+
+    let long = metrics.lent_longer_than(Duration::from_millis(50))?;
+    assert_eq!(rt; long.len(), 2);
+    assert_eq!(rt; long[0].id, PooledConnection::id(&first));
+    assert!(rt; long[0].lent_for() >= Duration::from_millis(120));
+    assert_eq!(rt; long[1].id, PooledConnection::id(&second));
+    assert!(rt; long[1].lent_for() < long[0].lent_for());
+    assert_eq!(rt; metrics.lent_longer_than(Duration::from_secs(60))?.len(), 0);
+
+    let gone = PooledConnection::id(&first);
+    drop(first);
+    let long = metrics.lent_longer_than(Duration::from_millis(50))?;
+    assert_eq!(rt; long.len(), 1);
+    assert!(rt; long[0].id != gone);
+    assert_eq!(rt; metrics.unlisted(), 0);
+    Ok(())
+}
+
+#[test]
+fn what_has_no_room_is_counted(rt: HostRuntime) -> Result<(), Fail> {
+    let metrics = Metrics::new(rt, 1)?;
+    let pool = Builder::new()
+        .max_size(2)
+        .event_handler(metrics.try_clone()?)
+        .make(rt, Sevens)?;
+    let first = pool.get()?;
+    let second = pool.get()?;
+    thread::sleep(&rt, Duration::from_millis(5));
+    let long = metrics.lent_longer_than(Duration::ZERO)?;
+    assert_eq!(rt; long.len(), 1);
+    assert_eq!(rt; long[0].id, PooledConnection::id(&first));
+    assert_eq!(rt; metrics.unlisted(), 1);
+    drop(second);
+    assert_eq!(rt; metrics.lent_longer_than(Duration::ZERO)?.len(), 1);
+    Ok(())
+}
+
+#[test]
+fn a_detached_connection_is_not_lent_any_more(rt: HostRuntime) -> Result<(), Fail> {
+    let metrics = Metrics::new(rt, 1)?;
+    let pool = Builder::new()
+        .max_size(1)
+        .event_handler(metrics.try_clone()?)
+        .make(rt, Sevens)?;
+    assert_eq!(rt; PooledConnection::detach(pool.get()?), 7);
+    assert_eq!(rt; metrics.lent_longer_than(Duration::ZERO)?.len(), 0);
+    assert_eq!(rt; metrics.snapshot().ages.count(), 1);
+    Ok(())
+}

@@ -1,0 +1,17 @@
+//! Tests of `pool_metrics`: what is counted over real pools, and what is printed.
+#![tactic(auto)]
+
+#[cfg(test)]
+mod buckets;
+#[cfg(test)]
+mod counting;
+#[cfg(test)]
+mod kind;
+#[cfg(test)]
+mod lent_for_long;
+#[cfg(test)]
+mod managers;
+#[cfg(test)]
+mod printing;
+#[cfg(test)]
+mod timing;

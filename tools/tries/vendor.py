@@ -1,0 +1,120 @@
+"""The script `vendor`, on folders of its own."""
+import filecmp
+import os
+import re
+import shutil
+import subprocess
+import tempfile
+
+from tally import TOP, Tally
+
+TALLY = Tally("vendor")
+check = TALLY.check
+
+
+def read(*path):
+    with open(os.path.join(*path), encoding="utf-8") as file:
+        return file.read()
+
+
+def write(text, *path):
+    with open(os.path.join(*path), "w", encoding="utf-8") as file:
+        file.write(text)
+
+
+def answers(what, status, line, *words):
+    """Runs `vendor`, and holds its status and a line of what it says against what is wanted."""
+    done = subprocess.run([os.path.join(TOP, "vendor"), *words], stdout=subprocess.PIPE, stderr=subprocess.STDOUT, text=True)
+    check(what, done.returncode == status and line in done.stdout.splitlines(), done)
+
+
+def files(folder):
+    """The files of a folder, with what they hold."""
+    found = {}
+    for place, _, names in os.walk(folder):
+        for name in names:
+            with open(os.path.join(place, name), "rb") as file:
+                found[os.path.relpath(os.path.join(place, name), folder)] = file.read()
+    return found
+
+
+def arrives(mine, crate):
+    """Every file of a crate, but for what checks keep, is there as it is here."""
+    ours = {path: text for path, text in files(os.path.join(TOP, "crates", crate)).items() if not path.startswith("out/")}
+    theirs = files(os.path.join(mine, "crates", crate))
+    differ = {path for path in ours.keys() | theirs.keys() if ours.get(path) != theirs.get(path)}
+    check(f"{crate} arrives", ours and all(os.path.basename(path).startswith("LICENSE-") for path in differ), differ)
+    is_licensed = filecmp.cmp(os.path.join(TOP, "LICENSE-MIT"), os.path.join(mine, "crates", crate, "LICENSE-MIT"), False)
+    check(f"the licence of {crate} arrives", is_licensed)
+
+
+def runs(mine):
+    """The pool runs there, in a program of its owner's."""
+    os.makedirs(os.path.join(mine, "crates", "visits", "src"))
+    shutil.copy(os.path.join(TOP, "crates", "first_pool", "src", "main.rt"), os.path.join(mine, "crates", "visits", "src"))
+    write(read(mine, "crates.txt") + "visits: r2d2 sqlite anyhow\n", mine, "crates.txt")
+    how = {"stdin": subprocess.DEVNULL, "stdout": subprocess.PIPE, "stderr": subprocess.PIPE, "text": True}
+    done = subprocess.run(["rt", "try"], cwd=os.path.join(mine, "crates", "visits"), **how)
+    wanted = read(TOP, "crates", "first_pool", "stdout").splitlines()
+    # rt adds lines of its own.
+    written = [line for line in done.stdout.splitlines() if line in wanted]
+    check("the pool runs there", done.returncode == 0 and wanted and written == wanted, (done.stdout, done.stderr[-2000:]))
+
+
+def try_an_empty_folder(mine, lines):
+    os.mkdir(mine)
+    answers("an empty folder", 0, "put there: crates/r2d2", mine)
+    arrives(mine, "r2d2_core")
+    arrives(mine, "r2d2")
+    check("the lines arrive", read(mine, "crates.txt") == lines, read(mine, "crates.txt"))
+    check("the handles arrive", read(mine, "HANDLES") == read(TOP, "HANDLES"))
+    before = files(mine)
+    answers("a second call is refused", 1, "vendor: crates/r2d2 is already there", mine)
+    check("a second call does nothing", files(mine) == before)
+    runs(mine)
+
+
+def try_a_repository(theirs, lines):
+    """A repository with a crate of its own, whose last line has no line feed."""
+    os.mkdir(theirs)
+    write("# mine\nown: anyhow", theirs, "crates.txt")
+    shutil.copy(os.path.join(TOP, "HANDLES"), theirs)
+    answers("a repository with crates", 0, "put there: crates.txt: two lines more", theirs)
+    check("its lines stay", read(theirs, "crates.txt") == "# mine\nown: anyhow\n" + lines, read(theirs, "crates.txt"))
+
+
+def try_reports(logged):
+    """With what writes reports of the journal as text."""
+    os.mkdir(logged)
+    answers("with reports", 0, "put there: crates.txt: made, with three lines", "--reports", logged)
+    lines = re.findall(r"^(?:r2d2|r2d2_core|pool_reports)[ :].*\n", read(TOP, "crates.txt"), re.M)
+    check("the lines of all arrive", sorted(read(logged, "crates.txt").splitlines(True)) == sorted(lines), read(logged, "crates.txt"))
+    arrives(logged, "pool_reports")
+
+
+def try_refusals(place):
+    strict, lines = os.path.join(place, "strict"), os.path.join(place, "lines")
+    os.mkdir(strict)
+    write("Handles allowed: none.\n", strict, "HANDLES")
+    before = files(strict)
+    said = "vendor: HANDLES says 'Handles allowed: none.', and the pool needs Threads and Wait"
+    answers("too few handles are refused", 1, said, strict)
+    check("and stay", files(strict) == before)
+    # A line of crates.txt with no folder beside it.
+    os.mkdir(lines)
+    write("r2d2 may_wait=1: log\n", lines, "crates.txt")
+    answers("a line that is there is refused", 1, "vendor: crates.txt already has a line for r2d2", lines)
+    none = os.path.join(place, "none")
+    answers("no folder is refused", 1, f"vendor: {none} is no folder", none)
+    answers("itself is refused", 1, f"vendor: {TOP} is this repository itself", TOP)
+    answers("no word shows how", 2, "Puts the pool into a repository of your own: vendor [--reports] FOLDER")
+
+
+def tried():
+    lines = "".join(re.findall(r"^r2d2(?:_core)?[ :].*\n", read(TOP, "crates.txt"), re.M))
+    with tempfile.TemporaryDirectory() as place:
+        try_an_empty_folder(os.path.join(place, "mine"), lines)
+        try_a_repository(os.path.join(place, "theirs"), lines)
+        try_reports(os.path.join(place, "logged"))
+        try_refusals(place)
+    return TALLY
