@@ -29,6 +29,58 @@ pub(crate) fn of(alloc: Global, form: Form, judged: &Judged<'_>) -> Result<Strin
         Form::Html => html(alloc, judged.report, &Known::of(alloc, judged)?.notes()),
     }
 }
+
+/// What is written in the end, where so many lines hold no report.
+pub(crate) fn of_the_rest(alloc: Global, form: Form, lines: u64) -> Result<String, AllocError> {
+    match form {
+        Form::Words | Form::Text => format!(in alloc; "lines without a report: {lines}\n"),
+        Form::Json => format!(in alloc; "{{\"lines_without_a_report\":{lines}}}\n"),
+        Form::Svg | Form::Html => Ok(String::new(alloc)),
+    }
+}
+
+/// What a drawing of a report tells besides the report.
+#[derive(Drop)]
+struct Known {
+    verdict: Verdict,
+    words: String,
+    answers: Vec<String>,
+    made_at: Option<Duration>,
+}
+
+impl Known {
+    fn of(alloc: Global, judged: &Judged<'_>) -> Result<Known, AllocError> {
+        let verdict = judged.verdict;
+        let mut answers = Vec::new(alloc);
+        for line in answers_in_words(alloc, judged)?.as_str().lines() {
+            answers.push(String::from_str(alloc, line.trim_start())?)?;
+        }
+        let made_at = judged.made_at;
+        Ok(Known {
+            verdict,
+            words: format!(in alloc; "{verdict}")?,
+            answers,
+            made_at: made_at.and_then(|made_at| made_at.duration_since(UNIX_EPOCH).ok()),
+        })
+    }
+
+    fn notes(&self) -> Notes<'_> {
+        Notes {
+            finding: Some(Finding {
+                words: self.words.as_str(),
+                is_sound: self.verdict == Verdict::Sound,
+                record: place_of(self.verdict),
+            }),
+            answers: self.answers.as_slice(),
+            made_at: self.made_at,
+        }
+    }
+}
+
+fn with_timeline(alloc: Global, judged: &Judged<'_>) -> Result<String, AllocError> {
+    let mut told = in_words(alloc, judged)?;
+    let known = Known::of(alloc, judged)?;
+    told.push_str(text(alloc, judged.report, &known.notes())?.as_str())?;
     Ok(told)
 }
 
@@ -36,12 +88,15 @@ pub(crate) fn of(alloc: Global, form: Form, judged: &Judged<'_>) -> Result<Strin
 fn in_words(alloc: Global, judged: &Judged<'_>) -> Result<String, AllocError> {
     let (line, verdict) = (judged.line, judged.verdict);
     let mut told = format!(in alloc; "line {line}: {verdict}\n")?;
-    if let Some(summary) = answers_of(alloc, judged)? {
-        let limits = &judged.report.limits;
-        let answers = answers::in_words(alloc, limits, judged.made_at, &summary)?;
-        told.push_str(answers.as_str())?;
-    }
+    told.push_str(answers_in_words(alloc, judged)?.as_str())?;
     Ok(told)
+}
+
+fn answers_in_words(alloc: Global, judged: &Judged<'_>) -> Result<String, AllocError> {
+    match answers_of(alloc, judged)? {
+        Some(summary) => answers::in_words(alloc, &judged.report.limits, judged.made_at, &summary),
+        None => Ok(String::new(alloc)),
+    }
 }
 
 // A report that does not replay has none.
