@@ -1,13 +1,14 @@
 // The text of the program.
 
 use crate::lines::{Fault, Form, Lines, serve};
-use pool_pictures::{html, svg, text};
+use pool_pictures::{Finding, Notes, html, svg, text};
 use pool_reports::{FromJsonError, from_json};
 use std::alloc::Global;
 use std::io::{self, BufWriter, ErrorKind, Read, Write};
 use std::process::Abort;
 use std::str;
 use std::test::Fail;
+use std::time::Duration;
 
 // A report of a pool of one, which was just made.
 const NEW: &str = concat!(
@@ -71,18 +72,45 @@ fn says_of_each_line_what_it_is(rt: HostRuntime) -> Result<(), Fail> {
     serves(&rt, Form::Json, "\n\n", "", Ok(true))
 }
 
+fn notes(words: &str, is_sound: bool, record: Option<usize>) -> Notes<'_> {
+    Notes {
+        finding: Some(Finding {
+            words,
+            is_sound,
+            record,
+        }),
+        ..Notes::none()
+    }
+}
+
+// The lines of a text, without what they are indented by.
+fn lines(alloc: Global, text: &str) -> Result<Vec<String>, Fail> {
+    let mut lines = Vec::new(alloc);
+    for line in text.lines() {
+        lines.push(String::from_str(alloc, line.trim_start())?)?;
+    }
+    Ok(lines)
+}
+
 #[test]
 fn draws_each_report(rt: HostRuntime) -> Result<(), Fail> {
     let report = from_json(rt.alloc(), NEW)?;
-    let timeline = text(rt.alloc(), &report)?;
+    let answers = lines(rt.alloc(), ANSWERS)?;
+    let sound = Notes {
+        answers: answers.as_slice(),
+        ..notes("replays", true, None)
+    };
+    let timeline = text(rt.alloc(), &report, &sound)?;
     let told = format!(in rt.alloc(); "line 1: replays\n{ANSWERS}{timeline}")?;
     serves(&rt, Form::Text, NEW, told.as_str(), Ok(true))?;
-    let drawing = svg(rt.alloc(), &report)?;
+    let drawing = svg(rt.alloc(), &report, &sound)?;
     serves(&rt, Form::Svg, NEW, drawing.as_str(), Ok(true))?;
-    let page = html(rt.alloc(), &report)?;
+    let page = html(rt.alloc(), &report, &sound)?;
     serves(&rt, Form::Html, NEW, page.as_str(), Ok(true))?;
     let wrong = wrong(rt.alloc())?;
-    let drawing = svg(rt.alloc(), &from_json(rt.alloc(), wrong.as_str())?)?;
+    let report = from_json(rt.alloc(), wrong.as_str())?;
+    let words = "record 0: connection 4 is kept, but it is not lent";
+    let drawing = svg(rt.alloc(), &report, &notes(words, false, Some(0)))?;
     serves(&rt, Form::Svg, wrong.as_str(), drawing.as_str(), Ok(false))
 }
 
@@ -252,18 +280,23 @@ const LENT: &str = concat!(
     r#""idle":[],"lent":[0,2],"connections":2,"pending":0,"closed":false}"#,
 );
 
+// What is answered of it.
+const WHO: &str = concat!(
+    "  covers 7.704 s, from 0.100 s (2026-01-31T12:00:00.1Z) on: ",
+    "1 opened, 1 closed at return, 0 closed while idle\n",
+    "  at most 2 of 2 lent at once; all of them lent or opening for 0.496 s, ",
+    "6 % of the time\n",
+    "  lent at the end: connection 0, since 0.104 s (2026-01-31T12:00:00.104Z), for 7.700 s\n",
+    "  lent at the end: connection 2, since 7.804 s (2026-01-31T12:00:07.804Z), for 0.000 s\n",
+);
+
+// Noon of that day, after the beginning of 1970.
+const NOON: Duration = Duration::from_secs(1_769_860_800);
+
 #[test]
 fn answers_who_is_lent_and_how_long_all_were(rt: HostRuntime) -> Result<(), Fail> {
-    let words = concat!(
-        "line 1: replays\n",
-        "  covers 7.704 s, from 0.100 s (2026-01-31T12:00:00.1Z) on: ",
-        "1 opened, 1 closed at return, 0 closed while idle\n",
-        "  at most 2 of 2 lent at once; all of them lent or opening for 0.496 s, ",
-        "6 % of the time\n",
-        "  lent at the end: connection 0, since 0.104 s (2026-01-31T12:00:00.104Z), for 7.700 s\n",
-        "  lent at the end: connection 2, since 7.804 s (2026-01-31T12:00:07.804Z), for 0.000 s\n",
-    );
-    serves(&rt, Form::Words, LENT, words, Ok(true))?;
+    let words = format!(in rt.alloc(); "line 1: replays\n{WHO}")?;
+    serves(&rt, Form::Words, LENT, words.as_str(), Ok(true))?;
     let json = concat!(
         r#"{"line":1,"replays":true,"summary":{"from":100000000,"until":7804000000,"#,
         r#""most_lent":2,"exhausted":496000000,"opened":1,"closed":1,"reaped":0,"#,
@@ -283,6 +316,24 @@ fn answers_who_is_lent_and_how_long_all_were(rt: HostRuntime) -> Result<(), Fail
         "  lent at the end: connection 0, since 0.104 s (2026-01-31T12:00:00.104Z), for 0.000 s\n",
     );
     serves(&rt, Form::Words, early.as_str(), words, Ok(true))
+}
+
+#[test]
+fn drawings_have_the_answers_and_the_clock(rt: HostRuntime) -> Result<(), Fail> {
+    let answers = lines(rt.alloc(), WHO)?;
+    let notes = Notes {
+        answers: answers.as_slice(),
+        made_at: Some(NOON),
+        ..notes("replays", true, None)
+    };
+    let report = from_json(rt.alloc(), LENT)?;
+    let drawing = svg(rt.alloc(), &report, &notes)?;
+    serves(&rt, Form::Svg, LENT, drawing.as_str(), Ok(true))?;
+    let page = html(rt.alloc(), &report, &notes)?;
+    serves(&rt, Form::Html, LENT, page.as_str(), Ok(true))?;
+    let timeline = text(rt.alloc(), &report, &notes)?;
+    let told = format!(in rt.alloc(); "line 1: replays\n{WHO}{timeline}")?;
+    serves(&rt, Form::Text, LENT, told.as_str(), Ok(true))
 }
 
 // Serves the lines of a log, and compares.

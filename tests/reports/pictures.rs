@@ -2,7 +2,7 @@
 
 use crate::books::{Driven, limits, ms};
 use crate::stories::one_of_each;
-use pool_pictures::{html, svg, text};
+use pool_pictures::{Finding, Notes, html, svg, text};
 use r2d2_core::Report;
 use std::alloc::{AllocError, Global};
 use std::test::Fail;
@@ -35,7 +35,7 @@ fn count(text: &str, part: &str) -> usize {
 #[test]
 fn writes_a_story(rt: HostRuntime) -> Result<(), Fail> {
     let report = one_of_each(rt.alloc())?;
-    let drawn = text(rt.alloc(), &report)?;
+    let drawn = text(rt.alloc(), &report, &Notes::none())?;
     assert_eq!(rt; drawn.as_str(), TEXT);
     Ok(())
 }
@@ -44,7 +44,7 @@ fn writes_a_story(rt: HostRuntime) -> Result<(), Fail> {
 #[test]
 fn draws_a_story(rt: HostRuntime) -> Result<(), Fail> {
     let report = one_of_each(rt.alloc())?;
-    let drawn = svg(rt.alloc(), &report)?;
+    let drawn = svg(rt.alloc(), &report, &Notes::none())?;
     let drawn = drawn.as_str();
     assert_eq!(rt; count(drawn, "<g class=\"lane\">"), 3);
     // One mark of each kind is the legend's.
@@ -66,20 +66,20 @@ fn draws_a_story(rt: HostRuntime) -> Result<(), Fail> {
 #[test]
 fn writes_a_page(rt: HostRuntime) -> Result<(), Fail> {
     let report = one_of_each(rt.alloc())?;
-    let drawn = svg(rt.alloc(), &report)?;
-    let page = html(rt.alloc(), &report)?;
+    let drawn = svg(rt.alloc(), &report, &Notes::none())?;
+    let page = html(rt.alloc(), &report, &Notes::none())?;
     let page = page.as_str();
-    assert!(rt; page.contains(drawn.as_str()));
+    assert!(rt; drawn.as_str().contains("class=\"lents\"") && page.contains("class=\"lents\""));
     assert!(rt; page.contains("<tr><th>max_size</th><td>2</td></tr>"));
     assert!(rt; page.contains("<tr><th>idle_timeout</th><td>100 ms</td></tr>"));
-    assert!(rt; page.contains("<tr><th>pending</th><td>1</td><td>0</td></tr>"));
+    assert!(rt; page.contains("<tr><th>opening</th><td>1</td><td>0</td></tr>"));
     assert_eq!(rt; count(page, "<tr><td>"), 9);
     assert!(rt;
-        page.contains("<tr><td>0.060 s</td><td class=\"word\">Closed</td><td>0</td><td>0</td></tr>")
+        page.contains("<tr><td>5</td><td>0.060 s</td><td class=\"word\">Closed</td><td>0</td><td>0</td></tr>")
     );
     assert!(rt;
         page.contains(
-            "<tr><td>0.140 s</td><td class=\"word\">ClosedAll</td><td></td><td></td></tr>"
+            "<tr><td>8</td><td>0.140 s</td><td class=\"word\">ClosedAll</td><td></td><td></td></tr>"
         )
     );
     assert!(rt; !page.contains("href") && !page.contains("src="));
@@ -102,7 +102,7 @@ fn crowd(alloc: Global, size: u32, room: usize) -> Result<Report, Fail> {
 // How many lanes a report has in text and in SVG, how many columns the text has, and whether each
 // group of the SVG is closed.
 fn lanes(alloc: Global, report: &Report) -> Result<(usize, usize, usize, bool), AllocError> {
-    let plain = text(alloc, report)?;
+    let plain = text(alloc, report, &Notes::none())?;
     let mut columns = 0;
     let mut rows: usize = 0;
     for line in plain.as_str().lines() {
@@ -111,17 +111,17 @@ fn lanes(alloc: Global, report: &Report) -> Result<(usize, usize, usize, bool), 
             rows = rows.saturating_add(1);
         }
     }
-    let drawn = svg(alloc, report)?;
+    let drawn = svg(alloc, report, &Notes::none())?;
     let drawn = drawn.as_str();
     let is_whole = count(drawn, "<g ") == count(drawn, "</g>")
         && count(drawn, "<text ") == count(drawn, "</text>")
         && count(drawn, "<title>") == count(drawn, "</title>")
         && drawn.ends_with("</svg>\n");
-    let page = html(alloc, report)?;
+    let page = html(alloc, report, &Notes::none())?;
     let is_whole = is_whole && page.as_str().ends_with("</html>\n");
-    // Three rows are those of the counts, and two those of the axis.
+    // Five rows are those of the counts and of what was exhausted, and two those of the axis.
     Ok((
-        rows.saturating_sub(5),
+        rows.saturating_sub(7),
         count(drawn, "<g class=\"lane\">"),
         columns,
         is_whole,
@@ -145,12 +145,12 @@ fn draws_as_many_as_there_is_room_for(rt: HostRuntime) -> Result<(), Fail> {
         assert!(rt; is_whole, "{size}");
     }
     let report = crowd(alloc, 1001, 3000)?;
-    let drawn = svg(alloc, &report)?;
+    let drawn = svg(alloc, &report, &Notes::none())?;
     assert_eq!(rt; count(drawn.as_str(), "<g class=\"lane\">"), 1000);
     assert!(rt;
         drawn
             .as_str()
-            .contains("left out: 1 connections that were there for less long")
+            .contains("left out: 1 connection that were there for less long")
     );
     Ok(())
 }
@@ -159,7 +159,7 @@ fn draws_as_many_as_there_is_room_for(rt: HostRuntime) -> Result<(), Fail> {
 fn draws_ids_where_they_have_room(rt: HostRuntime) -> Result<(), Fail> {
     for (size, ids) in [(10u32, 10), (100, 100), (101, 0)] {
         let report = crowd(rt.alloc(), size, 1000)?;
-        let drawn = svg(rt.alloc(), &report)?;
+        let drawn = svg(rt.alloc(), &report, &Notes::none())?;
         assert_eq!(rt; count(drawn.as_str(), "<text class=\"id\""), ids);
         assert_eq!(rt; count(drawn.as_str(), "<title>"), size as usize);
     }
@@ -171,16 +171,16 @@ fn draws_a_base_alone(rt: HostRuntime) -> Result<(), Fail> {
     let report = crowd(rt.alloc(), 3, 0)?;
     assert_eq!(rt; report.lost, 6);
     assert_eq!(rt; lanes(rt.alloc(), &report)?, (3, 3, 100, true));
-    let plain = text(rt.alloc(), &report)?;
+    let plain = text(rt.alloc(), &report, &Notes::none())?;
     assert!(rt;
         plain
             .as_str()
-            .contains("base at 5 ms: 0 idle, 3 lent, 0 pending\n")
+            .contains("base at 5 ms: 3 lent, 0 idle, 0 opening\n")
     );
-    assert!(rt; plain.as_str().contains("0 records, 6 before the base\n"));
-    assert!(rt; plain.as_str().contains("          0 |<\n"));
+    assert!(rt; plain.as_str().contains("what 6 older ones came to is folded into the base"));
+    assert!(rt; plain.as_str().contains("connection 0 is still lent, since before 5 ms\n"));
     assert!(rt; plain.as_str().contains("counted from 5 ms\n"));
-    let drawn = svg(rt.alloc(), &report)?;
+    let drawn = svg(rt.alloc(), &report, &Notes::none())?;
     assert!(rt;
         drawn
             .as_str()
@@ -208,9 +208,39 @@ fn draws_the_longest_story(rt: HostRuntime) -> Result<(), Fail> {
     driven.open(Duration::MAX);
     let report = driven.report()?;
     assert_eq!(rt; lanes(rt.alloc(), &report)?, (2, 2, 100, true));
-    let plain = text(rt.alloc(), &report)?;
+    let plain = text(rt.alloc(), &report, &Notes::none())?;
     let plain = plain.as_str();
-    assert!(rt; plain.contains("end at 213503982334601 d 7 h: 1 idle, 1 lent, 0 pending\n"));
+    assert!(rt; plain.contains("end at 213503982334601 d 7 h: 1 lent, 1 idle, 0 opening\n"));
     assert!(rt; plain.contains(" |0                                       100000000000000 d\n"));
+    Ok(())
+}
+
+// A finding whose words would open a tag is written out, and its record is marked.
+#[test]
+fn says_what_is_wrong(rt: HostRuntime) -> Result<(), Fail> {
+    let report = one_of_each(rt.alloc())?;
+    let finding = Finding {
+        words: "record 3: <b>&\"",
+        is_sound: false,
+        record: Some(3),
+    };
+    let answers = vec![in rt.alloc(); String::from_str(rt.alloc(), "1 < 2")?]?;
+    let notes = Notes {
+        finding: Some(finding),
+        answers: answers.as_slice(),
+        made_at: Some(Duration::from_secs(1_893_553_445)),
+    };
+    let drawn = svg(rt.alloc(), &report, &notes)?;
+    let page = html(rt.alloc(), &report, &notes)?;
+    for shown in [drawn.as_str(), page.as_str()] {
+        assert!(rt; shown.contains(">Not sound: record 3: &lt;b&gt;&amp;&quot;<"));
+        assert!(rt; shown.contains(">1 &lt; 2<"));
+        assert!(rt; shown.contains(">record 3</text>"));
+        assert!(rt; shown.contains("from 2030-01-02T03:04:05Z to 2030-01-02T03:04:05Z"));
+        assert!(rt; shown.contains(">03:04:05.000<"));
+    }
+    assert_eq!(rt; count(page.as_str(), "<tr class=\"is-wrong\">"), 2);
+    let plain = text(rt.alloc(), &report, &notes)?;
+    assert!(rt; plain.as_str().contains("wrong |"));
     Ok(())
 }

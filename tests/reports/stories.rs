@@ -2,7 +2,7 @@
 
 use crate::books::{Driven, below, limits, ms, random_report};
 use pool_pictures::story::{Cause, Coming, Counts, Ending, Life, Story, Stretch, Use};
-use pool_pictures::svg;
+use pool_pictures::{Notes, svg};
 use r2d2_core::{RecordList, Report};
 use rand_core::SeedableRng;
 use rand_pcg::Pcg32;
@@ -29,6 +29,11 @@ fn in_order(alloc: Global, ids: &[u64]) -> Result<Vec<u64>, AllocError> {
     Ok(sorted)
 }
 
+fn is_exhausted(report: &Report) -> bool {
+    let lent = u32::try_from(report.lent.as_slice().len()).unwrap_or(u32::MAX);
+    !report.closed && lent.saturating_add(report.pending) >= report.limits.max_size()
+}
+
 // Whether the story ends with what the report shows.
 fn ends_as(alloc: Global, story: &Story, report: &Report) -> Result<bool, AllocError> {
     let idle = still(alloc, story, Use::Idle)?;
@@ -38,6 +43,7 @@ fn ends_as(alloc: Global, story: &Story, report: &Report) -> Result<bool, AllocE
         idle: u32::try_from(report.idle.as_slice().len()).unwrap_or(u32::MAX),
         connections: report.connections,
         pending: report.pending,
+        is_exhausted: is_exhausted(report),
     };
     Ok(
         idle == in_order(alloc, report.idle.as_slice())?
@@ -118,7 +124,7 @@ fn a_report_that_does_not_replay_is_told_as_far_as_it_goes(rt: HostRuntime) -> R
         for life in story.lives.iter() {
             assert!(rt; is_whole(life, story.to), "{seed}: {}", life.id);
         }
-        assert!(rt; svg(alloc, &report)?.as_str().ends_with("</svg>\n"));
+        assert!(rt; svg(alloc, &report, &Notes::none())?.as_str().ends_with("</svg>\n"));
     }
     assert!(rt; strange > 100);
     Ok(())

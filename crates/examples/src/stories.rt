@@ -3,7 +3,7 @@
 
 use pool_lines::program::Fault;
 use pool_lines::program::line::{Line, limits};
-use pool_pictures::{html, svg, text};
+use pool_pictures::{Notes, html, svg, text};
 use r2d2_core::{Book, Report};
 use std::alloc::{AllocError, Global};
 use std::io;
@@ -43,10 +43,11 @@ impl Kind {
     }
 
     fn drawing(self, alloc: Global, report: &Report) -> Result<String, AllocError> {
+        let notes = Notes::none();
         match self {
-            Kind::Text => text(alloc, report),
-            Kind::Svg => svg(alloc, report),
-            Kind::Html => html(alloc, report),
+            Kind::Text => text(alloc, report, &notes),
+            Kind::Svg => svg(alloc, report, &notes),
+            Kind::Html => html(alloc, report, &notes),
         }
     }
 }

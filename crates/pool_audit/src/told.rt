@@ -2,12 +2,12 @@
 
 use crate::answers;
 use crate::lines::Form;
-use pool_pictures::{html, svg, text};
+use pool_pictures::{Finding, Notes, html, svg, text};
 use pool_reports::{Summary, Verdict, summarize};
 use r2d2_core::Report;
 use serde::Serialize;
 use std::alloc::{AllocError, Global};
-use std::time::SystemTime;
+use std::time::{Duration, SystemTime, UNIX_EPOCH};
 
 /// A report on a line, and what was found.
 #[derive(Drop)]
@@ -25,8 +25,8 @@ pub(crate) fn of(alloc: Global, form: Form, judged: &Judged<'_>) -> Result<Strin
         Form::Words => in_words(alloc, judged),
         Form::Json => in_json(alloc, judged),
         Form::Text => with_timeline(alloc, judged),
-        Form::Svg => svg(alloc, judged.report),
-        Form::Html => html(alloc, judged.report),
+        Form::Svg => svg(alloc, judged.report, &Known::of(alloc, judged)?.notes()),
+        Form::Html => html(alloc, judged.report, &Known::of(alloc, judged)?.notes()),
     }
 }
 
@@ -39,9 +39,48 @@ pub(crate) fn of_the_rest(alloc: Global, form: Form, lines: u64) -> Result<Strin
     }
 }
 
+/// What a drawing of a report tells besides the report.
+#[derive(Drop)]
+struct Known {
+    verdict: Verdict,
+    words: String,
+    answers: Vec<String>,
+    made_at: Option<Duration>,
+}
+
+impl Known {
+    fn of(alloc: Global, judged: &Judged<'_>) -> Result<Known, AllocError> {
+        let verdict = judged.verdict;
+        let mut answers = Vec::new(alloc);
+        for line in answers_in_words(alloc, judged)?.as_str().lines() {
+            answers.push(String::from_str(alloc, line.trim_start())?)?;
+        }
+        let made_at = judged.made_at;
+        Ok(Known {
+            verdict,
+            words: format!(in alloc; "{verdict}")?,
+            answers,
+            made_at: made_at.and_then(|made_at| made_at.duration_since(UNIX_EPOCH).ok()),
+        })
+    }
+
+    fn notes(&self) -> Notes<'_> {
+        Notes {
+            finding: Some(Finding {
+                words: self.words.as_str(),
+                is_sound: self.verdict == Verdict::Sound,
+                record: place_of(self.verdict),
+            }),
+            answers: self.answers.as_slice(),
+            made_at: self.made_at,
+        }
+    }
+}
+
 fn with_timeline(alloc: Global, judged: &Judged<'_>) -> Result<String, AllocError> {
     let mut told = in_words(alloc, judged)?;
-    told.push_str(text(alloc, judged.report)?.as_str())?;
+    let known = Known::of(alloc, judged)?;
+    told.push_str(text(alloc, judged.report, &known.notes())?.as_str())?;
     Ok(told)
 }
 
@@ -49,12 +88,15 @@ fn with_timeline(alloc: Global, judged: &Judged<'_>) -> Result<String, AllocErro
 fn in_words(alloc: Global, judged: &Judged<'_>) -> Result<String, AllocError> {
     let (line, verdict) = (judged.line, judged.verdict);
     let mut told = format!(in alloc; "line {line}: {verdict}\n")?;
-    if let Some(summary) = answers_of(alloc, judged)? {
-        let limits = &judged.report.limits;
-        let answers = answers::in_words(alloc, limits, judged.made_at, &summary)?;
-        told.push_str(answers.as_str())?;
-    }
+    told.push_str(answers_in_words(alloc, judged)?.as_str())?;
     Ok(told)
+}
+
+fn answers_in_words(alloc: Global, judged: &Judged<'_>) -> Result<String, AllocError> {
+    match answers_of(alloc, judged)? {
+        Some(summary) => answers::in_words(alloc, &judged.report.limits, judged.made_at, &summary),
+        None => Ok(String::new(alloc)),
+    }
 }
 
 // A report that does not replay has none.

@@ -2,18 +2,24 @@
 ghost use Rattle.std.specs.Prelude.{◌≤◌};
 
 use crate::choice::drawn;
-use crate::lengths::{Length, Limit, digits};
-use crate::story::Story;
+use crate::lengths::digits;
+use crate::marked::{Marked, find_marked};
+use crate::notes::Notes;
+use crate::story::{Life, Story};
+use head::Head;
 use layout::{Layout, Tenths};
-use r2d2_core::{LendingOrder, Report};
+use r2d2_core::Report;
 use std::alloc::{AllocError, Allocator, Global};
 use std::time::Duration;
 
 mod axis;
 mod band;
+mod bars;
+mod head;
 mod lanes;
 mod layout;
 mod legend;
+mod marks;
 mod style;
 
 /// More lanes than this are not drawn.
@@ -22,24 +28,45 @@ const LANES: usize = 1000;
 const OPENING: &str = r#"<svg xmlns="http://www.w3.org/2000/svg" class="pool" role="img"
   aria-label="What became of the connections of a pool" "#;
 
-/// A drawing of a report as SVG, with time from left to right: its limits and counts; a band of how
-/// many connections were idle, lent and pending, against `max_size` and the wanted number; and a
-/// lane for each connection, with its id where the lane is high enough, and with its story as a
-/// title. It suits light and dark surroundings. Of more than 1000 connections it draws those that
-/// were there for the longest, and says how many it leaves out. The error comes only where memory
-/// is refused.
-pub fn svg<A: Allocator>(alloc: Global, report: &Report<A>) -> Result<String, AllocError> {
+/// A drawing of a report as SVG, with time from left to right: what is known of it by the notes;
+/// its limits; a band of how many connections were lent, idle and opening, against `max_size` and
+/// the wanted number, with a strip over the whiles in which the pool was exhausted; and a lane for
+/// each connection, with its id where the lane is high enough, and with its story as a title. The
+/// record that the notes call wrong is marked. It suits light and dark surroundings. Of more than
+/// 1000 connections it draws those that were there for the longest, and says how many it leaves
+/// out. The error comes only where memory is refused.
+pub fn svg<A: Allocator>(
+    alloc: Global,
+    report: &Report<A>,
+    notes: &Notes,
+) -> Result<String, AllocError> {
     let story = Story::of(alloc, report)?;
-    let places = drawn(alloc, &story, LANES)?;
-    let mut canvas = Canvas::of(alloc, &story, &places);
+    let head = Head::of(alloc, &story, notes)?;
+    let top = head.height().saturating_add(legend::height(alloc)?);
+    let mut canvas = Canvas::of(alloc, &story, top, notes)?;
     canvas.open()?;
-    canvas.head(&story)?;
-    canvas.legend()?;
-    canvas.axis(&story)?;
-    canvas.band(&story)?;
-    canvas.lanes(&story, &places)?;
-    canvas.close(story.lives.len().saturating_sub(places.len()))?;
+    canvas.head(&head)?;
+    canvas.legend(head.height())?;
+    canvas.plot(&story, find_marked(&story, report, notes))?;
     Ok(canvas.out)
+}
+
+/// The same without its head and its legend.
+pub(crate) fn plot<A: Allocator>(
+    alloc: Global,
+    report: &Report<A>,
+    story: &Story,
+    notes: &Notes,
+) -> Result<String, AllocError> {
+    let mut canvas = Canvas::of(alloc, story, 0, notes)?;
+    canvas.open()?;
+    canvas.plot(story, find_marked(story, report, notes))?;
+    Ok(canvas.out)
+}
+
+/// The legend as a list of a page.
+pub(crate) fn legend_list(alloc: Global) -> Result<String, AllocError> {
+    legend::list(alloc)
 }
 
 /// A drawing so far, and how it is laid out.
@@ -48,21 +75,36 @@ struct Canvas {
     alloc: Global,
     out: String,
     layout: Layout,
+    // The places in the story of the connections that are drawn.
+    places: Vec<usize>,
+    // When the pool was made, if that is known.
+    made_at: Option<Duration>,
 }
 
 impl Canvas {
-    fn of(alloc: Global, story: &Story, places: &[usize]) -> Canvas {
+    // A drawing with so much above its plot.
+    fn of(alloc: Global, story: &Story, above: u32, notes: &Notes) -> Result<Canvas, AllocError> {
+        let places = drawn(alloc, story, LANES)?;
         let mut longest = 0;
-        for place in places {
+        for place in &places {
             if let Some(life) = story.lives.get(*place) {
                 longest = longest.max(life.id);
             }
         }
-        Canvas {
+        let layout = Layout::of(
+            story,
+            above,
+            places.len(),
+            digits(u128::from(longest)),
+            notes.made_at.is_some(),
+        );
+        Ok(Canvas {
             alloc,
             out: String::new(alloc),
-            layout: Layout::of(story, places.len(), digits(u128::from(longest))),
-        }
+            layout,
+            places,
+            made_at: notes.made_at,
+        })
     }
 
     // The place of a moment from left to right.
@@ -71,6 +113,11 @@ impl Canvas {
         ensures ends { result ≤ self.now.layout.right }
     {
         self.layout.x(moment)
+    }
+
+    // The connection whose lane has this number, counted from 0.
+    fn life<'a>(&self, story: &'a Story, number: usize) -> Option<&'a Life> {
+        story.lives.get(*self.places.get(number)?)
     }
 
     fn open(&mut self) -> Result<(), AllocError> {
@@ -84,6 +131,17 @@ impl Canvas {
         )
     }
 
+    fn plot(&mut self, story: &Story, wrong: Option<Marked>) -> Result<(), AllocError> {
+        self.axis(story)?;
+        self.band(story)?;
+        self.lanes(story)?;
+        if let Some(wrong) = wrong {
+            self.wrong(story, &wrong)?;
+        }
+        let left_out = story.lives.len().saturating_sub(self.places.len());
+        self.close(left_out)
+    }
+
     // One line of text, begun at the left margin.
     fn say(&mut self, class: &str, y: u32, text: &str) -> Result<(), AllocError> {
         let (x, y) = (Tenths(layout::MARGIN), Tenths(y));
@@ -93,48 +151,42 @@ impl Canvas {
         )
     }
 
-    fn head(&mut self, story: &Story) -> Result<(), AllocError> {
-        let limits = &story.limits;
-        let (size, wanted) = (limits.max_size(), limits.wanted());
-        let title = format!(in self.alloc;
-            "A pool of at most {size} connections, {wanted} wanted idle"
+    // A line down the drawing at the wrong record, and a ring round its connection.
+    fn wrong(&mut self, story: &Story, wrong: &Marked) -> Result<(), AllocError> {
+        let at = self.x(wrong.at);
+        let (x, bottom) = (Tenths(at), Tenths(self.layout.lanes_bottom()));
+        let top = self.layout.band_top();
+        let (start, y) = (
+            Tenths(top.saturating_sub(260)),
+            Tenths(top.saturating_sub(280)),
+        );
+        let place = wrong.place;
+        writeln!(
+            self.out,
+            "<path class=\"wrong\" d=\"M{x} {start}V{bottom}\"/>"
         )?;
-        self.say("title", 300, title.as_str())?;
-        let order = match limits.order() {
-            LendingOrder::NewestFirst => "newest",
-            LendingOrder::OldestFirst => "oldest",
-        };
-        let (idle, life) = (Limit(limits.idle_timeout()), Limit(limits.max_lifetime()));
-        let settings = format!(in self.alloc;
-            "idle_timeout {idle}, max_lifetime {life}, the {order} idle one is lent first"
+        writeln!(
+            self.out,
+            "<text class=\"fault\" text-anchor=\"middle\" x=\"{x}\" y=\"{y}\">record {place}</text>"
         )?;
-        self.say("dim", 500, settings.as_str())?;
-        let told = told(self.alloc, story)?;
-        self.say("dim", 680, told.as_str())
+        for number in 0..self.places.len() {
+            if wrong.id.is_some() && self.life(story, number).map(|life| life.id) == wrong.id {
+                let (y, reach) = (self.layout.lane(number), self.layout.pitch.mark);
+                let (y, reach) = (Tenths(y), Tenths(reach.saturating_mul(2)));
+                writeln!(
+                    self.out,
+                    "<circle class=\"wrong\" cx=\"{x}\" cy=\"{y}\" r=\"{reach}\"/>"
+                )?;
+            }
+        }
+        Ok(())
     }
 
     fn close(&mut self, left_out: usize) -> Result<(), AllocError> {
         if left_out > 0 {
-            let text = format!(in self.alloc;
-                "left out: {left_out} connections that were there for less long"
-            )?;
+            let text = crate::words::left_out(self.alloc, left_out)?;
             self.say("dim", self.layout.height.saturating_sub(120), text.as_str())?;
         }
         self.out.push_str("</svg>\n")
     }
-}
-
-// From when to when the drawing goes, and what came before it.
-fn told(alloc: Global, story: &Story) -> Result<String, AllocError> {
-    let (from, to) = (Length(story.from), Length(story.to));
-    let (records, lost) = (story.counts.len().saturating_sub(1), story.lost);
-    if lost == 0 {
-        return format!(in alloc; "{records} records, from the making at {from} to {to}");
-    }
-    let mut told = format!(in alloc; "the newest {records} records, to {to}")?;
-    write!(
-        told,
-        "; the base at {from} has what {lost} older ones came to"
-    )?;
-    Ok(told)
 }

@@ -20,6 +20,13 @@ impl fmt::Display for Length {
     }
 }
 
+/// A length of time of so many nanoseconds.
+pub(crate) fn length_of(nanos: u128) -> Duration {
+    let seconds = u64::try_from(nanos / 1_000_000_000).unwrap_or(u64::MAX);
+    let rest = u64::try_from(nanos % 1_000_000_000).unwrap_or(0);
+    Duration::from_secs(seconds).saturating_add(Duration::from_nanos(rest))
+}
+
 // How many of the largest unit that fits, and how many of the next one besides.
 fn parts(length: Duration) -> ((u64, &'static str), (u64, &'static str)) {
     let (seconds, nanos) = (length.as_secs(), u64::from(length.subsec_nanos()));
@@ -55,7 +62,7 @@ impl fmt::Display for Limit {
 }
 
 /// A unit of an axis.
-#[derive(Clone, Copy, PartialEq, Debug)]
+#[derive(Clone, Copy, PartialEq, Eq, Debug)]
 enum Unit {
     Nanosecond,
     Microsecond,
@@ -126,6 +133,19 @@ impl Unit {
         }
     }
 
+    // How many of it make one of the next unit.
+    fn next(self) -> Option<(u64, Unit)> {
+        match self {
+            Unit::Nanosecond => Some((1000, Unit::Microsecond)),
+            Unit::Microsecond => Some((1000, Unit::Millisecond)),
+            Unit::Millisecond => Some((1000, Unit::Second)),
+            Unit::Second => Some((60, Unit::Minute)),
+            Unit::Minute => Some((60, Unit::Hour)),
+            Unit::Hour => Some((24, Unit::Day)),
+            Unit::Day => None,
+        }
+    }
+
     fn counts(self) -> &'static [u64] {
         match self {
             Unit::Nanosecond | Unit::Microsecond | Unit::Millisecond => &THOUSANDS,
@@ -136,12 +156,13 @@ impl Unit {
     }
 
     // The smallest of its steps whose marks have room.
-    fn fitting(self, span: u128, room: u32) -> Option<Axis> {
+    fn fitting(self, span: u128, room: u32, least: u32) -> Option<Axis> {
         for count in self.counts() {
             let axis = Axis {
                 count: *count,
                 unit: self,
                 span,
+                least,
             };
             if axis.columns() <= u128::from(room) {
                 return Some(axis);
@@ -157,6 +178,8 @@ pub(crate) struct Axis {
     count: u64,
     unit: Unit,
     span: u128,
+    // How many columns a label takes at least.
+    least: u32,
 }
 
 /// A mark of an axis.
@@ -164,17 +187,17 @@ pub(crate) struct Axis {
 pub(crate) struct Mark {
     /// How many nanoseconds after the beginning it stands.
     pub(crate) nanos: u128,
-    /// The number that it bears, and the name of its unit.
-    pub(crate) number: u128,
-    pub(crate) unit: &'static str,
+    // The number that it bears, and its unit.
+    number: u128,
+    unit: Unit,
 }
 
 impl Axis {
     /// The closest marks for a length in nanoseconds whose labels find room in so many columns,
-    /// with some space between them.
-    pub(crate) fn fitting(span: u128, room: u32) -> Axis {
+    /// each with so many columns at least, and with some space between them.
+    pub(crate) fn fitting(span: u128, room: u32, least: u32) -> Axis {
         for unit in UNITS {
-            if let Some(axis) = unit.fitting(span, room) {
+            if let Some(axis) = unit.fitting(span, room, least) {
                 return axis;
             }
         }
@@ -183,6 +206,7 @@ impl Axis {
             count: u64::MAX,
             unit: Unit::Day,
             span,
+            least,
         }
     }
 
@@ -199,14 +223,24 @@ impl Axis {
         u32::try_from(self.span / self.step()).unwrap_or(u32::MAX)
     }
 
-    // How many columns the labels take, each with its sign and its unit, and with two blanks after
+    // How many columns the labels take, each with its sign and its units, and with two blanks after
     // it.
     fn columns(&self) -> u128 {
         let last = self.span / self.unit.nanos().max(1);
-        let label = u128::from(digits(last)).saturating_add(7);
+        let label = match self.unit.next() {
+            Some((count, _)) if last >= u128::from(count) => {
+                digits(last / u128::from(count).max(1)).saturating_add(12)
+            }
+            _ => digits(last).saturating_add(7),
+        };
         (self.span / self.step())
             .saturating_add(1)
-            .saturating_mul(label)
+            .saturating_mul(u128::from(label.max(self.least)))
+    }
+
+    /// Whether its marks lie closer than a second.
+    pub(crate) fn is_fine(&self) -> bool {
+        self.unit.nanos() < Unit::Second.nanos()
     }
 
     /// The mark of this number, counted from 0.
@@ -214,7 +248,7 @@ impl Axis {
         Mark {
             nanos: self.step().saturating_mul(u128::from(number)),
             number: u128::from(self.count).saturating_mul(u128::from(number)),
-            unit: self.unit.name(),
+            unit: self.unit,
         }
     }
 }
@@ -236,10 +270,35 @@ pub(crate) fn digits(number: u128) -> u32 {
 /// What stands at a mark. Where the beginning is not the making of the pool, a sign says that it is
 /// counted from there.
 pub(crate) fn label(alloc: Global, mark: Mark, begins_late: bool) -> Result<String, AllocError> {
-    let (number, unit) = (mark.number, mark.unit);
+    let (number, unit) = (mark.number, mark.unit.name());
     let sign = if begins_late { "+" } else { "" };
     if number == 0 {
         return format!(in alloc; "{sign}0");
     }
-    format!(in alloc; "{sign}{number} {unit}")
+    let Some((whole, large, rest)) = mark.in_two_units() else {
+        return format!(in alloc; "{sign}{number} {unit}");
+    };
+    if rest == 0 {
+        format!(in alloc; "{sign}{whole} {large}")
+    } else {
+        format!(in alloc; "{sign}{whole} {large} {rest} {unit}")
+    }
+}
+
+impl Mark {
+    /// How long after the beginning it stands.
+    pub(crate) fn length(&self) -> Duration {
+        length_of(self.nanos)
+    }
+
+    // How many of the next unit there are, what that is called, and how many of its own besides; if
+    // there are enough.
+    fn in_two_units(&self) -> Option<(u128, &'static str, u128)> {
+        let (count, large) = self.unit.next()?;
+        let count = u128::from(count).max(1);
+        if self.number < count {
+            return None;
+        }
+        Some((self.number / count, large.name(), self.number % count))
+    }
 }

@@ -2,14 +2,20 @@
 //! from a report.
 #![tactic(auto)]
 
+mod bins;
 mod choice;
 mod drawing;
+pub mod exhaustion;
 mod lengths;
+mod marked;
+mod notes;
 mod page;
 mod scale;
 pub mod story;
 mod terminal;
+mod words;
 
 pub use drawing::svg;
+pub use notes::{Finding, Notes};
 pub use page::html;
 pub use terminal::text;

@@ -1,15 +1,21 @@
 // A drawing in a page of its own.
 
-use crate::drawing::svg;
+use crate::drawing::{legend_list, plot};
 use crate::lengths::{Length, Limit};
-use crate::story::Counts;
-use r2d2_core::{LendingOrder, Limits, Record, Report};
+use crate::marked::id_of;
+use crate::notes::{Finding, Notes};
+use crate::story::Story;
+use crate::words::{Escaped, dated, exhausted, order, told, verdict};
+use r2d2_core::{Limits, Record, Report};
 use std::alloc::{AllocError, Allocator, Global};
 use std::fmt;
 use std::time::Duration;
 
 // So many of the newest records are listed.
 const RECORDS: usize = 200;
+
+// So many records are listed before a wrong one, and after it.
+const BESIDE: usize = 5;
 
 const HEAD: &str = r#"<!doctype html>
 <html lang="en">
@@ -19,9 +25,11 @@ const HEAD: &str = r#"<!doctype html>
 <title>The journal of a pool</title>
 <style>
 :root { color-scheme: light dark;
-  --ink: #1c2733; --dim: #52616f; --paper: #ffffff; --line: #dde3e9 }
+  --ink: #1c2733; --dim: #52616f; --paper: #ffffff; --line: #dde3e9;
+  --sound: #0b5c2b; --sound-paper: #d7f0df; --fault: #b3261e; --fault-paper: #fbdcd9 }
 @media (prefers-color-scheme: dark) {
-  :root { --ink: #e6ebf0; --dim: #a5b1bd; --paper: #12181f; --line: #2c3743 }
+  :root { --ink: #e6ebf0; --dim: #a5b1bd; --paper: #12181f; --line: #2c3743;
+    --sound: #8fe0aa; --sound-paper: #12351f; --fault: #ff8a80; --fault-paper: #4a1714 }
 }
 body { margin: 0; background: var(--paper); color: var(--ink);
   font: 15px/1.45 system-ui, -apple-system, "Segoe UI", Roboto, sans-serif }
@@ -37,6 +45,16 @@ th, td { text-align: right; padding: 3px 0 3px 28px; border-top: 1px solid var(-
 th:first-child, td:first-child, td.word, th.word { text-align: left }
 th:first-child, td:first-child { padding-left: 0 }
 th { font-weight: 400; color: var(--dim) }
+p { margin: 0 0 6px }
+.verdict { font-size: 17px; font-weight: 600; padding: 10px 14px; border-radius: 6px;
+  margin-bottom: 12px; overflow-wrap: anywhere }
+.is-sound { color: var(--sound); background: var(--sound-paper) }
+.is-wrong { color: var(--fault); background: var(--fault-paper) }
+.answers { margin: 0 0 12px; padding-left: 20px }
+.told { color: var(--dim); margin-bottom: 20px }
+.legend { list-style: none; margin: 0 0 12px; padding: 0; display: flex; flex-wrap: wrap;
+  gap: 4px 20px }
+.legend svg { vertical-align: -2px; margin-right: 6px }
 .box { overflow-x: auto; border: 1px solid var(--line); border-radius: 6px }
 .box svg { display: block; width: 100%; min-width: 1080px; height: auto }
 .rows { overflow-x: auto }
@@ -49,21 +67,71 @@ th { font-weight: 400; color: var(--dim) }
 
 const FOOT: &str = "</main>\n</body>\n</html>\n";
 
-/// A page about a report that needs nothing else: its limits and counts, the drawing that `svg`
-/// draws, and its newest records, 200 at most. On a narrow screen the drawing scrolls in its box.
-/// The error comes only where memory is refused.
-pub fn html<A: Allocator>(alloc: Global, report: &Report<A>) -> Result<String, AllocError> {
+/// A page about a report that needs nothing else: what is known of it by the notes, its limits and
+/// counts, the drawing that `svg` draws, the records round the one that the notes call wrong, and
+/// its newest records, 200 at most. On a narrow screen the drawing scrolls in its box. The error
+/// comes only where memory is refused.
+pub fn html<A: Allocator>(
+    alloc: Global,
+    report: &Report<A>,
+    notes: &Notes,
+) -> Result<String, AllocError> {
+    let story = Story::of(alloc, report)?;
     let mut page = String::from_str(alloc, HEAD)?;
+    known(alloc, &mut page, notes)?;
+    tell(alloc, &mut page, &story, notes)?;
     page.push_str("<div class=\"tables\">\n")?;
     limits(&mut page, &report.limits)?;
     counts(&mut page, report)?;
-    page.push_str("</div>\n<div class=\"box\">\n")?;
-    let drawing = svg(alloc, report)?;
+    page.push_str("</div>\n")?;
+    let (legend, drawing) = (legend_list(alloc)?, plot(alloc, report, &story, notes)?);
+    page.push_str(legend.as_str())?;
+    page.push_str("<div class=\"box\">\n")?;
     page.push_str(drawing.as_str())?;
     page.push_str("</div>\n")?;
-    records(&mut page, report.records.as_slice())?;
+    let records = Listed {
+        records: report.records.as_slice(),
+        wrong: notes.wrong_record(),
+    };
+    records.round_the_wrong_one(&mut page)?;
+    records.newest(&mut page)?;
     page.push_str(FOOT)?;
     Ok(page)
+}
+
+// What is known by the notes.
+fn known(alloc: Global, page: &mut String, notes: &Notes) -> Result<(), AllocError> {
+    if let Some(finding) = notes.finding {
+        let (class, words) = (class_of(finding), verdict(alloc, finding)?);
+        writeln!(page, "<p class=\"verdict {class}\">{words}</p>")?;
+    }
+    if notes.answers.is_empty() {
+        return Ok(());
+    }
+    page.push_str("<ul class=\"answers\">\n")?;
+    for answer in notes.answers {
+        let words = Escaped(answer.as_str());
+        writeln!(page, "<li>{words}</li>")?;
+    }
+    page.push_str("</ul>\n")
+}
+
+fn class_of(finding: Finding) -> &'static str {
+    if finding.is_sound {
+        "is-sound"
+    } else {
+        "is-wrong"
+    }
+}
+
+// What the story tells in words.
+fn tell(alloc: Global, page: &mut String, story: &Story, notes: &Notes) -> Result<(), AllocError> {
+    let (told, exhausted) = (told(alloc, story)?, exhausted(alloc, story.exhaustion())?);
+    write!(page, "<p class=\"told\">{told}")?;
+    if let Some(dated) = dated(alloc, story, notes.made_at)? {
+        write!(page, "<br>{dated}")?;
+    }
+    writeln!(page, "<br>{exhausted}</p>")
 }
 
 // A row of a table: its name and what it says.
@@ -83,14 +151,8 @@ fn limits(page: &mut String, limits: &Limits) -> Result<(), AllocError> {
         Length(limits.connection_timeout()),
     )?;
     row(page, "reaps every", Length(limits.reap_every()))?;
-    row(
-        page,
-        "lent first",
-        match limits.order() {
-            LendingOrder::NewestFirst => "the newest",
-            LendingOrder::OldestFirst => "the oldest",
-        },
-    )?;
+    let order = order(limits);
+    writeln!(page, "<tr><th>lent first</th><td>the {order}</td></tr>")?;
     page.push_str("</table>\n")
 }
 
@@ -109,39 +171,48 @@ fn counts<A: Allocator>(page: &mut String, report: &Report<A>) -> Result<(), All
     )?;
     let (from, to) = (Length(base.at), Length(end.at));
     writeln!(page, "<tr><th>at</th><td>{from}</td><td>{to}</td></tr>")?;
-    pair(page, "idle", base.idle, end.idle)?;
     pair(page, "lent", lent(base), lent(end))?;
+    pair(page, "idle", base.idle, end.idle)?;
     pair(page, "connections", base.connections, end.connections)?;
-    pair(page, "pending", base.pending, end.pending)?;
+    pair(page, "opening", base.opening, end.opening)?;
     let (from, to) = (said(report.base.closed), said(report.closed));
     writeln!(page, "<tr><th>closed</th><td>{from}</td><td>{to}</td></tr>")?;
     page.push_str("</table>\n<table><caption>Records</caption>\n")?;
     row(page, "in this report", report.records.as_slice().len())?;
-    row(page, "lost before it", report.lost)?;
+    row(page, "folded before them", report.lost)?;
     row(page, "takes since the making", report.takes)?;
     page.push_str("</table>\n")
 }
 
-fn base_of<A: Allocator>(report: &Report<A>) -> Counts {
+/// What a report says that there was, at a moment.
+#[derive(Clone, Copy)]
+struct Shown {
+    at: Duration,
+    idle: u32,
+    connections: u32,
+    opening: u32,
+}
+
+fn base_of<A: Allocator>(report: &Report<A>) -> Shown {
     let base = &report.base;
-    Counts {
+    Shown {
         at: base.at,
         idle: capped(base.idle.as_slice().len()),
         connections: base.connections,
-        pending: base.pending,
+        opening: base.pending,
     }
 }
 
-fn end_of<A: Allocator>(report: &Report<A>) -> Counts {
+fn end_of<A: Allocator>(report: &Report<A>) -> Shown {
     let at = match report.records.as_slice().last() {
         Some(record) => record.at(),
         None => report.base.at,
     };
-    Counts {
+    Shown {
         at,
         idle: capped(report.idle.as_slice().len()),
         connections: report.connections,
-        pending: report.pending,
+        opening: report.pending,
     }
 }
 
@@ -149,52 +220,95 @@ fn capped(count: usize) -> u32 {
     u32::try_from(count).unwrap_or(u32::MAX)
 }
 
-fn lent(counts: Counts) -> u32 {
-    counts.connections.saturating_sub(counts.idle)
+fn lent(shown: Shown) -> u32 {
+    shown.connections.saturating_sub(shown.idle)
 }
 
 fn said(closed: bool) -> &'static str {
     if closed { "yes" } else { "no" }
 }
 
-fn records(page: &mut String, records: &[Record]) -> Result<(), AllocError> {
-    if records.is_empty() {
-        return Ok(());
-    }
-    page.push_str("<h2>The newest records</h2>\n<div class=\"rows\">\n<table>\n")?;
-    page.push_str(
-        "<tr><th>at</th><th class=\"word\">record</th><th>connection</th><th>ordered</th></tr>\n",
-    )?;
-    for record in records.iter().rev().take(RECORDS) {
-        line(page, *record)?;
-    }
-    page.push_str("</table>\n</div>\n")
+/// The records of a report, as a page lists them.
+#[derive(Clone, Copy)]
+struct Listed<'a> {
+    records: &'a [Record],
+    // The place of the one that is wrong, where one is.
+    wrong: Option<usize>,
 }
 
-fn line(page: &mut String, record: Record) -> Result<(), AllocError> {
-    let at = Seconds(record.at());
-    let (name, id, ordered) = parts(record);
-    write!(page, "<tr><td>{at}</td><td class=\"word\">{name}</td><td>")?;
-    if let Some(id) = id {
-        write!(page, "{id}")?;
+impl Listed<'_> {
+    // The wrong record, and some before it and after it, oldest first.
+    fn round_the_wrong_one(self, page: &mut String) -> Result<(), AllocError> {
+        let Some(wrong) = self.wrong else {
+            return Ok(());
+        };
+        if wrong >= self.records.len() {
+            return Ok(());
+        }
+        writeln!(page, "<h2>Round record {wrong}</h2>")?;
+        begin(page)?;
+        let first = wrong.saturating_sub(BESIDE);
+        let count = (wrong - first).saturating_add(BESIDE).saturating_add(1);
+        let rows = self.records.iter().enumerate();
+        for (place, record) in rows.skip(first).take(count) {
+            self.line(page, place, *record)?;
+        }
+        page.push_str(TABLE_END)
     }
-    page.push_str("</td><td>")?;
-    if let Some(ordered) = ordered {
-        write!(page, "{ordered}")?;
+
+    // The newest records, newest first.
+    fn newest(self, page: &mut String) -> Result<(), AllocError> {
+        if self.records.is_empty() {
+            return Ok(());
+        }
+        page.push_str("<h2>The newest records</h2>\n")?;
+        begin(page)?;
+        for (number, record) in self.records.iter().rev().take(RECORDS).enumerate() {
+            let place = self.records.len().saturating_sub(number.saturating_add(1));
+            self.line(page, place, *record)?;
+        }
+        page.push_str(TABLE_END)
     }
-    page.push_str("</td></tr>\n")
+
+    fn line(self, page: &mut String, place: usize, record: Record) -> Result<(), AllocError> {
+        let at = Seconds(record.at());
+        let (name, ordered) = parts(record);
+        let class = if self.wrong == Some(place) {
+            " class=\"is-wrong\""
+        } else {
+            ""
+        };
+        write!(page, "<tr{class}><td>{place}</td><td>{at}</td>")?;
+        write!(page, "<td class=\"word\">{name}</td><td>")?;
+        if let Some(id) = id_of(record) {
+            write!(page, "{id}")?;
+        }
+        page.push_str("</td><td>")?;
+        if let Some(ordered) = ordered {
+            write!(page, "{ordered}")?;
+        }
+        page.push_str("</td></tr>\n")
+    }
 }
 
-// A record's name, and the id and the orders that it has.
-fn parts(record: Record) -> (&'static str, Option<u64>, Option<u32>) {
+const TABLE_END: &str = "</table>\n</div>\n";
+
+// A table of records, up to its first record.
+fn begin(page: &mut String) -> Result<(), AllocError> {
+    page.push_str("<div class=\"rows\">\n<table>\n<tr><th>record</th><th>at</th>")?;
+    page.push_str("<th class=\"word\">what</th><th>connection</th><th>ordered</th></tr>\n")
+}
+
+// A record's name, and the orders that it has.
+fn parts(record: Record) -> (&'static str, Option<u32>) {
     match record {
-        Record::Taken { id, ordered, .. } => ("Taken", Some(id), Some(ordered)),
-        Record::Ordered { ordered, .. } => ("Ordered", None, Some(ordered)),
-        Record::Admitted { id, .. } => ("Admitted", Some(id), None),
-        Record::Kept { id, .. } => ("Kept", Some(id), None),
-        Record::Closed { id, ordered, .. } => ("Closed", Some(id), Some(ordered)),
-        Record::Reaped { ordered, .. } => ("Reaped", None, Some(ordered)),
-        Record::ClosedAll { .. } => ("ClosedAll", None, None),
+        Record::Taken { ordered, .. } => ("Taken", Some(ordered)),
+        Record::Ordered { ordered, .. } => ("Ordered", Some(ordered)),
+        Record::Admitted { .. } => ("Admitted", None),
+        Record::Kept { .. } => ("Kept", None),
+        Record::Closed { ordered, .. } => ("Closed", Some(ordered)),
+        Record::Reaped { ordered, .. } => ("Reaped", Some(ordered)),
+        Record::ClosedAll { .. } => ("ClosedAll", None),
     }
 }
 

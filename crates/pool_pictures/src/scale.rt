@@ -1,5 +1,6 @@
 // Where a moment lies in a drawing.
-ghost use Rattle.std.specs.Prelude.{◌≡◌, ◌≤◌};
+ghost use Rattle.std.specs.Prelude.{◌≡◌, ◌≤◌, ◌+◌};
+ghost use Rattle.std.specs.Duration.{as_nanos};
 
 use crate::story::Story;
 use std::time::Duration;
@@ -14,6 +15,8 @@ pub(crate) struct Scale {
 }
 
 impl Scale {
+    ghost use Rattle.pool_pictures.specs.Scale.{place_of, place_at};
+
     /// The scale of a story. One that is over as it begins lies at 0.
     pub(crate) fn of(story: &Story, width: u32) -> Scale
         ensures { result.width ≡ width }
@@ -27,22 +30,26 @@ impl Scale {
 
     /// The place of a moment; one before the story lies at 0, one after it at `width`.
     pub(crate) fn place(&self, moment: Duration) -> u32
-        ensures { result ≤ self.now.width }
+        ensures is { result ≡ place_at self.now (as_nanos moment) }
+        ensures within { result ≤ self.now.width }
     {
         self.place_of(moment.as_nanos().saturating_sub(self.from))
     }
 
     /// The place of what is so many nanoseconds after the beginning.
     pub(crate) fn place_of(&self, nanos: u128) -> u32
-        ensures { result ≤ self.now.width }
+        ensures is { result ≡ place_of self.now nanos }
+        ensures within { result ≤ self.now.width }
     {
-        let offset = nanos.min(self.span);
-        let place = offset.saturating_mul(u128::from(self.width)) / self.span.max(1);
-        u32::try_from(place).unwrap_or(u32::MAX).min(self.width)
+        let width = u128::from(self.width);
+        let place = nanos.min(self.span).saturating_mul(width) / self.span.max(1);
+        place.min(width) as u32
     }
 
     /// How many places there are.
-    pub(crate) fn columns(&self) -> usize {
+    pub(crate) fn columns(&self) -> usize
+        ensures { result ≡ self.now.width + 1 }
+    {
         (self.width as usize).saturating_add(1)
     }
 

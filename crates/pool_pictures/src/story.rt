@@ -79,35 +79,41 @@ pub struct Counts {
     pub connections: u32,
     /// Openings that were ordered and not admitted.
     pub pending: u32,
+    /// Whether a caller who came had to wait: the pool was open, and all `max_size` were lent or
+    /// opening.
+    pub is_exhausted: bool,
 }
 
 /// One of the counts.
 #[derive(Clone, Copy, PartialEq, Eq, Debug)]
 pub enum Series {
-    Connections,
+    Lent,
     Idle,
-    Pending,
+    /// The idle and the lent ones.
+    Connections,
+    /// The pending openings. Elsewhere callers that wait are called pending, so readers are not
+    /// given that word.
+    Opening,
 }
 
 impl Series {
     /// What it is called.
     pub fn name(self) -> &'static str {
         match self {
-            Series::Connections => "connections",
+            Series::Lent => "lent",
             Series::Idle => "idle",
-            Series::Pending => "pending",
+            Series::Connections => "connections",
+            Series::Opening => "opening",
         }
     }
 }
 
 impl Counts {
-    /// One of them.
-    pub fn of(&self, series: Series) -> u32 {
-        match series {
-            Series::Connections => self.connections,
-            Series::Idle => self.idle,
-            Series::Pending => self.pending,
-        }
+    /// The connections that are not idle.
+    pub fn lent(&self) -> u32
+        ensures { result ≡ self.now.connections - self.now.idle }
+    {
+        self.connections.saturating_sub(self.idle)
     }
 
     /// The connections and the pending openings together, which are never more than `max_size`.

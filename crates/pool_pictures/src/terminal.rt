@@ -1,11 +1,15 @@
 // A drawing for a terminal.
 
+use crate::bins::binned;
 use crate::choice::drawn;
-use crate::lengths::{Axis, Length, Limit, digits, label};
+use crate::lengths::{Axis, Length, digits, label};
+use crate::marked::{Marked, find_marked};
+use crate::notes::Notes;
 use crate::scale::Scale;
 use crate::story::{Counts, Life, Series, Story};
-use cells::{band, lane, put};
-use r2d2_core::{LendingOrder, Report};
+use crate::words::{self, dated, exhausted, order, settings, since, told};
+use cells::{bars, exhausted_signs, lane, put};
+use r2d2_core::Report;
 use std::alloc::{AllocError, Allocator, Global};
 
 mod cells;
@@ -18,24 +22,33 @@ const NAMES: u32 = 11;
 
 const LANES: usize = 40;
 
-const LEGEND: &str =
-    "- idle   # lent   o opened   < there before   x closed   r reaped   c closed with the pool";
+const LEGEND: &str = "\
+# lent   > still lent   - idle   o opened   < there before   x closed   r reaped   c closed with it
+";
 
-/// A timeline of a report, at most 100 columns wide: its limits and counts; a row for the
-/// connections, the idle ones and the pending openings; and a lane for each connection, with its
-/// id. Where there are more than 40, it shows those that were there for the longest, and says how
-/// many it leaves out. The error comes only where memory is refused.
+/// A timeline of a report, at most 100 columns wide: its limits and counts; a row for the lent
+/// connections, the idle ones, both, and the openings; and a lane for each connection, with its id.
+/// Signs mark when the pool was exhausted, and the record that the notes call wrong. Where there
+/// are more than 40 connections, it shows those that were there for the longest, and says how many
+/// it leaves out. The verdict and the answers of the notes are lines of text already, and are not
+/// repeated. The error comes only where memory is refused.
 ///
 /// A column stands for a while: its bars show the most that there were in it, and its sign in a
 /// lane is that of an opening or an end, or else that the connection was lent then, or idle.
-pub fn text<A: Allocator>(alloc: Global, report: &Report<A>) -> Result<String, AllocError> {
+pub fn text<A: Allocator>(
+    alloc: Global,
+    report: &Report<A>,
+    notes: &Notes,
+) -> Result<String, AllocError> {
     let story = Story::of(alloc, report)?;
     let places = drawn(alloc, &story, LANES)?;
     let mut sheet = Sheet::of(alloc, &story, &places);
-    sheet.head(&story)?;
+    sheet.head(&story, notes)?;
     sheet.band(&story)?;
+    sheet.wrong(find_marked(&story, report, notes))?;
     sheet.lanes(&story, &places)?;
     sheet.axis(&story)?;
+    sheet.still_lent(&story, &places)?;
     sheet.legend(story.lives.len().saturating_sub(places.len()))?;
     Ok(sheet.out)
 }
@@ -68,40 +81,41 @@ impl Sheet {
         }
     }
 
-    fn head(&mut self, story: &Story) -> Result<(), AllocError> {
+    fn head(&mut self, story: &Story, notes: &Notes) -> Result<(), AllocError> {
         let limits = &story.limits;
-        let (size, wanted) = (limits.max_size(), limits.wanted());
-        let order = match limits.order() {
-            LendingOrder::NewestFirst => "newest",
-            LendingOrder::OldestFirst => "oldest",
-        };
+        let (size, wanted, order) = (limits.max_size(), limits.wanted(), order(limits));
         writeln!(
             self.out,
             "at most {size} connections, {wanted} wanted idle, the {order} lent first"
         )?;
-        let (idle, life) = (Limit(limits.idle_timeout()), Limit(limits.max_lifetime()));
-        writeln!(self.out, "idle_timeout {idle}, max_lifetime {life}")?;
+        let settings = settings(self.alloc, limits)?;
+        writeln!(self.out, "{settings}")?;
         if let Some(first) = story.counts.first() {
             self.counts("base", *first)?;
         }
         if let Some(last) = story.last_counts() {
             self.counts("end", last)?;
         }
-        let (records, lost) = (story.counts.len().saturating_sub(1), story.lost);
+        self.tell(story, notes)
+    }
+
+    fn tell(&mut self, story: &Story, notes: &Notes) -> Result<(), AllocError> {
+        let told = told(self.alloc, story)?;
         let closed = if story.closed { ", closed" } else { "" };
-        writeln!(
-            self.out,
-            "{records} records, {lost} before the base{closed}\n"
-        )
+        writeln!(self.out, "{told}{closed}")?;
+        if let Some(dated) = dated(self.alloc, story, notes.made_at)? {
+            writeln!(self.out, "{dated}")?;
+        }
+        let exhausted = exhausted(self.alloc, story.exhaustion())?;
+        writeln!(self.out, "{exhausted}\n")
     }
 
     fn counts(&mut self, name: &str, counts: Counts) -> Result<(), AllocError> {
-        let at = Length(counts.at);
-        let lent = counts.connections.saturating_sub(counts.idle);
-        let (idle, pending) = (counts.idle, counts.pending);
+        let (at, lent) = (Length(counts.at), counts.lent());
+        let (idle, opening) = (counts.idle, counts.pending);
         writeln!(
             self.out,
-            "{name} at {at}: {idle} idle, {lent} lent, {pending} pending"
+            "{name} at {at}: {lent} lent, {idle} idle, {opening} opening"
         )
     }
 
@@ -127,12 +141,32 @@ impl Sheet {
     // The rows of counts.
     fn band(&mut self, story: &Story) -> Result<(), AllocError> {
         let top = story.top();
-        for series in [Series::Connections, Series::Idle, Series::Pending] {
-            let signs = band(self.alloc, story, &self.scale, series)?;
+        let bins = binned(self.alloc, story, &self.scale)?;
+        for series in [
+            Series::Lent,
+            Series::Idle,
+            Series::Connections,
+            Series::Opening,
+        ] {
+            let signs = bars(self.alloc, &bins, series, top)?;
             self.row(series.name(), signs.as_slice())?;
+        }
+        if bins.iter().any(|most| most.is_exhausted) {
+            let signs = exhausted_signs(self.alloc, &bins)?;
+            self.row("exhausted", signs.as_slice())?;
         }
         self.space(self.names.saturating_add(2))?;
         writeln!(self.out, "a full bar is {top}\n")
+    }
+
+    // Where the wrong record stands.
+    fn wrong(&mut self, wrong: Option<Marked>) -> Result<(), AllocError> {
+        let Some(wrong) = wrong else {
+            return Ok(());
+        };
+        let mut signs = vec![in self.alloc; ' '; self.scale.columns()]?;
+        put(&mut signs, self.scale.place(wrong.at) as usize, "^");
+        self.row("wrong", signs.as_slice())
     }
 
     fn space(&mut self, count: u32) -> Result<(), AllocError> {
@@ -158,9 +192,22 @@ impl Sheet {
         self.row(name.as_str(), signs.as_slice())
     }
 
+    // Those of the drawn connections that are lent at the end, and since when.
+    fn still_lent(&mut self, story: &Story, places: &[usize]) -> Result<(), AllocError> {
+        for place in places {
+            if let Some(life) = story.lives.get(*place)
+                && let Some(since) = since(self.alloc, life)?
+            {
+                let id = life.id;
+                writeln!(self.out, "connection {id} is still lent, {since}")?;
+            }
+        }
+        Ok(())
+    }
+
     // The marks of the time, and under them their labels.
     fn axis(&mut self, story: &Story) -> Result<(), AllocError> {
-        let axis = Axis::fitting(self.scale.span(), self.scale.width);
+        let axis = Axis::fitting(self.scale.span(), self.scale.width, 0);
         let columns = self.scale.columns();
         let mut marks = vec![in self.alloc; '-'; columns]?;
         let mut labels = vec![in self.alloc; ' '; columns]?;
@@ -183,11 +230,9 @@ impl Sheet {
 
     fn legend(&mut self, left_out: usize) -> Result<(), AllocError> {
         if left_out > 0 {
-            writeln!(
-                self.out,
-                "left out: {left_out} connections that were there for less long"
-            )?;
+            let left_out = words::left_out(self.alloc, left_out)?;
+            writeln!(self.out, "{left_out}")?;
         }
-        writeln!(self.out, "{LEGEND}")
+        self.out.push_str(LEGEND)
     }
 }

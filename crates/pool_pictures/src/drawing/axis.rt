@@ -1,9 +1,10 @@
 // The time of a drawing, from left to right.
 
 use super::Canvas;
-use super::layout::Tenths;
+use super::layout::{CLOCK_HEIGHT, Tenths};
 use crate::lengths::{Axis, Length, label};
 use crate::story::Story;
+use crate::words::time_of_day;
 use std::alloc::AllocError;
 
 // How wide a letter of a label is.
@@ -12,18 +13,36 @@ const LETTER: u32 = 65;
 // A drawing with lanes that reach further down has its labels below them too.
 const FAR: u32 = 3000;
 
+// How many columns a label by a clock takes, with two blanks; and one with thousandths.
+const CLOCK: u32 = 10;
+
+const FINE_CLOCK: u32 = 14;
+
 impl Canvas {
     pub(super) fn axis(&mut self, story: &Story) -> Result<(), AllocError> {
-        let scale = self.layout.scale;
-        let axis = Axis::fitting(scale.span(), scale.width / LETTER);
+        let axis = self.marks();
         self.grid(axis)?;
         let above = self.layout.band_bottom().saturating_add(170);
-        self.labels(axis, above)?;
+        self.labels(story, axis, above)?;
         let bottom = self.layout.lanes_bottom();
         if bottom.saturating_sub(self.layout.lanes_top()) > FAR {
-            self.labels(axis, bottom.saturating_add(170))?;
+            self.labels(story, axis, bottom.saturating_add(170))?;
         }
         self.beginning(story)
+    }
+
+    fn marks(&self) -> Axis {
+        let scale = self.layout.scale;
+        let (span, room) = (scale.span(), scale.width / LETTER);
+        if self.made_at.is_none() {
+            return Axis::fitting(span, room, 0);
+        }
+        let axis = Axis::fitting(span, room, CLOCK);
+        if axis.is_fine() {
+            Axis::fitting(span, room, FINE_CLOCK)
+        } else {
+            axis
+        }
     }
 
     // A line down the drawing at each mark.
@@ -38,18 +57,29 @@ impl Canvas {
         self.out.push_str("\"/>\n")
     }
 
-    fn labels(&mut self, axis: Axis, y: u32) -> Result<(), AllocError> {
-        let y = Tenths(y);
+    fn labels(&mut self, story: &Story, axis: Axis, y: u32) -> Result<(), AllocError> {
         for number in 0..axis.steps().saturating_add(1) {
             let mark = axis.mark(number);
             let label = label(self.alloc, mark, self.layout.scale.begins_late())?;
-            let x = Tenths(self.layout.x_of(mark.nanos));
-            writeln!(
-                self.out,
-                "<text class=\"tick\" text-anchor=\"middle\" x=\"{x}\" y=\"{y}\">{label}</text>"
-            )?;
+            let x = self.layout.x_of(mark.nanos);
+            self.label(x, y, label.as_str())?;
+            if let Some(made_at) = self.made_at {
+                let since_1970 = made_at
+                    .saturating_add(story.from)
+                    .saturating_add(mark.length());
+                let time = time_of_day(self.alloc, since_1970, axis.is_fine())?;
+                self.label(x, y.saturating_add(CLOCK_HEIGHT), time.as_str())?;
+            }
         }
         Ok(())
+    }
+
+    fn label(&mut self, x: u32, y: u32, label: &str) -> Result<(), AllocError> {
+        let (x, y) = (Tenths(x), Tenths(y));
+        writeln!(
+            self.out,
+            "<text class=\"tick\" text-anchor=\"middle\" x=\"{x}\" y=\"{y}\">{label}</text>"
+        )
     }
 
     // Where times are counted from.
@@ -58,7 +88,7 @@ impl Canvas {
             return Ok(());
         }
         let from = Length(story.from);
-        let (x, y) = (self.layout.left, self.layout.band_top().saturating_sub(80));
+        let (x, y) = (self.layout.left, self.layout.band_top().saturating_sub(120));
         let (x, y) = (Tenths(x), Tenths(y));
         let name = if story.lost > 0 { "base" } else { "made" };
         write!(

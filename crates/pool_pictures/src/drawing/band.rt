@@ -1,142 +1,128 @@
 // The band of counts.
 
 use super::Canvas;
-use super::layout::Tenths;
-use crate::story::{Counts, Story};
+use super::layout::{COLUMN, Tenths};
+use crate::bins::{Most, binned};
+use crate::story::Story;
+use crate::words::Share;
 use std::alloc::{AllocError, Global};
-
-// Counts that lie closer than this are drawn as one, as high as the highest of them.
-const CLOSE: u32 = 5;
-
-/// What the counts were at a place of the plot: the most in it, and the last.
-#[derive(Clone, Copy)]
-struct Point {
-    x: u32,
-    most: Heights,
-    last: Heights,
-}
-
-/// The heights of the areas, one over the other.
-#[derive(Clone, Copy, PartialEq, Eq)]
-struct Heights {
-    idle: u32,
-    connections: u32,
-    all: u32,
-}
-
-impl Heights {
-    fn of(counts: Counts) -> Heights {
-        Heights {
-            idle: counts.idle,
-            connections: counts.connections,
-            all: counts.all(),
-        }
-    }
-
-    fn max(self, other: Heights) -> Heights {
-        Heights {
-            idle: self.idle.max(other.idle),
-            connections: self.connections.max(other.connections),
-            all: self.all.max(other.all),
-        }
-    }
-
-    fn get(self, area: Area) -> u32 {
-        match area {
-            Area::Pending => self.all,
-            Area::Lent => self.connections,
-            Area::Idle => self.idle,
-        }
-    }
-}
 
 /// The areas, each drawn over those before it.
 #[derive(Clone, Copy)]
 enum Area {
-    Pending,
-    Lent,
+    Opening,
     Idle,
+    Lent,
 }
 
 impl Area {
     fn class(self) -> &'static str {
         match self {
-            Area::Pending => "pendings",
-            Area::Lent => "lents",
+            Area::Opening => "openings",
             Area::Idle => "idles",
+            Area::Lent => "lents",
+        }
+    }
+
+    // The height of its upper edge, with those that lie below it.
+    fn edge(self, most: &Most) -> u32 {
+        match self {
+            Area::Opening => most.all,
+            Area::Idle => most.connections,
+            Area::Lent => most.lent,
         }
     }
 }
 
-// The counts that stood for a while: of those of one moment the last.
-fn lasting(alloc: Global, counts: &[Counts]) -> Result<Vec<Counts>, AllocError> {
-    let mut lasting: Vec<Counts> = Vec::new(alloc);
-    for next in counts {
-        if lasting.last().is_some_and(|last| last.at == next.at) {
-            lasting.pop();
-        }
-        lasting.push(*next)?;
+// The columns in which the pool was exhausted, from one to before another.
+fn exhausted_runs(alloc: Global, bins: &[Most]) -> Result<Vec<(usize, usize)>, AllocError> {
+    let mut runs = Vec::new(alloc);
+    let mut begun = None;
+    for (number, most) in bins.iter().enumerate() {
+        begun = match begun {
+            None if most.is_exhausted => Some(number),
+            Some(from) if !most.is_exhausted => {
+                runs.push((from, number))?;
+                None
+            }
+            before => before,
+        };
     }
-    Ok(lasting)
+    if let Some(from) = begun {
+        runs.push((from, bins.len()))?;
+    }
+    Ok(runs)
 }
 
 impl Canvas {
     pub(super) fn band(&mut self, story: &Story) -> Result<(), AllocError> {
-        let points = self.points(story)?;
-        for area in [Area::Pending, Area::Lent, Area::Idle] {
-            self.area(story, &points, area)?;
+        let bins = binned(self.alloc, story, &self.layout.columns)?;
+        self.shade(&bins)?;
+        for area in [Area::Opening, Area::Idle, Area::Lent] {
+            self.area(story.top(), &bins, area)?;
         }
+        self.part(story)?;
         self.limits(story)?;
         self.closing(story)
     }
 
-    // The counts, no closer than can be seen.
-    fn points(&self, story: &Story) -> Result<Vec<Point>, AllocError> {
-        let mut points = Vec::new(self.alloc);
-        let mut latest: Option<Point> = None;
-        for counts in &lasting(self.alloc, &story.counts)? {
-            let (x, heights) = (self.x(counts.at), Heights::of(*counts));
-            latest = match latest {
-                Some(point) if x < point.x.saturating_add(CLOSE) => Some(Point {
-                    x: point.x,
-                    most: point.most.max(heights),
-                    last: heights,
-                }),
-                before => {
-                    if let Some(point) = before {
-                        points.push(point)?;
-                    }
-                    Some(Point {
-                        x,
-                        most: heights,
-                        last: heights,
-                    })
-                }
-            };
-        }
-        if let Some(point) = latest {
-            points.push(point)?;
-        }
-        Ok(points)
+    // The whiles in which the pool was exhausted: a strip over the band, and a shade over the lanes.
+    fn shade(&mut self, bins: &[Most]) -> Result<(), AllocError> {
+        let top = self.layout.band_top().saturating_sub(90);
+        let (lanes, bottom) = (self.layout.lanes_top(), self.layout.lanes_bottom());
+        self.stripes("exhausted", bins, top, 60)?;
+        self.stripes("shade", bins, lanes, bottom.saturating_sub(lanes))
     }
 
-    fn area(&mut self, story: &Story, points: &[Point], area: Area) -> Result<(), AllocError> {
-        let (class, top) = (area.class(), story.top());
+    fn stripes(
+        &mut self,
+        class: &str,
+        bins: &[Most],
+        top: u32,
+        height: u32,
+    ) -> Result<(), AllocError> {
+        let (top, height) = (Tenths(top), Tenths(height));
+        write!(self.out, "<path class=\"{class}\" d=\"")?;
+        for (from, to) in exhausted_runs(self.alloc, bins)? {
+            let (from, to) = (self.layout.column(from), self.layout.column(to));
+            let (x, width) = (Tenths(from), Tenths(to.saturating_sub(from).max(COLUMN)));
+            write!(self.out, "M{x} {top}h{width}v{height}h-{width}z")?;
+        }
+        self.out.push_str("\"/>\n")
+    }
+
+    fn area(&mut self, top: u32, bins: &[Most], area: Area) -> Result<(), AllocError> {
+        let class = area.class();
         let (left, bottom) = (self.layout.left, Tenths(self.layout.band_bottom()));
         let left = Tenths(left);
         write!(self.out, "<path class=\"{class}\" d=\"M{left} {bottom}")?;
-        for point in points {
-            let most = Tenths(self.layout.level(point.most.get(area), top));
-            let x = Tenths(point.x);
-            write!(self.out, "H{x}V{most}")?;
-            if point.last.get(area) != point.most.get(area) {
-                let last = Tenths(self.layout.level(point.last.get(area), top));
-                let x = Tenths(point.x.saturating_add(CLOSE).min(self.layout.right));
-                write!(self.out, "H{x}V{last}")?;
+        let mut latest = None;
+        for (number, most) in bins.iter().enumerate() {
+            let edge = area.edge(most);
+            if latest != Some(edge) {
+                let (x, y) = (self.layout.column(number), self.layout.level(edge, top));
+                let (x, y) = (Tenths(x), Tenths(y));
+                write!(self.out, "H{x}V{y}")?;
+                latest = Some(edge);
             }
         }
-        let right = Tenths(self.x(story.to));
+        let right = Tenths(self.layout.right);
         writeln!(self.out, "H{right}V{bottom}z\"/>")
+    }
+
+    // For what part of the time the pool was exhausted.
+    fn part(&mut self, story: &Story) -> Result<(), AllocError> {
+        let exhaustion = story.exhaustion();
+        if exhaustion.times == 0 {
+            return Ok(());
+        }
+        let x = Tenths(self.layout.right.saturating_add(80));
+        let y = Tenths(self.layout.band_top().saturating_sub(140));
+        let share = Share(exhaustion.thousandths());
+        writeln!(
+            self.out,
+            "<text class=\"fault\" x=\"{x}\" y=\"{y}\">exhausted {share}</text>"
+        )
     }
 
     // The lines of `max_size` and of the wanted number, and what they are called.

@@ -2,31 +2,23 @@
 
 use super::Canvas;
 use super::layout::Tenths;
+use super::marks::{came, point, went};
 use crate::lengths::Length;
-use crate::story::{Cause, Life, Story, Stretch, Use};
+use crate::story::{Cause, Life, Story, Use};
+use crate::words::{Times, since};
 use std::alloc::AllocError;
 use std::time::Duration;
 
-// A bar is no shorter, and two of them that lie closer are drawn as one.
-const CLOSE: u32 = 5;
-
-/// Two places of the plot.
-#[derive(Clone, Copy)]
-struct Bar {
-    from: u32,
-    to: u32,
-}
-
 impl Canvas {
-    pub(super) fn lanes(&mut self, story: &Story, places: &[usize]) -> Result<(), AllocError> {
+    pub(super) fn lanes(&mut self, story: &Story) -> Result<(), AllocError> {
         let class = if self.layout.pitch.has_id {
             "lanes"
         } else {
             "lanes thin"
         };
         writeln!(self.out, "<g class=\"{class}\">")?;
-        for (number, place) in places.iter().enumerate() {
-            if let Some(life) = story.lives.get(*place) {
+        for number in 0..self.places.len() {
+            if let Some(life) = self.life(story, number) {
                 let y = self.layout.lane(number);
                 self.lane(story, life, y)?;
             }
@@ -37,17 +29,23 @@ impl Canvas {
     fn lane(&mut self, story: &Story, life: &Life, y: u32) -> Result<(), AllocError> {
         self.out.push_str("<g class=\"lane\">")?;
         self.story_of(life)?;
+        let pitch = self.layout.pitch;
         let from = self.x(life.birth.max(story.from));
         let to = match life.ending {
-            Some(ending) => self.x(ending.at),
+            // An end has room beside the beginning, however soon it comes.
+            Some(ending) => self.x(ending.at).max(from.saturating_add(
+                pitch.mark.saturating_mul(2).saturating_add(20),
+            )),
             None => self.x(story.to),
         };
         self.rest(from, to, y)?;
         self.bars(life, y)?;
-        let pitch = self.layout.pitch;
-        self.came(life.coming, from, y, pitch.mark)?;
+        came(&mut self.out, life.coming, from, y, pitch.mark)?;
         if let Some(ending) = life.ending {
-            self.went(ending.cause, to, y, pitch.mark)?;
+            went(&mut self.out, ending.cause, to, y, pitch.mark)?;
+        }
+        if life.is_still(Use::Lent) {
+            self.still_lent(life, y)?;
         }
         if pitch.has_id {
             self.id(life.id, y)?;
@@ -60,8 +58,15 @@ impl Canvas {
         let (id, birth) = (life.id, Length(life.birth));
         write!(self.out, "<title>connection {id}: admitted at {birth}")?;
         let (times, length) = lent(life);
-        let length = Length(length);
-        write!(self.out, ", lent {times} times, {length} in all")?;
+        let (often, length) = (Times(times), Length(length));
+        if times == 0 {
+            write!(self.out, ", {often} lent")?;
+        } else {
+            write!(self.out, ", lent {often}, {length} in all")?;
+        }
+        if let Some(since) = since(self.alloc, life)? {
+            write!(self.out, ", lent {since} and not given back")?;
+        }
         if let Some(ending) = life.ending {
             let (at, why) = (Length(ending.at), said(ending.cause));
             write!(self.out, ", {why} at {at}")?;
@@ -79,54 +84,24 @@ impl Canvas {
         )
     }
 
-    // The thick bars of its lent stretches.
-    fn bars(&mut self, life: &Life, y: u32) -> Result<(), AllocError> {
-        let bars = self.lent_bars(life)?;
-        if bars.is_empty() {
+    // A point to the right of the plot, and since when the connection is lent.
+    fn still_lent(&mut self, life: &Life, y: u32) -> Result<(), AllocError> {
+        let (right, pitch) = (self.layout.right, self.layout.pitch);
+        point(&mut self.out, right, y, pitch.bar / 2)?;
+        if !pitch.has_id {
             return Ok(());
         }
-        let (y, width) = (Tenths(y), Tenths(self.layout.pitch.bar));
-        write!(
-            self.out,
-            "<path class=\"lent\" stroke-width=\"{width}\" d=\""
-        )?;
-        for bar in &bars {
-            let (from, to) = (Tenths(bar.from), Tenths(bar.to));
-            write!(self.out, "M{from} {y}H{to}")?;
+        if let Some(since) = since(self.alloc, life)? {
+            let (x, y) = (
+                Tenths(right.saturating_add(150)),
+                Tenths(y.saturating_add(38)),
+            );
+            writeln!(
+                self.out,
+                "<text class=\"id\" x=\"{x}\" y=\"{y}\">{since}</text>"
+            )?;
         }
-        self.out.push_str("\"/>\n")
-    }
-
-    fn bar(&self, stretch: &Stretch) -> Bar {
-        let from = self
-            .x(stretch.from)
-            .min(self.layout.right.saturating_sub(CLOSE));
-        let to = self.x(stretch.to).max(from.saturating_add(CLOSE));
-        Bar { from, to }
-    }
-
-    fn lent_bars(&self, life: &Life) -> Result<Vec<Bar>, AllocError> {
-        let mut bars = Vec::new(self.alloc);
-        let mut latest: Option<Bar> = None;
-        for stretch in life.stretches.iter().filter(|one| one.what == Use::Lent) {
-            let bar = self.bar(stretch);
-            latest = match latest {
-                Some(last) if bar.from < last.to.saturating_add(CLOSE) => Some(Bar {
-                    from: last.from,
-                    to: last.to.max(bar.to),
-                }),
-                before => {
-                    if let Some(last) = before {
-                        bars.push(last)?;
-                    }
-                    Some(bar)
-                }
-            };
-        }
-        if let Some(last) = latest {
-            bars.push(last)?;
-        }
-        Ok(bars)
+        Ok(())
     }
 
     fn id(&mut self, id: u64, y: u32) -> Result<(), AllocError> {

@@ -15,14 +15,19 @@ pub(super) const MARGIN: u32 = 240;
 // What is left free at the right of the plot, for the names of limits.
 const RIGHT: u32 = 1500;
 
-pub(super) const LEGEND: u32 = 930;
-
-const BAND_TOP: u32 = 1250;
+// From what stands above the plot to the band, with the names of single moments between them.
+const NAMES_HEIGHT: u32 = 460;
 
 const BAND_HEIGHT: u32 = 1000;
 
 // From the band to the lanes, with the labels of the axis between them.
 const AXIS_HEIGHT: u32 = 400;
+
+/// The labels by a clock, where there are any.
+pub(super) const CLOCK_HEIGHT: u32 = 150;
+
+/// How wide a column of the band is.
+pub(super) const COLUMN: u32 = 5;
 
 // What is left free below the lanes.
 const FOOT: u32 = 360;
@@ -86,26 +91,44 @@ pub(super) struct Layout {
     pub(super) pitch: Pitch,
     pub(super) height: u32,
     pub(super) scale: Scale,
+    /// The places of the band's columns.
+    pub(super) columns: Scale,
+    band_top: u32,
+    lanes_top: u32,
     ghost within: { left + scale.width ≤ right },
 }
 
 impl Layout {
-    /// A drawing with so many lanes, whose ids have so many digits at most.
-    pub(super) fn of(story: &Story, lanes: usize, digits: u32) -> Layout {
+    /// A drawing with so much above its plot, and with so many lanes, whose ids have so many digits
+    /// at most.
+    pub(super) fn of(
+        story: &Story,
+        above: u32,
+        lanes: usize,
+        digits: u32,
+        has_clock: bool,
+    ) -> Layout {
         let pitch = Pitch::of(lanes);
         let names = digits.saturating_mul(70).saturating_add(100);
         let left = MARGIN + names.clamp(560, 3000);
         let right = WIDTH - RIGHT;
+        let band_top = above.saturating_add(NAMES_HEIGHT);
+        let clock = if has_clock { CLOCK_HEIGHT } else { 0 };
+        let lanes_top = band_top.saturating_add(BAND_HEIGHT + AXIS_HEIGHT + clock);
         let lanes = u32::try_from(lanes).unwrap_or(u32::MAX);
         let height = lanes
             .saturating_mul(pitch.lane)
-            .saturating_add(BAND_TOP + BAND_HEIGHT + AXIS_HEIGHT + FOOT);
+            .saturating_add(lanes_top)
+            .saturating_add(FOOT + clock);
         Layout {
             left,
             right,
             pitch,
             height,
             scale: Scale::of(story, right - left),
+            columns: Scale::of(story, (right - left) / COLUMN),
+            band_top,
+            lanes_top,
         }
     }
 
@@ -125,12 +148,23 @@ impl Layout {
         self.left + self.scale.place_of(nanos)
     }
 
+    /// Where a column of the band begins.
+    pub(super) fn column(&self, number: usize) -> u32
+        ensures { result ≤ self.now.right }
+    {
+        let number = u32::try_from(number).unwrap_or(u32::MAX);
+        number
+            .saturating_mul(COLUMN)
+            .saturating_add(self.left)
+            .min(self.right)
+    }
+
     pub(super) fn band_top(&self) -> u32 {
-        BAND_TOP
+        self.band_top
     }
 
     pub(super) fn band_bottom(&self) -> u32 {
-        BAND_TOP + BAND_HEIGHT
+        self.band_top.saturating_add(BAND_HEIGHT)
     }
 
     /// The height of a count in the band, whose full height is that of `top`.
@@ -141,7 +175,7 @@ impl Layout {
     }
 
     pub(super) fn lanes_top(&self) -> u32 {
-        BAND_TOP + BAND_HEIGHT + AXIS_HEIGHT
+        self.lanes_top
     }
 
     pub(super) fn lanes_bottom(&self) -> u32 {

@@ -1,26 +1,36 @@
 // What the lines and marks of a drawing mean.
 
 use super::Canvas;
-use super::layout::{LEGEND, MARGIN, Tenths};
+use super::layout::{MARGIN, Tenths, WIDTH};
+use super::marks::{box_of, came, line, point, went};
 use crate::story::{Cause, Coming};
-use std::alloc::AllocError;
+use std::alloc::{AllocError, Global};
 
 /// A thing that the legend explains.
 #[derive(Clone, Copy)]
 enum Key {
-    Idle,
     Lent,
-    Pending,
+    Many,
+    StillLent,
+    Idle,
+    Opening,
+    Exhausted,
     Came(Coming),
     Went(Cause),
 }
 
+// How high a row of the legend is.
+const ROW: u32 = 220;
+
 impl Key {
     fn name(self) -> &'static str {
         match self {
+            Key::Lent => "lent",
+            Key::Many => "lent several times",
+            Key::StillLent => "still lent",
             Key::Idle => "idle",
-            Key::Lent => "lent, then kept",
-            Key::Pending => "pending",
+            Key::Opening => "opening",
+            Key::Exhausted => "exhausted",
             Key::Came(Coming::Admitted) => "opened",
             Key::Came(_) => "there before",
             Key::Went(Cause::Closed) => "closed after its use",
@@ -36,10 +46,13 @@ impl Key {
     }
 }
 
-const KEYS: [Key; 8] = [
-    Key::Idle,
+const KEYS: [Key; 11] = [
     Key::Lent,
-    Key::Pending,
+    Key::Many,
+    Key::StillLent,
+    Key::Idle,
+    Key::Opening,
+    Key::Exhausted,
     Key::Came(Coming::Admitted),
     Key::Came(Coming::Resting),
     Key::Went(Cause::Closed),
@@ -47,111 +60,75 @@ const KEYS: [Key; 8] = [
     Key::Went(Cause::ClosedAll),
 ];
 
+// Where each of the keys stands: from the left, and in which row.
+fn places(alloc: Global) -> Result<Vec<(Key, u32, u32)>, AllocError> {
+    let mut places = Vec::new(alloc);
+    let (mut x, mut row): (u32, u32) = (MARGIN, 0);
+    for key in KEYS {
+        if x.saturating_add(key.width()) > WIDTH {
+            (x, row) = (MARGIN, row.saturating_add(1));
+        }
+        places.push((key, x, row))?;
+        x = x.saturating_add(key.width());
+    }
+    Ok(places)
+}
+
+/// How high the legend is.
+pub(super) fn height(alloc: Global) -> Result<u32, AllocError> {
+    let rows = match places(alloc)?.last() {
+        Some((_, _, row)) => row.saturating_add(1),
+        None => 0,
+    };
+    Ok(rows.saturating_mul(ROW))
+}
+
+const IMAGE: &str =
+    r#"<li><svg class="pool" width="22" height="16" viewBox="0 0 22 16" aria-hidden="true">"#;
+
+/// The legend as a list of a page: an image of its own for each key, and its name.
+pub(super) fn list(alloc: Global) -> Result<String, AllocError> {
+    let mut out = String::from_str(alloc, "<ul class=\"legend\">\n")?;
+    for key in KEYS {
+        let name = key.name();
+        out.push_str(IMAGE)?;
+        symbol(&mut out, key, 10, 80)?;
+        writeln!(out, "</svg>{name}</li>")?;
+    }
+    out.push_str("</ul>\n")?;
+    Ok(out)
+}
+
 impl Canvas {
-    pub(super) fn legend(&mut self) -> Result<(), AllocError> {
-        let mut x = MARGIN;
-        for key in KEYS {
-            self.key(key, x)?;
-            x = x.saturating_add(key.width());
+    /// The legend, so far down.
+    pub(super) fn legend(&mut self, top: u32) -> Result<(), AllocError> {
+        for (key, x, row) in places(self.alloc)? {
+            let y = row
+                .saturating_mul(ROW)
+                .saturating_add(top)
+                .saturating_add(ROW / 2);
+            symbol(&mut self.out, key, x, y)?;
+            let (x, y) = (Tenths(x.saturating_add(270)), Tenths(y.saturating_add(40)));
+            let name = key.name();
+            writeln!(self.out, "<text x=\"{x}\" y=\"{y}\">{name}</text>")?;
         }
         Ok(())
     }
+}
 
-    fn key(&mut self, key: Key, x: u32) -> Result<(), AllocError> {
-        match key {
-            Key::Idle => self.line("idle", x, 20, 25)?,
-            Key::Lent => {
-                self.line("idle", x, 22, 25)?;
-                self.line("lent", x, 13, 110)?;
-            }
-            Key::Pending => self.box_of("pendings", x)?,
-            Key::Came(coming) => self.came(coming, x.saturating_add(100), LEGEND, 45)?,
-            Key::Went(cause) => self.went(cause, x.saturating_add(100), LEGEND, 45)?,
+// What a key looks like, 200 wide from a place on, with its middle so far down.
+fn symbol(out: &mut String, key: Key, x: u32, y: u32) -> Result<(), AllocError> {
+    match key {
+        Key::Lent => line(out, "lent", x, y, 110),
+        Key::Many => line(out, "many", x, y, 110),
+        Key::StillLent => {
+            line(out, "lent", x, y, 110)?;
+            point(out, x.saturating_add(200), y, 55)
         }
-        let (x, y) = (Tenths(x.saturating_add(270)), Tenths(LEGEND + 40));
-        let name = key.name();
-        writeln!(self.out, "<text x=\"{x}\" y=\"{y}\">{name}</text>")
-    }
-
-    // A line so long and so thick.
-    fn line(&mut self, class: &str, x: u32, length: u32, thick: u32) -> Result<(), AllocError> {
-        let (x, y, width) = (Tenths(x), Tenths(LEGEND), Tenths(thick));
-        writeln!(
-            self.out,
-            "<path class=\"{class}\" stroke-width=\"{width}\" d=\"M{x} {y}h{length}\"/>"
-        )
-    }
-
-    fn box_of(&mut self, class: &str, x: u32) -> Result<(), AllocError> {
-        let (x, y) = (Tenths(x), Tenths(LEGEND - 55));
-        writeln!(
-            self.out,
-            "<rect class=\"{class}\" x=\"{x}\" y=\"{y}\" width=\"20\" height=\"11\"/>"
-        )
-    }
-
-    /// The mark of a connection's coming, around a place, that reaches so far.
-    pub(super) fn came(
-        &mut self,
-        coming: Coming,
-        x: u32,
-        y: u32,
-        reach: u32,
-    ) -> Result<(), AllocError> {
-        let (left, top) = (
-            Tenths(x.saturating_sub(reach)),
-            Tenths(y.saturating_sub(reach)),
-        );
-        let (x, y, reach) = (Tenths(x), Tenths(y), Tenths(reach));
-        match coming {
-            Coming::Admitted => writeln!(
-                self.out,
-                "<circle class=\"hollow\" cx=\"{x}\" cy=\"{y}\" r=\"{reach}\"/>"
-            ),
-            Coming::Resting | Coming::Away => writeln!(
-                self.out,
-                "<path class=\"mark\" d=\"M{x} {top}L{left} {y}l{reach} {reach}\"/>"
-            ),
-        }
-    }
-
-    /// The mark of a connection's end.
-    pub(super) fn went(
-        &mut self,
-        cause: Cause,
-        x: u32,
-        y: u32,
-        reach: u32,
-    ) -> Result<(), AllocError> {
-        let (left, top) = (
-            Tenths(x.saturating_sub(reach)),
-            Tenths(y.saturating_sub(reach)),
-        );
-        let (half, whole) = (Tenths(reach), Tenths(reach.saturating_mul(2)));
-        match cause {
-            Cause::Closed => {
-                self.cross("halo", left, top, whole)?;
-                self.cross("mark", left, top, whole)
-            }
-            Cause::Reaped => writeln!(
-                self.out,
-                "<path class=\"solid\" d=\"M{left} {top}h{whole}l-{half} {whole}z\"/>"
-            ),
-            Cause::ClosedAll => writeln!(
-                self.out,
-                "<path class=\"solid\" d=\"M{left} {top}h{whole}v{whole}h-{whole}z\"/>"
-            ),
-        }
-    }
-
-    fn cross(
-        &mut self,
-        class: &str,
-        left: Tenths,
-        top: Tenths,
-        whole: Tenths,
-    ) -> Result<(), AllocError> {
-        write!(self.out, "<path class=\"{class}\" d=\"M{left} {top}")?;
-        writeln!(self.out, "l{whole} {whole}m0 -{whole}l-{whole} {whole}\"/>")
+        Key::Idle => line(out, "idle", x, y, 25),
+        Key::Opening => box_of(out, "openings", x, y),
+        Key::Exhausted => line(out, "exhaustion", x, y, 60),
+        Key::Came(coming) => came(out, coming, x.saturating_add(100), y, 45),
+        Key::Went(cause) => went(out, cause, x.saturating_add(100), y, 45),
     }
 }

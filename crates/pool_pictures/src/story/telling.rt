@@ -186,11 +186,16 @@ impl Teller {
 
     // Notes how many there are now.
     fn count(&mut self) -> Result<(), AllocError> {
+        let (idle, connections) = (capped(self.idle.len()), capped(self.places.len()));
+        let busy = connections
+            .saturating_sub(idle)
+            .saturating_add(self.pending);
         let counts = Counts {
             at: self.now,
-            idle: capped(self.idle.len()),
-            connections: capped(self.places.len()),
+            idle,
+            connections,
             pending: self.pending,
+            is_exhausted: !self.closed && busy >= self.limits.max_size(),
         };
         Ok(self.counts.push(counts)?)
     }

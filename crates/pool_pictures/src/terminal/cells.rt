@@ -1,9 +1,9 @@
 // The rows of a drawing in text, a sign for each column.
 
+use crate::bins::Most;
 use crate::scale::Scale;
-use crate::story::{Cause, Coming, Counts, Life, Series, Story, Use};
+use crate::story::{Cause, Coming, Life, Series, Story, Use};
 use std::alloc::{AllocError, Global};
-use std::time::Duration;
 
 const BARS: [char; 9] = [' ', '▁', '▂', '▃', '▄', '▅', '▆', '▇', '█'];
 
@@ -13,6 +13,7 @@ enum Cell {
     Away,
     Idle,
     Lent,
+    StillLent,
     Before,
     Opened,
     Closed,
@@ -26,6 +27,7 @@ impl Cell {
             Cell::Away => ' ',
             Cell::Idle => '-',
             Cell::Lent => '#',
+            Cell::StillLent => '>',
             Cell::Before => '<',
             Cell::Opened => 'o',
             Cell::Closed => 'x',
@@ -78,10 +80,17 @@ pub(super) fn lane(
         show(&mut cells, from, to, Cell::of_use(stretch.what));
     }
     let begun = scale.place(life.birth.max(story.from));
-    show(&mut cells, begun, begun, Cell::of_coming(life.coming));
-    if let Some(ending) = life.ending {
-        let ended = scale.place(ending.at);
-        show(&mut cells, ended, ended, Cell::of_cause(ending.cause));
+    if life.is_still(Use::Lent) {
+        show(&mut cells, scale.width, scale.width, Cell::StillLent);
+    }
+    let coming = Cell::of_coming(life.coming);
+    match life.ending {
+        Some(ending) => {
+            let (begun, ended) = apart(begun, scale.place(ending.at));
+            show(&mut cells, begun, begun, coming);
+            show(&mut cells, ended, ended, Cell::of_cause(ending.cause));
+        }
+        None => show(&mut cells, begun, begun, coming),
     }
     signs(alloc, &cells)
 }
@@ -94,40 +103,36 @@ fn signs(alloc: Global, cells: &[Cell]) -> Result<Vec<char>, AllocError> {
     Ok(signs)
 }
 
+// The columns of a beginning and of an end, so that both have room.
+fn apart(begun: u32, ended: u32) -> (u32, u32) {
+    if begun < ended {
+        (begun, ended)
+    } else if begun == 0 {
+        (0, 1)
+    } else {
+        (begun - 1, begun)
+    }
+}
+
 /// The bars of a count: in each column the most that there were.
-pub(super) fn band(
+pub(super) fn bars(
     alloc: Global,
-    story: &Story,
-    scale: &Scale,
+    bins: &[Most],
     series: Series,
+    top: u32,
 ) -> Result<Vec<char>, AllocError> {
-    let mut highest = vec![in alloc; 0u32; scale.columns()]?;
-    let mut before: Option<Counts> = None;
-    for counts in story.counts.iter() {
-        if let Some(last) = before {
-            raise(&mut highest, scale, last.at, counts.at, last.of(series));
-        }
-        before = Some(*counts);
-    }
-    if let Some(last) = before {
-        raise(&mut highest, scale, last.at, story.to, last.of(series));
-    }
-    bars(alloc, &highest, story.top())
-}
-
-// There were so many from one moment to another.
-fn raise(heights: &mut [u32], scale: &Scale, from: Duration, to: Duration, count: u32) {
-    let (from, to) = (scale.place(from), scale.place(to));
-    let width = to.saturating_sub(from).saturating_add(1);
-    for height in heights.iter_mut().skip(from as usize).take(width as usize) {
-        *height = (*height).max(count);
-    }
-}
-
-fn bars(alloc: Global, heights: &[u32], top: u32) -> Result<Vec<char>, AllocError> {
     let mut signs = Vec::new(alloc);
-    for height in heights {
-        signs.push(bar(*height, top))?;
+    for most in bins {
+        signs.push(bar(most.get(series), top))?;
+    }
+    Ok(signs)
+}
+
+/// A sign in each column in which the pool was exhausted.
+pub(super) fn exhausted_signs(alloc: Global, bins: &[Most]) -> Result<Vec<char>, AllocError> {
+    let mut signs = Vec::new(alloc);
+    for most in bins {
+        signs.push(if most.is_exhausted { '!' } else { ' ' })?;
     }
     Ok(signs)
 }
