@@ -55,7 +55,7 @@ impl Ends {
 
 // Whether the line of a drawing is a line, a bar or an area.
 fn is_stroke(line: &str) -> bool {
-    ["idle", "lent", "idles", "lents", "pendings"]
+    ["idle", "lent", "many", "idles", "lents", "openings"]
         .iter()
         .any(|class| {
             line.strip_prefix("<path class=\"")
