@@ -290,9 +290,6 @@ const WHO: &str = concat!(
     "  lent at the end: connection 2, since 7.804 s (2026-01-31T12:00:07.804Z), for 0.000 s\n",
 );
 
-// Noon of that day, after the beginning of 1970.
-const NOON: Duration = Duration::from_secs(1_769_860_800);
-
 #[test]
 fn answers_who_is_lent_and_how_long_all_were(rt: HostRuntime) -> Result<(), Fail> {
     let words = format!(in rt.alloc(); "line 1: replays\n{WHO}")?;
@@ -323,7 +320,8 @@ fn drawings_have_the_answers_and_the_clock(rt: HostRuntime) -> Result<(), Fail> 
     let answers = lines(rt.alloc(), WHO)?;
     let notes = Notes {
         answers: answers.as_slice(),
-        made_at: Some(NOON),
+        // Noon of that day, after the beginning of 1970.
+        made_at: Some(Duration::from_secs(1_769_860_800)),
         ..notes("replays", true, None)
     };
     let report = from_json(rt.alloc(), LENT)?;

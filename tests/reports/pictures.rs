@@ -10,22 +10,25 @@ use std::time::Duration;
 
 const TEXT: &str = r"at most 2 connections, 1 wanted idle, the newest lent first
 idle_timeout 100 ms, max_lifetime none
-base at 0 s: 0 idle, 0 lent, 1 pending
-end at 140 ms: 0 idle, 0 lent, 0 pending
-9 records, 0 before the base, closed
+base at 0 s: 0 lent, 0 idle, 1 opening
+end at 140 ms: 0 lent, 0 idle, 0 opening
+9 records, from the making at 0 s to 140 ms, closed
+exhausted once, for 10 ms in all, 7.1 % of the time
 
-connections |      ▄▄▄▄▄▄▄▄▄▄▄▄███████████████████▄▄▄▄▄▄▄▄▄▄▄▄▄▄▄▄▄▄▄▄▄▄▄▄▄▄▄▄▄▄▄▄▄▄▄▄▄▄▄▄▄▄▄      ▄
+       lent |            ▄▄▄▄▄▄▄▄▄▄▄▄▄     ▄▄▄▄▄▄▄
        idle |      ▄▄▄▄▄▄▄     ▄▄▄▄▄▄███████▄▄▄▄▄▄▄▄▄▄▄▄▄▄▄▄▄▄▄▄▄▄▄▄▄▄▄▄▄▄▄▄▄▄▄▄▄▄▄▄▄▄▄▄▄▄▄▄▄      ▄
-    pending |▄▄▄▄▄▄▄     ▄▄▄▄▄▄▄                                                            ▄▄▄▄▄▄▄▄
+connections |      ▄▄▄▄▄▄▄▄▄▄▄▄███████████████████▄▄▄▄▄▄▄▄▄▄▄▄▄▄▄▄▄▄▄▄▄▄▄▄▄▄▄▄▄▄▄▄▄▄▄▄▄▄▄▄▄▄▄      ▄
+    opening |▄▄▄▄▄▄▄     ▄▄▄▄▄▄▄                                                            ▄▄▄▄▄▄▄▄
+  exhausted |            !!!!!!!
              a full bar is 2
 
           0 |      o-----#############-----######x
           1 |                  o------------------------------------------------------------r
-          2 |                                                                                      c
+          2 |                                                                                     oc
             |+-----------+-----------+-----------+------------+-----------+-----------+------------+
             |0           20 ms       40 ms       60 ms        80 ms       100 ms      120 ms
 
-- idle   # lent   o opened   < there before   x closed   r reaped   c closed with the pool
+# lent   > still lent   - idle   o opened   < there before   x closed   r reaped   c closed with it
 ";
 
 fn count(text: &str, part: &str) -> usize {
@@ -51,9 +54,9 @@ fn draws_a_story(rt: HostRuntime) -> Result<(), Fail> {
     assert_eq!(rt; count(drawn, "<circle class=\"hollow\""), 4);
     assert_eq!(rt; count(drawn, "<path class=\"mark\""), 3);
     assert_eq!(rt; count(drawn, "<path class=\"solid\""), 4);
-    assert!(rt; drawn.contains("d=\"M149.2 275H495.7\"/>"));
-    assert!(rt; drawn.contains("d=\"M218.5 275H357.1M426.4 275H495.7\"/>"));
-    assert!(rt; drawn.contains("<circle class=\"hollow\" cx=\"1050\" cy=\"315\" r=\"4.5\"/>"));
+    assert!(rt; drawn.contains("d=\"M149.2 332H495.7\"/>"));
+    assert!(rt; drawn.contains("d=\"M218.5 332H357.1M426.4 332H495.7\"/>"));
+    assert!(rt; drawn.contains("<circle class=\"hollow\" cx=\"1039\" cy=\"372\" r=\"4.5\"/>"));
     assert!(rt;
         drawn.contains(
             "<title>connection 0: admitted at 10 ms, lent 2 times, 30 ms in all, \
@@ -160,7 +163,9 @@ fn draws_ids_where_they_have_room(rt: HostRuntime) -> Result<(), Fail> {
     for (size, ids) in [(10u32, 10), (100, 100), (101, 0)] {
         let report = crowd(rt.alloc(), size, 1000)?;
         let drawn = svg(rt.alloc(), &report, &Notes::none())?;
-        assert_eq!(rt; count(drawn.as_str(), "<text class=\"id\""), ids);
+        // Each is still lent, and its lane says since when.
+        assert_eq!(rt; count(drawn.as_str(), "<text class=\"id\" text-anchor=\"end\""), ids);
+        assert_eq!(rt; count(drawn.as_str(), ">since "), ids);
         assert_eq!(rt; count(drawn.as_str(), "<title>"), size as usize);
     }
     Ok(())

@@ -1,7 +1,7 @@
 // That nothing is drawn beside the plot.
 
 use crate::books::random_report;
-use pool_pictures::{svg, text};
+use pool_pictures::{Notes, svg, text};
 use rand_core::SeedableRng;
 use rand_pcg::Pcg32;
 use std::test::Fail;
@@ -55,7 +55,7 @@ impl Ends {
 
 // Whether the line of a drawing is a line, a bar or an area.
 fn is_stroke(line: &str) -> bool {
-    ["idle", "lent", "idles", "lents", "pendings"]
+    ["idle", "lent", "many", "idles", "lents", "openings"]
         .iter()
         .any(|class| {
             line.strip_prefix("<path class=\"")
@@ -88,7 +88,7 @@ fn every_place_lies_within_the_plot(rt: HostRuntime) -> Result<(), Fail> {
         let mut rng = Pcg32::seed_from_u64(seed);
         for room in [0usize, 1, 9, 300] {
             let report = random_report(alloc, &mut rng, 0, 200, room)?;
-            let drawn = svg(alloc, &report)?;
+            let drawn = svg(alloc, &report, &Notes::none())?;
             let ends = measured(drawn.as_str());
             assert!(rt; ends.count >= 9, "{seed} at {room}");
             assert!(rt;
@@ -108,7 +108,7 @@ fn every_line_of_text_has_room(rt: HostRuntime) -> Result<(), Fail> {
     for seed in 0..100 {
         let mut rng = Pcg32::seed_from_u64(seed);
         let report = random_report(alloc, &mut rng, 0, 200, 300)?;
-        let drawn = text(alloc, &report)?;
+        let drawn = text(alloc, &report, &Notes::none())?;
         for line in drawn.as_str().lines() {
             assert!(rt; line.chars().count() <= 100, "{seed}: {line}");
         }

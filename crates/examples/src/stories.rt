@@ -88,7 +88,7 @@ fn report(alloc: Global, script: &str) -> Result<Report, Fault> {
 // Draws a script that is there.
 pub fn told<R: Print + AllocGlobal>(rt: &R) -> Result<(), anyhow::Error> {
     let report = report(rt.alloc(), SCRIPT)?;
-    print!(rt; "{}", text(rt.alloc(), &report)?)?;
+    print!(rt; "{}", text(rt.alloc(), &report, &Notes::none())?)?;
     Ok(())
 }
 

@@ -30,14 +30,7 @@ impl Canvas {
         self.out.push_str("<g class=\"lane\">")?;
         self.story_of(life)?;
         let pitch = self.layout.pitch;
-        let from = self.x(life.birth.max(story.from));
-        let to = match life.ending {
-            // An end has room beside the beginning, however soon it comes.
-            Some(ending) => self.x(ending.at).max(from.saturating_add(
-                pitch.mark.saturating_mul(2).saturating_add(20),
-            )),
-            None => self.x(story.to),
-        };
+        let (from, to) = self.ends(story, life);
         self.rest(from, to, y)?;
         self.bars(life, y)?;
         came(&mut self.out, life.coming, from, y, pitch.mark)?;
@@ -51,6 +44,19 @@ impl Canvas {
             self.id(life.id, y)?;
         }
         self.out.push_str("</g>\n")
+    }
+
+    // From where to where a life is drawn. An end has room beside the beginning, however soon it
+    // comes.
+    fn ends(&self, story: &Story, life: &Life) -> (u32, u32) {
+        let from = self.x(life.birth.max(story.from));
+        let Some(ending) = life.ending else {
+            return (from, self.x(story.to));
+        };
+        let room = self.layout.pitch.mark.saturating_mul(2).saturating_add(20);
+        let to = self.x(ending.at).max(from.saturating_add(room));
+        let to = to.min(self.layout.right);
+        (from.min(to.saturating_sub(room)), to)
     }
 
     // What a pointer over the lane is told.
