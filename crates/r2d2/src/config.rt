@@ -372,34 +372,6 @@ impl<
         )?;
         Some(limits.with_order(config.lending_order))
     }
-
-    // Where a pool is built from settings that break a condition, which `rt try` lets pass. The
-    // toolchain shows no message where a run stops, but the names of the functions.
-    pub(crate) fn stop_at_a_broken_condition(&self) -> !
-        requires { ⊥ }
-    {
-        let config = &self.config;
-        if config
-            .min_idle
-            .is_some_and(|wanted| wanted > config.max_size)
-        {
-            min_idle_is_above_max_size()
-        } else {
-            a_setting_is_zero()
-        }
-    }
-}
-
-fn min_idle_is_above_max_size() -> !
-    requires { ⊥ }
-{
-    unreachable!()
-}
-
-fn a_setting_is_zero() -> !
-    requires { ⊥ }
-{
-    unreachable!()
 }
 
 impl<M, H: fmt::Debug, V: fmt::Debug, Z: fmt::Debug> fmt::Debug for Builder<M, H, V, Z> {

@@ -85,7 +85,7 @@ impl<
         ensures takes { IfOk result (λ made. made.1.journal.takes ≡ 0) }
     {
         let Some(limits) = self.limits() else {
-            self.stop_at_a_broken_condition()
+            unreachable!()
         };
         let config = self.into_config();
         let lists = reap_lists(alloc, config.thread_pool, limits.max_size())?;
