@@ -31,6 +31,8 @@ fn of<R: PoolRuntime>(
 fn what_is_idle_is_closed_at_once(rt: HostRuntime) -> Result<(), Fail> {
     let counts = Counts::new(rt.alloc())?;
     let pool = of(rt, &counts, 3, 3)?;
+    // Time for the workers to come to their wait.
+    thread::sleep(&rt, Duration::from_millis(300));
     assert_eq!(rt; pool.evict()?, 3);
     assert_eq!(rt; counts.dropped(), 3);
     assert_eq!(rt; watched(&rt, &counts.connects, 6, 1000), 6);
