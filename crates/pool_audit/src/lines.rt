@@ -107,8 +107,8 @@ impl<T: Drop> From<AllocFailed<T>> for Fault {
 }
 
 /// Audits the report on each line of the input, or each one in the lines of a log, and writes what
-/// it found on each: whether all are sound. Lines of white space alone are left out, and counted. Of
-/// a log it says in the end how many lines hold no report.
+/// it found on each: whether all are sound. Lines of white space alone are left out, and counted.
+/// Of a log it says in the end how many lines hold no report.
 ///
 /// It stops at the first fault. What it found on the lines before was written by then: where that
 /// failed, the fault is the failed write.

@@ -6,8 +6,8 @@ use found::{Found, Object};
 use json::{Scratch, Tape};
 use place::not_json;
 use r2d2_core::{
-    Base, IdList, IdleConnections, LendingOrder, LentConnections, Limits, Record, RecordList,
-    Report,
+    Base, IdList, IdleConnections, LendingOrder, LentConnections, LimitSettings, Limits, Record,
+    RecordList, Report,
 };
 use std::alloc::Global;
 use std::time::{Duration, SystemTime};
@@ -134,14 +134,15 @@ fn read_limits(alloc: Global, report: &Object<'_, '_>) -> Result<Limits, FromJso
     let connection_timeout = limits.field("connection_timeout")?.nanoseconds()?;
     let reap_every = limits.field("reap_every")?.nanoseconds()?;
     let order = read_order(&limits.field("order")?)?;
-    Limits::of(
+    LimitSettings {
         max_size,
         min_idle,
         max_lifetime,
         idle_timeout,
         connection_timeout,
         reap_every,
-    )
+    }
+    .limits()
     .map(|limits| limits.with_order(order))
     .ok_or(FromJsonError::Limits)
 }

@@ -47,15 +47,16 @@ impl Summary {
     }
 }
 
-/// What a report says of the time that it covers. Of one that does not replay it says as much as its
-/// records do.
+/// What a report says of the time that it covers. Of one that does not replay it says as much as
+/// its records do.
 ///
 /// It takes time in proportion to the records, and memory to the lent connections. The error comes
 /// only where that is refused.
 pub fn summarize<A: Allocator>(alloc: Global, report: &Report<A>) -> Result<Summary, AllocError>
     ensures opened { IfOk result (λ s. s.opened ≡ opened_in report.now.records) }
     ensures closed { IfOk result (λ s. s.closed ≡ closed_in report.now.records) }
-    ensures reaped { IfOk result (λ s. s.reaped ≡ (report.now.base.connections + opened_in report.now.records) - (closed_in report.now.records + report.now.connections)) }
+    ensures reaped { IfOk result (λ s. s.reaped ≡ (report.now.base.connections + opened_in
+        report.now.records) - (closed_in report.now.records + report.now.connections)) }
     ensures lent { IfOk result (λ s. map (λ l. l.id) s.lent.items ≡ report.now.lent) }
 {
     let records = report.records.as_slice();
@@ -94,8 +95,8 @@ fn loans(alloc: Global, ids: &[u64], records: &[Record]) -> Result<Vec<Loan>, Al
     Ok(loans)
 }
 
-// When each of them was taken, if a record says that. They stand in the order of their takes: so the
-// newest take of the last one is newer than that of the one before it.
+// When each of them was taken, if a record says that. They stand in the order of their takes: so
+// the newest take of the last one is newer than that of the one before it.
 fn dates(
     alloc: Global,
     ids: &[u64],

@@ -66,7 +66,8 @@ impl Canvas {
         self.closing(story)
     }
 
-    // The whiles in which the pool was exhausted: a strip over the band, and a shade over the lanes.
+    // The whiles in which the pool was exhausted: a strip over the band, and a shade over the
+    // lanes.
     fn shade(&mut self, bins: &[Most]) -> Result<(), AllocError> {
         let top = self.layout.band_top().saturating_sub(90);
         let (lanes, bottom) = (self.layout.lanes_top(), self.layout.lanes_bottom());
