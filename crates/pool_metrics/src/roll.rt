@@ -59,8 +59,8 @@ impl Roll {
     /// One is lent now. Where there is no more room, it is counted, and not listed.
     pub(crate) fn enter(&mut self, id: u64, now: u64)
         ensures listed { vec_len self.old.entries < vec_capacity self.old.entries
-            → self.new.entries.items ≡ self.old.entries.items ++ record
-            { id = id; since = max self.old.latest now } ∷ [] }
+            → self.new.entries.items
+            ≡ self.old.entries.items ++ record { id = id; since = max self.old.latest now } ∷ [] }
         ensures room { vec_capacity self.new.entries ≡ vec_capacity self.old.entries }
         ensures full { vec_capacity self.old.entries ≤ vec_len self.old.entries
             → self.new.entries.items ≡ self.old.entries.items
@@ -77,8 +77,8 @@ impl Roll {
 
     /// One is not lent any more.
     pub(crate) fn strike(&mut self, id: u64)
-        ensures struck { self.new.entries.items ≡ filter (λ e. not
-            (e.id == id)) self.old.entries.items }
+        ensures struck { self.new.entries.items
+            ≡ filter (λ e. not (e.id == id)) self.old.entries.items }
         ensures room { vec_capacity self.new.entries ≡ vec_capacity self.old.entries }
         ensures unlisted { self.new.unlisted ≡ self.old.unlisted }
     {
@@ -100,8 +100,8 @@ impl Roll {
         nanos: u64,
         now: u64,
     ) -> Result<Vec<Overdue>, AllocError>
-        ensures all { IfOk result (λ v. v.items ≡ longer_than nanos
-            (max self.now.latest now) self.now.entries.items) }
+        ensures all { IfOk result
+            (λ v. v.items ≡ longer_than nanos (max self.now.latest now) self.now.entries.items) }
         ensures longest_first { IfOk result (λ v. IsLongestFirst v.items) }
     {
         let now = self.latest.max(now);

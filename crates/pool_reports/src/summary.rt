@@ -55,8 +55,10 @@ impl Summary {
 pub fn summarize<A: Allocator>(alloc: Global, report: &Report<A>) -> Result<Summary, AllocError>
     ensures opened { IfOk result (λ s. s.opened ≡ opened_in report.now.records) }
     ensures closed { IfOk result (λ s. s.closed ≡ closed_in report.now.records) }
-    ensures reaped { IfOk result (λ s. s.reaped ≡ (report.now.base.connections + opened_in
-        report.now.records) - (closed_in report.now.records + report.now.connections)) }
+    ensures reaped { IfOk result
+        (λ s. s.reaped
+        ≡ (report.now.base.connections + opened_in report.now.records)
+        - (closed_in report.now.records + report.now.connections)) }
     ensures lent { IfOk result (λ s. map (λ l. l.id) s.lent.items ≡ report.now.lent) }
 {
     let records = report.records.as_slice();

@@ -57,13 +57,10 @@ impl<H, V, Z> Config<H, V, Z> {
         event_handler: W,
         connection_customizer: Y,
     ) -> (Config<G, W, Y>, (H, V, Z))
-        ensures settings { result.0 ≡ with_handlers error_handler event_handler
-            connection_customizer self }
-        ensures handlers { result.1 ≡ (
-          self.error_handler,
-          self.event_handler,
-          self.connection_customizer,
-        ) }
+        ensures settings { result.0
+            ≡ with_handlers error_handler event_handler connection_customizer self }
+        ensures handlers { result.1
+            ≡ (self.error_handler, self.event_handler, self.connection_customizer) }
     {
         let handlers = (
             self.error_handler,

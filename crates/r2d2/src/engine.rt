@@ -144,13 +144,14 @@ pub fn give_back<T, A: Allocator>(
     value: T,
     broken: bool,
 ) -> (Result<Returned<T>, (Refusal, T)>, Wakes)
-    ensures answer { map_ok seen_returned result.0 ≡ return_answer
-        (as_nanos now) id value broken book.old.picture }
+    ensures answer { map_ok seen_returned result.0
+        ≡ return_answer (as_nanos now) id value broken book.old.picture }
     ensures wakes { result.1 ≡ wakes_of_return (map_ok seen_returned result.0) }
-    ensures after { book.new.picture ≡ after_return (as_nanos now) id value broken book.old.picture }
+    ensures after { book.new.picture
+        ≡ after_return (as_nanos now) id value broken book.old.picture }
     ensures sound { IsSound book.new.picture }
-    ensures noted { book.new.journal ≡ noted_return (as_nanos now) id
-        (map_ok seen_returned result.0) book.old }
+    ensures noted { book.new.journal
+        ≡ noted_return (as_nanos now) id (map_ok seen_returned result.0) book.old }
 {
     let returned = book.put_back(now, id, value, broken);
     let wakes = match &returned {
@@ -201,14 +202,14 @@ pub fn sweep<T, A: Allocator>(
 ) -> (u32, Wakes)
     requires empty { vec_len out.old ≡ 0 }
     requires room { book.old.picture.on_order.limits.max_size ≤ vec_capacity out.old }
-    ensures released { map seen_released out.new.items ≡ reap_closed
-        (as_nanos now) book.old.picture }
+    ensures released { map seen_released out.new.items
+        ≡ reap_closed (as_nanos now) book.old.picture }
     ensures answer { result.0 ≡ reap_orders (as_nanos now) book.old.picture }
     ensures wakes { result.1 ≡ wakes_of_reap (length out.new.items) result.0 }
     ensures after { book.new.picture ≡ after_reap (as_nanos now) book.old.picture }
     ensures sound { IsSound book.new.picture }
-    ensures noted { book.new.journal ≡ noted_reap (as_nanos now)
-        (length out.new.items) result.0 book.old }
+    ensures noted { book.new.journal
+        ≡ noted_reap (as_nanos now) (length out.new.items) result.0 book.old }
 {
     let ordered = book.reap(now, out);
     let wakes = Wakes {

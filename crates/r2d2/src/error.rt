@@ -123,8 +123,8 @@ impl std::error::Error for Error {}
 
 /// The text of a manager's or a customizer's error; None where memory for it is refused.
 pub(crate) fn text_of<E: fmt::Display, A: Allocator>(alloc: A, error: &E) -> Option<String<A>>
-    ensures { IfSome result (λ text. IfSome (E.output error.now)
-        (λ bytes. string_bytes text ≡ bytes)) }
+    ensures { IfSome result
+        (λ text. IfSome (E.output error.now) (λ bytes. string_bytes text ≡ bytes)) }
 {
     error.to_string(alloc).ok()
 }

@@ -71,10 +71,10 @@ impl<X: Extension> Extensions<X> {
     /// had none.
     #[tactic(auto, using(crate::proofs::Places::distinct_set, crate::proofs::Places::distinct_pushed))]
     pub fn insert(&mut self, value: X) -> Result<Option<X>, X>
-        ensures replaced { IfOk result (λ replaced. replaced ≡ lookup
-            (X.Kind.eq (X.kind_of value)) self.old) }
-        ensures entries { OnOk result (self.new ≡ with_entry (X.Kind.eq (X.kind_of value)) self.old
-            (X.kind_of value) value) }
+        ensures replaced { IfOk result
+            (λ replaced. replaced ≡ lookup (X.Kind.eq (X.kind_of value)) self.old) }
+        ensures entries { OnOk result (self.new
+            ≡ with_entry (X.Kind.eq (X.kind_of value)) self.old (X.kind_of value) value) }
         ensures map { OnOk result (ChangesKind X.Kind.eq (X.kind_of value)
             (Some value) self.old self.new) }
         ensures refused { IfErr result (λ back. back ≡ value) }

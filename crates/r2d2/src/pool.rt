@@ -147,7 +147,8 @@ impl<C: Ties, M: ManageConnection, K: Hooks<M>, R: PoolRuntime> AnyPool<C, M, K,
         C: Counter,
         requires { 0 < C.parts tally.old }
         ensures parts { C.parts tally.new ≡ C.parts tally.old }
-        ensures amount { IfOk result (λ n. C.amount tally.new ≡ C.amount tally.old + n * C.per_take) }
+        ensures amount { IfOk result
+            (λ n. C.amount tally.new ≡ C.amount tally.old + n * C.per_take) }
         ensures unchanged { OnErr result (C.amount tally.new ≡ C.amount tally.old) }
         ensures refused { IfErr result IsOfMemory }
     {

@@ -65,8 +65,10 @@ impl<T, A: Allocator> Book<T, A> {
     where
         T: Drop,
         A: Copy,
-        ensures { IfOk result (λ book. book ≡ seen_book (first_picture (seen_limits limits)
-            (as_nanos now) 0) (first_journal (seen_limits limits) (as_nanos now) room)) }
+        ensures { IfOk result
+            (λ book. book
+            ≡ seen_book (first_picture (seen_limits limits) (as_nanos now) 0)
+            (first_journal (seen_limits limits) (as_nanos now) room)) }
     {
         Book::with_first_id(alloc, limits, now, 0, room)
     }
@@ -82,8 +84,10 @@ impl<T, A: Allocator> Book<T, A> {
     where
         T: Drop,
         A: Copy,
-        ensures { IfOk result (λ book. book ≡ seen_book (first_picture (seen_limits limits)
-            (as_nanos now) first_id) (first_journal (seen_limits limits) (as_nanos now) room)) }
+        ensures { IfOk result
+            (λ book. book
+            ≡ seen_book (first_picture (seen_limits limits) (as_nanos now) first_id)
+            (first_journal (seen_limits limits) (as_nanos now) room)) }
     {
         let machine = Core::with_first_id(alloc, limits, now, first_id)?;
         let journal = Journal::new(alloc, limits, now, room)?;
@@ -160,8 +164,8 @@ impl<T, A: Allocator> Book<T, A> {
         ensures sound { IfOk result HasSoundCounts }
         ensures counted { IfOk result CountsItsTakes }
         ensures whole { IfOk result BeginsAtAMaking }
-        ensures since { IfOk result (λ report. report.lost ≡ 0
-            → as_nanos report.base.at ≡ self.now.journal.made) }
+        ensures since { IfOk result
+            (λ report. report.lost ≡ 0 → as_nanos report.base.at ≡ self.now.journal.made) }
     {
         self.report_in(self.alloc)
     }
@@ -175,8 +179,8 @@ impl<T, A: Allocator> Book<T, A> {
         ensures sound { IfOk result HasSoundCounts }
         ensures counted { IfOk result CountsItsTakes }
         ensures whole { IfOk result BeginsAtAMaking }
-        ensures since { IfOk result (λ report. report.lost ≡ 0
-            → as_nanos report.base.at ≡ self.now.journal.made) }
+        ensures since { IfOk result
+            (λ report. report.lost ≡ 0 → as_nanos report.base.at ≡ self.now.journal.made) }
     {
         let base = self.base(alloc)?;
         let records = self.journal.copied(alloc)?;
@@ -223,8 +227,8 @@ impl<T, A: Allocator> Book<T, A> {
     #[inline(always)]
     pub fn take(&mut self, now: Duration, or_order: bool) -> Take<T>
         ensures answer { seen_take result ≡ table.take_answer or_order self.old.picture }
-        ensures after { self.new.picture ≡ table.after_take
-            (as_nanos now) or_order self.old.picture }
+        ensures after { self.new.picture
+            ≡ table.after_take (as_nanos now) or_order self.old.picture }
         ensures sound { IsSound self.new.picture }
         ensures noted { self.new.journal ≡ noted_take (as_nanos now) (seen_take result) self.old }
     {
@@ -257,8 +261,8 @@ impl<T, A: Allocator> Book<T, A> {
     /// As `Core::admit`. It is noted where it is accepted.
     pub fn admit(&mut self, now: Duration, id: u64, value: T) -> Result<(), (Refusal, T)>
         ensures answer { result ≡ table.admit_answer id value self.old.picture }
-        ensures after { self.new.picture ≡ table.after_admit
-            (as_nanos now) id value self.old.picture }
+        ensures after { self.new.picture
+            ≡ table.after_admit (as_nanos now) id value self.old.picture }
         ensures sound { IsSound self.new.picture }
         ensures noted { self.new.journal ≡ noted_admission (as_nanos now) id result self.old }
     {
@@ -275,10 +279,10 @@ impl<T, A: Allocator> Book<T, A> {
         tries: u32,
         text: Option<String>,
     ) -> Result<Duration, Refusal>
-        ensures answer { map_ok as_nanos result ≡ table.fail_answer
-            (as_nanos now) tries self.old.picture }
-        ensures after { self.new.picture ≡ table.after_fail
-            (as_nanos now) tries text self.old.picture }
+        ensures answer { map_ok as_nanos result
+            ≡ table.fail_answer (as_nanos now) tries self.old.picture }
+        ensures after { self.new.picture
+            ≡ table.after_fail (as_nanos now) tries text self.old.picture }
         ensures sound { IsSound self.new.picture }
         ensures noted { self.new.journal ≡ self.old.journal }
     {
@@ -292,13 +296,13 @@ impl<T, A: Allocator> Book<T, A> {
         id: u64,
         text: Option<String>,
     ) -> Result<Gone, Refusal>
-        ensures answer { map_ok seen_gone result ≡ table.check_answer
-            (as_nanos now) id self.old.picture }
-        ensures after { self.new.picture ≡ table.after_check
-            (as_nanos now) id text self.old.picture }
+        ensures answer { map_ok seen_gone result
+            ≡ table.check_answer (as_nanos now) id self.old.picture }
+        ensures after { self.new.picture
+            ≡ table.after_check (as_nanos now) id text self.old.picture }
         ensures sound { IsSound self.new.picture }
-        ensures noted { self.new.journal ≡ noted_check (as_nanos now) id
-            (map_ok seen_gone result) self.old }
+        ensures noted { self.new.journal
+            ≡ noted_check (as_nanos now) id (map_ok seen_gone result) self.old }
     {
         let answer = self.machine.fail_check(now, id, text);
         let at = self.machine.latest();
@@ -315,13 +319,13 @@ impl<T, A: Allocator> Book<T, A> {
         value: T,
         broken: bool,
     ) -> Result<Returned<T>, (Refusal, T)>
-        ensures answer { map_ok seen_returned result ≡ table.return_answer
-            (as_nanos now) id value broken self.old.picture }
-        ensures after { self.new.picture ≡ table.after_return
-            (as_nanos now) id value broken self.old.picture }
+        ensures answer { map_ok seen_returned result
+            ≡ table.return_answer (as_nanos now) id value broken self.old.picture }
+        ensures after { self.new.picture
+            ≡ table.after_return (as_nanos now) id value broken self.old.picture }
         ensures sound { IsSound self.new.picture }
-        ensures noted { self.new.journal ≡ noted_return (as_nanos now) id
-            (map_ok seen_returned result) self.old }
+        ensures noted { self.new.journal
+            ≡ noted_return (as_nanos now) id (map_ok seen_returned result) self.old }
     {
         let answer = self.machine.put_back(now, id, value, broken);
         let at = self.machine.latest();
@@ -333,13 +337,13 @@ impl<T, A: Allocator> Book<T, A> {
     pub fn reap(&mut self, now: Duration, out: &mut Vec<Released<T>>) -> u32
         requires empty { vec_len out.old ≡ 0 }
         requires room { self.old.picture.on_order.limits.max_size ≤ vec_capacity out.old }
-        ensures released { map seen_released out.new.items ≡ table.reap_closed
-            (as_nanos now) self.old.picture }
+        ensures released { map seen_released out.new.items
+            ≡ table.reap_closed (as_nanos now) self.old.picture }
         ensures answer { result ≡ table.reap_orders (as_nanos now) self.old.picture }
         ensures after { self.new.picture ≡ table.after_reap (as_nanos now) self.old.picture }
         ensures sound { IsSound self.new.picture }
-        ensures noted { self.new.journal ≡ noted_reap (as_nanos now)
-            (length out.new.items) result self.old }
+        ensures noted { self.new.journal
+            ≡ noted_reap (as_nanos now) (length out.new.items) result self.old }
     {
         let ordered = self.machine.reap_uncounted(now, out);
         let at = self.machine.latest();

@@ -78,8 +78,8 @@ impl<T, A: Allocator> Core<T, A> {
     where
         T: Drop,
         A: Copy,
-        ensures { IfOk result (λ core. core ≡ first_picture (seen_limits limits)
-            (as_nanos now) first_id) }
+        ensures { IfOk result
+            (λ core. core ≡ first_picture (seen_limits limits) (as_nanos now) first_id) }
     {
         let room = limits.max_size() as usize;
         let idle = Idle::new(alloc, room)?;
@@ -333,8 +333,8 @@ impl<T, A: Allocator> Core<T, A> {
         value: T,
         broken: bool,
     ) -> Result<Returned<T>, (Refusal, T)>
-        ensures answer { map_ok seen_returned result ≡ table.return_answer
-            (as_nanos now) id value broken self.old }
+        ensures answer { map_ok seen_returned result
+            ≡ table.return_answer (as_nanos now) id value broken self.old }
         ensures after { self.new ≡ table.after_return (as_nanos now) id value broken self.old }
         ensures sound { IsSound self.new }
     {
@@ -379,8 +379,8 @@ impl<T, A: Allocator> Core<T, A> {
     ) -> u32
         requires empty { vec_len out.old ≡ 0 }
         requires room { self.old.on_order.limits.max_size ≤ vec_capacity out.old }
-        ensures released { map seen_released out.new.items ≡ table.reap_closed
-            (as_nanos now) self.old }
+        ensures released { map seen_released out.new.items
+            ≡ table.reap_closed (as_nanos now) self.old }
         ensures answer { result ≡ table.reap_orders (as_nanos now) self.old }
         ensures after { self.new ≡ table.after_reap (as_nanos now) self.old }
         ensures sound { IsSound self.new }
@@ -401,8 +401,8 @@ impl<T, A: Allocator> Core<T, A> {
     pub fn reap_uncounted(&mut self, now: Duration, out: &mut Vec<Released<T>>) -> u32
         requires empty { vec_len out.old ≡ 0 }
         requires room { self.old.on_order.limits.max_size ≤ vec_capacity out.old }
-        ensures released { map seen_released out.new.items ≡ table.reap_closed
-            (as_nanos now) self.old }
+        ensures released { map seen_released out.new.items
+            ≡ table.reap_closed (as_nanos now) self.old }
         ensures answer { result ≡ table.reap_orders (as_nanos now) self.old }
         ensures after { self.new ≡ table.after_reap (as_nanos now) self.old }
         ensures sound { IsSound self.new }
@@ -422,8 +422,8 @@ impl<T, A: Allocator> Core<T, A> {
         requires some { 0 < L.parts }
         requires empty { vec_len out.old ≡ 0 }
         requires room { self.old.on_order.limits.max_size ≤ vec_capacity out.old }
-        ensures released { map seen_released out.new.items ≡ table.reap_closed
-            (as_nanos now) self.old }
+        ensures released { map seen_released out.new.items
+            ≡ table.reap_closed (as_nanos now) self.old }
         ensures answer { result ≡ table.reap_orders (as_nanos now) self.old }
         ensures after { self.new ≡ table.after_reap (as_nanos now) self.old }
         ensures sound { IsSound self.new }
@@ -474,8 +474,8 @@ ghost use Rattle.r2d2_core.specs.Seen.{or_text};
 
 // A text takes the place of the last one; where there is none, that stays.
 fn keep_text(last_error: &mut Option<String>, text: Option<String>)
-    ensures { option_map string_bytes last_error.new ≡ or_text text
-        (option_map string_bytes last_error.old) }
+    ensures { option_map string_bytes last_error.new
+        ≡ or_text text (option_map string_bytes last_error.old) }
 {
     if let Some(text) = text {
         *last_error = Some(text);

@@ -77,8 +77,8 @@ pub fn compare(
     ensures other { IfOk result (λ answer. IfSome answer (λ c.
         IsSomeAnd (other_list idle.now moves.now picks.now)
         (λ left. c.other ≡ expired (raised_now idle.now moves.now now) limit left))) }
-    ensures none { IfOk result (λ answer. (answer ≡ None)
-        ↔ (other_list idle.now moves.now picks.now ≡ None)) }
+    ensures none { IfOk result
+        (λ answer. (answer ≡ None) ↔ (other_list idle.now moves.now picks.now ≡ None)) }
 
     ensures at_least { IfOk result (λ answer. IfSome answer (λ c. c.other ≤ c.newest_first)) }
     ensures at_most { IfOk result (λ answer. IfSome answer (λ c. c.oldest_first ≤ c.other)) }

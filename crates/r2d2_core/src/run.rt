@@ -179,10 +179,12 @@ pub fn run<T: Drop>(
     now: Duration,
     steps: Vec<Step<T>>,
 ) -> Result<(Core<T>, Vec<Answer<T>>), AllocError>
-    ensures answers { IfOk result (λ r. map seen_answer r.1.items ≡ answers_of
-        (Made (seen_limits limits) (as_nanos now) 0) steps.items) }
-    ensures picture { IfOk result (λ r. r.0 ≡ picture_of (after_all
-        (Made (seen_limits limits) (as_nanos now) 0) steps.items)) }
+    ensures answers { IfOk result
+        (λ r. map seen_answer r.1.items
+        ≡ answers_of (Made (seen_limits limits) (as_nanos now) 0) steps.items) }
+    ensures picture { IfOk result
+        (λ r. r.0 ≡ picture_of (after_all (Made (seen_limits limits)
+        (as_nanos now) 0) steps.items)) }
     ensures sound { IfOk result (λ r. IsSound r.0) }
 {
     let mut core: Core<T> = Core::new(alloc, limits, now)?;

@@ -68,8 +68,8 @@ impl<A: Allocator> Schedule<A> {
     /// No openings, room for `max_size` of them, and the first reap, where an age or an idle time
     /// is limited: `reap_every` after `now`. The error comes only where memory is refused.
     pub fn new(alloc: A, limits: Limits, now: Duration) -> Result<Schedule<A>, AllocError>
-        ensures { IfOk result (λ schedule. schedule ≡ first_schedule (seen_limits limits)
-            (as_nanos now)) }
+        ensures { IfOk result
+            (λ schedule. schedule ≡ first_schedule (seen_limits limits) (as_nanos now)) }
     {
         let max_size = limits.max_size();
         let reap_every = limits.reap_every();
@@ -114,11 +114,11 @@ impl<A: Allocator> Schedule<A> {
     /// stays: then the answer is to wait for it. Where an opening is handed out it takes at most
     /// twice as many steps as the number of openings that were held has binary digits, else none.
     pub fn next<L: Ledger>(&mut self, now: Duration, steps: &mut Steps<L>) -> Job
-        ensures answer { seen_job result ≡ first_job (as_nanos now) self.old.openings
-            self.old.next_reap }
+        ensures answer { seen_job result
+            ≡ first_job (as_nanos now) self.old.openings self.old.next_reap }
         ensures after { self.new ≡ after_job (seen_job result) self.old }
-        ensures cost { steps.new ≤ steps.old + steps_of_job (seen_job result)
-            (length self.old.openings) }
+        ensures cost { steps.new
+            ≤ steps.old + steps_of_job (seen_job result) (length self.old.openings) }
     {
         if self.held > 0 {
             let due = self.entries[0].due();

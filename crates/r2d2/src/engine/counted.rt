@@ -200,14 +200,14 @@ impl<T, C: Ties> Tied<T, C> {
         value: T,
         broken: bool,
     ) -> (Result<Returned<T>, (Refusal, T)>, Wakes)
-        ensures answer { map_ok seen_returned result.0 ≡ table.return_answer
-            (as_nanos now) id value broken self.old.book.picture }
+        ensures answer { map_ok seen_returned result.0
+            ≡ table.return_answer (as_nanos now) id value broken self.old.book.picture }
         ensures wakes { result.1 ≡ wakes_of_return (map_ok seen_returned result.0) }
-        ensures after { self.new.book.picture ≡ table.after_return
-            (as_nanos now) id value broken self.old.book.picture }
+        ensures after { self.new.book.picture
+            ≡ table.after_return (as_nanos now) id value broken self.old.book.picture }
         ensures sound { IsSound self.new.book.picture }
-        ensures noted { self.new.book.journal ≡ noted_return (as_nanos now) id
-            (map_ok seen_returned result.0) self.old.book }
+        ensures noted { self.new.book.journal
+            ≡ noted_return (as_nanos now) id (map_ok seen_returned result.0) self.old.book }
         ensures total { self.new.total ≡ self.old.total }
     {
         give_back(&mut self.book, now, id, value, broken)
@@ -215,11 +215,11 @@ impl<T, C: Ties> Tied<T, C> {
 
     /// As `settle`.
     pub fn settle(&mut self, now: Duration, outcome: Outcome<T>) -> (Settled<T>, Wakes)
-        ensures answer { seen_settled result.0 ≡ settle_answer
-            (as_nanos now) outcome self.old.book.picture }
+        ensures answer { seen_settled result.0
+            ≡ settle_answer (as_nanos now) outcome self.old.book.picture }
         ensures wakes { result.1 ≡ wakes_of_settled (seen_settled result.0) }
-        ensures after { self.new.book.picture ≡ after_settle
-            (as_nanos now) outcome self.old.book.picture }
+        ensures after { self.new.book.picture
+            ≡ after_settle (as_nanos now) outcome self.old.book.picture }
         ensures sound { IsSound self.new.book.picture }
         ensures noted { self.new.book.journal ≡ noted_settle (as_nanos now) outcome self.old.book }
         ensures total { self.new.total ≡ self.old.total }
@@ -231,15 +231,15 @@ impl<T, C: Ties> Tied<T, C> {
     pub fn sweep(&mut self, now: Duration, out: &mut Vec<Released<T>>) -> (u32, Wakes)
         requires empty { vec_len out.old ≡ 0 }
         requires room { self.old.book.picture.on_order.limits.max_size ≤ vec_capacity out.old }
-        ensures released { map seen_released out.new.items ≡ table.reap_closed
-            (as_nanos now) self.old.book.picture }
+        ensures released { map seen_released out.new.items
+            ≡ table.reap_closed (as_nanos now) self.old.book.picture }
         ensures answer { result.0 ≡ table.reap_orders (as_nanos now) self.old.book.picture }
         ensures wakes { result.1 ≡ wakes_of_reap (length out.new.items) result.0 }
-        ensures after { self.new.book.picture ≡ table.after_reap
-            (as_nanos now) self.old.book.picture }
+        ensures after { self.new.book.picture
+            ≡ table.after_reap (as_nanos now) self.old.book.picture }
         ensures sound { IsSound self.new.book.picture }
-        ensures noted { self.new.book.journal ≡ noted_reap (as_nanos now)
-            (length out.new.items) result.0 self.old.book }
+        ensures noted { self.new.book.journal
+            ≡ noted_reap (as_nanos now) (length out.new.items) result.0 self.old.book }
         ensures total { self.new.total ≡ self.old.total }
     {
         sweep(&mut self.book, now, out)
@@ -248,8 +248,8 @@ impl<T, C: Ties> Tied<T, C> {
     /// As `Book::begin`.
     pub fn begin(&mut self, now: Duration) -> Job
         ensures answer { seen_job result ≡ table.begin_answer (as_nanos now) self.old.book.picture }
-        ensures after { self.new.book.picture ≡ table.after_begin
-            (as_nanos now) self.old.book.picture }
+        ensures after { self.new.book.picture
+            ≡ table.after_begin (as_nanos now) self.old.book.picture }
         ensures sound { IsSound self.new.book.picture }
         ensures noted { self.new.book.journal ≡ self.old.book.journal }
         ensures total { self.new.total ≡ self.old.total }
@@ -309,14 +309,14 @@ impl<T, C: Counter> Tied<T, C> {
         requires { 0 < C.parts tally.old }
         ensures answer { seen_take result.0 ≡ table.take_answer or_order self.old.book.picture }
         ensures wakes { result.1 ≡ wakes_of_take (seen_take result.0) }
-        ensures after { self.new.book.picture ≡ table.after_take
-            (as_nanos now) or_order self.old.book.picture }
+        ensures after { self.new.book.picture
+            ≡ table.after_take (as_nanos now) or_order self.old.book.picture }
         ensures sound { IsSound self.new.book.picture }
-        ensures noted { self.new.book.journal ≡ noted_take (as_nanos now)
-            (seen_take result.0) self.old.book }
+        ensures noted { self.new.book.journal
+            ≡ noted_take (as_nanos now) (seen_take result.0) self.old.book }
         ensures parts { C.parts tally.new ≡ C.parts tally.old }
-        ensures amount { C.amount tally.new ≡ C.amount tally.old + found_by
-            (seen_take result.0) * C.per_take }
+        ensures amount { C.amount tally.new
+            ≡ C.amount tally.old + found_by (seen_take result.0) * C.per_take }
         ensures total { counted_where C.counts (seen_take result.0) self.old.total self.new.total }
     {
         let (taken, wakes) = lend(&mut self.book, now, or_order);
@@ -338,11 +338,11 @@ pub fn lend_counted<T, L: Ledger>(
     requires { 0 < share.old.parts }
     ensures answer { seen_take result.0 ≡ table.take_answer or_order counted.old.book.picture }
     ensures wakes { result.1 ≡ wakes_of_take (seen_take result.0) }
-    ensures after { counted.new.book.picture ≡ table.after_take
-        (as_nanos now) or_order counted.old.book.picture }
+    ensures after { counted.new.book.picture
+        ≡ table.after_take (as_nanos now) or_order counted.old.book.picture }
     ensures sound { IsSound counted.new.book.picture }
-    ensures noted { counted.new.book.journal ≡ noted_take (as_nanos now)
-        (seen_take result.0) counted.old.book }
+    ensures noted { counted.new.book.journal
+        ≡ noted_take (as_nanos now) (seen_take result.0) counted.old.book }
     ensures parts { share.new.parts ≡ share.old.parts }
     ensures amount { share.new.amount ≡ share.old.amount + found_by (seen_take result.0) }
     ensures total { counted.new.total ≡ counted.old.total + found_by (seen_take result.0) }

@@ -64,8 +64,8 @@ impl<
         ensures refused { IfErr result IsOfMemory }
         ensures parts { share.new.parts ≡ share.old.parts }
         ensures amount { share.old.amount ≤ share.new.amount }
-        ensures lent { IfOk result (λ found. IfSome found (λ _. share.old.amount + 1 ≤
-            share.new.amount)) }
+        ensures lent { IfOk result
+            (λ found. IfSome found (λ _. share.old.amount + 1 ≤ share.new.amount)) }
     {
         self.lend_within(None, share)
     }

@@ -31,8 +31,8 @@ impl<C: Counter, M: ManageConnection, K: Hooks<M>, R: PoolRuntime> AnyPool<C, M,
         ensures at_once { IsNone timeout → IfErr result IsOfMemory }
         ensures parts { C.parts tally.new ≡ C.parts tally.old }
         ensures amount { C.amount tally.old ≤ C.amount tally.new }
-        ensures lent { IfOk result (λ found. IfSome found (λ _. C.amount tally.old + C.per_take ≤
-            C.amount tally.new)) }
+        ensures lent { IfOk result
+            (λ found. IfSome found (λ _. C.amount tally.old + C.per_take ≤ C.amount tally.new)) }
     {
         // Modelled in model/waiting.pml: keep both alike.
         let shared = self.shared();

@@ -93,10 +93,12 @@ impl<P: Drop, C: Ties> Guarded<Tied<P, C>> {
         value: P,
         broken: bool,
     ) -> (Result<Returned<P>, (Refusal, P)>, Wakes)
-        ensures answer { map_ok seen_returned result.0 ≡ return_answer (as_nanos now) id value
-            (is_to_close broken id self.old.first_kept) self.old.book.book.picture }
-        ensures after { self.new.book.book.picture ≡ after_return (as_nanos now) id value
-            (is_to_close broken id self.old.first_kept) self.old.book.book.picture }
+        ensures answer { map_ok seen_returned result.0
+            ≡ return_answer (as_nanos now) id value (is_to_close broken id self.old.first_kept)
+            self.old.book.book.picture }
+        ensures after { self.new.book.book.picture
+            ≡ after_return (as_nanos now) id value (is_to_close broken id self.old.first_kept)
+            self.old.book.book.picture }
         ensures wakes { result.1 ≡ wakes_of_return (map_ok seen_returned result.0) }
         ensures kept { self.new.first_kept ≡ self.old.first_kept }
         ensures waiting { self.new.waiting ≡ self.old.waiting }
@@ -117,16 +119,16 @@ impl<P: Drop, C: Ties> Guarded<Tied<P, C>> {
         C: Counter,
         requires parts { 0 < C.parts tally.old }
         requires empty { vec_len evicted.old ≡ 0 }
-        requires room { self.old.book.book.picture.on_order.limits.max_size ≤ vec_capacity
-            evicted.old }
-        ensures released { map seen_released evicted.new.items ≡ evicted_of
-            (as_nanos now) self.old.book.book.picture }
+        requires room { self.old.book.book.picture.on_order.limits.max_size
+            ≤ vec_capacity evicted.old }
+        ensures released { map seen_released evicted.new.items
+            ≡ evicted_of (as_nanos now) self.old.book.book.picture }
         ensures after { IsEvicted self.old.book.book.picture self.new.book.book.picture }
         ensures kept { self.new.first_kept ≡ self.old.book.book.picture.on_order.next_id }
         ensures waiting { self.new.waiting ≡ self.old.waiting }
         ensures parts { C.parts tally.new ≡ C.parts tally.old }
-        ensures amount { C.amount tally.new ≡ C.amount tally.old + length evicted.new.items *
-            C.per_take }
+        ensures amount { C.amount tally.new
+            ≡ C.amount tally.old + length evicted.new.items * C.per_take }
     {
         self.book.evict(now, tally, evicted);
         self.first_kept = self.book.book().next_id();

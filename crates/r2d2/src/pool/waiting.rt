@@ -44,9 +44,9 @@ impl<P: Drop, C: Counter, M, K, R: Clock + Wait> Shared<Tied<P, C>, M, K, R> {
     ) -> Result<Option<Lent<P>>, Vain>
         requires { 0 < C.parts tally.old }
         ensures parts { C.parts tally.new ≡ C.parts tally.old }
-        ensures lent { IfOk result (λ found. MatchOption found
-            (C.amount tally.new ≡ C.amount tally.old) (λ _. C.amount tally.new ≡ C.amount tally.old
-            + C.per_take)) }
+        ensures lent { IfOk result
+            (λ found. MatchOption found (C.amount tally.new ≡ C.amount tally.old)
+            (λ _. C.amount tally.new ≡ C.amount tally.old + C.per_take)) }
         ensures refused { OnErr result (C.amount tally.new ≡ C.amount tally.old) }
         ensures waits { IsSome end → IfOk result IsSome }
         ensures at_once { IsNone end → IsOk result }
@@ -183,7 +183,8 @@ impl<C: Counter, M: ManageConnection, K: Hooks<M>, R: PoolRuntime> SharedOf<C, M
     pub(super) fn evict(&self, tally: &mut C::Tally) -> Result<usize, AllocError>
         requires { 0 < C.parts tally.old }
         ensures parts { C.parts tally.new ≡ C.parts tally.old }
-        ensures amount { IfOk result (λ n. C.amount tally.new ≡ C.amount tally.old + n * C.per_take) }
+        ensures amount { IfOk result
+            (λ n. C.amount tally.new ≡ C.amount tally.old + n * C.per_take) }
         ensures refused { OnErr result (C.amount tally.new ≡ C.amount tally.old) }
     {
         // Modelled in model/waiting.pml: keep both alike.
@@ -216,7 +217,8 @@ impl<P: Drop, C: Ties> Tied<P, C> {
 // Whether a reap or an eviction can use the list. It has room from the making on; but of a locked
 // book its type alone is known, so this asks.
 fn has_room<P>(book: &Book<P>, expired: &Vec<Released<P>>) -> bool
-    ensures { IsTrue result → (vec_len expired.now ≡ 0)
+    ensures { IsTrue result
+        → (vec_len expired.now ≡ 0)
         × (book.now.picture.on_order.limits.max_size ≤ vec_capacity expired.now) }
 {
     expired.is_empty() && expired.capacity() >= book.limits().max_size() as usize

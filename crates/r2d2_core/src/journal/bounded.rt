@@ -58,8 +58,8 @@ impl<A: Allocator> Journal<A> {
     ) -> Result<Journal<A>, AllocError>
     where
         A: Copy,
-        ensures { IfOk result (λ journal. journal ≡ first_journal (seen_limits limits)
-            (as_nanos now) room) }
+        ensures { IfOk result
+            (λ journal. journal ≡ first_journal (seen_limits limits) (as_nanos now) room) }
     {
         let most = limits.max_size() as usize;
         let both = Rooms {

@@ -32,8 +32,8 @@ impl<A: Allocator> Report<A> {
     pub fn first_fault(&self) -> Result<Option<Fault<A>>, AllocError>
     where
         A: Copy,
-        ensures { IfOk result (λ found. MatchOption found (DoesReplay self.now)
-            (λ fault. IsFault fault self.now)) }
+        ensures { IfOk result
+            (λ found. MatchOption found (DoesReplay self.now) (λ fault. IsFault fault self.now)) }
     {
         let Some(wrong) = self.first_wrong()? else {
             return Ok(None);
@@ -59,8 +59,10 @@ impl<A: Allocator> Report<A> {
         requires base { IsLegalBase (seen_limits self.now.limits) (seen_base self.now.base) }
         requires legal { AreLegalFrom (seen_limits self.now.limits) (seen_base self.now.base)
             (take count self.now.records) }
-        ensures { IfOk result (λ base. seen_base base ≡ replay (seen_limits self.now.limits)
-            (take count self.now.records) (seen_base self.now.base)) }
+        ensures { IfOk result
+            (λ base. seen_base base
+            ≡ replay (seen_limits self.now.limits) (take count self.now.records)
+            (seen_base self.now.base)) }
     {
         let records = &self.records.as_slice()[..count];
         let Some(mut running_base) = self.start(records)? else {

@@ -86,8 +86,8 @@ impl Record {
 
     /// The record of a take, by its answer.
     pub(crate) fn of_take<T>(at: Duration, taken: &Take<T>) -> Option<Record>
-        ensures { option_map seen_record result ≡ record_of_take (as_nanos at)
-            (seen_take taken.now) }
+        ensures { option_map seen_record result
+            ≡ record_of_take (as_nanos at) (seen_take taken.now) }
     {
         match taken {
             Take::Found { id, ordered, .. } => Some(Record::Taken {
@@ -127,8 +127,8 @@ impl Record {
         id: u64,
         answer: &Result<Returned<T>, (Refusal, T)>,
     ) -> Option<Record>
-        ensures { option_map seen_record result ≡ record_of_return (as_nanos at) id
-            (map_ok seen_returned answer.now) }
+        ensures { option_map seen_record result
+            ≡ record_of_return (as_nanos at) id (map_ok seen_returned answer.now) }
     {
         match answer {
             Ok(Returned::Kept) => Some(Record::Kept { at, id }),
@@ -143,8 +143,8 @@ impl Record {
 
     /// The record of a failed check of the id.
     pub(crate) fn of_check(at: Duration, id: u64, answer: &Result<Gone, Refusal>) -> Option<Record>
-        ensures { option_map seen_record result ≡ record_of_check (as_nanos at) id
-            (map_ok seen_gone answer.now) }
+        ensures { option_map seen_record result
+            ≡ record_of_check (as_nanos at) id (map_ok seen_gone answer.now) }
     {
         match answer {
             Ok(gone) => Some(Record::Closed {

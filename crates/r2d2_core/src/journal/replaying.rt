@@ -53,8 +53,8 @@ impl<A: Allocator> Report<A> {
     pub(crate) fn first_wrong(&self) -> Result<Option<Wrong>, AllocError>
     where
         A: Copy,
-        ensures { IfOk result (λ found. MatchOption found (DoesReplay self.now)
-            (λ wrong. IsWrong wrong self.now)) }
+        ensures { IfOk result
+            (λ found. MatchOption found (DoesReplay self.now) (λ wrong. IsWrong wrong self.now)) }
     {
         let records = self.records.as_slice();
         let Some(apart) = self.count_apart()? else {
@@ -77,7 +77,8 @@ impl<A: Allocator> Report<A> {
     fn count_apart(&self) -> Result<Option<usize>, AllocError>
     where
         A: Copy,
-        ensures { IfOk result (λ found. MatchOption found (HasWrongBase self.now)
+        ensures { IfOk result
+            (λ found. MatchOption found (HasWrongBase self.now)
             (λ count. AreApartUpTo self.now count)) }
     {
         let records = self.records.as_slice();
@@ -104,7 +105,8 @@ impl<A: Allocator> Report<A> {
     fn are_apart(&self, records: &[Record]) -> Result<bool, AllocError>
     where
         A: Copy,
-        ensures { IfOk result (λ answer. IsTrue answer
+        ensures { IfOk result
+            (λ answer. IsTrue answer
             ↔ ((i : ℕ) → copies_of i (known_in (seen_base self.now.base)
             (map seen_record records.now)) ≤ 1)) }
     {
@@ -118,7 +120,8 @@ impl<A: Allocator> Report<A> {
     where
         A: Copy,
         requires apart { (i : ℕ) → copies_of i (ids_of (seen_base self.now.base)) ≤ 1 }
-        ensures { IfOk result (λ made. MatchOption made (HasWrongBase self.now)
+        ensures { IfOk result
+            (λ made. MatchOption made (HasWrongBase self.now)
             (λ there. IsLegalBase (seen_limits self.now.limits) (seen_base self.now.base)
             × (there ≡ running_base (seen_base self.now.base)
             (rooms_for (seen_base self.now.base) (map seen_record records.now))))) }
@@ -157,8 +160,8 @@ fn known_ids<A: Allocator + Copy>(
     base: &Base<A>,
     records: &[Record],
 ) -> Result<Vec<u64, A>, AllocError>
-    ensures { IfOk result (λ ids. ids.items ≡ known_in (seen_base base.now)
-        (map seen_record records.now)) }
+    ensures { IfOk result
+        (λ ids. ids.items ≡ known_in (seen_base base.now) (map seen_record records.now)) }
 {
     let mut ids = Vec::with_capacity(alloc, most_ids(base, records))?;
     add_idle(&mut ids, base.idle.as_slice())?;
@@ -185,8 +188,8 @@ fn add_idle<A: Allocator>(
     ids: &mut Vec<u64, A>,
     idle: &[(u64, Duration, Duration)],
 ) -> Result<(), AllocError>
-    ensures { OnOk result (ids.new.items ≡ ids.old.items ++ map id_of_idle
-        (map seen_bare idle.now)) }
+    ensures { OnOk result (ids.new.items
+        ≡ ids.old.items ++ map id_of_idle (map seen_bare idle.now)) }
 {
     for entry in idle {
         ids.push(entry.0)?;
@@ -195,8 +198,8 @@ fn add_idle<A: Allocator>(
 }
 
 fn add_lent<A: Allocator>(ids: &mut Vec<u64, A>, lent: &[(u64, Duration)]) -> Result<(), AllocError>
-    ensures { OnOk result (ids.new.items ≡ ids.old.items ++ map id_of_lent
-        (map seen_lent lent.now)) }
+    ensures { OnOk result (ids.new.items
+        ≡ ids.old.items ++ map id_of_lent (map seen_lent lent.now)) }
 {
     for entry in lent {
         ids.push(entry.0)?;
@@ -205,8 +208,8 @@ fn add_lent<A: Allocator>(ids: &mut Vec<u64, A>, lent: &[(u64, Duration)]) -> Re
 }
 
 fn add_admitted<A: Allocator>(ids: &mut Vec<u64, A>, records: &[Record]) -> Result<(), AllocError>
-    ensures { OnOk result (ids.new.items ≡ ids.old.items ++ admitted_in
-        (map seen_record records.now)) }
+    ensures { OnOk result (ids.new.items
+        ≡ ids.old.items ++ admitted_in (map seen_record records.now)) }
 {
     for record in records {
         if let Some(id) = record.admitted() {

@@ -119,13 +119,14 @@ impl<T, A: Allocator> Idle<T, A> {
         requires in_order { IsNonDecreasingBy since_of self.old.items }
         requires empty { vec_len out.old ≡ 0 }
         requires room { length self.old.items ≤ vec_capacity out.old }
-        ensures released { map seen_released out.new.items ≡ closed_of (seen_limits limits.now)
-            (as_nanos now) self.old.items }
-        ensures kept { self.new ≡ roster (filter (is_kept (seen_limits limits.now)
+        ensures released { map seen_released out.new.items
+            ≡ closed_of (seen_limits limits.now) (as_nanos now) self.old.items }
+        ensures kept { self.new
+            ≡ roster (filter (is_kept (seen_limits limits.now)
             (as_nanos now)) self.old.items) self.old.room }
-        ensures count { length self.new.items + length (filter
-            (is_expired (seen_limits limits.now) (as_nanos now)) self.old.items) ≡ length
-            self.old.items }
+        ensures count { length self.new.items
+            + length (filter (is_expired (seen_limits limits.now) (as_nanos now)) self.old.items)
+            ≡ length self.old.items }
         ensures capacity { vec_capacity out.new ≡ vec_capacity out.old }
         ensures few { (seen_limits limits.now).max_lifetime ≡ None
             → steps.new ≤ steps.old + (2 * vec_len out.new + 1) }
@@ -148,11 +149,12 @@ impl<T, A: Allocator> Idle<T, A> {
     where
         T: Drop,
         requires in_order { IsNonDecreasingBy since_of self.old.items }
-        ensures kept { self.new ≡ roster (filter (is_kept (seen_limits limits.now)
+        ensures kept { self.new
+            ≡ roster (filter (is_kept (seen_limits limits.now)
             (as_nanos now)) self.old.items) self.old.room }
-        ensures count { length self.new.items + length (filter
-            (is_expired (seen_limits limits.now) (as_nanos now)) self.old.items) ≡ length
-            self.old.items }
+        ensures count { length self.new.items
+            + length (filter (is_expired (seen_limits limits.now) (as_nanos now)) self.old.items)
+            ≡ length self.old.items }
     {
         if let Some(ring) = &mut self.ring {
             if limits.max_lifetime().is_some() {

@@ -31,10 +31,11 @@ pub(super) fn reap_front<T, A: Allocator, L: Ledger>(
     requires in_order { IsNonDecreasingBy since_of ring.old.items }
     requires empty { vec_len out.old ≡ 0 }
     requires room { length ring.old.items ≤ vec_capacity out.old }
-    ensures released { map seen_released out.new.items ≡ closed_of (seen_limits limits.now)
-        (as_nanos now) ring.old.items }
-    ensures kept { ring.new ≡ buffer (filter (is_kept (seen_limits limits.now)
-        (as_nanos now)) ring.old.items) ring.old.capacity }
+    ensures released { map seen_released out.new.items
+        ≡ closed_of (seen_limits limits.now) (as_nanos now) ring.old.items }
+    ensures kept { ring.new
+        ≡ buffer (filter (is_kept (seen_limits limits.now) (as_nanos now)) ring.old.items)
+        ring.old.capacity }
     ensures capacity { vec_capacity out.new ≡ vec_capacity out.old }
     ensures few { steps.new ≤ steps.old + (2 * vec_len out.new + 1) }
     ensures each { steps.new ≤ steps.old + 2 * length ring.old.items }
@@ -66,10 +67,11 @@ pub(super) fn reap_each<T, A: Allocator, L: Ledger>(
 )
     requires empty { vec_len out.old ≡ 0 }
     requires room { length ring.old.items ≤ vec_capacity out.old }
-    ensures released { map seen_released out.new.items ≡ closed_of (seen_limits limits.now)
-        (as_nanos now) ring.old.items }
-    ensures kept { ring.new ≡ buffer (filter (is_kept (seen_limits limits.now)
-        (as_nanos now)) ring.old.items) ring.old.capacity }
+    ensures released { map seen_released out.new.items
+        ≡ closed_of (seen_limits limits.now) (as_nanos now) ring.old.items }
+    ensures kept { ring.new
+        ≡ buffer (filter (is_kept (seen_limits limits.now) (as_nanos now)) ring.old.items)
+        ring.old.capacity }
     ensures capacity { vec_capacity out.new ≡ vec_capacity out.old }
     ensures each { steps.new ≤ steps.old + 2 * length ring.old.items }
 {

@@ -19,8 +19,8 @@ pub(crate) fn add<L: Ledger>(
     requires room { held < length entries.old }
     requires heap { IsHeap (take held entries.old) }
     ensures heap { IsHeap (take (held + 1) entries.new) }
-    ensures openings { sorted (take (held + 1) entries.new) ≡ with_opening opening
-        (sorted (take held entries.old)) }
+    ensures openings { sorted (take (held + 1) entries.new)
+        ≡ with_opening opening (sorted (take held entries.old)) }
     ensures cost { steps.new ≤ steps.old + binary_digits (held + 1) }
 {
     entries[held] = opening;
@@ -33,8 +33,8 @@ pub(crate) fn remove_least<L: Ledger>(entries: &mut [Opening], held: usize, step
     requires room { held ≤ length entries.old }
     requires heap { IsHeap (take held entries.old) }
     ensures heap { IsHeap (take (held - 1) entries.new) }
-    ensures openings { sorted (take (held - 1) entries.new) ≡ drop 1
-        (sorted (take held entries.old)) }
+    ensures openings { sorted (take (held - 1) entries.new)
+        ≡ drop 1 (sorted (take held entries.old)) }
     ensures cost { steps.new ≤ steps.old + 2 * binary_digits held }
 {
     let last = held - 1;

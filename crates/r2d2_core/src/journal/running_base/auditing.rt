@@ -26,8 +26,9 @@ use std::time::Duration;
 
 // Whether neither of the first two moments is after the third, nor that after the last.
 fn are_in_a_row(birth: Duration, last: Duration, since: Duration, at: Duration) -> bool
-    ensures { result ≡ (nat_le (as_nanos birth) (as_nanos since) &&
-        (nat_le (as_nanos last) (as_nanos since) && nat_le (as_nanos since) (as_nanos at))) }
+    ensures { result
+        ≡ (nat_le (as_nanos birth) (as_nanos since)
+        && (nat_le (as_nanos last) (as_nanos since) && nat_le (as_nanos since) (as_nanos at))) }
 {
     birth.as_nanos() <= since.as_nanos()
         && last.as_nanos() <= since.as_nanos()
@@ -48,10 +49,10 @@ impl<A: Allocator> RunningBase<A> {
         requires idle_room { length base.now.idle ≤ room.idle }
         requires lent_room { length base.now.lent ≤ room.lent }
         ensures { IfOk result (λ made. MatchOption made
-            ((are_in_order (as_nanos base.now.at) 0 base.now.idle && are_born
-            (as_nanos base.now.at) base.now.lent) ≡ false)
-            (λ there. ((are_in_order (as_nanos base.now.at) 0 base.now.idle && are_born
-            (as_nanos base.now.at) base.now.lent) ≡ true)
+            ((are_in_order (as_nanos base.now.at) 0 base.now.idle
+            && are_born (as_nanos base.now.at) base.now.lent) ≡ false)
+            (λ there. ((are_in_order (as_nanos base.now.at) 0 base.now.idle
+            && are_born (as_nanos base.now.at) base.now.lent) ≡ true)
             × (there ≡ running_base (seen_base base.now) room))) }
     {
         let mut running_base = RunningBase::tight(alloc, base.at, base.pending, room)?;
@@ -73,8 +74,8 @@ impl<A: Allocator> RunningBase<A> {
     ) -> Result<RunningBase<A>, AllocError>
     where
         A: Copy,
-        ensures { IfOk result (λ made. made ≡ running_base (empty_base
-            (as_nanos at) pending) room) }
+        ensures { IfOk result
+            (λ made. made ≡ running_base (empty_base (as_nanos at) pending) room) }
     {
         let idle = Idle::new(alloc, room.idle)?;
         let lent = Roster::tight(alloc, room.lent)?;
@@ -92,8 +93,9 @@ impl<A: Allocator> RunningBase<A> {
         requires empty { self.old.base.idle ≡ [] }
         requires room { length idle.now ≤ self.old.room.idle }
         ensures is { result ≡ are_in_order self.old.base.at 0 (map seen_bare idle.now) }
-        ensures put { IsTrue result → self.new ≡ running_base
-            (with_idle (map seen_bare idle.now) self.old.base) self.old.room }
+        ensures put { IsTrue result
+            → self.new ≡ running_base (with_idle (map seen_bare idle.now) self.old.base)
+            self.old.room }
     {
         let mut last = Duration::ZERO;
         for entry in idle {
@@ -112,8 +114,9 @@ impl<A: Allocator> RunningBase<A> {
         requires empty { self.old.base.lent ≡ [] }
         requires room { length lent.now ≤ self.old.room.lent }
         ensures is { result ≡ are_born self.old.base.at (map seen_lent lent.now) }
-        ensures put { IsTrue result → self.new ≡ running_base
-            (with_lent (map seen_lent lent.now) self.old.base) self.old.room }
+        ensures put { IsTrue result
+            → self.new ≡ running_base (with_lent (map seen_lent lent.now) self.old.base)
+            self.old.room }
     {
         for entry in lent {
             let (id, birth) = *entry;
@@ -129,15 +132,15 @@ impl<A: Allocator> RunningBase<A> {
     /// folded in.
     pub(crate) fn follow_all(&mut self, limits: &Limits, records: &[Record]) -> usize
         requires legal { IsLegalBase (seen_limits limits.now) self.old.base }
-        requires apart { (i : ℕ) → copies_of i (known_in self.old.base
-            (map seen_record records.now)) ≤ 1 }
+        requires apart { (i : ℕ)
+            → copies_of i (known_in self.old.base (map seen_record records.now)) ≤ 1 }
         requires room { self.old.room ≡ rooms_for self.old.base (map seen_record records.now) }
         ensures within { result ≤ length records.now }
-        ensures may { all_follow (seen_limits limits.now) (take result
-            (map seen_record records.now)) self.old.base ≡ true }
+        ensures may { all_follow (seen_limits limits.now)
+            (take result (map seen_record records.now)) self.old.base ≡ true }
         ensures stops { result < length records.now
-            → all_follow (seen_limits limits.now) (take (result + 1)
-            (map seen_record records.now)) self.old.base ≡ false }
+            → all_follow (seen_limits limits.now)
+            (take (result + 1) (map seen_record records.now)) self.old.base ≡ false }
         ensures folded { result ≡ length records.now
             → self.new ≡ running_base (replay (seen_limits limits.now)
             (map seen_record records.now) self.old.base) self.old.room }
@@ -154,7 +157,8 @@ impl<A: Allocator> RunningBase<A> {
 
     /// Whether the idle ones and the lent ones have these ids, in their order.
     pub(crate) fn has_ids(&self, idle: &[u64], lent: &[u64]) -> bool
-        ensures { IsTrue result ↔ ((map id_of_idle self.now.base.idle ≡ idle.now)
+        ensures { IsTrue result
+            ↔ ((map id_of_idle self.now.base.idle ≡ idle.now)
             × (map id_of_lent self.now.base.lent ≡ lent.now)) }
     {
         self.has_idle(idle) && self.lent.has_ids(lent)
@@ -178,7 +182,8 @@ impl<A: Allocator> RunningBase<A> {
 
     /// Whether these are its counts.
     pub(crate) fn has_counts(&self, connections: u32, pending: u32, closed: bool) -> bool
-        ensures { IsTrue result ↔ ((self.now.base.connections ≡ connections)
+        ensures { IsTrue result
+            ↔ ((self.now.base.connections ≡ connections)
             × ((self.now.base.pending ≡ pending) × (self.now.base.closed ≡ closed))) }
     {
         let idle = self.idle.len();

@@ -21,8 +21,9 @@ pub(super) fn shed_front<T: Drop, A: Allocator>(
 )
     requires births_alike { (seen_limits limits.now).max_lifetime ≡ None }
     requires in_order { IsNonDecreasingBy since_of ring.old.items }
-    ensures { ring.new ≡ buffer (filter (is_kept (seen_limits limits.now)
-        (as_nanos now)) ring.old.items) ring.old.capacity }
+    ensures { ring.new
+        ≡ buffer (filter (is_kept (seen_limits limits.now) (as_nanos now)) ring.old.items)
+        ring.old.capacity }
 {
     if limits.idle_timeout().is_none() {
         return;
@@ -44,8 +45,9 @@ pub(super) fn shed_each<T: Drop, A: Allocator>(
     limits: &Limits,
     now: Duration,
 )
-    ensures { ring.new ≡ buffer (filter (is_kept (seen_limits limits.now)
-        (as_nanos now)) ring.old.items) ring.old.capacity }
+    ensures { ring.new
+        ≡ buffer (filter (is_kept (seen_limits limits.now) (as_nanos now)) ring.old.items)
+        ring.old.capacity }
 {
     let all = ring.len();
     for _ in 0..all {
