@@ -2,9 +2,9 @@
 
 use crate::callers::watched;
 use crate::kind::{Makes, PlainPool, Pool, PooledConnection};
-use crate::listening::{Listener, Told};
-use crate::managers::{Blammo, Breaks, Counts, Line, Manager};
-use r2d2::{Builder, CustomizeConnection, PoolRuntime};
+use crate::listening::{Ends, Listener, Told};
+use crate::managers::{Breaks, Counts, Manager};
+use r2d2::{Builder, PoolRuntime};
 use std::sync::atomic::{AtomicU64, Ordering};
 use std::sync::{Arc, Mutex};
 use std::test::Fail;
@@ -90,18 +90,6 @@ fn nothing_is_wrong_where_the_pool_is_gone(rt: HostRuntime) -> Result<(), Fail> 
     assert_eq!(rt; watched(&rt, &counts.managers_dropped, 1, 1000), 1);
     assert_eq!(rt; (detached.field, counts.dropped()), (0, 0));
     Ok(())
-}
-
-/// Counts what it is told of the end of connections.
-#[derive(Debug, Drop)]
-struct Ends {
-    ends: Arc<AtomicU64>,
-}
-
-impl CustomizeConnection<Line, Blammo> for Ends {
-    fn on_release(&self, _connection: Line) {
-        self.ends.fetch_add(1, Ordering::SeqCst);
-    }
 }
 
 #[test]

@@ -2,9 +2,9 @@
 
 use crate::callers::watched;
 use crate::kind::{Makes, PlainPool, PooledConnection};
-use crate::listening::{Listener, Told};
-use crate::managers::{Blammo, Breaks, Counts, Line, Manager};
-use r2d2::{Builder, CustomizeConnection, PoolRuntime};
+use crate::listening::{Ends, Listener, Told};
+use crate::managers::{Breaks, Counts, Manager};
+use r2d2::{Builder, PoolRuntime};
 use r2d2_core::Record;
 use std::sync::atomic::{AtomicU64, Ordering};
 use std::sync::{Arc, Mutex};
@@ -102,18 +102,6 @@ fn who_waits_is_served_by_a_new_one(rt: HostRuntime) -> Result<(), Fail> {
     drop(lent);
     assert_eq!(rt; watched(&rt, &served, 1, 1000), 2);
     Ok(())
-}
-
-/// Counts what it is told of the end of connections.
-#[derive(Debug, Drop)]
-struct Ends {
-    ends: Arc<AtomicU64>,
-}
-
-impl CustomizeConnection<Line, Blammo> for Ends {
-    fn on_release(&self, _connection: Line) {
-        self.ends.fetch_add(1, Ordering::SeqCst);
-    }
 }
 
 #[test]

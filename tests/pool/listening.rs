@@ -1,9 +1,11 @@
 // A handler that writes down what it is told.
 
+use crate::managers::{Blammo, Line};
 use r2d2::event::{AcquireEvent, CheckinEvent, CheckoutEvent, ReleaseEvent, TimeoutEvent};
-use r2d2::{HandleEvent, PoolRuntime};
+use r2d2::{CustomizeConnection, HandleEvent, PoolRuntime};
 use std::alloc::AllocError;
 use std::fmt;
+use std::sync::atomic::{AtomicU64, Ordering};
 use std::sync::{Arc, Mutex, Wait};
 use std::time::Duration;
 
@@ -72,5 +74,17 @@ impl<R: PoolRuntime> HandleEvent for Listener<R> {
 
     fn handle_checkin(&self, event: CheckinEvent) {
         self.note(Told::Checkin(event.connection_id()));
+    }
+}
+
+/// Counts what it is told of the end of connections.
+#[derive(Debug, Drop)]
+pub(crate) struct Ends {
+    pub(crate) ends: Arc<AtomicU64>,
+}
+
+impl CustomizeConnection<Line, Blammo> for Ends {
+    fn on_release(&self, _connection: Line) {
+        self.ends.fetch_add(1, Ordering::SeqCst);
     }
 }
