@@ -197,6 +197,31 @@ fn is_untouched<R: PoolRuntime + Abort>(
 }
 
 #[test]
+fn an_eviction(rt: HostRuntime) -> Result<(), Fail> {
+    let Ok(play) = Play::new(rt.alloc(), GOOD) else {
+        return Ok(());
+    };
+    let manager = Manager::new(rt, &play)?;
+    let built = Builder::new()
+        .max_size(1)
+        .thread_pool(1)
+        .event_handler(Others::new(rt, &play)?)
+        .build(rt, manager);
+    let Ok(pool) = built else {
+        return Ok(());
+    };
+    let evicted = match pool.evict() {
+        Ok(evicted) => evicted,
+        Err(error) => {
+            is_untouched(&rt, &play, pool.state().idle_connections, error.kind())?;
+            pool.evict()?
+        }
+    };
+    assert_eq!(rt; evicted, 1);
+    Ok(())
+}
+
+#[test]
 fn lending_and_cloning(rt: HostRuntime) -> Result<(), Fail> {
     let Ok(play) = Play::new(rt.alloc(), GOOD) else {
         return Ok(());
