@@ -12,7 +12,7 @@ use Rattle.r2d2_core.specs.Refusals.{refused_if, ok_or_back, unless_refused}
 use Rattle.r2d2_core.specs.Connections.{SeenIdleConnection, SeenLentConnection, SeenReleased, lent_connection, id_of_idle, id_of_lent, birth_in, released_at}
 use Rattle.r2d2_core.specs.Picture.{Picture, IsSound}
 use Rattle.r2d2_core.specs.Seen.{SeenReturned, Found, Empty, Closed, take_with}
-use Rattle.r2d2_core.specs.Table.{raised_to, top_up_of, topped_up, next_of, lent_out, take_orders, taken, after_take, take_answer, gone_one, return_of}
+use Rattle.r2d2_core.specs.Table.{raised_to, top_up_of, next_of, take_orders, taken, after_take, take_answer, gone_one, return_of}
 use Rattle.r2d2_core.specs.Table.{returned, return_answer, after_return}
 use Rattle.r2d2_core.proofs.Lists.Ids.{copies_of-append3, last_of-push, front-push, last_is}
 use Rattle.r2d2_core.proofs.Lists.Lending.{none_is_next, length-still_idle, found-next, without-next}
