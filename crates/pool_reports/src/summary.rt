@@ -19,8 +19,8 @@ pub struct Summary {
     pub until: Duration,
     /// The most connections that were lent at once.
     pub most_lent: usize,
-    /// For how long the pool was exhausted: none was idle, and lent and pending ones were
-    /// `max_size`.
+    /// For how long the pool was exhausted: it was open, none was idle, and lent and pending ones
+    /// were `max_size`.
     pub exhausted: Duration,
     /// How many connections were opened.
     pub opened: u64,
@@ -131,6 +131,7 @@ struct Now {
     max_size: u64,
     lent: usize,
     pending: u64,
+    closed: bool,
     most_lent: usize,
     exhausted: Duration,
 }
@@ -143,6 +144,7 @@ impl Now {
             max_size: report.limits.max_size() as u64,
             lent,
             pending: report.base.pending as u64,
+            closed: report.base.closed,
             most_lent: lent,
             exhausted: Duration::ZERO,
         }
@@ -158,7 +160,7 @@ impl Now {
 
     // Lets the time pass until the next record.
     fn wait_until(&mut self, at: Duration) {
-        if (self.lent as u64).saturating_add(self.pending) >= self.max_size {
+        if !self.closed && (self.lent as u64).saturating_add(self.pending) >= self.max_size {
             let passed = at.saturating_sub(self.at);
             self.exhausted = self.exhausted.saturating_add(passed);
         }
@@ -180,7 +182,7 @@ impl Now {
                 self.lent = self.lent.saturating_sub(1);
                 self.order(*ordered);
             }
-            Record::ClosedAll { .. } => self.pending = 0,
+            Record::ClosedAll { .. } => (self.pending, self.closed) = (0, true),
         }
     }
 
