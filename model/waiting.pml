@@ -372,7 +372,8 @@ opens: /* Shared::open: the manager, the customizer, and the event between the n
   fi;
   goto begins;
 
-reaped: /* Shared::wake, then Shared::release_all */
+reaped: /* Shared::wake, then Shared::release_all. Nobody would miss these two wakes: no worker rests beyond the next reap,
+           and where a caller sleeps while a connection is idle, another wake is still to reach it. */
   if :: wakes -> atomic { wakes = false; wake_caller(REAP) } :: else fi;
   if :: orders -> atomic { orders = false; wake_workers(REAP) } :: else fi;
   if :: WORKER_MAY_STAY -> goto stays :: true fi;

@@ -6,7 +6,7 @@ use crate::play::{GOOD, Manager, Others, Play, Rows, watched};
 use r2d2::{Builder, ErrorKind, Extension, Extensions, PoolRuntime};
 use r2d2_core::reuse::{Move, compare, is_in_order};
 use r2d2_core::run::run;
-use r2d2_core::{Limits, Record, Report, Step};
+use r2d2_core::{LimitSettings, Record, Report, Step};
 use std::alloc::{AllocError, Global};
 use std::process::Abort;
 use std::sync::Arc;
@@ -56,7 +56,16 @@ fn steps(alloc: Global, drops: &Arc<AtomicU64>) -> Result<Vec<Step<Counted>>, Al
 #[test]
 fn values_of_a_run(rt: HostRuntime) -> Result<(), Fail> {
     let second = Duration::from_secs(1);
-    let limits = Limits::of(1, None, None, None, second, second).ok_or("limits")?;
+    let limits = LimitSettings {
+        max_size: 1,
+        min_idle: None,
+        max_lifetime: None,
+        idle_timeout: None,
+        connection_timeout: second,
+        reap_every: second,
+    }
+    .limits()
+    .ok_or("limits")?;
     let Ok(drops) = Arc::new(rt.alloc(), AtomicU64::new(0)) else {
         return Ok(());
     };
@@ -184,6 +193,31 @@ fn is_untouched<R: PoolRuntime + Abort>(
 ) -> Result<(), Fail> {
     assert_eq!(rt; (kind, idle), (ErrorKind::Memory, 1));
     assert!(rt; play.told(rt, "acquire 0; "));
+    Ok(())
+}
+
+#[test]
+fn an_eviction(rt: HostRuntime) -> Result<(), Fail> {
+    let Ok(play) = Play::new(rt.alloc(), GOOD) else {
+        return Ok(());
+    };
+    let manager = Manager::new(rt, &play)?;
+    let built = Builder::new()
+        .max_size(1)
+        .thread_pool(1)
+        .event_handler(Others::new(rt, &play)?)
+        .build(rt, manager);
+    let Ok(pool) = built else {
+        return Ok(());
+    };
+    let evicted = match pool.evict() {
+        Ok(evicted) => evicted,
+        Err(error) => {
+            is_untouched(&rt, &play, pool.state().idle_connections, error.kind())?;
+            pool.evict()?
+        }
+    };
+    assert_eq!(rt; evicted, 1);
     Ok(())
 }
 

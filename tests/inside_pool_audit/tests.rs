@@ -368,3 +368,49 @@ fn finds_reports_in_the_lines_of_a_log(rt: HostRuntime) -> Result<(), Fail> {
     finds(&rt, Form::Words, "a\nb", "lines without a report: 2\n", true)?;
     finds(&rt, Form::Json, "a\n\nb", "{\"lines_without_a_report\":2}\n", true)
 }
+
+// A part of a line that stands in it so often.
+fn often(alloc: Global, part: &str, count: usize) -> Result<String, Fail> {
+    let mut line = String::new(alloc);
+    for _ in 0..count {
+        line.push_str(part)?;
+    }
+    Ok(line)
+}
+
+// Each of these lines would take long if it were searched anew from each brace to its end.
+#[test]
+fn a_line_of_many_objects_takes_no_longer_than_its_length(rt: HostRuntime) -> Result<(), Fail> {
+    let (alloc, count) = (rt.alloc(), 2_000);
+    let none = "lines without a report: 1\n";
+    for part in ["{\"a\":", "{\"records\":", "{\"records\":[", "{\"a\":\"{"] {
+        let open = often(alloc, part, count)?;
+        let line = format!(in alloc; "{open}{NEW}\n")?;
+        finds(&rt, Form::Words, line.as_str(), none, true)?;
+    }
+    let (open, close) = (often(alloc, "{\"records\":", count)?, often(alloc, "}", count)?);
+    let line = format!(in alloc; "{open}{NEW}{close}\n")?;
+    finds(&rt, Form::Words, line.as_str(), none, true)?;
+    let found = format!(in alloc; "line 1: replays\n{ANSWERS}lines without a report: 0\n")?;
+    for part in ["{", "{}", "{\"a\":1}, ", "{\"records\":1} "] {
+        let small = often(alloc, part, count)?;
+        let line = format!(in alloc; "{small}{NEW}\n")?;
+        finds(&rt, Form::Words, line.as_str(), found.as_str(), true)?;
+    }
+    Ok(())
+}
+
+// A report is found however many objects stand before it, and in as many as a program writes.
+#[test]
+fn finds_a_report_within_others(rt: HostRuntime) -> Result<(), Fail> {
+    let alloc = rt.alloc();
+    let found = format!(in alloc; "line 1: replays\n{ANSWERS}lines without a report: 0\n")?;
+    for depth in [0usize, 1, 20, 60] {
+        let (open, close) = (often(alloc, "{\"a\": ", depth)?, often(alloc, "}", depth)?);
+        let line = format!(in alloc; "INFO {open}{NEW}{close}\n")?;
+        finds(&rt, Form::Words, line.as_str(), found.as_str(), true)?;
+        let line = format!(in alloc; "INFO {open}{NEW}\n")?;
+        finds(&rt, Form::Words, line.as_str(), found.as_str(), true)?;
+    }
+    Ok(())
+}

@@ -1,6 +1,6 @@
 // Books that are driven here: by few words, or at random from fixed seeds.
 
-use r2d2_core::{Book, Job, LendingOrder, Limits, Report, Step, Take};
+use r2d2_core::{Book, Job, LendingOrder, LimitSettings, Limits, Report, Step, Take};
 use rand_core::{Rng, SeedableRng};
 use rand_pcg::Pcg32;
 use std::alloc::{AllocError, Global};
@@ -18,14 +18,15 @@ pub(crate) fn limits(
     max_lifetime: Option<u64>,
     idle_timeout: Option<u64>,
 ) -> Option<Limits> {
-    Limits::of(
+    LimitSettings {
         max_size,
-        Some(min_idle),
-        max_lifetime.map(|n| Duration::from_millis(n)),
-        idle_timeout.map(|n| Duration::from_millis(n)),
-        ms(30_000),
-        ms(30_000),
-    )
+        min_idle: Some(min_idle),
+        max_lifetime: max_lifetime.map(|n| Duration::from_millis(n)),
+        idle_timeout: idle_timeout.map(|n| Duration::from_millis(n)),
+        connection_timeout: ms(30_000),
+        reap_every: ms(30_000),
+    }
+    .limits()
 }
 
 /// A book with the ids that were numbered and not admitted, and those that it lent.
@@ -162,14 +163,15 @@ fn some_limits(rng: &mut Pcg32) -> Option<Limits> {
     let max_size = below(rng, 8).saturating_add(1);
     let min_idle = below(rng, max_size.saturating_add(1));
     let (lifetime, timeout) = (length(rng, 200), length(rng, 100));
-    let limits = Limits::of(
+    let limits = LimitSettings {
         max_size,
-        maybe(rng, min_idle),
-        maybe(rng, lifetime),
-        maybe(rng, timeout),
-        length(rng, 40),
-        length(rng, 40),
-    )?;
+        min_idle: maybe(rng, min_idle),
+        max_lifetime: maybe(rng, lifetime),
+        idle_timeout: maybe(rng, timeout),
+        connection_timeout: length(rng, 40),
+        reap_every: length(rng, 40),
+    }
+    .limits()?;
     let order = maybe(rng, LendingOrder::OldestFirst);
     Some(limits.with_order(order.unwrap_or(LendingOrder::NewestFirst)))
 }

@@ -259,3 +259,25 @@ fn texts_that_are_no_json_are_refused(rt: HostRuntime) -> Result<(), Fail> {
     }
     Ok(())
 }
+
+// The records are read apart from the rest, wherever they stand.
+#[test]
+fn the_list_of_records_may_stand_anywhere(rt: HostRuntime) -> Result<(), Fail> {
+    let kind = "records[1].kind: not the name of a kind of record";
+    each_is_said(
+        &rt,
+        &[
+            (r#""version":1"#, r#""version":1,"records":7"#, "read"),
+            (r#""version":1"#, r#""records":{"a":[]},"version":1"#, "read"),
+            (r#""takes":2"#, r#""takes":2,"records":[]"#, "read"),
+            (r#""takes":2"#, r#""takes":2 , "records" : [ ] "#, "read"),
+            (r#""takes":2"#, r#""takes":2,"records":[7]"#, "records[0]: not an object"),
+            (r#""takes":2"#, r#""takes":2,"records":null"#, "records: not a list"),
+            (r#""takes":2"#, r#""takes":2,"records":"[]""#, "records: not a list"),
+            (r#""records":["#, " \"rec\\u006frds\" : [\n", "read"),
+            (r#""at":3,"id":1}],"#, "\"at\":3,\"id\":1} \r\n]\t, ", "read"),
+            (r#""kind":"kept""#, r#""kind":"]},{[,""#, kind),
+            (r#""base":{"#, r#""base":{"records":[],"#, r#"base: unknown field "records""#),
+        ],
+    )
+}

@@ -43,7 +43,7 @@ fn writes_a_story(rt: HostRuntime) -> Result<(), Fail> {
     Ok(())
 }
 
-// The plot goes from 80 to 1050, and 10 ms take 69.28 of it.
+// The plot goes from 80 to 1030, and 10 ms take 67.86 of it.
 #[test]
 fn draws_a_story(rt: HostRuntime) -> Result<(), Fail> {
     let report = one_of_each(rt.alloc())?;
@@ -54,9 +54,9 @@ fn draws_a_story(rt: HostRuntime) -> Result<(), Fail> {
     assert_eq!(rt; count(drawn, "<circle class=\"hollow\""), 4);
     assert_eq!(rt; count(drawn, "<path class=\"mark\""), 3);
     assert_eq!(rt; count(drawn, "<path class=\"solid\""), 4);
-    assert!(rt; drawn.contains("d=\"M149.2 332H495.7\"/>"));
-    assert!(rt; drawn.contains("d=\"M218.5 332H357.1M426.4 332H495.7\"/>"));
-    assert!(rt; drawn.contains("<circle class=\"hollow\" cx=\"1039\" cy=\"372\" r=\"4.5\"/>"));
+    assert!(rt; drawn.contains("d=\"M147.8 338H487.1\"/>"));
+    assert!(rt; drawn.contains("d=\"M215.7 338H351.4M419.2 338H487.1\"/>"));
+    assert!(rt; drawn.contains("<circle class=\"hollow\" cx=\"1019\" cy=\"378\" r=\"4.5\"/>"));
     assert!(rt;
         drawn.contains(
             "<title>connection 0: admitted at 10 ms, lent 2 times, 30 ms in all, \

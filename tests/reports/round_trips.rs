@@ -3,7 +3,7 @@
 use crate::books::seeded_report;
 use crate::same::are_same;
 use pool_reports::{from_json, to_json};
-use r2d2_core::{LentConnections, Base, IdList, Limits, Record, RecordList, Report, IdleConnections};
+use r2d2_core::{LentConnections, Base, IdList, LimitSettings, Record, RecordList, Report, IdleConnections};
 use std::alloc::Global;
 use std::test::Fail;
 use std::time::Duration;
@@ -32,7 +32,16 @@ fn reports_at_random_go_round(rt: HostRuntime) -> Result<(), Fail> {
 // A report of each kind of record, each field at its greatest. No pool makes it.
 fn greatest(alloc: Global) -> Result<Report, Fail> {
     let (at, id, ordered) = (Duration::MAX, u64::MAX, u32::MAX);
-    let limits = Limits::of(ordered, Some(ordered), Some(at), Some(at), at, at).ok_or("limits")?;
+    let limits = LimitSettings {
+        max_size: ordered,
+        min_idle: Some(ordered),
+        max_lifetime: Some(at),
+        idle_timeout: Some(at),
+        connection_timeout: at,
+        reap_every: at,
+    }
+    .limits()
+    .ok_or("limits")?;
     let records = [
         Record::Taken { at, id, ordered },
         Record::Ordered { at, ordered },

@@ -1,7 +1,7 @@
 // The text of a report, as a reader of the documents expects it.
 
 use pool_reports::{from_json, to_json};
-use r2d2_core::{Book, LendingOrder, Limits};
+use r2d2_core::{Book, LendingOrder, LimitSettings};
 use std::test::Fail;
 use std::time::Duration;
 
@@ -20,7 +20,16 @@ const TEXT: &str = concat!(
 fn a_report_has_this_text(rt: HostRuntime) -> Result<(), Fail> {
     let (ms, lifetime) = (Duration::from_millis(1), Duration::from_secs(60));
     let wait = Duration::from_secs(30);
-    let limits = Limits::of(2, None, Some(lifetime), None, wait, Duration::MAX).ok_or("limits")?;
+    let limits = LimitSettings {
+        max_size: 2,
+        min_idle: None,
+        max_lifetime: Some(lifetime),
+        idle_timeout: None,
+        connection_timeout: wait,
+        reap_every: Duration::MAX,
+    }
+    .limits()
+    .ok_or("limits")?;
     let limits = limits.with_order(LendingOrder::OldestFirst);
     let mut book = Book::new(rt.alloc(), limits, Duration::ZERO, 2)?;
     book.begin(Duration::ZERO);

@@ -1,6 +1,7 @@
 // What a summary says of a report, beside a replay that keeps all in lists.
 
-use crate::books::seeded_report;
+use crate::books::{Driven, limits, ms, seeded_report};
+use pool_pictures::story::Story;
 use pool_reports::{Loan, from_json, from_json_of_pool, summarize, to_json, to_json_of_pool};
 use r2d2_core::{Record, Report};
 use std::alloc::Global;
@@ -13,6 +14,7 @@ struct Played {
     lent: Vec<Loan>,
     most_lent: usize,
     pending: u64,
+    is_closed: bool,
     full_since: Option<Duration>,
     exhausted: Duration,
     opened: u64,
@@ -45,11 +47,11 @@ impl Played {
             Record::Ordered { ordered, .. } | Record::Reaped { ordered, .. } => {
                 self.pending = self.pending.saturating_add(u64::from(*ordered));
             }
-            Record::ClosedAll { .. } => self.pending = 0,
+            Record::ClosedAll { .. } => (self.pending, self.is_closed) = (0, true),
         }
         self.most_lent = self.most_lent.max(self.lent.len());
         let all = (self.lent.len() as u64).saturating_add(self.pending);
-        self.full_since = (all == max_size).then_some(record.at());
+        self.full_since = (!self.is_closed && all == max_size).then_some(record.at());
         Ok(())
     }
 }
@@ -68,7 +70,8 @@ fn replayed(alloc: Global, report: &Report) -> Result<Played, Fail> {
         most_lent: lent.len(),
         lent,
         pending: u64::from(report.base.pending),
-        full_since: (all == max_size).then_some(report.base.at),
+        is_closed: report.base.closed,
+        full_since: (!report.base.closed && all == max_size).then_some(report.base.at),
         exhausted: Duration::ZERO,
         opened: 0,
         closed: 0,
@@ -89,11 +92,31 @@ fn says_what_a_replay_in_lists_says(rt: HostRuntime) -> Result<(), Fail> {
         assert_eq!(rt; said.lent.as_slice(), played.lent.as_slice(), "{seed}");
         assert_eq!(rt; said.most_lent, played.most_lent, "{seed}");
         assert_eq!(rt; said.exhausted, played.exhausted, "{seed}");
+        let drawn = Story::of(alloc, &report)?.exhaustion();
+        assert_eq!(rt; said.exhausted.as_nanos(), drawn.nanos, "{seed}");
         assert_eq!(rt; (said.opened, said.closed), (played.opened, played.closed), "{seed}");
         let left = u64::from(report.connections).saturating_add(said.closed);
         let came = u64::from(report.base.connections).saturating_add(said.opened);
         assert_eq!(rt; said.reaped.saturating_add(left), came, "{seed}");
     }
+    Ok(())
+}
+
+// No caller waits for a pool that is closed.
+#[test]
+fn a_closed_pool_is_not_exhausted(rt: HostRuntime) -> Result<(), Fail> {
+    let limits = limits(1, 1, None, None).ok_or("limits")?;
+    let mut driven = Driven::new(rt.alloc(), limits, ms(0), 0, 9)?;
+    driven.open(ms(10));
+    driven.take(ms(20), true)?;
+    driven.reap(ms(50))?;
+    driven.close();
+    driven.put_back(ms(90), 0, false);
+    let report = driven.report()?;
+    let said = summarize(rt.alloc(), &report)?;
+    assert_eq!(rt; (said.exhausted, said.until), (ms(40), ms(90)));
+    let drawn = Story::of(rt.alloc(), &report)?.exhaustion();
+    assert_eq!(rt; (drawn.nanos, drawn.times), (ms(40).as_nanos(), 2));
     Ok(())
 }
 

@@ -9,7 +9,7 @@ use std::test::Fail;
 // The plot of a drawing whose ids have few digits, in tenths.
 const LEFT: u32 = 800;
 
-const RIGHT: u32 = 10_500;
+const RIGHT: u32 = 10_300;
 
 /// The least and the greatest of some numbers.
 #[derive(Clone, Copy)]

@@ -2,7 +2,7 @@
 // times.
 
 use crate::plain::History;
-use r2d2_core::{LendingOrder, Limits, Step};
+use r2d2_core::{LendingOrder, LimitSettings, Limits, Step};
 use rand_core::Rng;
 use rand_pcg::Pcg32;
 use std::alloc::{AllocError, Global};
@@ -145,7 +145,15 @@ pub(crate) fn limits(rng: &mut Pcg32) -> Option<Limits> {
     } else {
         LendingOrder::OldestFirst
     };
-    let limits = Limits::of(max_size, min_idle, life, idle, length(rng), length(rng))?;
+    let limits = LimitSettings {
+        max_size,
+        min_idle,
+        max_lifetime: life,
+        idle_timeout: idle,
+        connection_timeout: length(rng),
+        reap_every: length(rng),
+    }
+    .limits()?;
     Some(limits.with_order(order))
 }
 

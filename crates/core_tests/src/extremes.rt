@@ -7,11 +7,23 @@ use crate::steps::{admit, begin, fail, ms, number, put_back, sized, take};
 use pool_lines::program::line::Line;
 use r2d2_core::run::run;
 use r2d2_core::schedule::delay;
-use r2d2_core::{Book, Core, Limits, Step};
+use r2d2_core::{Book, Core, LimitSettings, Limits, Step};
 use std::alloc::{AllocError, Global};
 use std::process::Abort;
 use std::str;
 use std::time::Duration;
+
+// One connection, and a second for each length of time that has to be given.
+fn brief() -> LimitSettings {
+    LimitSettings {
+        max_size: 1,
+        min_idle: None,
+        max_lifetime: None,
+        idle_timeout: None,
+        connection_timeout: ms(1000),
+        reap_every: ms(1000),
+    }
+}
 
 // The lines of the steps, and a look at the state.
 fn lines(alloc: Global, steps: Vec<Step<u64>>) -> Result<Vec<Line>, AllocError> {
@@ -106,7 +118,12 @@ fn stops_at_the_greatest_moment(rt: HostRuntime) {
     );
     answers(
         &rt,
-        Limits::of(1, None, Some(ms(1)), None, ms(1000), now),
+        LimitSettings {
+            max_lifetime: Some(ms(1)),
+            reap_every: now,
+            ..brief()
+        }
+        .limits(),
         0,
         listed(&rt, [Step::Begin { now }, begin(0), begin(0)]),
         "open 0\nreap\nreap\nstate 0 0 1\n",
@@ -116,7 +133,6 @@ fn stops_at_the_greatest_moment(rt: HostRuntime) {
 #[test]
 fn lengths_up_to_the_greatest_moment(rt: HostRuntime) {
     let now = Duration::MAX;
-    let second = ms(1000);
     let back = Step::PutBack {
         now,
         id: 0,
@@ -125,7 +141,11 @@ fn lengths_up_to_the_greatest_moment(rt: HostRuntime) {
     };
     answers(
         &rt,
-        Limits::of(1, None, Some(now), None, second, second),
+        LimitSettings {
+            max_lifetime: Some(now),
+            ..brief()
+        }
+        .limits(),
         0,
         listed(&rt, [begin(0), number(0), admit(0, 0, 7), take(0), back]),
         "open 0\nnumbered 0\nadmitted\ntaken 0 7 ordered 0\n\
@@ -133,7 +153,11 @@ fn lengths_up_to_the_greatest_moment(rt: HostRuntime) {
     );
     answers(
         &rt,
-        Limits::of(1, None, None, Some(now), second, second),
+        LimitSettings {
+            idle_timeout: Some(now),
+            ..brief()
+        }
+        .limits(),
         0,
         listed(
             &rt,
@@ -149,7 +173,11 @@ fn lengths_up_to_the_greatest_moment(rt: HostRuntime) {
     );
     answers(
         &rt,
-        Limits::of(1, None, None, Some(now), second, second),
+        LimitSettings {
+            idle_timeout: Some(now),
+            ..brief()
+        }
+        .limits(),
         0,
         listed(
             &rt,

@@ -2,16 +2,32 @@
 
 use crate::checks::{legal, same};
 use crate::steps::ms;
-use r2d2_core::{Job, Limits, Schedule};
+use r2d2_core::{Job, LimitSettings, Limits, Schedule};
 use std::process::Abort;
 
 fn idling() -> Option<Limits> {
-    Limits::of(2, None, None, Some(ms(1000)), ms(30_000), ms(400))
+    LimitSettings {
+        max_size: 2,
+        min_idle: None,
+        max_lifetime: None,
+        idle_timeout: Some(ms(1000)),
+        connection_timeout: ms(30_000),
+        reap_every: ms(400),
+    }
+    .limits()
 }
 
 // No reap is ever due.
 fn sized(max_size: u32) -> Option<Limits> {
-    Limits::of(max_size, None, None, None, ms(30_000), ms(400))
+    LimitSettings {
+        max_size,
+        min_idle: None,
+        max_lifetime: None,
+        idle_timeout: None,
+        connection_timeout: ms(30_000),
+        reap_every: ms(400),
+    }
+    .limits()
 }
 
 // A schedule with openings, of each when it is due and how often it failed, ordered one after the

@@ -1,6 +1,6 @@
 // Limits and steps in few words. Moments and lengths of time are in milliseconds.
 
-use r2d2_core::{Limits, Step};
+use r2d2_core::{LimitSettings, Limits, Step};
 use std::time::Duration;
 
 pub(crate) fn ms(n: u64) -> Duration {
@@ -17,14 +17,15 @@ pub(crate) fn limits(
 ) -> Option<Limits> {
     let max_lifetime = max_lifetime.map(|n| Duration::from_millis(n));
     let idle_timeout = idle_timeout.map(|n| Duration::from_millis(n));
-    Limits::of(
+    LimitSettings {
         max_size,
         min_idle,
         max_lifetime,
         idle_timeout,
-        ms(connection_timeout),
-        ms(reap_every),
-    )
+        connection_timeout: ms(connection_timeout),
+        reap_every: ms(reap_every),
+    }
+    .limits()
 }
 
 // A size alone, with half a minute for a connection and from reap to reap.

@@ -76,7 +76,8 @@ pub fn build_checked<M: ManageConnection, R: PoolRuntime>(
     rt: R,
     manager: M,
 ) -> Result<Option<PlainPool<M, R>>, Error>
-    ensures legal { IfOk result (λ built. IsSome built ↔ ForSome builder.min_idle (λ n. n ≤ builder.max_size)) }
+    ensures legal { IfOk result
+        (λ built. IsSome built ↔ ForSome builder.min_idle (λ n. n ≤ builder.max_size)) }
     ensures kept { IfOk result (λ built. IfSome built (λ pool. pool ≡ builder)) }
 {
     if builder.limits().is_none() {
@@ -92,7 +93,10 @@ pub fn audit<M: ManageConnection, R: PoolRuntime>(
     pool: &PlainPool<M, R>,
 ) -> Result<Option<Report>, Error>
     ensures whole { IfOk result (λ found. IfSome found (λ report. report.lost ≡ 0)) }
-    ensures begins { IfOk result (λ found. IfSome found (λ report. seen_base report.base ≡ first_base (seen_limits report.limits) (as_nanos report.base.at))) }
+    ensures begins { IfOk result
+        (λ found. IfSome found
+        (λ report. seen_base report.base
+        ≡ first_base (seen_limits report.limits) (as_nanos report.base.at))) }
     ensures replays { IfOk result (λ found. IfSome found DoesReplay) }
 {
     let report = pool.journal()?;

@@ -2,21 +2,22 @@
 
 use crate::journal;
 use anyhow::anyhow;
-use r2d2_core::{Core, Job, Limits, Take};
+use r2d2_core::{Core, Job, LimitSettings, Take};
 use std::time::Duration;
 
 pub fn gone<R: Print + AllocGlobal>(rt: &R) -> Result<(), anyhow::Error> {
     let second = Duration::from_secs(1);
     // At most 10 connections, 2 of them wanted idle; closed when idle for ten minutes, or half an
     // hour old.
-    let limits = Limits::of(
-        10,
-        Some(2),
-        Some(second * 1800),
-        Some(second * 600),
-        second * 30,
-        second * 30,
-    )
+    let limits = LimitSettings {
+        max_size: 10,
+        min_idle: Some(2),
+        max_lifetime: Some(second * 1800),
+        idle_timeout: Some(second * 600),
+        connection_timeout: second * 30,
+        reap_every: second * 30,
+    }
+    .limits()
     .ok_or_else(|| anyhow!("limits that no core can have"))?;
     let mut core = Core::new(rt.alloc(), limits, Duration::ZERO)?;
 

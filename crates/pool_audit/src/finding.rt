@@ -5,52 +5,75 @@ use r2d2_core::Report;
 use std::alloc::Global;
 use std::time::SystemTime;
 
-// So many objects of a line may never close before the rest of it is passed over.
-const MOST_OPEN: usize = 64;
+// Each byte of a line may be passed so often in the search for the ends of objects; then the rest of
+// the line is passed over. So deep may a report stand in others, and so many objects may never
+// close.
+const MOST_PASSES: usize = 64;
 
-/// The next report of a line, and where the rest of the line begins: an object of JSON that is one,
-/// whatever stands before it or around it. None if there is no further one. The error comes only
-/// where memory is refused.
-pub(crate) fn next_report(
-    alloc: Global,
-    line: &str,
+/// The reports in a line: objects of JSON that are one, whatever stands before them or around them.
+#[derive(Drop)]
+pub(crate) struct Reports<'t> {
+    line: &'t str,
+    // Where the rest of the line begins.
     from: usize,
-) -> Result<Option<(Report, Option<SystemTime>, usize)>, FromJsonError> {
-    let mut from = from;
-    let mut open = 0usize;
-    for _ in 0..line.len() {
-        let Some(begin) = next_object(line, from) else {
-            return Ok(None);
-        };
-        let Some(text) = closed_object(line, begin) else {
-            open = open.saturating_add(1);
-            if open > MOST_OPEN {
-                return Ok(None);
-            }
-            from = begin.saturating_add(1);
-            continue;
-        };
-        let end = begin.saturating_add(text.len());
-        if !text.contains("\"records\"") {
-            from = end;
-            continue;
-        }
-        match from_json_of_pool(alloc, text) {
-            Ok((report, made_at)) => return Ok(Some((report, made_at, end))),
-            Err(FromJsonError::Memory) => return Err(FromJsonError::Memory),
-            // Perhaps it holds one.
-            Err(_) => from = begin.saturating_add(1),
+    // How many bytes may still be passed.
+    left: usize,
+}
+
+impl<'t> Reports<'t> {
+    pub(crate) fn of(line: &'t str) -> Reports<'t> {
+        Reports {
+            line,
+            from: 0,
+            left: line.len().saturating_mul(MOST_PASSES),
         }
     }
-    Ok(None)
+
+    /// The next one. None if there is no further one. The error comes only where memory is refused.
+    pub(crate) fn next(
+        &mut self,
+        alloc: Global,
+    ) -> Result<Option<(Report, Option<SystemTime>)>, FromJsonError> {
+        for _ in 0..self.line.len() {
+            let Some((begin, text)) = self.next_object() else {
+                return Ok(None);
+            };
+            match from_json_of_pool(alloc, text) {
+                Ok(read) => return Ok(Some(read)),
+                Err(FromJsonError::Memory) => return Err(FromJsonError::Memory),
+                // Perhaps it holds one.
+                Err(_) => self.from = begin.saturating_add(1),
+            }
+        }
+        Ok(None)
+    }
+
+    // The next object with records, and where it begins. The rest of the line is what follows it.
+    fn next_object(&mut self) -> Option<(usize, &'t str)> {
+        for _ in 0..self.line.len() {
+            let begin = next_brace(self.line, self.from)?;
+            let rest = self.line.get(begin..)?;
+            let object = closed_object(rest);
+            self.left = self.left.checked_sub(object.unwrap_or(rest).len())?;
+            let Some(text) = object else {
+                self.from = begin.saturating_add(1);
+                continue;
+            };
+            self.from = begin.saturating_add(text.len());
+            if text.contains("\"records\"") {
+                return Some((begin, text));
+            }
+        }
+        None
+    }
 }
 
 // Where the next object begins: at a brace with a field behind it.
-fn next_object(line: &str, from: usize) -> Option<usize> {
+fn next_brace(line: &str, from: usize) -> Option<usize> {
     let mut brace = None;
-    for (place, byte) in line.bytes().enumerate().skip(from) {
+    for (place, byte) in line.get(from..)?.bytes().enumerate() {
         match byte {
-            b'{' => brace = Some(place),
+            b'{' => brace = Some(from.saturating_add(place)),
             b'"' if brace.is_some() => return brace,
             b' ' | b'\t' => {}
             _ => brace = None,
@@ -59,18 +82,18 @@ fn next_object(line: &str, from: usize) -> Option<usize> {
     None
 }
 
-// The object that begins there, if it closes: braces in its strings do not count.
-fn closed_object(line: &str, begin: usize) -> Option<&str> {
+// The object that a text begins with, if it closes: braces in its strings do not count.
+fn closed_object(text: &str) -> Option<&str> {
     let mut depth = 0usize;
     let mut string = Inside::Nothing;
-    for (place, byte) in line.bytes().enumerate().skip(begin) {
+    for (place, byte) in text.bytes().enumerate() {
         string = string.after(byte);
         if string != Inside::Nothing {
             continue;
         }
         match byte {
             b'{' => depth = depth.saturating_add(1),
-            b'}' if depth == 1 => return line.get(begin..place.saturating_add(1)),
+            b'}' if depth == 1 => return text.get(..place.saturating_add(1)),
             b'}' => depth = depth.saturating_sub(1),
             _ => {}
         }

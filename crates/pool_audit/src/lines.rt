@@ -2,7 +2,7 @@
 ghost use Rattle.std.specs.Prelude.{◌≡◌};
 ghost use Rattle.pool_audit.specs.Faults.{status_of};
 
-use crate::finding::next_report;
+use crate::finding::Reports;
 use crate::told::{self, Judged};
 use pool_reports::{FromJsonError, Verdict, audit, from_json_of_pool};
 use r2d2_core::Report;
@@ -107,8 +107,8 @@ impl<T: Drop> From<AllocFailed<T>> for Fault {
 }
 
 /// Audits the report on each line of the input, or each one in the lines of a log, and writes what
-/// it found on each: whether all are sound. Lines of white space alone are left out, and counted. Of
-/// a log it says in the end how many lines hold no report.
+/// it found on each: whether all are sound. Lines of white space alone are left out, and counted.
+/// Of a log it says in the end how many lines hold no report.
 ///
 /// It stops at the first fault. What it found on the lines before was written by then: where that
 /// failed, the fault is the failed write.
@@ -207,17 +207,17 @@ fn search_line<W: Write + Drop>(
     output: &mut BufWriter<W>,
 ) -> Result<(), Fault> {
     // Bytes that are no text are no report.
-    let text = str::from_utf8(line).unwrap_or("");
-    let mut from = 0;
+    let mut reports = Reports::of(str::from_utf8(line).unwrap_or(""));
+    let mut has_none = true;
     for _ in 0..line.len() {
-        let next = next_report(alloc, text, from).map_err(|_| Fault::Memory)?;
-        let Some((report, made_at, end)) = next else {
+        let next = reports.next(alloc).map_err(|_| Fault::Memory)?;
+        let Some((report, made_at)) = next else {
             break;
         };
         found.all_sound &= tell(alloc, form, number, &report, made_at, output)?;
-        from = end;
+        has_none = false;
     }
-    if from == 0 {
+    if has_none {
         found.passed_over = found.passed_over.saturating_add(1);
     }
     Ok(())

@@ -94,8 +94,9 @@ pub fn try_get_miss<R: PoolRuntime>(rt: R, case: Case) -> Result<Duration, anyho
     Ok(time)
 }
 
-/// What the rules ask of a `get` and a return, with no pool: a shared pointer cloned and dropped, five readings of the clock, and the lock
-/// taken twice, with one of the readings under it each time.
+/// What the rules ask of a `get` and a return, with no pool: a shared pointer cloned and dropped,
+/// five readings of the clock, and the lock taken twice, with one of the readings under it each
+/// time.
 pub fn floor<R: PoolRuntime>(rt: R, case: Case) -> Result<Duration, anyhow::Error> {
     let latest = Arc::new(rt.alloc(), Mutex::new(Duration::ZERO))?;
     let start = Instant::now(&rt)?;
@@ -107,7 +108,8 @@ pub fn floor<R: PoolRuntime>(rt: R, case: Case) -> Result<Duration, anyhow::Erro
     Ok(start.elapsed(&rt)?)
 }
 
-/// One round of `floor`. It hands on no error of the clock: moving one about would cost more than a pool does.
+/// One round of `floor`. It hands on no error of the clock: moving one about would cost more than a
+/// pool does.
 pub fn floor_round<R: PoolRuntime>(rt: R, latest: &Arc<Mutex<Duration>>, start: Instant) -> bool {
     since(rt, start);
     let Ok(holder) = Arc::try_clone(latest) else {

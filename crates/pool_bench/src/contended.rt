@@ -11,7 +11,8 @@ use std::time::{Duration, Instant};
 /// Calls of all threads together, in one run.
 const CALLS: u32 = 8_000;
 
-/// Times each number of threads at each size of pool. `start` starts a thread that makes so many calls.
+/// Times each number of threads at each size of pool. `start` starts a thread that makes so many
+/// calls.
 pub fn measure<R, S>(rt: R, start: S) -> Result<(), anyhow::Error>
 where
     R: PoolRuntime + Print,
@@ -68,7 +69,8 @@ pub fn is_served<R: PoolRuntime>(pool: PlainPool<Nothings, R>, calls: u32) -> bo
     true
 }
 
-/// Times what the rules ask of a `get` and a return, by each number of threads at one lock. `start` starts a thread of so many rounds.
+/// Times what the rules ask of a `get` and a return, by each number of threads at one lock. `start`
+/// starts a thread of so many rounds.
 pub fn measure_floor<R, S>(rt: R, start: S) -> Result<(), anyhow::Error>
 where
     R: PoolRuntime + Print,

@@ -1,6 +1,7 @@
-//! Times the calls of a pool. Given `bench`, it prints a line for each scenario: its name, the threads, `max_size`, how many operations
-//! were timed, and the nanoseconds for each, in the fastest of twenty-five runs. Given a scenario's name too, it runs that one alone, as for
-//! a profile. Else it says how to run it.
+//! Times the calls of a pool. Given `bench`, it prints a line for each scenario: its name, the
+//! threads, `max_size`, how many operations were timed, and the nanoseconds for each, in the
+//! fastest of twenty-five runs. Given a scenario's name too, it runs that one alone, as for a
+//! profile. Else it says how to run it.
 #![tactic(auto)]
 
 ghost use Rattle.std.specs.Prelude.{◌<◌};

@@ -6,7 +6,8 @@ use crate::{alone, growing};
 use r2d2::PoolRuntime;
 use std::time::Duration;
 
-/// How often each scenario is run. The fastest run counts: the others were held up by something else. So runs are short and many.
+/// How often each scenario is run. The fastest run counts: the others were held up by something
+/// else. So runs are short and many.
 pub const RUNS: u32 = 25;
 
 /// Whether the scenario of this name is to be run: it is the only one, or all are.

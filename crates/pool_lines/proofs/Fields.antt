@@ -1,5 +1,6 @@
 -- Fields of a line, and texts.
-use Rattle.std.proofs.Common.{◌≡◌, ℕ, ◌≤◌, ◌↔◌, Bool, true, false, cond, List, length, Option, Some, None, Result, IsSome, IfSome, IfErr, IsUtf8, refl, sym, ap, subst, arith}
+use Rattle.std.proofs.Common.{◌≡◌, ℕ, ◌≤◌, ◌↔◌, Bool, true, false, cond, List, length, Option, Some, None, Result, IsSome, IfSome, IfErr, IsUtf8, refl, sym, ap}
+use Rattle.std.proofs.Common.{subst, arith}
 use Rattle.std.specs.Str.{all_ascii_digits, is_utf8}
 use Rattle.std.specs.Str.Parse.{digits_value, AllDigits}
 use Rattle.std.specs.List.{position_or_len, before_first}
@@ -37,9 +38,11 @@ by_test true v (Some n) to from e = ap (λ m. Some m) e
 by_test false v None to from e = refl
 by_test false v (Some n) to from e = let h : false ≡ true = to refl in cc
 
-pub number_exact : (bits : ℕ) (field : List ℕ) (r : Option ℕ) → (IsSome r ↔ IsNumber bits field) → IfSome r (λ n. n ≡ number_of field) → r ≡ number_in bits field
+pub number_exact : (bits : ℕ) (field : List ℕ) (r : Option ℕ) → (IsSome r ↔ IsNumber bits field) → IfSome r (λ n. n ≡ number_of field)
+    → r ≡ number_in bits field
 unfolding number_in
-number_exact bits field r some value = by_test (is_number bits field) (number_of field) r (λ s. is_number_from bits field (some.0 s)) (λ t. some.1 (is_number_to bits field t)) value
+number_exact bits field r some value = by_test (is_number bits field) (number_of field) r (λ s. is_number_from bits field (some.0 s))
+    (λ t. some.1 (is_number_to bits field t)) value
 
 text_by : (b : Bool) (bytes : List ℕ) → b ≡ true → cond b (Some bytes) None ≡ Some bytes
 text_by true bytes e = refl

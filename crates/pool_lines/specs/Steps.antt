@@ -6,10 +6,13 @@ use Rattle.r2d2_core.specs.OnOrder.{fail_refusal}
 use Rattle.r2d2_core.specs.Refusals.{unless_refused}
 use Rattle.r2d2_core.specs.Picture.{Picture}
 use Rattle.r2d2_core.specs.Seen.{SeenAnswer, Taken, Begun, Numbered, Admitted, Failed, CheckFailed, CameBack, Reaped, Told, Left}
-use Rattle.r2d2_core.specs.Table.{take_answer, begin_answer, number_answer, admit_answer, fail_answer, return_answer, check_answer, reap_closed, reap_orders, close_answer}
-use Rattle.r2d2_core.specs.Table.{after_take, after_begin, after_number, after_admit, after_fail, after_return, lent_refusal, after_check, after_reap, after_take_error, after_close}
+use Rattle.r2d2_core.specs.Table.{take_answer, begin_answer, number_answer, admit_answer, fail_answer, return_answer, check_answer, reap_closed, reap_orders}
+use Rattle.r2d2_core.specs.Table.{close_answer}
+use Rattle.r2d2_core.specs.Table.{after_take, after_begin, after_number, after_admit, after_fail, after_return, lent_refusal, after_check, after_reap}
+use Rattle.r2d2_core.specs.Table.{after_take_error, after_close}
 use Rattle.pool_lines.specs.Lines.{SeenLine, Take, Begin, Number, Admit, Fail, FailCheck, PutBack, Reap, TakeError, Close, State}
-use Rattle.pool_lines.specs.Texts.{take_text, task_text, number_text, admission_text, failure_text, check_text, return_text, reap_text, error_text, close_text, state_text}
+use Rattle.pool_lines.specs.Texts.{take_text, task_text, number_text, admission_text, failure_text, check_text, return_text, reap_text, error_text, close_text}
+use Rattle.pool_lines.specs.Texts.{state_text}
 
 -- what is written for a step
 abbrev pub answer_text : SeenLine → Picture ℕ → List ℕ

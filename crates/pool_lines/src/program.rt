@@ -83,7 +83,8 @@ pub fn serve<R: Read + Drop, W: Write + Drop>(
     ensures counted { IfErr result IsCountedFromOne }
     ensures answers { IfSome (R.remaining input) (λ bytes. Serves bytes result
         (writer_contents W.contents output.old) (writer_contents W.contents output.new)) }
-    ensures sent { writer_buffer output.old ≡ [] → result ≢ Err Write → writer_buffer output.new ≡ [] }
+    ensures sent { writer_buffer output.old ≡ [] → result ≢ Err Write
+        → writer_buffer output.new ≡ [] }
 {
     let mut input = BufReader::new(alloc, input).map_err(|_| Fault::Memory)?;
     let outcome = run(alloc, &mut input, output);
@@ -116,7 +117,8 @@ fn take_steps<R: Read + Drop, W: Write + Drop>(
     output: &mut BufWriter<W>,
 ) -> Result<(), Fault>
     ensures counted { IfErr result IsCountedFromOne }
-    ensures answers { IfSome (reader_remaining R.remaining input.old) (λ bytes. Goes 2 core.old bytes result
+    ensures answers { IfSome (reader_remaining R.remaining input.old)
+        (λ bytes. Goes 2 core.old bytes result
         (writer_contents W.contents output.old) (writer_contents W.contents output.new)) }
 {
     // A loop has a bound. No input has so many lines; std's readers give up so too.
@@ -141,8 +143,10 @@ fn send_before_waiting<R: Read + Drop, W: Write + Drop>(
     output: &mut BufWriter<W>,
 ) -> Result<(), Fault>
     ensures fault { IfErr result (λ fault. fault ≡ Write) }
-    ensures sent { OnOk result (Contains (reader_buffer input.now) 10 ⊎ (writer_buffer output.new ≡ [])) }
-    ensures kept { Keeps (writer_contents W.contents output.old) (writer_contents W.contents output.new) }
+    ensures sent { OnOk result (Contains (reader_buffer input.now) 10
+        ⊎ (writer_buffer output.new ≡ [])) }
+    ensures kept { Keeps (writer_contents W.contents output.old)
+        (writer_contents W.contents output.new) }
 {
     if input.buffer().contains(&b'\n') {
         return Ok(());
@@ -172,7 +176,8 @@ fn next_line<R: BufRead>(input: &mut R, line: &mut Vec<u8>) -> Result<bool, Faul
 fn flush<W: Write + Drop>(output: &mut BufWriter<W>) -> Result<(), Fault>
     ensures fault { IfErr result (λ fault. fault ≡ Write) }
     ensures sent { OnOk result (writer_buffer output.new ≡ []) }
-    ensures kept { Keeps (writer_contents W.contents output.old) (writer_contents W.contents output.new) }
+    ensures kept { Keeps (writer_contents W.contents output.old)
+        (writer_contents W.contents output.new) }
 {
     output.flush().map_err(|_| Fault::Write)
 }

@@ -7,7 +7,8 @@ use Rattle.pool_metrics.specs.declared.roll.Overdue.{Overdue}
 use Rattle.pool_metrics.specs.declared.roll.Entry.{Entry}
 use Rattle.pool_metrics.specs.Longest.{IsLongestFirst}
 
-pub longest_first : (now : ℕ) (xs : List Entry) → IsNonDecreasingBy (λ (e : Entry). e.since) xs → IsLongestFirst (map (λ (e : Entry). record { id = e.id; nanos = now - e.since }) xs)
+pub longest_first : (now : ℕ) (xs : List Entry) → IsNonDecreasingBy (λ (e : Entry). e.since) xs
+    → IsLongestFirst (map (λ (e : Entry). record { id = e.id; nanos = now - e.since }) xs)
 longest_first now xs in_order i j d before within =
     let f : Entry → Overdue = λ e. record { id = e.id; nanos = now - e.since } in
     let e : Entry = record { id = 0; since = 0 } in

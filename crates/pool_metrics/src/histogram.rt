@@ -97,8 +97,10 @@ impl Distribution {
 
     /// All buckets, the shortest lengths first. The last one counts all.
     pub fn buckets(&self) -> [Bucket; BUCKETS]
-        ensures counts { (i : ℕ) (d : Bucket) → i < 14 → (slice_index_or result i d).count ≡ slice_index self.now.up_to i }
-        ensures bounds { (i : ℕ) (d : Bucket) → i < 13 → (slice_index_or result i d).up_to ≡ Nanos (slice_index (bounds_of self.now.scale) i) }
+        ensures counts { (i : ℕ) (d : Bucket) → i < 14
+            → (slice_index_or result i d).count ≡ slice_index self.now.up_to i }
+        ensures bounds { (i : ℕ) (d : Bucket) → i < 13
+            → (slice_index_or result i d).up_to ≡ Nanos (slice_index (bounds_of self.now.scale) i) }
         ensures last { (d : Bucket) → (slice_index_or result 13 d).up_to ≡ Infinity }
         ensures never_falls { IsNonDecreasingBy (λ bucket. bucket.count) result }
     {

@@ -1,5 +1,6 @@
 // The connections that are lent, and since when.
-ghost use Rattle.std.specs.Prelude.{◌≡◌, ℕ, ◌+◌, ◌<◌, ◌≤◌, ◌-◌, ◌==◌, ◌++◌, ◌∷◌, [], ◌^◌, min, max, nat_lt, All, IfOk, not, filter, map, vec_len, vec_capacity};
+ghost use Rattle.std.specs.Prelude.{◌≡◌, ℕ, ◌+◌, ◌<◌, ◌≤◌, ◌-◌, ◌==◌, ◌++◌, ◌∷◌, [], ◌^◌, min, max};
+ghost use Rattle.std.specs.Prelude.{nat_lt, All, IfOk, not, filter, map, vec_len, vec_capacity};
 ghost use Rattle.std.specs.Duration.{as_nanos};
 ghost use Rattle.std.specs.List.Sorted.{IsNonDecreasingBy};
 ghost use Rattle.pool_metrics.specs.Longest.{IsLongestFirst, longer_than};
@@ -57,9 +58,13 @@ impl Roll {
 
     /// One is lent now. Where there is no more room, it is counted, and not listed.
     pub(crate) fn enter(&mut self, id: u64, now: u64)
-        ensures listed { vec_len self.old.entries < vec_capacity self.old.entries → self.new.entries.items ≡ self.old.entries.items ++ record { id = id; since = max self.old.latest now } ∷ [] }
+        ensures listed { vec_len self.old.entries < vec_capacity self.old.entries
+            → self.new.entries.items
+            ≡ self.old.entries.items ++ record { id = id; since = max self.old.latest now } ∷ [] }
         ensures room { vec_capacity self.new.entries ≡ vec_capacity self.old.entries }
-        ensures full { vec_capacity self.old.entries ≤ vec_len self.old.entries → self.new.entries.items ≡ self.old.entries.items × (self.new.unlisted ≡ min (self.old.unlisted + 1) (2 ^ 64 - 1)) }
+        ensures full { vec_capacity self.old.entries ≤ vec_len self.old.entries
+            → self.new.entries.items ≡ self.old.entries.items
+            × (self.new.unlisted ≡ min (self.old.unlisted + 1) (2 ^ 64 - 1)) }
     {
         self.latest = self.latest.max(now);
         if self.entries.len() < self.entries.capacity() {
@@ -72,7 +77,8 @@ impl Roll {
 
     /// One is not lent any more.
     pub(crate) fn strike(&mut self, id: u64)
-        ensures struck { self.new.entries.items ≡ filter (λ e. not (e.id == id)) self.old.entries.items }
+        ensures struck { self.new.entries.items
+            ≡ filter (λ e. not (e.id == id)) self.old.entries.items }
         ensures room { vec_capacity self.new.entries ≡ vec_capacity self.old.entries }
         ensures unlisted { self.new.unlisted ≡ self.old.unlisted }
     {
@@ -94,7 +100,8 @@ impl Roll {
         nanos: u64,
         now: u64,
     ) -> Result<Vec<Overdue>, AllocError>
-        ensures all { IfOk result (λ v. v.items ≡ longer_than nanos (max self.now.latest now) self.now.entries.items) }
+        ensures all { IfOk result
+            (λ v. v.items ≡ longer_than nanos (max self.now.latest now) self.now.entries.items) }
         ensures longest_first { IfOk result (λ v. IsLongestFirst v.items) }
     {
         let now = self.latest.max(now);

@@ -28,11 +28,14 @@ pub each_within_both : (xs ys zs : List Most) → length ys ≡ length xs → Is
 each_within_both xs ys zs len p q k d lt = within_both (get_or xs k d) (get_or ys k d) (get_or zs k d) (p k d lt) (q k d (omega (arith, len, lt)))
 
 -- one more column is raised
-pub shows_more : (least : Most) (xs ys : List Most) (from column : ℕ) → length ys ≡ length xs → ((k : ℕ) (d : Most) → from ≤ k → k < column → k < length xs → IsWithin least (get_or xs k d)) → IsEachWithin xs ys → ShowsFrom least ys column column → (k : ℕ) (d : Most) → from ≤ k → k < column + 1 → k < length ys → IsWithin least (get_or ys k d)
+pub shows_more : (least : Most) (xs ys : List Most) (from column : ℕ) → length ys ≡ length xs
+    → ((k : ℕ) (d : Most) → from ≤ k → k < column → k < length xs → IsWithin least (get_or xs k d)) → IsEachWithin xs ys → ShowsFrom least ys column column
+    → (k : ℕ) (d : Most) → from ≤ k → k < column + 1 → k < length ys → IsWithin least (get_or ys k d)
 shows_more least xs ys from column len before kept here k d low high lt =
     elim (cases_eq k column) [
       | inl same ↦ here k d (omega (arith, same)) (omega (arith, same)) lt
-      | inr other ↦ within_both least (get_or xs k d) (get_or ys k d) (before k d low (omega (arith, high, other)) (omega (arith, len, lt))) (kept k d (omega (arith, len, lt)))
+      | inr other ↦ within_both least (get_or xs k d) (get_or ys k d) (before k d low (omega (arith, high, other)) (omega (arith, len, lt)))
+          (kept k d (omega (arith, len, lt)))
     ]
 
 -- all columns are written back
@@ -51,11 +54,13 @@ shows_next counts place_in xs ys n place now last len same within before read lo
       | inl at ↦
           let e : get_or counts k c ≡ now = subst (λ (m : ℕ). get_or counts m c ≡ now) (sym at) (read c) in
           let there : place_in now < n = within now in
-          subst (λ (z : Counts). IsWithin (most_of z) (get_or ys (place_in z) d)) (sym e) (here (place_in now) d (omega arith) low (omega (arith, len, same, there)))
+          subst (λ (z : Counts). IsWithin (most_of z) (get_or ys (place_in z) d)) (sym e) (here (place_in now) d (omega arith) low
+          (omega (arith, len, same, there)))
       | inr other ↦
           let z = get_or counts k c in
           let there : place_in z < n = within z in
-          within_both (most_of z) (get_or xs (place_in z) d) (get_or ys (place_in z) d) (before k c d (omega (arith, lt, other))) (kept (place_in z) d (omega (arith, len, there)))
+          within_both (most_of z) (get_or xs (place_in z) d) (get_or ys (place_in z) d) (before k c d (omega (arith, lt, other)))
+          (kept (place_in z) d (omega (arith, len, there)))
     ]
 
 pub place_below : (s : Scale) (moment : ℕ) → place_at s moment < s.width + 1

@@ -17,11 +17,19 @@ pub record IsWithin (least most : Most) : Type 0 where
 
 -- counts, as a column shows them
 abbrev pub most_of : Counts → Most
-most_of c = record { lent = c.connections - c.idle; idle = c.idle; connections = c.connections; opening = c.pending; all = min (c.connections + c.pending) (2 ^ 32 - 1); is_exhausted = c.is_exhausted }
+most_of c = record {
+  lent = c.connections - c.idle;
+  idle = c.idle;
+  connections = c.connections;
+  opening = c.pending;
+  all = min (c.connections + c.pending) (2 ^ 32 - 1);
+  is_exhausted = c.is_exhausted;
+}
 
 -- the column of the moment of each of the counts shows them
 abbrev pub ShowsEach : Scale → List Counts → List Most → Type 0
-ShowsEach scale counts bins = (k : ℕ) (c : Counts) (d : Most) → k < length counts → IsWithin (most_of (slice_index_or counts k c)) (slice_index_or bins (place_at scale (as_nanos (slice_index_or counts k c).at)) d)
+ShowsEach scale counts bins = (k : ℕ) (c : Counts) (d : Most) → k < length counts
+    → IsWithin (most_of (slice_index_or counts k c)) (slice_index_or bins (place_at scale (as_nanos (slice_index_or counts k c).at)) d)
 
 -- the columns from one to another show at least so much, as far as there are columns
 abbrev pub ShowsFrom : Most → List Most → ℕ → ℕ → Type 0

@@ -42,7 +42,7 @@ pub fn svg<A: Allocator>(
 ) -> Result<String, AllocError> {
     let story = Story::of(alloc, report)?;
     let head = Head::of(alloc, &story, notes)?;
-    let top = head.height().saturating_add(legend::height(alloc)?);
+    let top = head.height().saturating_add(legend::HEIGHT);
     let mut canvas = Canvas::of(alloc, &story, top, notes)?;
     canvas.open()?;
     canvas.head(&head)?;
@@ -153,18 +153,10 @@ impl Canvas {
 
     // A line down the drawing at the wrong record, and a ring round its connection.
     fn wrong(&mut self, story: &Story, wrong: &Marked) -> Result<(), AllocError> {
-        let at = self.x(wrong.at);
-        let (x, bottom) = (Tenths(at), Tenths(self.layout.lanes_bottom()));
-        let top = self.layout.band_top();
-        let (start, y) = (
-            Tenths(top.saturating_sub(260)),
-            Tenths(top.saturating_sub(280)),
-        );
+        let (at, top) = (self.x(wrong.at), self.layout.band_top());
+        self.upright("wrong", at, top.saturating_sub(260))?;
+        let (x, y) = (Tenths(at), Tenths(top.saturating_sub(280)));
         let place = wrong.place;
-        writeln!(
-            self.out,
-            "<path class=\"wrong\" d=\"M{x} {start}V{bottom}\"/>"
-        )?;
         writeln!(
             self.out,
             "<text class=\"fault\" text-anchor=\"middle\" x=\"{x}\" y=\"{y}\">record {place}</text>"

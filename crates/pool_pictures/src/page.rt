@@ -38,6 +38,7 @@ h1 { font-size: 24px; margin: 0 0 16px }
 h2 { font-size: 18px; margin: 32px 0 8px }
 .tables { display: flex; flex-wrap: wrap; gap: 16px 56px; margin-bottom: 24px;
   align-items: flex-start }
+.tables > div { max-width: 100% }
 table { border-collapse: collapse; font-variant-numeric: tabular-nums }
 caption { text-align: left; font-weight: 600; padding-bottom: 4px }
 th, td { text-align: right; padding: 3px 0 3px 28px; border-top: 1px solid var(--line);
@@ -52,8 +53,12 @@ p { margin: 0 0 6px }
 .is-wrong { color: var(--fault); background: var(--fault-paper) }
 .answers { margin: 0 0 12px; padding-left: 20px }
 .told { color: var(--dim); margin-bottom: 20px }
-.legend { list-style: none; margin: 0 0 12px; padding: 0; display: flex; flex-wrap: wrap;
-  gap: 4px 20px }
+.moment { display: inline-block }
+.legend { list-style: none; margin: 0 0 12px; padding: 0; display: grid; gap: 4px 28px;
+  grid-template-columns: repeat(auto-fill, minmax(180px, max-content)) }
+.legend li { white-space: nowrap }
+@media (min-width: 560px) { .legend { grid-template-columns: repeat(3, max-content) } }
+@media (min-width: 1080px) { .legend { grid-template-columns: repeat(6, max-content) } }
 .legend svg { vertical-align: -2px; margin-right: 6px }
 .box { overflow-x: auto; border: 1px solid var(--line); border-radius: 6px }
 .box svg { display: block; width: 100%; min-width: 1080px; height: auto }
@@ -93,8 +98,10 @@ pub fn html<A: Allocator>(
         records: report.records.as_slice(),
         wrong: notes.wrong_record(),
     };
+    page.push_str("<div class=\"tables\">\n")?;
     records.round_the_wrong_one(&mut page)?;
     records.newest(&mut page)?;
+    page.push_str("</div>\n")?;
     page.push_str(FOOT)?;
     Ok(page)
 }
@@ -110,10 +117,32 @@ fn known(alloc: Global, page: &mut String, notes: &Notes) -> Result<(), AllocErr
     }
     page.push_str("<ul class=\"answers\">\n")?;
     for answer in notes.answers {
-        let words = Escaped(answer.as_str());
-        writeln!(page, "<li>{words}</li>")?;
+        page.push_str("<li>")?;
+        whole_moments(page, answer.as_str())?;
+        page.push_str("</li>\n")?;
     }
     page.push_str("</ul>\n")
+}
+
+// A text in which what stands in parentheses, as the moments of a clock do, is not broken.
+fn whole_moments(page: &mut String, text: &str) -> Result<(), AllocError> {
+    let mut rest = text;
+    for _ in 0..text.len() {
+        let Some((before, (inside, after))) = in_parentheses(rest) else {
+            break;
+        };
+        let (before, inside) = (Escaped(before), Escaped(inside));
+        write!(page, "{before}<span class=\"moment\">({inside})</span>")?;
+        rest = after;
+    }
+    let rest = Escaped(rest);
+    write!(page, "{rest}")
+}
+
+// What stands before the next parentheses of a text, in them and behind them.
+fn in_parentheses(text: &str) -> Option<(&str, (&str, &str))> {
+    let (before, rest) = text.split_once('(')?;
+    Some((before, rest.split_once(')')?))
 }
 
 fn class_of(finding: Finding) -> &'static str {
@@ -245,7 +274,7 @@ impl Listed<'_> {
         if wrong >= self.records.len() {
             return Ok(());
         }
-        writeln!(page, "<h2>Round record {wrong}</h2>")?;
+        writeln!(page, "<div>\n<h2>Round record {wrong}</h2>")?;
         begin(page)?;
         let first = wrong.saturating_sub(BESIDE);
         let count = (wrong - first).saturating_add(BESIDE).saturating_add(1);
@@ -261,7 +290,7 @@ impl Listed<'_> {
         if self.records.is_empty() {
             return Ok(());
         }
-        page.push_str("<h2>The newest records</h2>\n")?;
+        page.push_str("<div>\n<h2>The newest records</h2>\n")?;
         begin(page)?;
         for (number, record) in self.records.iter().rev().take(RECORDS).enumerate() {
             let place = self.records.len().saturating_sub(number.saturating_add(1));
@@ -291,7 +320,7 @@ impl Listed<'_> {
     }
 }
 
-const TABLE_END: &str = "</table>\n</div>\n";
+const TABLE_END: &str = "</table>\n</div>\n</div>\n";
 
 // A table of records, up to its first record.
 fn begin(page: &mut String) -> Result<(), AllocError> {

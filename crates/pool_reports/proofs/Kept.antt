@@ -16,7 +16,8 @@ use Rattle.pool_reports.specs.declared.verdict.Verdict.TheVariants as verdict
 use Rattle.pool_reports.specs.Verdicts.{IsSound, IsVerdictOn}
 
 -- what legal records come to is legal
-pub legal_told : (limits : SeenLimits) (rs : List SeenRecord) (b : SeenBase) → IsLegalBase limits b → AreLegalFrom limits b rs → IsLegalBase limits (replay limits rs b)
+pub legal_told : (limits : SeenLimits) (rs : List SeenRecord) (b : SeenBase) → IsLegalBase limits b → AreLegalFrom limits b rs
+    → IsLegalBase limits (replay limits rs b)
 legal_told limits [] b legal are = legal
 legal_told limits (r ∷ rs) b legal are =
     let f = folds_first limits r rs b legal are in
@@ -24,7 +25,8 @@ legal_told limits (r ∷ rs) b legal are =
 
 module _ {B : Type 0} (r : Report B) where
   -- so the counts of a report that replays are sound where what is wanted is there or on its way
-  pub sound_counts : DoesReplay r → (r.closed ≡ false → (wanted_of (seen_limits r.limits) ≤ length r.idle + r.pending) ⊎ (r.connections + r.pending ≡ r.limits.max_size)) → HasSoundCounts r
+  pub sound_counts : DoesReplay r → (r.closed ≡ false → (wanted_of (seen_limits r.limits) ≤ length r.idle + r.pending)
+      ⊎ (r.connections + r.pending ≡ r.limits.max_size)) → HasSoundCounts r
   sound_counts d ready =
       let end = told_in r in
       let legal : IsLegalBase (seen_limits r.limits) end = legal_told (seen_limits r.limits) r.records (seen_base r.base) d.base d.legal in
@@ -41,8 +43,16 @@ module _ {B : Type 0} (r : Report B) where
   pub sound_alone : (v : Verdict) → IsVerdictOn v r → (v ≡ verdict.Sound) ↔ IsSound r
   sound_alone verdict.Sound on = (λ _. on, λ _. refl)
   sound_alone (verdict.Base _) on = (λ is. absurd (cc is), λ s. absurd (on s.replays.base))
-  sound_alone (verdict.Record place _) on = (λ is. absurd (cc is), λ s. absurd (on.wrong (legal_before (seen_limits r.limits) (place + 1) r.records (seen_base r.base) s.replays.legal)))
-  sound_alone (verdict.Counts _) on = (λ is. absurd (cc is), λ s. absurd (on.other (let d = s.replays in record { idle = d.idle; lent = d.lent; connections = d.connections; pending = d.pending; closed = d.closed })))
+  sound_alone (verdict.Record place _) on = (
+    λ is. absurd (cc is),
+    λ s. absurd (on.wrong (legal_before (seen_limits r.limits) (place + 1) r.records
+        (seen_base r.base) s.replays.legal)),
+  )
+  sound_alone (verdict.Counts _) on = (
+    λ is. absurd (cc is),
+    λ s. absurd (on.other (let d = s.replays in
+        record { idle = d.idle; lent = d.lent; connections = d.connections; pending = d.pending; closed = d.closed })),
+  )
   sound_alone (verdict.Making _) on = (λ is. absurd (cc is), λ s. absurd (on.other s.begins))
   sound_alone (verdict.Takes shown due) on = (λ is. absurd (cc is), λ s. absurd (on.other (on.shows ∙ (s.counted on.none_lost ∙ sym on.tells))))
   sound_alone (verdict.Starved _) on = (λ is. absurd (cc is), λ s. absurd (on.other s.sound))

@@ -3,16 +3,18 @@
 use crate::VERSION;
 use crate::error::{FromJsonError, Place, Wanted};
 use found::{Found, Object};
-use json::{Scratch, Tape};
+use json::{MAX_LEN, Scratch, Tape};
+use parts::{Items, Parts, count_items};
 use place::not_json;
 use r2d2_core::{
-    Base, IdList, IdleConnections, LendingOrder, LentConnections, Limits, Record, RecordList,
-    Report,
+    Base, IdList, IdleConnections, LendingOrder, LentConnections, LimitSettings, Limits, Record,
+    RecordList, Report,
 };
 use std::alloc::Global;
 use std::time::{Duration, SystemTime};
 
 mod found;
+mod parts;
 mod place;
 
 const REPORT_FIELDS: [&str; 12] = [
@@ -45,9 +47,10 @@ const BASE_FIELDS: [&str; 6] = ["at", "idle", "lent", "connections", "pending", 
 /// The report that a text of JSON says, as [`to_json`](crate::to_json) writes it. White space and
 /// the order of the fields do not matter; where a field stands twice, the last one counts.
 ///
-/// It takes memory in proportion to the text, and that of the report. The error says what is
-/// wrong, and where: `records[17].id: not a whole number up to 18446744073709551615`. Whether the
-/// report is one of a pool is not asked here: `audit` tells.
+/// It takes memory in proportion to the text, and that of the report: as much as the text for the
+/// list of records, and some ten times as much for the rest of it. The error says what is wrong,
+/// and where: `records[17].id: not a whole number up to 18446744073709551615`. Whether the report
+/// is one of a pool is not asked here: `audit` tells.
 pub fn from_json(alloc: Global, text: &str) -> Result<Report, FromJsonError> {
     Ok(from_json_of_pool(alloc, text)?.0)
 }
@@ -58,8 +61,28 @@ pub fn from_json_of_pool(
     alloc: Global,
     text: &str,
 ) -> Result<(Report, Option<SystemTime>), FromJsonError> {
+    if text.len() > MAX_LEN {
+        return Err(FromJsonError::Memory);
+    }
     let mut scratch = Scratch::new(alloc);
-    let tape = match Tape::parse(text, &mut scratch, Vec::new(alloc)) {
+    match Parts::of(alloc, text, &mut scratch)? {
+        Some(parts) => {
+            let list = Some(parts.records);
+            read(alloc, text, parts.rest.as_str(), list, &mut scratch)
+        }
+        None => read(alloc, text, text, None, &mut scratch),
+    }
+}
+
+// What a text says. The list of records stands apart from the rest of it, where it has one.
+fn read(
+    alloc: Global,
+    text: &str,
+    rest: &str,
+    list: Option<&str>,
+    scratch: &mut Scratch,
+) -> Result<(Report, Option<SystemTime>), FromJsonError> {
+    let tape = match Tape::parse(rest, scratch, Vec::new(alloc)) {
         Ok(tape) => tape,
         Err(json::Error::Invalid) => return Err(not_json(alloc, text)),
         Err(_) => return Err(FromJsonError::Memory),
@@ -71,7 +94,7 @@ pub fn from_json_of_pool(
         Some(moment) => Some(moment.wall_clock()?),
         None => None,
     };
-    Ok((read_report(alloc, &object)?, made_at))
+    Ok((read_report(alloc, &object, list)?, made_at))
 }
 
 // Other versions may have other fields, so this one comes first.
@@ -103,11 +126,19 @@ fn read_counts(report: &Object<'_, '_>) -> Result<Counts, FromJsonError> {
     })
 }
 
-fn read_report(alloc: Global, report: &Object<'_, '_>) -> Result<Report, FromJsonError> {
+fn read_report(
+    alloc: Global,
+    report: &Object<'_, '_>,
+    list: Option<&str>,
+) -> Result<Report, FromJsonError> {
     let limits = read_limits(alloc, report)?;
     let counts = read_counts(report)?;
     let base = read_base(alloc, report)?;
-    let records = read_records(alloc, report)?;
+    let records = report.field("records")?;
+    let records = match list {
+        Some(list) => read_records(alloc, list)?,
+        None => return Err(records.is_not(Wanted::List)),
+    };
     let idle = read_ids(alloc, report, "idle")?;
     let lent = read_ids(alloc, report, "lent")?;
     Ok(Report {
@@ -134,14 +165,15 @@ fn read_limits(alloc: Global, report: &Object<'_, '_>) -> Result<Limits, FromJso
     let connection_timeout = limits.field("connection_timeout")?.nanoseconds()?;
     let reap_every = limits.field("reap_every")?.nanoseconds()?;
     let order = read_order(&limits.field("order")?)?;
-    Limits::of(
+    LimitSettings {
         max_size,
         min_idle,
         max_lifetime,
         idle_timeout,
         connection_timeout,
         reap_every,
-    )
+    }
+    .limits()
     .map(|limits| limits.with_order(order))
     .ok_or(FromJsonError::Limits)
 }
@@ -213,14 +245,35 @@ fn read_ids(
     Ok(IdList::of(list))
 }
 
-fn read_records(alloc: Global, report: &Object<'_, '_>) -> Result<RecordList, FromJsonError> {
-    let found = report.field("records")?;
-    let mut list = Vec::with_capacity(alloc, found.count_items()?)?;
-    let mut items = found.list("records")?;
-    while let Some(item) = items.next() {
-        list.push(read_record(alloc, &item)?)?;
+fn read_records(alloc: Global, list: &str) -> Result<RecordList, FromJsonError> {
+    let (mut scratch, mut spare) = (Scratch::new(alloc), Scratch::new(alloc));
+    let count = count_items(list, &mut scratch)?;
+    let mut records = Vec::with_capacity(alloc, count)?;
+    let mut items = Items::of(list, &mut scratch)?;
+    for number in 0..count {
+        let Some(text) = items.next() else {
+            break;
+        };
+        records.push(read_item(alloc, number, text, &mut spare)?)?;
     }
-    Ok(RecordList::of(list))
+    Ok(RecordList::of(records))
+}
+
+// The record of this number.
+fn read_item(
+    alloc: Global,
+    number: usize,
+    text: &str,
+    scratch: &mut Scratch,
+) -> Result<Record, FromJsonError> {
+    match Tape::parse(text, scratch, Vec::new(alloc)) {
+        Ok(tape) => {
+            let place = Place::item_of("records", number);
+            read_record(alloc, &Found::new(tape.root(), place))
+        }
+        Err(json::Error::Invalid) => Err(not_json(alloc, text)),
+        Err(_) => Err(FromJsonError::Memory),
+    }
 }
 
 fn read_record(alloc: Global, found: &Found<'_>) -> Result<Record, FromJsonError> {

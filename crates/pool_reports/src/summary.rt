@@ -19,8 +19,8 @@ pub struct Summary {
     pub until: Duration,
     /// The most connections that were lent at once.
     pub most_lent: usize,
-    /// For how long the pool was exhausted: none was idle, and lent and pending ones were
-    /// `max_size`.
+    /// For how long the pool was exhausted: it was open, none was idle, and lent and pending ones
+    /// were `max_size`.
     pub exhausted: Duration,
     /// How many connections were opened.
     pub opened: u64,
@@ -47,15 +47,18 @@ impl Summary {
     }
 }
 
-/// What a report says of the time that it covers. Of one that does not replay it says as much as its
-/// records do.
+/// What a report says of the time that it covers. Of one that does not replay it says as much as
+/// its records do.
 ///
 /// It takes time in proportion to the records, and memory to the lent connections. The error comes
 /// only where that is refused.
 pub fn summarize<A: Allocator>(alloc: Global, report: &Report<A>) -> Result<Summary, AllocError>
     ensures opened { IfOk result (λ s. s.opened ≡ opened_in report.now.records) }
     ensures closed { IfOk result (λ s. s.closed ≡ closed_in report.now.records) }
-    ensures reaped { IfOk result (λ s. s.reaped ≡ (report.now.base.connections + opened_in report.now.records) - (closed_in report.now.records + report.now.connections)) }
+    ensures reaped { IfOk result
+        (λ s. s.reaped
+        ≡ (report.now.base.connections + opened_in report.now.records)
+        - (closed_in report.now.records + report.now.connections)) }
     ensures lent { IfOk result (λ s. map (λ l. l.id) s.lent.items ≡ report.now.lent) }
 {
     let records = report.records.as_slice();
@@ -94,8 +97,8 @@ fn loans(alloc: Global, ids: &[u64], records: &[Record]) -> Result<Vec<Loan>, Al
     Ok(loans)
 }
 
-// When each of them was taken, if a record says that. They stand in the order of their takes: so the
-// newest take of the last one is newer than that of the one before it.
+// When each of them was taken, if a record says that. They stand in the order of their takes: so
+// the newest take of the last one is newer than that of the one before it.
 fn dates(
     alloc: Global,
     ids: &[u64],
@@ -128,6 +131,7 @@ struct Now {
     max_size: u64,
     lent: usize,
     pending: u64,
+    closed: bool,
     most_lent: usize,
     exhausted: Duration,
 }
@@ -140,6 +144,7 @@ impl Now {
             max_size: report.limits.max_size() as u64,
             lent,
             pending: report.base.pending as u64,
+            closed: report.base.closed,
             most_lent: lent,
             exhausted: Duration::ZERO,
         }
@@ -155,7 +160,7 @@ impl Now {
 
     // Lets the time pass until the next record.
     fn wait_until(&mut self, at: Duration) {
-        if (self.lent as u64).saturating_add(self.pending) >= self.max_size {
+        if !self.closed && (self.lent as u64).saturating_add(self.pending) >= self.max_size {
             let passed = at.saturating_sub(self.at);
             self.exhausted = self.exhausted.saturating_add(passed);
         }
@@ -177,7 +182,7 @@ impl Now {
                 self.lent = self.lent.saturating_sub(1);
                 self.order(*ordered);
             }
-            Record::ClosedAll { .. } => self.pending = 0,
+            Record::ClosedAll { .. } => (self.pending, self.closed) = (0, true),
         }
     }
 

@@ -21,7 +21,8 @@ mod record;
 /// Records are counted from 0, as in `records[17]` of the JSON.
 #[derive(Clone, Copy, Debug, PartialEq, Eq)]
 pub enum Verdict {
-    /// The report is as each report of a pool is: it replays, none of the rest is wrong. Its text is `replays`.
+    /// The report is as each report of a pool is: it replays, none of the rest is wrong. Its text
+    /// is `replays`.
     Sound,
     /// The base is none that a pool with the limits may come to.
     Base(BaseReason),

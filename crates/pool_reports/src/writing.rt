@@ -18,8 +18,8 @@ pub fn to_json<A: Allocator>(alloc: Global, report: &Report<A>) -> Result<String
     to_json_of_pool(alloc, report, None)
 }
 
-/// The same, with a field `made_at`: what the wall clock showed when the report's pool was made, from
-/// which its moments count. It is left out where that is not known, or past the year 9999.
+/// The same, with a field `made_at`: what the wall clock showed when the report's pool was made,
+/// from which its moments count. It is left out where that is not known, or past the year 9999.
 pub fn to_json_of_pool<A: Allocator>(
     alloc: Global,
     report: &Report<A>,

@@ -1,5 +1,6 @@
 -- An idle connection that is taken and given back as a broken one.
-use Rattle.std.proofs.Common.{◌≡◌, ℕ, ◌+◌, ◌-◌, ◌*◌, ◌<◌, ◌≤◌, max, true, false, not, List, [], ◌∷◌, ◌++◌, map, length, append_assoc, Option, Some, None, Result, Ok, Err, refl, sym, ◌∙◌, ap, arith}
+use Rattle.std.proofs.Common.{◌≡◌, ℕ, ◌+◌, ◌-◌, ◌*◌, ◌<◌, ◌≤◌, max, true, false, not, List, [], ◌∷◌, ◌++◌, map, length, append_assoc, Option, Some, None}
+use Rattle.std.proofs.Common.{Result, Ok, Err, refl, sym, ◌∙◌, ap, arith}
 use Rattle.std.specs.Prelude.{option_map, unwrap_or, is_some, reverse}
 use Rattle.std.proofs.lemmas.List.{reverse-append, append-nil, length_push}
 use Rattle.r2d2_core.specs.declared.schedule.limits.LendingOrder.{LendingOrder}
@@ -11,7 +12,8 @@ use Rattle.r2d2_core.specs.Refusals.{refused_if, ok_or_back, unless_refused}
 use Rattle.r2d2_core.specs.Connections.{SeenIdleConnection, SeenLentConnection, SeenReleased, lent_connection, id_of_idle, id_of_lent, birth_in, released_at}
 use Rattle.r2d2_core.specs.Picture.{Picture, IsSound}
 use Rattle.r2d2_core.specs.Seen.{SeenReturned, Found, Empty, Closed, take_with}
-use Rattle.r2d2_core.specs.Table.{raised_to, top_up_of, topped_up, next_of, lent_out, take_orders, taken, after_take, take_answer, gone_one, return_of, returned, return_answer, after_return}
+use Rattle.r2d2_core.specs.Table.{raised_to, top_up_of, next_of, take_orders, taken, after_take, take_answer, gone_one, return_of}
+use Rattle.r2d2_core.specs.Table.{returned, return_answer, after_return}
 use Rattle.r2d2_core.proofs.Lists.Ids.{copies_of-append3, last_of-push, front-push, last_is}
 use Rattle.r2d2_core.proofs.Lists.Lending.{none_is_next, length-still_idle, found-next, without-next}
 use Rattle.r2d2.specs.Evicted.{in_lending_order, evicted_of, IsEvicted}
@@ -42,10 +44,12 @@ module _ {T : Type 0} where
   idle_of_none t m p q e after =
       let none : next_of p ≡ None = none_next (next_of p) (take_orders (next_of p) false p) m e in
       let no_idle : p.idle ≡ [] = none_is_next p.on_order.limits.order p.idle none in
-      ap (λ x. x.idle) after ∙ (ap (λ o. (taken o false (raised_to t p)).idle) none ∙ (no_idle ∙ sym (ap (still_idle p.on_order.limits.order) no_idle ∙ none_still p.on_order.limits.order)))
+      ap (λ x. x.idle) after ∙ (ap (λ o. (taken o false (raised_to t p)).idle) none
+      ∙ (no_idle ∙ sym (ap (still_idle p.on_order.limits.order) no_idle ∙ none_still p.on_order.limits.order)))
 
   -- what was taken is the last that is lent
-  pub lent_after : (t id birth : ℕ) (v : T) (p q : Picture T) → Next (next_of p) id birth v → q ≡ after_take t false p → q.lent ≡ p.lent ++ lent_connection id birth ∷ []
+  pub lent_after : (t id birth : ℕ) (v : T) (p q : Picture T) → Next (next_of p) id birth v → q ≡ after_take t false p
+      → q.lent ≡ p.lent ++ lent_connection id birth ∷ []
   lent_after t id birth v p q n after =
       ap (λ x. x.lent) after
       ∙ (ap (λ o. (taken o false (raised_to t p)).lent) n.is_next
@@ -56,25 +60,34 @@ module _ {T : Type 0} where
   lent_apart p s i = omega (arith, s.steady.apart i, copies_of-append3 i (map id_of_idle p.idle) (map id_of_lent p.lent) p.on_order.numbered)
 
   -- the last that is lent is found by its id, and leaves the others
-  birth_of_last : (q : Picture T) (others : List SeenLentConnection) (c : SeenLentConnection) → IsSound q → q.lent ≡ others ++ c ∷ [] → birth_in c.id q.lent ≡ Some c.birth
-  birth_of_last q others c s e = ap (option_map (λ l. l.birth)) (found-next id_of_lent lending.NewestFirst q.lent c (ap last_of e ∙ last_of-push others c) (lent_apart q s))
+  birth_of_last : (q : Picture T) (others : List SeenLentConnection) (c : SeenLentConnection) → IsSound q → q.lent ≡ others ++ c ∷ []
+      → birth_in c.id q.lent ≡ Some c.birth
+  birth_of_last q others c s e = ap (option_map (λ l. l.birth)) (found-next id_of_lent lending.NewestFirst q.lent c (ap last_of e ∙ last_of-push others c)
+      (lent_apart q s))
 
-  without_last : (q : Picture T) (others : List SeenLentConnection) (c : SeenLentConnection) → IsSound q → q.lent ≡ others ++ c ∷ [] → without id_of_lent c.id q.lent ≡ others
-  without_last q others c s e = without-next id_of_lent lending.NewestFirst q.lent c (ap last_of e ∙ last_of-push others c) (lent_apart q s) ∙ (ap front e ∙ front-push others c)
+  without_last : (q : Picture T) (others : List SeenLentConnection) (c : SeenLentConnection) → IsSound q → q.lent ≡ others ++ c ∷ []
+      → without id_of_lent c.id q.lent ≡ others
+  without_last q others c s e = without-next id_of_lent lending.NewestFirst q.lent c (ap last_of e ∙ last_of-push others c) (lent_apart q s)
+      ∙ (ap front e ∙ front-push others c)
 
   -- as it comes back broken it is closed
-  pub closing : (t id birth : ℕ) (v : T) (q : Picture T) (others : List SeenLentConnection) → IsSound q → q.lent ≡ others ++ lent_connection id birth ∷ [] → return_answer t id v true q ≡ Ok (Closed v (max q.latest t - birth) (top_up_of (gone_one id (raised_to t q))))
-  closing t id birth v q others s e = ap (λ o. ok_or_back (refused_if (not (is_some o)) refusal.NotLent None) v (return_of id (unwrap_or o 0) v true (raised_to t q))) (birth_of_last q others (lent_connection id birth) s e)
+  pub closing : (t id birth : ℕ) (v : T) (q : Picture T) (others : List SeenLentConnection) → IsSound q → q.lent ≡ others ++ lent_connection id birth ∷ []
+      → return_answer t id v true q ≡ Ok (Closed v (max q.latest t - birth) (top_up_of (gone_one id (raised_to t q))))
+  closing t id birth v q others s e = ap (λ o. ok_or_back (refused_if (not (is_some o)) refusal.NotLent None) v
+      (return_of id (unwrap_or o 0) v true (raised_to t q))) (birth_of_last q others (lent_connection id birth) s e)
 
   -- and the others are still lent
-  pub lent_then : (t id birth : ℕ) (v : T) (q r : Picture T) (others : List SeenLentConnection) → IsSound q → q.lent ≡ others ++ lent_connection id birth ∷ [] → r ≡ after_return t id v true q → r.lent ≡ others
+  pub lent_then : (t id birth : ℕ) (v : T) (q r : Picture T) (others : List SeenLentConnection) → IsSound q → q.lent ≡ others ++ lent_connection id birth ∷ []
+      → r ≡ after_return t id v true q → r.lent ≡ others
   lent_then t id birth v q r others s e after =
       ap (λ x. x.lent) after
-      ∙ (ap (λ o. (unless_refused (refused_if (not (is_some o)) refusal.NotLent None) (returned id (unwrap_or o 0) v true (raised_to t q)) q).lent) (birth_of_last q others (lent_connection id birth) s e)
+      ∙ (ap (λ o. (unless_refused (refused_if (not (is_some o)) refusal.NotLent None) (returned id (unwrap_or o 0) v true (raised_to t q)) q).lent)
+      (birth_of_last q others (lent_connection id birth) s e)
       ∙ without_last q others (lent_connection id birth) s e)
 
   -- what is handed over of it
-  pub released_next : (t id birth age : ℕ) (v w : T) (p : Picture T) → Next (next_of p) id birth v → age ≡ max p.latest t - birth → w ≡ v → Some (record { id = id; age = age; value = w }) ≡ option_map (released_at (max p.latest t)) (next_of p)
+  pub released_next : (t id birth age : ℕ) (v w : T) (p : Picture T) → Next (next_of p) id birth v → age ≡ max p.latest t - birth → w ≡ v
+      → Some (record { id = id; age = age; value = w }) ≡ option_map (released_at (max p.latest t)) (next_of p)
   unfolding released_at
   released_next t id birth age v w p n a e =
       let same_age : age ≡ max p.latest t - n.c.birth = a ∙ ap (λ b. max p.latest t - b) (sym n.same_birth) in
@@ -125,20 +138,23 @@ module _ {T : Type 0} where
   pub evicting : (t : ℕ) (p : Picture T) → Evicting t p p []
   evicting t p = record { handed = refl; left = omega arith; lent = refl; latest = refl; limits = refl; next_id = refl }
 
-  next_first : (o : LendingOrder) (xs : List (SeenIdleConnection T)) (c : SeenIdleConnection T) → lent_next o xs ≡ Some c → in_lending_order o xs ≡ c ∷ in_lending_order o (still_idle o xs)
+  next_first : (o : LendingOrder) (xs : List (SeenIdleConnection T)) (c : SeenIdleConnection T) → lent_next o xs ≡ Some c
+      → in_lending_order o xs ≡ c ∷ in_lending_order o (still_idle o xs)
   next_first lending.NewestFirst xs c e = ap reverse (last_is xs c e) ∙ reverse-append (front xs) (c ∷ [])
   next_first lending.OldestFirst [] c e = absurd cc
   next_first lending.OldestFirst (x ∷ xs) c e = let same : x ≡ c = cc in ap (λ y. y ∷ xs) same
 
   -- the next one goes from those that are idle to what was handed over
-  moved : (m : ℕ) (o : LendingOrder) (xs : List (SeenIdleConnection T)) (out : List (SeenReleased T)) (r : SeenReleased T) (c : SeenIdleConnection T) → lent_next o xs ≡ Some c → r ≡ released_at m c
+  moved : (m : ℕ) (o : LendingOrder) (xs : List (SeenIdleConnection T)) (out : List (SeenReleased T)) (r : SeenReleased T) (c : SeenIdleConnection T)
+      → lent_next o xs ≡ Some c → r ≡ released_at m c
       → (out ++ r ∷ []) ++ map (released_at m) (in_lending_order o (still_idle o xs)) ≡ out ++ map (released_at m) (in_lending_order o xs)
   moved m o xs out r c e is =
       append_assoc out (r ∷ []) (map (released_at m) (in_lending_order o (still_idle o xs)))
       ∙ (ap (λ x. out ++ x ∷ map (released_at m) (in_lending_order o (still_idle o xs))) is
       ∙ sym (ap (λ l. out ++ map (released_at m) l) (next_first o xs c e)))
 
-  goes_on_by : (t : ℕ) (p q s : Picture T) (out : List (SeenReleased T)) (r : SeenReleased T) (n : Option (SeenIdleConnection T)) → lent_next q.on_order.limits.order q.idle ≡ n → Some r ≡ option_map (released_at (max q.latest t)) n
+  goes_on_by : (t : ℕ) (p q s : Picture T) (out : List (SeenReleased T)) (r : SeenReleased T) (n : Option (SeenIdleConnection T))
+      → lent_next q.on_order.limits.order q.idle ≡ n → Some r ≡ option_map (released_at (max q.latest t)) n
       → Evicting t p q out → EvictsNext t q s → Evicting t p s (out ++ r ∷ [])
   goes_on_by t p q s out r None e is v x = absurd cc
   goes_on_by t p q s out r (Some c) e is v x =
@@ -147,7 +163,8 @@ module _ {T : Type 0} where
       let next : lent_next p.on_order.limits.order q.idle ≡ Some c = ap (λ o. lent_next o q.idle) (sym order) ∙ e in
       let rest : s.idle ≡ still_idle p.on_order.limits.order q.idle = x.idle ∙ ap (λ o. still_idle o q.idle) order in
       record {
-        handed = ap (λ l. (out ++ r ∷ []) ++ map (released_at (max p.latest t)) (in_lending_order p.on_order.limits.order l)) rest ∙ (moved (max p.latest t) p.on_order.limits.order q.idle out r c next moment ∙ v.handed);
+        handed = ap (λ l. (out ++ r ∷ []) ++ map (released_at (max p.latest t)) (in_lending_order p.on_order.limits.order l)) rest
+            ∙ (moved (max p.latest t) p.on_order.limits.order q.idle out r c next moment ∙ v.handed);
         left = omega (arith, v.left, length_push out r, ap length rest, length-still_idle p.on_order.limits.order q.idle c next);
         lent = x.lent ∙ v.lent;
         latest = x.latest ∙ v.latest;
@@ -155,17 +172,20 @@ module _ {T : Type 0} where
         next_id = x.next_id ∙ v.next_id;
       }
 
-  pub goes_on : (t : ℕ) (p q s : Picture T) (out : List (SeenReleased T)) (r : SeenReleased T) → Some r ≡ option_map (released_at (max q.latest t)) (lent_next q.on_order.limits.order q.idle)
+  pub goes_on : (t : ℕ) (p q s : Picture T) (out : List (SeenReleased T)) (r : SeenReleased T)
+      → Some r ≡ option_map (released_at (max q.latest t)) (lent_next q.on_order.limits.order q.idle)
       → Evicting t p q out → EvictsNext t q s → Evicting t p s (out ++ r ∷ [])
   goes_on t p q s out r is v x = goes_on_by t p q s out r (lent_next q.on_order.limits.order q.idle) refl is v x
 
-  more_by : (t : ℕ) (p q : Picture T) (out : List (SeenReleased T)) (r : SeenReleased T) (n : Option (SeenIdleConnection T)) → lent_next q.on_order.limits.order q.idle ≡ n → Some r ≡ option_map (released_at (max q.latest t)) n
+  more_by : (t : ℕ) (p q : Picture T) (out : List (SeenReleased T)) (r : SeenReleased T) (n : Option (SeenIdleConnection T))
+      → lent_next q.on_order.limits.order q.idle ≡ n → Some r ≡ option_map (released_at (max q.latest t)) n
       → Evicting t p q out → IsSound p → length out < p.on_order.limits.max_size
   more_by t p q out r None e is v s = absurd cc
   more_by t p q out r (Some c) e is v s = omega (arith, v.left, length-still_idle q.on_order.limits.order q.idle c e, s.steady.counted, s.steady.fits)
 
   -- there is room for it
-  pub has_more : (t : ℕ) (p q : Picture T) (out : List (SeenReleased T)) (r : SeenReleased T) → Some r ≡ option_map (released_at (max q.latest t)) (lent_next q.on_order.limits.order q.idle)
+  pub has_more : (t : ℕ) (p q : Picture T) (out : List (SeenReleased T)) (r : SeenReleased T)
+      → Some r ≡ option_map (released_at (max q.latest t)) (lent_next q.on_order.limits.order q.idle)
       → Evicting t p q out → IsSound p → length out < p.on_order.limits.max_size
   has_more t p q out r is v s = more_by t p q out r (lent_next q.on_order.limits.order q.idle) refl is v s
 
@@ -184,7 +204,8 @@ module _ {T : Type 0} where
   pub all_handed : (t : ℕ) (p q : Picture T) (out : List (SeenReleased T)) → q.idle ≡ [] → Evicting t p q out → out ≡ evicted_of t p
   all_handed t p q out e v =
       sym (append-nil out)
-      ∙ (sym (ap (λ l. out ++ map (released_at (max p.latest t)) l) (ap (in_lending_order p.on_order.limits.order) e ∙ none_in_order p.on_order.limits.order)) ∙ v.handed)
+      ∙ (sym (ap (λ l. out ++ map (released_at (max p.latest t)) l) (ap (in_lending_order p.on_order.limits.order) e ∙ none_in_order p.on_order.limits.order))
+      ∙ v.handed)
 
   pub evicted : (t : ℕ) (p q s : Picture T) (out : List (SeenReleased T)) → q.idle ≡ [] → Evicting t p q out → EvictsNext t q s → IsEvicted p s
   evicted t p q s out e v x = record {
@@ -194,5 +215,6 @@ module _ {T : Type 0} where
   }
 
 -- one take more is counted
-pub one_more_counted : (before so_far after count per_take : ℕ) → so_far ≡ before + count * per_take → after ≡ so_far + 1 * per_take → after ≡ before + (count + 1) * per_take
+pub one_more_counted : (before so_far after count per_take : ℕ) → so_far ≡ before + count * per_take → after ≡ so_far + 1 * per_take
+    → after ≡ before + (count + 1) * per_take
 one_more_counted before so_far after count per_take e f = omega (arith, e, f)

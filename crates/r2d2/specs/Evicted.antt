@@ -1,5 +1,5 @@
 -- What an eviction does. A moment is raised to the latest so far.
-use Rattle.std.specs.Prelude.{◌≡◌, ℕ, nat_lt, max, Bool, ◌||◌, List, [], map, reverse, length}
+use Rattle.std.specs.Prelude.{◌≡◌, ℕ, nat_lt, max, Bool, ◌||◌, List, [], map, reverse}
 use Rattle.r2d2_core.specs.declared.schedule.limits.LendingOrder.{LendingOrder}
 use Rattle.r2d2_core.specs.declared.schedule.limits.LendingOrder.TheVariants as lending
 use Rattle.r2d2_core.specs.Connections.{SeenReleased, released_at}

@@ -34,11 +34,26 @@ pub record ArePositive {H V Z : Type 0} (config : Config H V Z) : Type 0 where
 
 -- the limits among the settings
 abbrev pub limits_in : {H V Z : Type 0} → Config H V Z → SeenLimits
-limits_in config = with_order config.lending_order (settings config.max_size config.min_idle config.max_lifetime config.idle_timeout config.connection_timeout config.reaper_rate)
+limits_in config = with_order config.lending_order (settings config.max_size config.min_idle config.max_lifetime config.idle_timeout config.connection_timeout
+    config.reaper_rate)
 
 -- the same settings with other handlers
 abbrev pub with_handlers : {G W Y H V Z : Type 0} → G → W → Y → Config H V Z → Config G W Y
-with_handlers error_handler event_handler customizer c = record { max_size = c.max_size; min_idle = c.min_idle; thread_pool = c.thread_pool; test_on_check_out = c.test_on_check_out; max_lifetime = c.max_lifetime; idle_timeout = c.idle_timeout; connection_timeout = c.connection_timeout; journal_room = c.journal_room; reaper_rate = c.reaper_rate; lending_order = c.lending_order; error_handler = error_handler; event_handler = event_handler; connection_customizer = customizer }
+with_handlers error_handler event_handler customizer c = record {
+  max_size = c.max_size;
+  min_idle = c.min_idle;
+  thread_pool = c.thread_pool;
+  test_on_check_out = c.test_on_check_out;
+  max_lifetime = c.max_lifetime;
+  idle_timeout = c.idle_timeout;
+  connection_timeout = c.connection_timeout;
+  journal_room = c.journal_room;
+  reaper_rate = c.reaper_rate;
+  lending_order = c.lending_order;
+  error_handler = error_handler;
+  event_handler = event_handler;
+  connection_customizer = customizer;
+}
 
 -- with another handler of errors, of events, with another customizer alone
 abbrev pub with_error_handler : {G H V Z : Type 0} → G → Config H V Z → Config G V Z

@@ -8,12 +8,13 @@ use crate::event::{HandleEvent, NopEventHandler};
 use crate::{
     CustomizeConnection, HandleError, ManageConnection, NopConnectionCustomizer, NopErrorHandler,
 };
-use r2d2_core::{LendingOrder, Limits};
+use r2d2_core::{LendingOrder, LimitSettings, Limits};
 use std::fmt;
 use std::marker::{Model, PhantomData};
 use std::time::Duration;
 
-/// The settings that a pool keeps: what each means is said at the setting of `Builder` of the same name.
+/// The settings that a pool keeps: what each means is said at the setting of `Builder` of the same
+/// name.
 #[derive(Drop)]
 pub struct Config<H, V, Z> {
     /// How many connections there are at most.
@@ -32,7 +33,8 @@ pub struct Config<H, V, Z> {
     pub connection_timeout: Duration,
     /// How many records of what happened the pool keeps.
     pub journal_room: usize,
-    /// The time from one look for expired connections to the next. Among the limits of the core it is `reap_every`.
+    /// The time from one look for expired connections to the next. Among the limits of the core it
+    /// is `reap_every`.
     pub reaper_rate: Duration,
     /// Which of the idle connections is lent next.
     pub lending_order: LendingOrder,
@@ -45,7 +47,8 @@ pub struct Config<H, V, Z> {
 }
 
 impl<H, V, Z> Config<H, V, Z> {
-    ghost use Rattle.r2d2.specs.Settings.{with_handlers, with_error_handler, with_event_handler, with_customizer};
+    ghost use Rattle.r2d2.specs.Settings.{with_handlers, with_error_handler, with_event_handler};
+    ghost use Rattle.r2d2.specs.Settings.{with_customizer};
 
     // The same settings with other handlers, and those that they had.
     fn with_handlers<G, W, Y>(
@@ -54,8 +57,10 @@ impl<H, V, Z> Config<H, V, Z> {
         event_handler: W,
         connection_customizer: Y,
     ) -> (Config<G, W, Y>, (H, V, Z))
-        ensures settings { result.0 ≡ with_handlers error_handler event_handler connection_customizer self }
-        ensures handlers { result.1 ≡ (self.error_handler, self.event_handler, self.connection_customizer) }
+        ensures settings { result.0
+            ≡ with_handlers error_handler event_handler connection_customizer self }
+        ensures handlers { result.1
+            ≡ (self.error_handler, self.event_handler, self.connection_customizer) }
     {
         let handlers = (
             self.error_handler,
@@ -132,9 +137,10 @@ impl<H: fmt::Debug, V: fmt::Debug, Z: fmt::Debug> fmt::Debug for Config<H, V, Z>
 
 /// Gathers the settings of a pool, and builds it. Begin with `Builder::new()`.
 ///
-/// `H` handles errors, `V` events, and `Z` changes connections as they come and go. A setting that may not be zero
-/// asks for that as a condition, which the checker proves of each call: a literal shows it by itself, and a number
-/// that comes from outside has to be tested before. Each setting says how.
+/// `H` handles errors, `V` events, and `Z` changes connections as they come and go. A setting that
+/// may not be zero asks for that as a condition, which the checker proves of each call: a literal
+/// shows it by itself, and a number that comes from outside has to be tested before. Each setting
+/// says how.
 #[derive(Drop)]
 pub struct Builder<M, H = NopErrorHandler, V = NopEventHandler, Z = NopConnectionCustomizer> {
     config: Config<H, V, Z>,
@@ -156,7 +162,8 @@ impl<M, H, V, Z> Model for Builder<M, H, V, Z> {
 impl<M: ManageConnection> Builder<M> {
     ghost use Rattle.r2d2.specs.Settings.{AreDefaults};
 
-    /// A builder with the default of each setting, and with handlers and a customizer that do nothing.
+    /// A builder with the default of each setting, and with handlers and a customizer that do
+    /// nothing.
     pub fn new() -> Self
         ensures { AreDefaults result }
     {
@@ -198,10 +205,11 @@ impl<
     V: HandleEvent + 'static,
     Z: CustomizeConnection<M::Connection, M::Error>,
 > Builder<M, H, V, Z> {
-    ghost use Rattle.r2d2.specs.Settings.{limits_in, with_error_handler, with_event_handler, with_customizer};
+    ghost use Rattle.r2d2.specs.Settings.{limits_in, with_error_handler, with_event_handler};
+    ghost use Rattle.r2d2.specs.Settings.{with_customizer};
 
-    /// How many connections there are at most: idle ones, lent ones and those that are being opened together. The
-    /// default is 10. A pool takes the memory for that many when it is built.
+    /// How many connections there are at most: idle ones, lent ones and those that are being opened
+    /// together. The default is 10. A pool takes the memory for that many when it is built.
     ///
     /// It may not be 0. The test for a number from outside: `max_size > 0`.
     pub fn max_size(mut self, max_size: u32) -> Self
@@ -212,11 +220,12 @@ impl<
         self
     }
 
-    /// How many connections the pool tries to keep idle, as far as `max_size` leaves room for them. The default is
-    /// None, which stands for `max_size`. With `Some(0)` none is kept ready: `build` opens none and does not wait,
-    /// and a caller who finds none idle orders one and waits for it.
+    /// How many connections the pool tries to keep idle, as far as `max_size` leaves room for them.
+    /// The default is None, which stands for `max_size`. With `Some(0)` none is kept ready: `build`
+    /// opens none and does not wait, and a caller who finds none idle orders one and waits for it.
     ///
-    /// It may not be above `max_size` when the pool is built. The test: `limits().is_some()` on the finished builder.
+    /// It may not be above `max_size` when the pool is built. The test: `limits().is_some()` on the
+    /// finished builder.
     pub fn min_idle(mut self, min_idle: Option<u32>) -> Self
         ensures { result ≡ record self { min_idle = min_idle } }
     {
@@ -224,7 +233,8 @@ impl<
         self
     }
 
-    /// How many threads of the pool's own open connections and close expired ones. The default is 3.
+    /// How many threads of the pool's own open connections and close expired ones. The default is
+    /// 3.
     ///
     /// It may not be 0. The test for a number from outside: `workers > 0`.
     pub fn thread_pool(mut self, workers: usize) -> Self
@@ -235,8 +245,8 @@ impl<
         self
     }
 
-    /// Whether a connection is checked by `ManageConnection::is_valid` each time before it is lent. The default is
-    /// true.
+    /// Whether a connection is checked by `ManageConnection::is_valid` each time before it is lent.
+    /// The default is true.
     pub fn test_on_check_out(mut self, test_on_check_out: bool) -> Self
         ensures { result ≡ record self { test_on_check_out = test_on_check_out } }
     {
@@ -246,9 +256,9 @@ impl<
 
     /// The age at which a connection is closed; None for never. The default is 30 minutes.
     ///
-    /// It is enforced when a lent connection comes back, and for an idle one at the next look for expired ones: there
-    /// is one every 30 seconds, so an idle connection stays at most 30 seconds beyond, and longer only while every
-    /// worker is busy. Until then it can still be lent.
+    /// It is enforced when a lent connection comes back, and for an idle one at the next look for
+    /// expired ones: there is one every 30 seconds, so an idle connection stays at most 30 seconds
+    /// beyond, and longer only while every worker is busy. Until then it can still be lent.
     ///
     /// It may not be a length of zero. The test for one from outside: None, or `!age.is_zero()`.
     pub fn max_lifetime(mut self, max_lifetime: Option<Duration>) -> Self
@@ -259,12 +269,12 @@ impl<
         self
     }
 
-    /// How long a connection may be idle before it is closed; None for as long as it likes. The default is 10
-    /// minutes.
+    /// How long a connection may be idle before it is closed; None for as long as it likes. The
+    /// default is 10 minutes.
     ///
-    /// It is enforced at the next look for expired ones: there is one every 30 seconds, so an idle connection stays
-    /// at most 30 seconds beyond, and longer only while every worker is busy. Until then it can still be lent, and
-    /// its idle time starts anew when it comes back.
+    /// It is enforced at the next look for expired ones: there is one every 30 seconds, so an idle
+    /// connection stays at most 30 seconds beyond, and longer only while every worker is busy.
+    /// Until then it can still be lent, and its idle time starts anew when it comes back.
     ///
     /// It may not be a length of zero. The test for one from outside: None, or `!length.is_zero()`.
     pub fn idle_timeout(mut self, idle_timeout: Option<Duration>) -> Self
@@ -275,10 +285,11 @@ impl<
         self
     }
 
-    /// How long `get` waits for a connection before it answers a timeout. The default is 30 seconds.
+    /// How long `get` waits for a connection before it answers a timeout. The default is 30
+    /// seconds.
     ///
-    /// It bounds two more things: `build` waits as long at most for the first connections, and an opening that failed
-    /// is tried again after half of it at the latest.
+    /// It bounds two more things: `build` waits as long at most for the first connections, and an
+    /// opening that failed is tried again after half of it at the latest.
     ///
     /// It may not be a length of zero. The test for one from outside: `!length.is_zero()`.
     pub fn connection_timeout(mut self, connection_timeout: Duration) -> Self
@@ -289,9 +300,9 @@ impl<
         self
     }
 
-    /// How many records of what happened the pool keeps for `Pool::journal`, the latest ones. The default is 0: none.
-    /// The memory is taken when the pool is built, 40 bytes for each record, and building is refused where there is
-    /// not as much.
+    /// How many records of what happened the pool keeps for `Pool::journal`, the latest ones. The
+    /// default is 0: none. The memory is taken when the pool is built, 40 bytes for each record,
+    /// and building is refused where there is not as much.
     pub fn journal_room(mut self, records: usize) -> Self
         ensures { result ≡ record self { journal_room = records } }
     {
@@ -299,9 +310,10 @@ impl<
         self
     }
 
-    /// Which of the idle connections is lent next. The default is `NewestFirst`: few connections are kept in use, and
-    /// the others reach their `idle_timeout` and are closed. Under `OldestFirst` each connection is used in its turn, so
-    /// none is idle for long while the pool is busy, and few are closed. r2d2 always lends the newest first.
+    /// Which of the idle connections is lent next. The default is `NewestFirst`: few connections
+    /// are kept in use, and the others reach their `idle_timeout` and are closed. Under
+    /// `OldestFirst` each connection is used in its turn, so none is idle for long while the pool
+    /// is busy, and few are closed. r2d2 always lends the newest first.
     pub fn lending_order(mut self, order: LendingOrder) -> Self
         ensures { result ≡ record self { lending_order = order } }
     {
@@ -309,9 +321,9 @@ impl<
         self
     }
 
-    /// What is told of each error of the manager and of the customizer. The default, `NopErrorHandler`, drops each in
-    /// silence, so that only a caller's timeout tells why no connection opens. `LoggingErrorHandler` writes each to a
-    /// log.
+    /// What is told of each error of the manager and of the customizer. The default,
+    /// `NopErrorHandler`, drops each in silence, so that only a caller's timeout tells why no
+    /// connection opens. `LoggingErrorHandler` writes each to a log.
     pub fn error_handler<G: HandleError<M::Error>>(self, handler: G) -> Builder<M, G, V, Z>
         ensures { result ≡ with_error_handler handler self }
     {
@@ -333,7 +345,8 @@ impl<
         }
     }
 
-    /// What changes connections as they come and go. The default, `NopConnectionCustomizer`, leaves them as they are.
+    /// What changes connections as they come and go. The default, `NopConnectionCustomizer`, leaves
+    /// them as they are.
     pub fn connection_customizer<Y: CustomizeConnection<M::Connection, M::Error>>(
         self,
         customizer: Y,
@@ -355,21 +368,23 @@ impl<
         config
     }
 
-    /// The limits that building would use, with the lending order; None exactly where `min_idle` is above `max_size`. It is the last test to
-    /// make before a pool is built from settings that come from outside.
+    /// The limits that building would use, with the lending order; None exactly where `min_idle` is
+    /// above `max_size`. It is the last test to make before a pool is built from settings that come
+    /// from outside.
     pub fn limits(&self) -> Option<Limits>
         ensures legal { IsSome result ↔ ForSome self.now.min_idle (λ n. n ≤ self.now.max_size) }
         ensures given { IfSome result (λ limits. seen_limits limits ≡ limits_in self.now) }
     {
         let config = &self.config;
-        let limits = Limits::of(
-            config.max_size,
-            config.min_idle,
-            config.max_lifetime,
-            config.idle_timeout,
-            config.connection_timeout,
-            config.reaper_rate,
-        )?;
+        let limits = LimitSettings {
+            max_size: config.max_size,
+            min_idle: config.min_idle,
+            max_lifetime: config.max_lifetime,
+            idle_timeout: config.idle_timeout,
+            connection_timeout: config.connection_timeout,
+            reap_every: config.reaper_rate,
+        }
+        .limits()?;
         Some(limits.with_order(config.lending_order))
     }
 }

@@ -1,13 +1,16 @@
-//! What the pool does to its book while it holds the lock: one function for each thing, which says whom to wake when the lock is
-//! free again. Beside it `Payload`, which a pool's book keeps, and `open`, which needs no book and no lock.
+//! What the pool does to its book while it holds the lock: one function for each thing, which says
+//! whom to wake when the lock is free again. Beside it `Payload`, which a pool's book keeps, and
+//! `open`, which needs no book and no lock.
 ghost use Rattle.std.specs.Prelude.{◌≡◌, ◌≤◌, map, length, vec_len, vec_capacity};
 ghost use Rattle.std.specs.Duration.{as_nanos};
 ghost use Rattle.r2d2_core.specs.Seen.{seen_take, seen_returned, seen_released, map_ok};
-ghost use Rattle.r2d2_core.specs.Table.{take_answer, after_take, return_answer, after_return, reap_closed, reap_orders, after_reap};
+ghost use Rattle.r2d2_core.specs.Table.{take_answer, after_take, return_answer, after_return};
+ghost use Rattle.r2d2_core.specs.Table.{reap_closed, reap_orders, after_reap};
 ghost use Rattle.r2d2_core.specs.Picture.{IsSound};
 ghost use Rattle.r2d2_core.specs.Noted.{noted_take, noted_return, noted_reap};
 ghost use Rattle.r2d2.specs.Wakes.{wakes_of_take, wakes_of_return, wakes_of_reap};
-ghost use Rattle.r2d2.specs.Settled.{seen_settled, settle_answer, after_settle, noted_settle, wakes_of_settled};
+ghost use Rattle.r2d2.specs.Settled.{seen_settled, settle_answer, after_settle, noted_settle};
+ghost use Rattle.r2d2.specs.Settled.{wakes_of_settled};
 
 mod counted;
 mod evicting;
@@ -76,7 +79,8 @@ impl Wakes {
 pub enum Outcome<T> {
     /// A connection was opened, and has this id.
     Opened { id: u64, value: T },
-    /// An opening failed, after `tries` failures before it. The text is the error's, where memory for it was there.
+    /// An opening failed, after `tries` failures before it. The text is the error's, where memory
+    /// for it was there.
     Failed { tries: u32, text: Option<String> },
     /// The check of a lent connection failed.
     Unsound { id: u64, text: Option<String> },
@@ -130,7 +134,8 @@ pub fn lend<T, A: Allocator>(
     (taken, wakes)
 }
 
-/// Gives a lent connection back, as `Book::put_back`. One that is closed is handed over, and so is one that is refused.
+/// Gives a lent connection back, as `Book::put_back`. One that is closed is handed over, and so is
+/// one that is refused.
 #[inline(always)]
 pub fn give_back<T, A: Allocator>(
     book: &mut Book<T, A>,
@@ -139,11 +144,14 @@ pub fn give_back<T, A: Allocator>(
     value: T,
     broken: bool,
 ) -> (Result<Returned<T>, (Refusal, T)>, Wakes)
-    ensures answer { map_ok seen_returned result.0 ≡ return_answer (as_nanos now) id value broken book.old.picture }
+    ensures answer { map_ok seen_returned result.0
+        ≡ return_answer (as_nanos now) id value broken book.old.picture }
     ensures wakes { result.1 ≡ wakes_of_return (map_ok seen_returned result.0) }
-    ensures after { book.new.picture ≡ after_return (as_nanos now) id value broken book.old.picture }
+    ensures after { book.new.picture
+        ≡ after_return (as_nanos now) id value broken book.old.picture }
     ensures sound { IsSound book.new.picture }
-    ensures noted { book.new.journal ≡ noted_return (as_nanos now) id (map_ok seen_returned result.0) book.old }
+    ensures noted { book.new.journal
+        ≡ noted_return (as_nanos now) id (map_ok seen_returned result.0) book.old }
 {
     let returned = book.put_back(now, id, value, broken);
     let wakes = match &returned {
@@ -154,8 +162,8 @@ pub fn give_back<T, A: Allocator>(
     (returned, wakes)
 }
 
-/// Tells the book what became of an opening or a check: `Opened` is admitted, `Failed` and `Unsound` are as `Book::fail` and
-/// `Book::fail_check`.
+/// Tells the book what became of an opening or a check: `Opened` is admitted, `Failed` and
+/// `Unsound` are as `Book::fail` and `Book::fail_check`.
 pub fn settle<T, A: Allocator>(
     book: &mut Book<T, A>,
     now: Duration,
@@ -185,8 +193,8 @@ pub fn settle<T, A: Allocator>(
     (settled, wakes)
 }
 
-/// Closes the idle connections that are expired, as `Book::reap`: they are handed over in `out`. The number is that of the openings
-/// that were ordered.
+/// Closes the idle connections that are expired, as `Book::reap`: they are handed over in `out`.
+/// The number is that of the openings that were ordered.
 pub fn sweep<T, A: Allocator>(
     book: &mut Book<T, A>,
     now: Duration,
@@ -194,12 +202,14 @@ pub fn sweep<T, A: Allocator>(
 ) -> (u32, Wakes)
     requires empty { vec_len out.old ≡ 0 }
     requires room { book.old.picture.on_order.limits.max_size ≤ vec_capacity out.old }
-    ensures released { map seen_released out.new.items ≡ reap_closed (as_nanos now) book.old.picture }
+    ensures released { map seen_released out.new.items
+        ≡ reap_closed (as_nanos now) book.old.picture }
     ensures answer { result.0 ≡ reap_orders (as_nanos now) book.old.picture }
     ensures wakes { result.1 ≡ wakes_of_reap (length out.new.items) result.0 }
     ensures after { book.new.picture ≡ after_reap (as_nanos now) book.old.picture }
     ensures sound { IsSound book.new.picture }
-    ensures noted { book.new.journal ≡ noted_reap (as_nanos now) (length out.new.items) result.0 book.old }
+    ensures noted { book.new.journal
+        ≡ noted_reap (as_nanos now) (length out.new.items) result.0 book.old }
 {
     let ordered = book.reap(now, out);
     let wakes = Wakes {

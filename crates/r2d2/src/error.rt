@@ -20,9 +20,9 @@ pub enum ErrorKind {
     Closed,
 }
 
-/// Why a call failed, and for a timeout the latest error of an opening or a check, where one is known. It displays as
-/// `timed out waiting for connection`, then `: ` and that text; as `out of memory`; as `a worker could not be started`; or as
-/// `the pool is closed`.
+/// Why a call failed, and for a timeout the latest error of an opening or a check, where one is
+/// known. It displays as `timed out waiting for connection`, then `: ` and that text; as `out of
+/// memory`; as `a worker could not be started`; or as `the pool is closed`.
 #[derive(Debug, Drop)]
 pub struct Error {
     kind: ErrorKind,
@@ -87,7 +87,8 @@ impl Error {
         self.kind
     }
 
-    /// The text of the latest error of an opening or a check, where one is known. Only a timeout has one.
+    /// The text of the latest error of an opening or a check, where one is known. Only a timeout
+    /// has one.
     pub fn message(&self) -> Option<&str>
         ensures text { option_map (λ text. text.now) result ≡ self.now.message }
         ensures only_timeouts { IsSome result → self.now.kind ≡ ErrorKind.Timeout }
@@ -122,7 +123,8 @@ impl std::error::Error for Error {}
 
 /// The text of a manager's or a customizer's error; None where memory for it is refused.
 pub(crate) fn text_of<E: fmt::Display, A: Allocator>(alloc: A, error: &E) -> Option<String<A>>
-    ensures { IfSome result (λ text. IfSome (E.output error.now) (λ bytes. string_bytes text ≡ bytes)) }
+    ensures { IfSome result
+        (λ text. IfSome (E.output error.now) (λ bytes. string_bytes text ≡ bytes)) }
 {
     error.to_string(alloc).ok()
 }

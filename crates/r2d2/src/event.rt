@@ -6,8 +6,9 @@ use std::fmt;
 use std::marker::Model;
 use std::time::Duration;
 
-/// Is told of each event, on the thread where it happened, while no lock of the pool is held. Each method does
-/// nothing unless you write it. A handler that has a parameter, as the runtime, has to have all five.
+/// Is told of each event, on the thread where it happened, while no lock of the pool is held. Each
+/// method does nothing unless you write it. A handler that has a parameter, as the runtime, has to
+/// have all five.
 pub trait HandleEvent: fmt::Debug + Sync + Send + Drop {
     /// A connection was opened and has its id.
     fn handle_acquire(&self, _event: AcquireEvent) {}

@@ -1,5 +1,6 @@
 // What users keep beside a connection.
-ghost use Rattle.std.specs.Prelude.{◌≡◌, [], List, IfOk, IfErr, OnErr, OnOk, IfSome, IfNone, option_copied, position};
+ghost use Rattle.std.specs.Prelude.{◌≡◌, [], List, IfOk, IfErr, OnErr, OnOk, IfSome, IfNone};
+ghost use Rattle.std.specs.Prelude.{option_copied, position};
 ghost use Rattle.std.specs.List.{IsDistinct};
 ghost use Rattle.std.specs.Map.{lookup, remove_entry, set_value, keys_of};
 ghost use Rattle.r2d2.specs.Entries.{with_entry, ChangesKind, IsChangeable, IsPlaceOf};
@@ -8,14 +9,15 @@ use std::alloc::Global;
 use std::marker::Model;
 use std::mem;
 
-/// A value that names the kind under which it is kept. Mostly it is an enum, with a case for each kind; it is `()`
-/// where nothing is kept.
+/// A value that names the kind under which it is kept. Mostly it is an enum, with a case for each
+/// kind; it is `()` where nothing is kept.
 pub trait Extension {
     /// The kinds. There is at most one value for each.
     type Kind: Eq + Drop + 'static;
 
-    /// The kind of a value, as contracts name it: the same as `kind`, in the language of contracts. For an enum it
-    /// lists the cases, as `ghost kind_of = { λ v. elim v [ Number _ ↦ OfNumber | Word _ ↦ OfWord ] };` does.
+    /// The kind of a value, as contracts name it: the same as `kind`, in the language of contracts.
+    /// For an enum it lists the cases, as `ghost kind_of = { λ v. elim v [ Number _ ↦ OfNumber |
+    /// Word _ ↦ OfWord ] };` does.
     ghost kind_of: { Self → Self.Kind };
 
     /// The kind of this value.
@@ -23,8 +25,8 @@ pub trait Extension {
         ensures { result ≡ kind_of self.now };
 }
 
-/// Nothing: for a manager that keeps nothing beside its connections. It has one kind, under which nobody keeps
-/// anything.
+/// Nothing: for a manager that keeps nothing beside its connections. It has one kind, under which
+/// nobody keeps anything.
 impl Extension for () {
     type Kind = ();
 
@@ -33,9 +35,9 @@ impl Extension for () {
     fn kind(&self) {}
 }
 
-/// Values that are kept beside a connection, such as prepared statements: at most one of each kind. They stay with
-/// their connection until it is closed, and a new connection has none. A value stays under the kind that it named
-/// when it was put in.
+/// Values that are kept beside a connection, such as prepared statements: at most one of each kind.
+/// They stay with their connection until it is closed, and a new connection has none. A value stays
+/// under the kind that it named when it was put in.
 #[derive(Drop)]
 pub struct Extensions<X: Extension> {
     entries: Vec<(X::Kind, X)>,
@@ -64,13 +66,17 @@ impl<X: Extension> Extensions<X> {
         }
     }
 
-    /// Puts the value under the kind that it names, and answers the value that was there. If memory is refused,
-    /// nothing changes and the value comes back; that can happen only for a kind that had none.
+    /// Puts the value under the kind that it names, and answers the value that was there. If memory
+    /// is refused, nothing changes and the value comes back; that can happen only for a kind that
+    /// had none.
     #[tactic(auto, using(crate::proofs::Places::distinct_set, crate::proofs::Places::distinct_pushed))]
     pub fn insert(&mut self, value: X) -> Result<Option<X>, X>
-        ensures replaced { IfOk result (λ replaced. replaced ≡ lookup (X.Kind.eq (X.kind_of value)) self.old) }
-        ensures entries { OnOk result (self.new ≡ with_entry (X.Kind.eq (X.kind_of value)) self.old (X.kind_of value) value) }
-        ensures map { OnOk result (ChangesKind X.Kind.eq (X.kind_of value) (Some value) self.old self.new) }
+        ensures replaced { IfOk result
+            (λ replaced. replaced ≡ lookup (X.Kind.eq (X.kind_of value)) self.old) }
+        ensures entries { OnOk result (self.new
+            ≡ with_entry (X.Kind.eq (X.kind_of value)) self.old (X.kind_of value) value) }
+        ensures map { OnOk result (ChangesKind X.Kind.eq (X.kind_of value)
+            (Some value) self.old self.new) }
         ensures refused { IfErr result (λ back. back ≡ value) }
         ensures unchanged { OnErr result (self.new ≡ self.old) }
         ensures only_new { OnErr result (lookup (X.Kind.eq (X.kind_of value)) self.old ≡ None) }
@@ -102,7 +108,9 @@ impl<X: Extension> Extensions<X> {
     pub fn get_mut(&mut self, kind: &X::Kind) -> Option<&mut X>
         ensures value { option_copied_mut result ≡ lookup (X.Kind.eq kind.now) self.old }
         ensures map { IfSome result (λ _. IsChangeable X.Kind.eq kind.now self.old) }
-        ensures* writes_back { sem 𝓛 (LendsIf (the_row X.row X.Kind.row X.Extension X.Kind.PartialEq) X.row self.entry result (set_value (X.Kind.eq kind.now) self.old) self.old) }
+        ensures* writes_back { sem 𝓛 (LendsIf (the_row X.row X.Kind.row X.Extension
+            X.Kind.PartialEq) X.row self.entry result (set_value
+            (X.Kind.eq kind.now) self.old) self.old) }
     {
         let place = place_of(&self.entries, kind)?;
         let entry = &mut self.entries[place];

@@ -1,8 +1,8 @@
 //! A generic connection pool, under the names of the Rust crate r2d2.
 //!
-//! Opening a connection for each request is slow, and a server allows only so many. A pool keeps a few open and lends
-//! them out. It is made for any kind of connection: a manager of yours, which implements [`ManageConnection`], opens
-//! and checks them.
+//! Opening a connection for each request is slow, and a server allows only so many. A pool keeps a
+//! few open and lends them out. It is made for any kind of connection: a manager of yours, which
+//! implements [`ManageConnection`], opens and checks them.
 //!
 //! ```rust
 //! let pool = Builder::new()
@@ -17,9 +17,9 @@
 //! drop(database);
 //! ```
 //!
-//! `rt` is the runtime that `main` is given. Each thread gets a pool of its own over the same connections by
-//! `try_clone`. [`Builder`] has the settings, [`Pool`] the calls, [`event`] what a handler is told. What a pool
-//! decides is in `r2d2_core`; here it is carried out, in threads.
+//! `rt` is the runtime that `main` is given. Each thread gets a pool of its own over the same
+//! connections by `try_clone`. [`Builder`] has the settings, [`Pool`] the calls, [`event`] what a
+//! handler is told. What a pool decides is in `r2d2_core`; here it is carried out, in threads.
 #![tactic(auto)]
 
 ghost use Rattle.std.specs.Prelude.{◌≡◌};
@@ -46,8 +46,8 @@ pub use pool::{
 };
 pub use r2d2_core::{LendingOrder, journal, machine, reuse, run, schedule, steps};
 
-/// Opens connections and checks them. Nothing is asked of what it answers, nor of how long it takes: no lock of the
-/// pool is held while it is called.
+/// Opens connections and checks them. Nothing is asked of what it answers, nor of how long it
+/// takes: no lock of the pool is held while it is called.
 pub trait ManageConnection: Send + Sync + Drop + 'static {
     /// What is opened, lent and closed.
     type Connection: Send + Drop + 'static;
@@ -55,26 +55,26 @@ pub trait ManageConnection: Send + Sync + Drop + 'static {
     /// Why opening or checking failed. A pool shows its text to a caller who waited in vain.
     type Error: fmt::Display + Send + Drop + 'static;
 
-    /// What a connection's `Extensions` hold, and `()` where nothing is to be kept. They travel with it from thread
-    /// to thread.
+    /// What a connection's `Extensions` hold, and `()` where nothing is to be kept. They travel
+    /// with it from thread to thread.
     type Extension: Extension<Kind: Send> + Send + Drop + 'static;
 
     /// Opens a connection.
     fn connect(&self) -> Result<Self::Connection, Self::Error>;
 
-    /// Whether the connection can still be used, as a small query would show. It is asked before a connection is
-    /// lent, if the setting `test_on_check_out` is on. After an error the connection is closed, and the caller gets
-    /// another.
+    /// Whether the connection can still be used, as a small query would show. It is asked before a
+    /// connection is lent, if the setting `test_on_check_out` is on. After an error the connection
+    /// is closed, and the caller gets another.
     fn is_valid(&self, connection: &mut Self::Connection) -> Result<(), Self::Error>;
 
-    /// Whether the connection is known to be useless; if so it is closed. It is asked at each return, on the thread
-    /// that returns the connection, so it should not wait for the other side. If that takes waiting to find out,
-    /// answer false.
+    /// Whether the connection is known to be useless; if so it is closed. It is asked at each
+    /// return, on the thread that returns the connection, so it should not wait for the other side.
+    /// If that takes waiting to find out, answer false.
     fn has_broken(&self, connection: &mut Self::Connection) -> bool;
 }
 
-/// Is told of each error of a manager or a customizer, on the thread where it happened, while no lock of the pool is
-/// held.
+/// Is told of each error of a manager or a customizer, on the thread where it happened, while no
+/// lock of the pool is held.
 pub trait HandleError<E>: fmt::Debug + Send + Sync + Drop + 'static {
     /// Takes the error.
     fn handle_error(&self, error: E);
@@ -88,8 +88,8 @@ impl<E: Drop> HandleError<E> for NopErrorHandler {
     fn handle_error(&self, _error: E) {}
 }
 
-/// Writes each error's text to a log, as one record at the level of errors. The log's sink has to be one that threads
-/// can share, as `Console`, which writes to standard error, or `Locked`.
+/// Writes each error's text to a log, as one record at the level of errors. The log's sink has to
+/// be one that threads can share, as `Console`, which writes to standard error, or `Locked`.
 #[derive(Drop)]
 pub struct LoggingErrorHandler<L> {
     log: L,
@@ -126,14 +126,14 @@ impl<E: fmt::Display + Drop, L: Log + Send + Sync + Drop + 'static> HandleError<
 
 /// Changes connections as they come and go. Each method does nothing unless you write it.
 pub trait CustomizeConnection<C: Drop, E>: fmt::Debug + Send + Sync + Drop + 'static {
-    /// Is given each connection right after it was opened. After an error the connection is dropped, and counts as
-    /// one that could not be opened.
+    /// Is given each connection right after it was opened. After an error the connection is
+    /// dropped, and counts as one that could not be opened.
     fn on_acquire(&self, _connection: &mut C) -> Result<(), E> {
         Ok(())
     }
 
-    /// Is given each connection that the pool closes because it is broken, expired, or failed its check. Those that
-    /// are idle when the pool itself goes away are dropped without it.
+    /// Is given each connection that the pool closes because it is broken, expired, or failed its
+    /// check. Those that are idle when the pool itself goes away are dropped without it.
     fn on_release(&self, _connection: C) {}
 }
 

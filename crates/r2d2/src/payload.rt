@@ -1,11 +1,12 @@
-// What a pool lends, as its book keeps it, and how the connection in it is opened: this needs no book, and no lock.
+// What a pool lends, as its book keeps it, and how the connection in it is opened: this needs no
+// book, and no lock.
 ghost use Rattle.std.specs.Prelude.{◌≡◌, []};
 
 use crate::{CustomizeConnection, Extension, Extensions, ManageConnection};
 use std::alloc::Global;
 
-/// A connection with its extensions, as a pool's book keeps it. The extensions stay with the connection over its returns; at its
-/// admission there are none.
+/// A connection with its extensions, as a pool's book keeps it. The extensions stay with the
+/// connection over its returns; at its admission there are none.
 #[derive(Drop)]
 pub struct Payload<C, X: Extension> {
     /// The connection.

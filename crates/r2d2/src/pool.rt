@@ -1,7 +1,8 @@
 //! The pool: one lock round its book, workers that open connections, and what it lends.
 ghost use Rattle.std.specs.Prelude.{◌≡◌, ℕ, ◌≤◌, ◌<◌, ◌+◌, ◌*◌, IfOk, IfErr, IfSome, OnErr};
 ghost use Rattle.std.specs.Arc.{arc_value};
-ghost use Rattle.r2d2_core.specs.Reports.{DoesReplay, HasSoundCounts, CountsItsTakes, BeginsAtAMaking};
+ghost use Rattle.r2d2_core.specs.Reports.{DoesReplay, HasSoundCounts, CountsItsTakes};
+ghost use Rattle.r2d2_core.specs.Reports.{BeginsAtAMaking};
 
 use self::closing::Closer;
 use self::lent::AnyConnection;
@@ -35,32 +36,35 @@ mod opening;
 mod state;
 mod waiting;
 
-/// What a pool needs of the runtime that it is made with, and keeps: a clock, threads, waiting and memory. The
-/// runtime that `main` is given is one; nobody has to implement it.
+/// What a pool needs of the runtime that it is made with, and keeps: a clock, threads, waiting and
+/// memory. The runtime that `main` is given is one; nobody has to implement it.
 pub trait PoolRuntime: Clock + Threads + Wait + AllocGlobal + Copy + Send + Sync + 'static {}
 
 impl<R: Clock + Threads + Wait + AllocGlobal + Copy + Send + Sync + 'static> PoolRuntime for R {}
 
-/// A pool of connections. Its own threads open connections and close those that are expired; `get` lends an idle one,
-/// the newest unless the setting `lending_order` says the oldest. It is made by a `Builder`, and shared with another thread by `try_clone`.
+/// A pool of connections. Its own threads open connections and close those that are expired; `get`
+/// lends an idle one, the newest unless the setting `lending_order` says the oldest. It is made by
+/// a `Builder`, and shared with another thread by `try_clone`.
 ///
-/// `M` opens connections, `H` handles errors, `V` events, `Z` changes connections as they come and go, and `R` is the
-/// runtime; a `PlainPool<M, R>` is one without handlers. The pool closes when the last `Pool` over its state and the
-/// last lent connection are dropped.
+/// `M` opens connections, `H` handles errors, `V` events, `Z` changes connections as they come and
+/// go, and `R` is the runtime; a `PlainPool<M, R>` is one without handlers. The pool closes when
+/// the last `Pool` over its state and the last lent connection are dropped.
 pub type Pool<M, H, V, Z, R> = AnyPool<NoCount, M, Config<H, V, Z>, R>;
 
-/// A connection that a pool lent: it derefs to yours. It goes back to the pool when it is dropped, and keeps the pool
-/// alive until then.
+/// A connection that a pool lent: it derefs to yours. It goes back to the pool when it is dropped,
+/// and keeps the pool alive until then.
 pub type PooledConnection<M, H, V, Z, R> = AnyConnection<NoCount, M, Config<H, V, Z>, R>;
 
-/// A pool that counts its takes: each take adds one to the share of a ledger that its caller brings. It is made by
-/// `Builder::build_counted`, and `audit` says how many takes all shares counted.
+/// A pool that counts its takes: each take adds one to the share of a ledger that its caller
+/// brings. It is made by `Builder::build_counted`, and `audit` says how many takes all shares
+/// counted.
 pub type CountedPool<M, H, V, Z, R, L> = AnyPool<Takes<L>, M, Config<H, V, Z>, R>;
 
 /// A connection that a counted pool lent, otherwise as a `PooledConnection`.
 pub type CountedConnection<M, H, V, Z, R, L> = AnyConnection<Takes<L>, M, Config<H, V, Z>, R>;
 
-/// A pool whose handlers and customizer do nothing: what `Builder::new()` builds, unless one of them is set.
+/// A pool whose handlers and customizer do nothing: what `Builder::new()` builds, unless one of
+/// them is set.
 pub type PlainPool<M, R> = Pool<M, NopErrorHandler, NopEventHandler, NopConnectionCustomizer, R>;
 
 /// A pool of connections, whatever counts its takes.
@@ -101,14 +105,15 @@ impl<C: Ties, M: ManageConnection, K: Hooks<M>, R: PoolRuntime> AnyPool<C, M, K,
         self.shared().status()
     }
 
-    /// What the wall clock showed when the pool was made, from which its moments count; None where it could not be read.
+    /// What the wall clock showed when the pool was made, from which its moments count; None where
+    /// it could not be read.
     pub fn made_at(&self) -> Option<SystemTime> {
         self.shared().made_at
     }
 
-    /// What happened last, as far back as the setting `journal_room` reaches, what stood before that, and what there
-    /// is now. Where its `lost` is 0, that is all since the pool was made. The error is lack of memory; then nothing has
-    /// changed.
+    /// What happened last, as far back as the setting `journal_room` reaches, what stood before
+    /// that, and what there is now. Where its `lost` is 0, that is all since the pool was made. The
+    /// error is lack of memory; then nothing has changed.
     pub fn journal(&self) -> Result<Report, Error>
         ensures replays { IfOk result DoesReplay }
         ensures sound { IfOk result HasSoundCounts }
@@ -119,16 +124,16 @@ impl<C: Ties, M: ManageConnection, K: Hooks<M>, R: PoolRuntime> AnyPool<C, M, K,
         self.shared().report().map_err(|_| Error::memory())
     }
 
-    /// Closes the pool now, though pools over it and lent connections are still there. What is idle is dropped, as by the
-    /// last drop, and nothing is opened any more. Who waits in a `get`, or calls one later, gets
-    /// `ErrorKind::Closed` at once; `try_get` finds none. Lent connections are closed as they come back, the
-    /// workers end. A second close does nothing.
+    /// Closes the pool now, though pools over it and lent connections are still there. What is idle
+    /// is dropped, as by the last drop, and nothing is opened any more. Who waits in a `get`, or
+    /// calls one later, gets `ErrorKind::Closed` at once; `try_get` finds none. Lent connections
+    /// are closed as they come back, the workers end. A second close does nothing.
     pub fn close(&self) {
         drop(self.shared().close());
     }
 
-    /// Closes the pool, and waits until nothing is lent any more, about as long as `timeout` at most. The error is the status
-    /// past that, in which at least one connection is lent.
+    /// Closes the pool, and waits until nothing is lent any more, about as long as `timeout` at
+    /// most. The error is the status past that, in which at least one connection is lent.
     pub fn drain(&self, timeout: Duration) -> Result<(), Status>
         ensures { IfErr result (λ status. IsStatus status × (0 < status.lent)) }
     {
@@ -142,7 +147,8 @@ impl<C: Ties, M: ManageConnection, K: Hooks<M>, R: PoolRuntime> AnyPool<C, M, K,
         C: Counter,
         requires { 0 < C.parts tally.old }
         ensures parts { C.parts tally.new ≡ C.parts tally.old }
-        ensures amount { IfOk result (λ n. C.amount tally.new ≡ C.amount tally.old + n * C.per_take) }
+        ensures amount { IfOk result
+            (λ n. C.amount tally.new ≡ C.amount tally.old + n * C.per_take) }
         ensures unchanged { OnErr result (C.amount tally.new ≡ C.amount tally.old) }
         ensures refused { IfErr result IsOfMemory }
     {
@@ -221,16 +227,16 @@ impl<
     ghost use Rattle.r2d2.specs.Failures.{IsOfMemory, IsOfAGet};
     ghost use Rattle.r2d2.specs.Settings.{AreDefaults};
 
-    /// A builder with the default of each setting. `Builder::new()` is the same, and shorter: here the pool's types
-    /// have to be written out.
+    /// A builder with the default of each setting. `Builder::new()` is the same, and shorter: here
+    /// the pool's types have to be written out.
     pub fn builder() -> Builder<M>
         ensures { AreDefaults result }
     {
         Builder::new()
     }
 
-    /// Lends an idle connection, and waits for one as long as the setting `connection_timeout` says. See
-    /// `get_timeout`.
+    /// Lends an idle connection, and waits for one as long as the setting `connection_timeout`
+    /// says. See `get_timeout`.
     pub fn get(&self) -> Result<PooledConnection<M, H, V, Z, R>, Error>
         ensures settings { IfOk result (λ lent. lent.settings ≡ self.now) }
         ensures refused { IfErr result IsOfAGet }
@@ -238,15 +244,15 @@ impl<
         self.get_timeout(self.connection_timeout())
     }
 
-    /// Lends an idle connection, the newest unless the setting `lending_order` says the oldest, and waits about as long
-    /// as `timeout` if there is none.
+    /// Lends an idle connection, the newest unless the setting `lending_order` says the oldest, and
+    /// waits about as long as `timeout` if there is none.
     ///
-    /// If the setting `test_on_check_out` is on, the connection is checked first; one that fails is closed, and
-    /// another is looked for.
+    /// If the setting `test_on_check_out` is on, the connection is checked first; one that fails is
+    /// closed, and another is looked for.
     ///
-    /// The error is a timeout, with the text of the latest error of an opening or a check if there was one; or
-    /// `ErrorKind::Closed`, at once, where the pool was closed; or lack of memory for a shared pointer, and then nothing
-    /// has changed.
+    /// The error is a timeout, with the text of the latest error of an opening or a check if there
+    /// was one; or `ErrorKind::Closed`, at once, where the pool was closed; or lack of memory for a
+    /// shared pointer, and then nothing has changed.
     pub fn get_timeout(&self, timeout: Duration) -> Result<PooledConnection<M, H, V, Z, R>, Error>
         ensures settings { IfOk result (λ lent. lent.settings ≡ self.now) }
         ensures refused { IfErr result IsOfAGet }
@@ -257,9 +263,9 @@ impl<
         }
     }
 
-    /// Lends an idle connection, as `get_timeout`; None if there is none. It does not wait for one, and orders none.
-    /// Connections are checked as by `get_timeout`. The error is lack of memory for a shared pointer, and then
-    /// nothing has changed.
+    /// Lends an idle connection, as `get_timeout`; None if there is none. It does not wait for one,
+    /// and orders none. Connections are checked as by `get_timeout`. The error is lack of memory
+    /// for a shared pointer, and then nothing has changed.
     pub fn try_get(&self) -> Result<Option<PooledConnection<M, H, V, Z, R>>, Error>
         ensures settings { IfOk result (λ found. IfSome found (λ lent. lent.settings ≡ self.now)) }
         ensures refused { IfErr result IsOfMemory }
@@ -267,13 +273,14 @@ impl<
         self.lend_within(None, &mut ())
     }
 
-    /// Closes each connection that is idle now, and each that is lent now when it comes back, as where a database has moved. What is
-    /// opened from now on stays, and at least as many are ordered as are wanted. One that is being opened stays too, unless it has
-    /// its id by now: then it is closed when it first comes back.
+    /// Closes each connection that is idle now, and each that is lent now when it comes back, as
+    /// where a database has moved. What is opened from now on stays, and at least as many are
+    /// ordered as are wanted. One that is being opened stays too, unless it has its id by now: then
+    /// it is closed when it first comes back.
     ///
-    /// It answers how many were idle: each is told by its release event and to the customizer before the call returns. The
-    /// journal notes a take and a return for each. The error is lack of memory for a list of `max_size` connections; then
-    /// nothing has changed.
+    /// It answers how many were idle: each is told by its release event and to the customizer
+    /// before the call returns. The journal notes a take and a return for each. The error is lack
+    /// of memory for a list of `max_size` connections; then nothing has changed.
     pub fn evict(&self) -> Result<usize, Error>
         ensures refused { IfErr result IsOfMemory }
     {

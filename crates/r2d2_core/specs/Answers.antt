@@ -1,5 +1,6 @@
 -- Which steps are refused, what each step answers, and what a core shows.
-use Rattle.std.specs.Prelude.{ℕ, ◌+◌, ◌-◌, min, ◌^◌, Bool, false, ◌==◌, ◌||◌, not, nat_lt, if◌then◌else◌, List, [], ◌∷◌, map, length, Option, None, is_some, option_map, unwrap_or, Ok, Err}
+use Rattle.std.specs.Prelude.{ℕ, ◌+◌, ◌-◌, min, ◌^◌, Bool, false, ◌==◌, ◌||◌, not, nat_lt, if◌then◌else◌, List, [], ◌∷◌, map, length, Option, None, is_some}
+use Rattle.std.specs.Prelude.{option_map, unwrap_or, Ok, Err}
 use Rattle.std.specs.List.{list_any}
 use Rattle.r2d2_core.specs.declared.run.Step.{Step}
 use Rattle.r2d2_core.specs.declared.run.Step.TheVariants as step
@@ -9,7 +10,8 @@ use Rattle.r2d2_core.specs.Limits.{top_up, later_by, delay_of, has_reached}
 use Rattle.r2d2_core.specs.Lending.{lent_next}
 use Rattle.r2d2_core.specs.Connections.{closed_of, pair_of}
 use Rattle.r2d2_core.specs.Refusals.{refused_if}
-use Rattle.r2d2_core.specs.Seen.{SeenAnswer, Taken, Found, Empty, Begun, Numbered, Admitted, Failed, CheckFailed, CameBack, SeenReturned, Kept, Closed, Reaped, Told, Left}
+use Rattle.r2d2_core.specs.Seen.{SeenAnswer, Taken, Found, Empty, Begun, Numbered, Admitted, Failed, CheckFailed, CameBack, SeenReturned, Kept, Closed, Reaped}
+use Rattle.r2d2_core.specs.Seen.{Told, Left}
 use Rattle.r2d2_core.specs.Picture.{Picture}
 use Rattle.r2d2_core.specs.Seen.{take_with}
 use Rattle.r2d2_core.specs.Seen.{or_text}
@@ -31,7 +33,8 @@ module _ {T : Type 0} where
 
   -- why a step after h is refused, if it is
   abbrev pub refusal_of : History T → Step T → Option Refusal
-  refusal_of h (step.Number tries) = refused_if (is_closed h) refusal.Closed (refused_if (not (is_in_work h tries)) refusal.NoOpening (refused_if (next_id_of h == 2 ^ 64 - 1) refusal.IdsUsedUp None))
+  refusal_of h (step.Number tries) = refused_if (is_closed h) refusal.Closed (refused_if (not (is_in_work h tries)) refusal.NoOpening
+      (refused_if (next_id_of h == 2 ^ 64 - 1) refusal.IdsUsedUp None))
   refusal_of h (step.Admit now id value) = refused_if (is_closed h) refusal.Closed (refused_if (not (is_numbered h id)) refusal.NotNumbered None)
   refusal_of h (step.Fail now tries text) = refused_if (is_closed h) refusal.Closed (refused_if (not (is_in_work h tries)) refusal.NoOpening None)
   refusal_of h (step.FailCheck now id text) = refused_if (not (is_lent h id)) refusal.NotLent None

@@ -7,7 +7,8 @@ use Rattle.r2d2_core.specs.declared.journal.report.Report.{Report}
 
 -- connections are the idle ones and the lent ones, with the pending ones at most `max_size`; once closed, nothing is idle or pending
 abbrev pub counts_fit : SeenLimits → SeenBase → Bool
-counts_fit limits b = (b.connections == length b.idle + length b.lent) && (nat_le (b.connections + b.pending) limits.max_size && (not b.closed || ((length b.idle == 0) && (b.pending == 0))))
+counts_fit limits b = (b.connections == length b.idle + length b.lent) && (nat_le (b.connections + b.pending) limits.max_size &&
+    (not b.closed || ((length b.idle == 0) && (b.pending == 0))))
 
 -- idle moments never fall, from one on, and none is after another; each was admitted before
 abbrev pub are_in_order : ℕ → ℕ → List BareConnection → Bool

@@ -21,7 +21,14 @@ pub record KeepReplaying {T : Type 0} (limits : SeenLimits) (b : SeenBase) (rs :
 module _ {T : Type 0} where
   -- what a picture shows, as a base that tells up to a moment
   abbrev pub shown_at : ℕ → Picture T → SeenBase
-  shown_at at p = record { at = at; idle = map bare p.idle; lent = p.lent; connections = p.connections; pending = p.on_order.pending; closed = p.on_order.closed }
+  shown_at at p = record {
+    at = at;
+    idle = map bare p.idle;
+    lent = p.lent;
+    connections = p.connections;
+    pending = p.on_order.pending;
+    closed = p.on_order.closed;
+  }
 
   -- a journal beside its machine: where it has no room, what is before its records is what the machine shows
   abbrev pub beside : Picture T → SeenJournal → SeenJournal

@@ -1,5 +1,6 @@
 -- What records come to from a base, and which are legal. They stand the oldest first, as in a book and in a report.
-use Rattle.std.specs.Prelude.{◌≡◌, ℕ, ◌+◌, ◌-◌, ◌≤◌, Bool, true, false, ◌==◌, ◌||◌, ◌&&◌, not, nat_lt, nat_le, List, [], ◌∷◌, ◌++◌, length, filter, is_some, option_map, unwrap_or}
+use Rattle.std.specs.Prelude.{◌≡◌, ℕ, ◌+◌, ◌-◌, ◌≤◌, Bool, true, false, ◌==◌, ◌||◌, ◌&&◌, not, nat_lt, nat_le, List, [], ◌∷◌, ◌++◌, length, filter, is_some}
+use Rattle.std.specs.Prelude.{option_map, unwrap_or}
 use Rattle.r2d2_core.specs.Limits.{SeenLimits, top_up, has_reached}
 use Rattle.r2d2_core.specs.Ids.{found, without, copies_of}
 use Rattle.r2d2_core.specs.Lending.{lent_next}
@@ -35,12 +36,31 @@ expired_in limits at b = length (filter (is_expired limits at) b.idle)
 
 -- the base with a record
 abbrev pub folded : SeenLimits → SeenRecord → SeenBase → SeenBase
-folded limits (Taken at id n) b = record b { at = at; idle = without id_of_idle id b.idle; lent = b.lent ++ lent_connection id (birth_of_idle id b.idle) ∷ []; pending = b.pending + n }
+folded limits (Taken at id n) b = record b {
+  at = at;
+  idle = without id_of_idle id b.idle;
+  lent = b.lent ++ lent_connection id (birth_of_idle id b.idle) ∷ [];
+  pending = b.pending + n;
+}
 folded limits (Ordered at n) b = record b { at = at; pending = b.pending + n }
-folded limits (Admitted at id) b = record b { at = at; idle = b.idle ++ idle_connection id at at tt ∷ []; connections = b.connections + 1; pending = b.pending - 1 }
-folded limits (Kept at id) b = record b { at = at; idle = b.idle ++ idle_connection id (birth_of_lent id b.lent) at tt ∷ []; lent = without id_of_lent id b.lent }
+folded limits (Admitted at id) b = record b {
+  at = at;
+  idle = b.idle ++ idle_connection id at at tt ∷ [];
+  connections = b.connections + 1;
+  pending = b.pending - 1;
+}
+folded limits (Kept at id) b = record b {
+  at = at;
+  idle = b.idle ++ idle_connection id (birth_of_lent id b.lent) at tt ∷ [];
+  lent = without id_of_lent id b.lent;
+}
 folded limits (Closed at id n) b = record b { at = at; lent = without id_of_lent id b.lent; connections = b.connections - 1; pending = b.pending + n }
-folded limits (Reaped at n) b = record b { at = at; idle = idle_after_reap limits at b; connections = b.connections - expired_in limits at b; pending = b.pending + n }
+folded limits (Reaped at n) b = record b {
+  at = at;
+  idle = idle_after_reap limits at b;
+  connections = b.connections - expired_in limits at b;
+  pending = b.pending + n;
+}
 folded limits (ClosedAll at) b = record b { at = at; idle = []; connections = b.connections - length b.idle; pending = 0; closed = true }
 
 -- the base with all of them
@@ -63,7 +83,8 @@ fits limits (Ordered at n) b = (length b.idle == 0) && ((n == 1) && (not b.close
 fits limits (Admitted at id) b = nat_lt 0 b.pending
 fits limits (Kept at id) b = is_some (birth_in id b.lent) && (not b.closed && not (has_reached limits.max_lifetime (at - birth_of_lent id b.lent)))
 fits limits (Closed at id n) b = is_some (birth_in id b.lent) && (n == top_up limits b.closed (length b.idle) (b.connections - 1) b.pending)
-fits limits (Reaped at n) b = (n == top_up limits b.closed (length (idle_after_reap limits at b)) (b.connections - expired_in limits at b) b.pending) && (nat_lt 0 n || nat_lt 0 (expired_in limits at b))
+fits limits (Reaped at n) b = (n == top_up limits b.closed (length (idle_after_reap limits at b)) (b.connections - expired_in limits at b) b.pending) &&
+    (nat_lt 0 n || nat_lt 0 (expired_in limits at b))
 fits limits (ClosedAll at) b = not b.closed
 
 -- and moments never fall

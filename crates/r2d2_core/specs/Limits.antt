@@ -18,7 +18,15 @@ pub record SeenLimits : Type 0 where
 
 -- limits that lend the newest first
 abbrev pub settings : ℕ → Option ℕ → Option Duration → Option Duration → Duration → Duration → SeenLimits
-settings size least life idle timeout every = record { max_size = size; min_idle = least; max_lifetime = life; idle_timeout = idle; connection_timeout = timeout; reap_every = every; order = lending.NewestFirst }
+settings size least life idle timeout every = record {
+  max_size = size;
+  min_idle = least;
+  max_lifetime = life;
+  idle_timeout = idle;
+  connection_timeout = timeout;
+  reap_every = every;
+  order = lending.NewestFirst;
+}
 
 -- the same limits, lending in that order
 abbrev pub with_order : LendingOrder → SeenLimits → SeenLimits

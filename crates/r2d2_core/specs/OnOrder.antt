@@ -1,5 +1,6 @@
 -- What is on order: the openings that were ordered and not admitted, and what becomes of them.
-use Rattle.std.specs.Prelude.{◌≡◌, ℕ, ◌+◌, ◌-◌, ◌^◌, ◌≤◌, min, Bool, true, false, not, ◌==◌, nat_lt, if◌then◌else◌, List, [], ◌∷◌, ◌++◌, length, sum, drop, replicate, slice_index, Option, None, is_some}
+use Rattle.std.specs.Prelude.{◌≡◌, ℕ, ◌+◌, ◌-◌, ◌^◌, ◌≤◌, min, Bool, true, false, not, ◌==◌, nat_lt, if◌then◌else◌, List, [], ◌∷◌, ◌++◌, length, sum, drop}
+use Rattle.std.specs.Prelude.{replicate, slice_index, Option, None, is_some}
 use Rattle.std.specs.List.{All}
 use Rattle.std.specs.Duration.{as_nanos}
 use Rattle.r2d2_core.specs.declared.machine.answers.Refusal.{Refusal}
@@ -92,7 +93,8 @@ abbrev pub has_in_work : ℕ → SeenOnOrder → Bool
 has_in_work tries o = nat_lt 0 (slice_index o.in_work tries)
 
 abbrev pub number_refusal : ℕ → SeenOnOrder → Option Refusal
-number_refusal tries o = refused_if o.closed refusal.Closed (refused_if (not (has_in_work tries o)) refusal.NoOpening (refused_if (o.next_id == 2 ^ 64 - 1) refusal.IdsUsedUp None))
+number_refusal tries o = refused_if o.closed refusal.Closed (refused_if (not (has_in_work tries o)) refusal.NoOpening
+    (refused_if (o.next_id == 2 ^ 64 - 1) refusal.IdsUsedUp None))
 
 -- one in work becomes a number
 abbrev pub numbered_one : ℕ → SeenOnOrder → SeenOnOrder
@@ -121,7 +123,11 @@ due_again now tries o = later_by now (delay_of o.limits (tries + 1))
 
 -- one in work is scheduled again; tries stay at 99 once there
 abbrev pub failed_one : ℕ → ℕ → SeenOnOrder → SeenOnOrder
-failed_one now tries o = record o { in_work = one_less tries o.in_work; scheduled = with_opening (opening (due_again now tries o) (min (tries + 1) 99)) o.scheduled }
+failed_one now tries o = record o {
+  in_work = one_less tries o.in_work;
+  scheduled = with_opening
+      (opening (due_again now tries o) (min (tries + 1) 99)) o.scheduled;
+}
 
 -- CLOSE
 

@@ -1,5 +1,6 @@
 -- The openings of a history: ordered, scheduled, in work and numbered; its reaps, and what a worker is to do.
-use Rattle.std.specs.Prelude.{ℕ, ◌+◌, ◌-◌, ◌*◌, min, Bool, false, ◌==◌, ◌||◌, ◌&&◌, not, if◌then◌else◌, List, [], ◌∷◌, ◌++◌, map, length, filter, drop, Option, Some, None, Ok}
+use Rattle.std.specs.Prelude.{ℕ, ◌+◌, ◌-◌, ◌*◌, min, Bool, false, ◌==◌, ◌||◌, ◌&&◌, not, if◌then◌else◌, List, [], ◌∷◌, ◌++◌, map, length, filter, drop, Option}
+use Rattle.std.specs.Prelude.{Some, None, Ok}
 use Rattle.std.specs.List.{range_with_len}
 use Rattle.std.specs.Duration.{as_nanos}
 use Rattle.r2d2_core.specs.declared.run.Step.{Step}

@@ -47,4 +47,5 @@ module _ {T : Type 0} where
   pub record IsSound (p : Picture T) : Type 0 where
     pub steady : IsSteady p
     -- unless closed, what is idle and pending reaches what is wanted, or there is no more room
-    pub replenished : p.on_order.closed ≡ false → (wanted_of p.on_order.limits ≤ length p.idle + p.on_order.pending) ⊎ (p.connections + p.on_order.pending ≡ p.on_order.limits.max_size)
+    pub replenished : p.on_order.closed ≡ false → (wanted_of p.on_order.limits ≤ length p.idle + p.on_order.pending)
+        ⊎ (p.connections + p.on_order.pending ≡ p.on_order.limits.max_size)

@@ -1,6 +1,7 @@
 -- Newest-first and oldest-first beside any other choice of the connection to lend. Three idle lists start alike and live through
 -- the same moves. Of a connection they hold the moment since which it is idle, the oldest first. Moments are in nanoseconds.
-use Rattle.std.specs.Prelude.{ℕ, ◌-◌, ◌≤◌, max, nat_le, nat_lt, if◌then◌else◌, List, [], ◌∷◌, ◌++◌, length, map, remove, count_by, slice_index_or, Option, Some, None, option_and_then}
+use Rattle.std.specs.Prelude.{ℕ, ◌-◌, ◌≤◌, max, nat_le, nat_lt, if◌then◌else◌, List, [], ◌∷◌, ◌++◌, length, map, remove, count_by, slice_index_or, Option, Some}
+use Rattle.std.specs.Prelude.{None, option_and_then}
 use Rattle.std.specs.List.Sorted.{IsNonDecreasingBy}
 use Rattle.std.specs.Duration.{as_nanos}
 use Rattle.std.specs.declared.time.Duration.{Duration}
@@ -68,7 +69,8 @@ other_after moment other (move.Add at) = Some (picked (other.kept ++ moment ∷ 
 -- what some moves leave of it, if the picks serve
 abbrev pub other_left : ℕ → Picked → List Move → Option (List ℕ)
 other_left seen other [] = Some other.kept
-other_left seen other (step ∷ steps) = option_and_then (λ after. other_left (max seen (moment_in step)) after steps) (other_after (max seen (moment_in step)) other step)
+other_left seen other (step ∷ steps) = option_and_then (λ after. other_left (max seen (moment_in step)) after steps)
+    (other_after (max seen (moment_in step)) other step)
 
 -- WHAT IS COMPARED: each list starts as `idle`
 

@@ -7,7 +7,8 @@ use Rattle.r2d2_core.specs.declared.run.Answer.{Answer}
 use Rattle.r2d2_core.specs.declared.run.Answer.TheVariants as answer
 use Rattle.r2d2_core.specs.Jobs.{seen_job}
 use Rattle.r2d2_core.specs.Picture.{Picture}
-use Rattle.r2d2_core.specs.Seen.{SeenAnswer, Taken, Begun, Numbered, Admitted, Failed, CheckFailed, CameBack, Reaped, Told, Left, seen_take, seen_returned, seen_gone, seen_released, map_ok}
+use Rattle.r2d2_core.specs.Seen.{SeenAnswer, Taken, Begun, Numbered, Admitted, Failed, CheckFailed, CameBack, Reaped, Told, Left, seen_take, seen_returned}
+use Rattle.r2d2_core.specs.Seen.{seen_gone, seen_released, map_ok}
 use Rattle.r2d2_core.specs.Table as table
 use Rattle.r2d2_core.specs.Journal.{SeenJournal}
 use Rattle.r2d2_core.specs.Book.{SeenBook}

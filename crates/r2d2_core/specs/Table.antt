@@ -1,14 +1,17 @@
 -- What each step answers, and what it makes of the picture. A step's moment is raised to the latest so far.
-use Rattle.std.specs.Prelude.{ℕ, ◌+◌, ◌-◌, max, Bool, true, false, ◌||◌, not, List, [], ◌∷◌, ◌++◌, length, map, filter, Option, Some, None, is_some, unwrap_or, Result, String}
+use Rattle.std.specs.Prelude.{ℕ, ◌+◌, ◌-◌, max, Bool, true, false, ◌||◌, not, List, [], ◌∷◌, ◌++◌, length, map, filter, Option, Some, None, is_some, unwrap_or}
+use Rattle.std.specs.Prelude.{Result, String}
 use Rattle.r2d2_core.specs.declared.machine.answers.Refusal.{Refusal}
 use Rattle.r2d2_core.specs.declared.machine.answers.Refusal.TheVariants as refusal
 use Rattle.r2d2_core.specs.Limits.{SeenLimits, has_reached}
 use Rattle.r2d2_core.specs.Ids.{without}
 use Rattle.r2d2_core.specs.Lending.{lent_next, still_idle}
 use Rattle.r2d2_core.specs.Jobs.{SeenJob}
-use Rattle.r2d2_core.specs.Connections.{SeenIdleConnection, SeenReleased, idle_connection, lent_connection, id_of_lent, pair_of, birth_in, is_expired, is_kept, closed_of}
+use Rattle.r2d2_core.specs.Connections.{SeenIdleConnection, SeenReleased, idle_connection, lent_connection, id_of_lent, pair_of, birth_in, is_expired, is_kept}
+use Rattle.r2d2_core.specs.Connections.{closed_of}
 use Rattle.r2d2_core.specs.Refusals.{refused_if, ok_unless, ok_or_back, unless_refused}
-use Rattle.r2d2_core.specs.OnOrder.{SeenOnOrder, top_up_beside, miss_order, with_orders, first_on_order, job_at, begun, number_refusal, after_numbering, admit_refusal, admitted_one, fail_refusal, due_again, failed_one, emptied}
+use Rattle.r2d2_core.specs.OnOrder.{SeenOnOrder, top_up_beside, miss_order, with_orders, first_on_order, job_at, begun, number_refusal, after_numbering}
+use Rattle.r2d2_core.specs.OnOrder.{admit_refusal, admitted_one, fail_refusal, due_again, failed_one, emptied}
 use Rattle.r2d2_core.specs.Picture.{Picture}
 use Rattle.r2d2_core.specs.Seen.{SeenTake, SeenReturned, Kept, Closed, SeenGone, take_with, or_text}
 
@@ -37,7 +40,14 @@ module _ {T : Type 0} where
   -- MAKING
 
   abbrev pub first_picture : SeenLimits → ℕ → ℕ → Picture T
-  first_picture limits now first_id = record { latest = now; idle = []; lent = []; on_order = first_on_order limits now first_id; connections = 0; last_error = None }
+  first_picture limits now first_id = record {
+    latest = now;
+    idle = [];
+    lent = [];
+    on_order = first_on_order limits now first_id;
+    connections = 0;
+    last_error = None;
+  }
 
   -- TAKE: the idle one that is next is lent
 

@@ -1,5 +1,6 @@
 // A journal beside a machine: what each step did.
-ghost use Rattle.std.specs.Prelude.{◌≡◌, ◌≤◌, map, length, option_map, string_bytes, vec_len, vec_capacity, IfOk};
+ghost use Rattle.std.specs.Prelude.{◌≡◌, ◌≤◌, map, length, option_map, string_bytes, vec_len};
+ghost use Rattle.std.specs.Prelude.{vec_capacity, IfOk};
 ghost use Rattle.std.specs.Duration.{as_nanos};
 
 use crate::machine::{Core, Gone, Leftover, Refusal, Released, Returned, Take};
@@ -21,10 +22,12 @@ mod replaying;
 pub mod report;
 mod running_base;
 
-/// A core that notes what each step did, in a journal of bounded room. Where there is no room for one more record, the oldest is
-/// folded into the journal's base, which tells what stood before the others.
+/// A core that notes what each step did, in a journal of bounded room. Where there is no room for
+/// one more record, the oldest is folded into the journal's base, which tells what stood before the
+/// others.
 ///
-/// Its steps and readings are those of a core. All memory, that of the journal too, is taken at the making: no step takes any.
+/// Its steps and readings are those of a core. All memory, that of the journal too, is taken at the
+/// making: no step takes any.
 #[derive(Drop)]
 pub struct Book<T, A: Allocator = Global> {
     alloc: A,
@@ -48,10 +51,11 @@ impl<T, A: Allocator> Book<T, A> {
     ghost use Rattle.r2d2_core.specs.Table.{first_picture};
     ghost use Rattle.r2d2_core.specs.Journal.{first_journal, CountsTakes};
     ghost use Rattle.r2d2_core.specs.Book.{seen_book, HasFacts};
-    ghost use Rattle.r2d2_core.specs.Reports.{seen_base, IsReportOf, DoesReplay, HasSoundCounts, CountsItsTakes, BeginsAtAMaking};
+    ghost use Rattle.r2d2_core.specs.Reports.{seen_base, IsReportOf, DoesReplay, HasSoundCounts};
+    ghost use Rattle.r2d2_core.specs.Reports.{CountsItsTakes, BeginsAtAMaking};
 
-    /// A book of a core whose ids are counted from 0, made at the moment `now`, that keeps the newest records, `room` of them at
-    /// most. The error comes only where its memory is refused.
+    /// A book of a core whose ids are counted from 0, made at the moment `now`, that keeps the
+    /// newest records, `room` of them at most. The error comes only where its memory is refused.
     pub fn new(
         alloc: A,
         limits: Limits,
@@ -61,7 +65,10 @@ impl<T, A: Allocator> Book<T, A> {
     where
         T: Drop,
         A: Copy,
-        ensures { IfOk result (λ book. book ≡ seen_book (first_picture (seen_limits limits) (as_nanos now) 0) (first_journal (seen_limits limits) (as_nanos now) room)) }
+        ensures { IfOk result
+            (λ book. book
+            ≡ seen_book (first_picture (seen_limits limits) (as_nanos now) 0)
+            (first_journal (seen_limits limits) (as_nanos now) room)) }
     {
         Book::with_first_id(alloc, limits, now, 0, room)
     }
@@ -77,7 +84,10 @@ impl<T, A: Allocator> Book<T, A> {
     where
         T: Drop,
         A: Copy,
-        ensures { IfOk result (λ book. book ≡ seen_book (first_picture (seen_limits limits) (as_nanos now) first_id) (first_journal (seen_limits limits) (as_nanos now) room)) }
+        ensures { IfOk result
+            (λ book. book
+            ≡ seen_book (first_picture (seen_limits limits) (as_nanos now) first_id)
+            (first_journal (seen_limits limits) (as_nanos now) room)) }
     {
         let machine = Core::with_first_id(alloc, limits, now, first_id)?;
         let journal = Journal::new(alloc, limits, now, room)?;
@@ -143,8 +153,9 @@ impl<T, A: Allocator> Book<T, A> {
         self.journal.takes()
     }
 
-    /// What the book shows now, and its records, in memory of the book's own allocator. The error comes only where that is refused; then
-    /// nothing changes, and the next report that finds memory answers the same.
+    /// What the book shows now, and its records, in memory of the book's own allocator. The error
+    /// comes only where that is refused; then nothing changes, and the next report that finds
+    /// memory answers the same.
     pub fn report(&self) -> Result<Report<A>, AllocError>
     where
         A: Copy,
@@ -153,7 +164,8 @@ impl<T, A: Allocator> Book<T, A> {
         ensures sound { IfOk result HasSoundCounts }
         ensures counted { IfOk result CountsItsTakes }
         ensures whole { IfOk result BeginsAtAMaking }
-        ensures since { IfOk result (λ report. report.lost ≡ 0 → as_nanos report.base.at ≡ self.now.journal.made) }
+        ensures since { IfOk result
+            (λ report. report.lost ≡ 0 → as_nanos report.base.at ≡ self.now.journal.made) }
     {
         self.report_in(self.alloc)
     }
@@ -167,7 +179,8 @@ impl<T, A: Allocator> Book<T, A> {
         ensures sound { IfOk result HasSoundCounts }
         ensures counted { IfOk result CountsItsTakes }
         ensures whole { IfOk result BeginsAtAMaking }
-        ensures since { IfOk result (λ report. report.lost ≡ 0 → as_nanos report.base.at ≡ self.now.journal.made) }
+        ensures since { IfOk result
+            (λ report. report.lost ≡ 0 → as_nanos report.base.at ≡ self.now.journal.made) }
     {
         let base = self.base(alloc)?;
         let records = self.journal.copied(alloc)?;
@@ -202,17 +215,20 @@ impl<T, A: Allocator> Book<T, A> {
 }
 
 impl<T, A: Allocator> Book<T, A> {
-    ghost use Rattle.r2d2_core.specs.Seen.{seen_take, seen_returned, seen_gone, seen_released, map_ok};
+    ghost use Rattle.r2d2_core.specs.Seen.{seen_take, seen_returned, seen_gone, seen_released};
+    ghost use Rattle.r2d2_core.specs.Seen.{map_ok};
     ghost use Rattle.r2d2_core.specs.Jobs.{seen_job};
     ghost use Rattle.r2d2_core.specs.Picture.{IsSound};
     ghost use Rattle.r2d2_core.specs.Table as table;
-    ghost use Rattle.r2d2_core.specs.Noted.{noted_take, noted_admission, noted_return, noted_check, noted_reap, noted_close};
+    ghost use Rattle.r2d2_core.specs.Noted.{noted_take, noted_admission, noted_return, noted_check};
+    ghost use Rattle.r2d2_core.specs.Noted.{noted_reap, noted_close};
 
     /// As `Core::take`. A take that found is noted, and one that ordered.
     #[inline(always)]
     pub fn take(&mut self, now: Duration, or_order: bool) -> Take<T>
         ensures answer { seen_take result ≡ table.take_answer or_order self.old.picture }
-        ensures after { self.new.picture ≡ table.after_take (as_nanos now) or_order self.old.picture }
+        ensures after { self.new.picture
+            ≡ table.after_take (as_nanos now) or_order self.old.picture }
         ensures sound { IsSound self.new.picture }
         ensures noted { self.new.journal ≡ noted_take (as_nanos now) (seen_take result) self.old }
     {
@@ -245,7 +261,8 @@ impl<T, A: Allocator> Book<T, A> {
     /// As `Core::admit`. It is noted where it is accepted.
     pub fn admit(&mut self, now: Duration, id: u64, value: T) -> Result<(), (Refusal, T)>
         ensures answer { result ≡ table.admit_answer id value self.old.picture }
-        ensures after { self.new.picture ≡ table.after_admit (as_nanos now) id value self.old.picture }
+        ensures after { self.new.picture
+            ≡ table.after_admit (as_nanos now) id value self.old.picture }
         ensures sound { IsSound self.new.picture }
         ensures noted { self.new.journal ≡ noted_admission (as_nanos now) id result self.old }
     {
@@ -262,8 +279,10 @@ impl<T, A: Allocator> Book<T, A> {
         tries: u32,
         text: Option<String>,
     ) -> Result<Duration, Refusal>
-        ensures answer { map_ok as_nanos result ≡ table.fail_answer (as_nanos now) tries self.old.picture }
-        ensures after { self.new.picture ≡ table.after_fail (as_nanos now) tries text self.old.picture }
+        ensures answer { map_ok as_nanos result
+            ≡ table.fail_answer (as_nanos now) tries self.old.picture }
+        ensures after { self.new.picture
+            ≡ table.after_fail (as_nanos now) tries text self.old.picture }
         ensures sound { IsSound self.new.picture }
         ensures noted { self.new.journal ≡ self.old.journal }
     {
@@ -277,10 +296,13 @@ impl<T, A: Allocator> Book<T, A> {
         id: u64,
         text: Option<String>,
     ) -> Result<Gone, Refusal>
-        ensures answer { map_ok seen_gone result ≡ table.check_answer (as_nanos now) id self.old.picture }
-        ensures after { self.new.picture ≡ table.after_check (as_nanos now) id text self.old.picture }
+        ensures answer { map_ok seen_gone result
+            ≡ table.check_answer (as_nanos now) id self.old.picture }
+        ensures after { self.new.picture
+            ≡ table.after_check (as_nanos now) id text self.old.picture }
         ensures sound { IsSound self.new.picture }
-        ensures noted { self.new.journal ≡ noted_check (as_nanos now) id (map_ok seen_gone result) self.old }
+        ensures noted { self.new.journal
+            ≡ noted_check (as_nanos now) id (map_ok seen_gone result) self.old }
     {
         let answer = self.machine.fail_check(now, id, text);
         let at = self.machine.latest();
@@ -297,10 +319,13 @@ impl<T, A: Allocator> Book<T, A> {
         value: T,
         broken: bool,
     ) -> Result<Returned<T>, (Refusal, T)>
-        ensures answer { map_ok seen_returned result ≡ table.return_answer (as_nanos now) id value broken self.old.picture }
-        ensures after { self.new.picture ≡ table.after_return (as_nanos now) id value broken self.old.picture }
+        ensures answer { map_ok seen_returned result
+            ≡ table.return_answer (as_nanos now) id value broken self.old.picture }
+        ensures after { self.new.picture
+            ≡ table.after_return (as_nanos now) id value broken self.old.picture }
         ensures sound { IsSound self.new.picture }
-        ensures noted { self.new.journal ≡ noted_return (as_nanos now) id (map_ok seen_returned result) self.old }
+        ensures noted { self.new.journal
+            ≡ noted_return (as_nanos now) id (map_ok seen_returned result) self.old }
     {
         let answer = self.machine.put_back(now, id, value, broken);
         let at = self.machine.latest();
@@ -312,11 +337,13 @@ impl<T, A: Allocator> Book<T, A> {
     pub fn reap(&mut self, now: Duration, out: &mut Vec<Released<T>>) -> u32
         requires empty { vec_len out.old ≡ 0 }
         requires room { self.old.picture.on_order.limits.max_size ≤ vec_capacity out.old }
-        ensures released { map seen_released out.new.items ≡ table.reap_closed (as_nanos now) self.old.picture }
+        ensures released { map seen_released out.new.items
+            ≡ table.reap_closed (as_nanos now) self.old.picture }
         ensures answer { result ≡ table.reap_orders (as_nanos now) self.old.picture }
         ensures after { self.new.picture ≡ table.after_reap (as_nanos now) self.old.picture }
         ensures sound { IsSound self.new.picture }
-        ensures noted { self.new.journal ≡ noted_reap (as_nanos now) (length out.new.items) result self.old }
+        ensures noted { self.new.journal
+            ≡ noted_reap (as_nanos now) (length out.new.items) result self.old }
     {
         let ordered = self.machine.reap_uncounted(now, out);
         let at = self.machine.latest();

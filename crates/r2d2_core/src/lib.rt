@@ -1,7 +1,9 @@
-//! The core of a generic connection pool: which connections are idle, lent or on order, and what each step does to them.
-//! It uses no thread, lock or atomic, and takes memory only where it is made.
+//! The core of a generic connection pool: which connections are idle, lent or on order, and what
+//! each step does to them. It uses no thread, lock or atomic, and takes memory only where it is
+//! made.
 //!
-//! You tell a [`Core`] what happened, and when; it answers what to do. Opening, checking and closing connections is yours.
+//! You tell a [`Core`] what happened, and when; it answers what to do. Opening, checking and
+//! closing connections is yours.
 //!
 //! ```rust
 //! // A worker asks what to do, opens a connection, and hands it in.
@@ -17,8 +19,8 @@
 //! }
 //! ```
 //!
-//! A [`Book`] is a core with a journal, [`run`](run::run) takes a list of steps, and [`reuse`] compares lending the newest
-//! connection first, lending the oldest first, and other choices.
+//! A [`Book`] is a core with a journal, [`run`](run::run) takes a list of steps, and [`reuse`]
+//! compares lending the newest connection first, lending the oldest first, and other choices.
 #![tactic(auto)]
 
 pub mod journal;
@@ -33,5 +35,5 @@ pub use journal::{
 };
 pub use machine::{Core, Gone, Leftover, Refusal, Released, Returned, Take};
 pub use run::{Answer, Step};
-pub use schedule::{Job, LendingOrder, Limits, Schedule};
+pub use schedule::{Job, LendingOrder, LimitSettings, Limits, Schedule};
 pub use steps::Steps;

@@ -1,9 +1,10 @@
 // The machine of a pool: what each step does, in place.
-ghost use Rattle.std.specs.Prelude.{◌≡◌, ◌+◌, ◌*◌, ◌<◌, ◌≤◌, None, max, map, length, option_map, slice_get, string_bytes, nat_lt, vec_len, vec_capacity, IfOk};
+ghost use Rattle.std.specs.Prelude.{◌≡◌, ◌+◌, ◌*◌, ◌<◌, ◌≤◌, None, max, map, length, option_map};
+ghost use Rattle.std.specs.Prelude.{slice_get, string_bytes, nat_lt, vec_len, vec_capacity, IfOk};
 ghost use Rattle.std.specs.Duration.{as_nanos};
 
 use crate::schedule::Job;
-pub use crate::schedule::Limits;
+pub use crate::schedule::{LimitSettings, Limits};
 use crate::steps::Steps;
 pub use answers::{Gone, Refusal, Released, Returned, Take};
 use idle::{Idle, IdleConnection, reached};
@@ -26,8 +27,9 @@ pub(crate) mod roster;
 
 /// Which connections there are, and which openings are pending.
 ///
-/// `T` is what the owner keeps of a connection. No step drops one: each comes back in an answer. All memory is taken at the
-/// making: no step takes any. A moment is a `Duration` since the pool was made; a step with an earlier one counts as at the latest so far.
+/// `T` is what the owner keeps of a connection. No step drops one: each comes back in an answer.
+/// All memory is taken at the making: no step takes any. A moment is a `Duration` since the pool
+/// was made; a step with an earlier one counts as at the latest so far.
 #[derive(Drop)]
 pub struct Core<T, A: Allocator = Global> {
     latest: Duration,
@@ -55,8 +57,8 @@ impl<T, A: Allocator> Core<T, A> {
     ghost use Rattle.r2d2_core.specs.Picture.{IsSound};
     ghost use Rattle.r2d2_core.specs.Table.{first_picture};
 
-    /// A core whose ids are counted from 0, made at the moment `now`, with nothing but the openings that are wanted.
-    /// The error comes only where its memory is refused.
+    /// A core whose ids are counted from 0, made at the moment `now`, with nothing but the openings
+    /// that are wanted. The error comes only where its memory is refused.
     pub fn new(alloc: A, limits: Limits, now: Duration) -> Result<Core<T, A>, AllocError>
     where
         T: Drop,
@@ -76,7 +78,8 @@ impl<T, A: Allocator> Core<T, A> {
     where
         T: Drop,
         A: Copy,
-        ensures { IfOk result (λ core. core ≡ first_picture (seen_limits limits) (as_nanos now) first_id) }
+        ensures { IfOk result
+            (λ core. core ≡ first_picture (seen_limits limits) (as_nanos now) first_id) }
     {
         let room = limits.max_size() as usize;
         let idle = Idle::new(alloc, room)?;
@@ -188,13 +191,14 @@ impl<T, A: Allocator> Core<T, A> {
 }
 
 impl<T, A: Allocator> Core<T, A> {
-    ghost use Rattle.r2d2_core.specs.Seen.{seen_take, seen_returned, seen_gone, seen_released, map_ok};
+    ghost use Rattle.r2d2_core.specs.Seen.{seen_take, seen_returned, seen_gone, seen_released};
+    ghost use Rattle.r2d2_core.specs.Seen.{map_ok};
     ghost use Rattle.r2d2_core.specs.Jobs.{seen_job};
     ghost use Rattle.r2d2_core.specs.Picture.{IsSound};
     ghost use Rattle.r2d2_core.specs.Table as table;
 
-    /// Lends the idle connection that is next in the order of the limits, and tops up; where none is idle, orders one
-    /// if `or_order` says so and there is room.
+    /// Lends the idle connection that is next in the order of the limits, and tops up; where none
+    /// is idle, orders one if `or_order` says so and there is room.
     #[inline(always)]
     pub fn take(&mut self, now: Duration, or_order: bool) -> Take<T>
         ensures answer { seen_take result ≡ table.take_answer or_order self.old }
@@ -227,7 +231,8 @@ impl<T, A: Allocator> Core<T, A> {
         }
     }
 
-    /// What a worker is to do at the moment `now`: the least opening, or the reap that is due before it.
+    /// What a worker is to do at the moment `now`: the least opening, or the reap that is due
+    /// before it.
     pub fn begin(&mut self, now: Duration) -> Job
         ensures answer { seen_job result ≡ table.begin_answer (as_nanos now) self.old }
         ensures after { self.new ≡ table.after_begin (as_nanos now) self.old }
@@ -237,8 +242,9 @@ impl<T, A: Allocator> Core<T, A> {
         self.on_order.begin(self.latest)
     }
 
-    /// Gives an id to the connection of an opening in work with these tries. It is refused where the core is closed, where
-    /// no such opening is in work, and where the next id would be `u64::MAX`.
+    /// Gives an id to the connection of an opening in work with these tries. It is refused where
+    /// the core is closed, where no such opening is in work, and where the next id would be
+    /// `u64::MAX`.
     pub fn number(&mut self, tries: u32) -> Result<u64, Refusal>
         ensures answer { result ≡ table.number_answer tries self.old }
         ensures after { self.new ≡ table.after_number tries self.old }
@@ -247,8 +253,8 @@ impl<T, A: Allocator> Core<T, A> {
         self.on_order.number(tries)
     }
 
-    /// Takes in a connection that was numbered, as the newest idle one. It is refused, and the value comes back, where
-    /// the core is closed and where the id does not await its admission.
+    /// Takes in a connection that was numbered, as the newest idle one. It is refused, and the
+    /// value comes back, where the core is closed and where the id does not await its admission.
     pub fn admit(&mut self, now: Duration, id: u64, value: T) -> Result<(), (Refusal, T)>
         ensures answer { result ≡ table.admit_answer id value self.old }
         ensures after { self.new ≡ table.after_admit (as_nanos now) id value self.old }
@@ -266,8 +272,9 @@ impl<T, A: Allocator> Core<T, A> {
         }
     }
 
-    /// Puts off an opening in work that failed, records the text, and says when the opening is due again. It is refused where
-    /// the core is closed and where no opening with these tries is in work.
+    /// Puts off an opening in work that failed, records the text, and says when the opening is due
+    /// again. It is refused where the core is closed and where no opening with these tries is in
+    /// work.
     pub fn fail(
         &mut self,
         now: Duration,
@@ -289,7 +296,8 @@ impl<T, A: Allocator> Core<T, A> {
         }
     }
 
-    /// Closes a lent connection whose check failed, records the text, and tops up. It is refused where the id is not lent.
+    /// Closes a lent connection whose check failed, records the text, and tops up. It is refused
+    /// where the id is not lent.
     pub fn fail_check(
         &mut self,
         now: Duration,
@@ -314,9 +322,9 @@ impl<T, A: Allocator> Core<T, A> {
         }
     }
 
-    /// Takes back a lent connection: it is the newest idle one, or comes back to be closed where it is broken, where it is as
-    /// old as `max_lifetime`, and where the core is closed; then the core tops up. It is refused, and the value comes
-    /// back, where the id is not lent.
+    /// Takes back a lent connection: it is the newest idle one, or comes back to be closed where it
+    /// is broken, where it is as old as `max_lifetime`, and where the core is closed; then the core
+    /// tops up. It is refused, and the value comes back, where the id is not lent.
     #[inline(always)]
     pub fn put_back(
         &mut self,
@@ -325,7 +333,8 @@ impl<T, A: Allocator> Core<T, A> {
         value: T,
         broken: bool,
     ) -> Result<Returned<T>, (Refusal, T)>
-        ensures answer { map_ok seen_returned result ≡ table.return_answer (as_nanos now) id value broken self.old }
+        ensures answer { map_ok seen_returned result
+            ≡ table.return_answer (as_nanos now) id value broken self.old }
         ensures after { self.new ≡ table.after_return (as_nanos now) id value broken self.old }
         ensures sound { IsSound self.new }
     {
@@ -354,12 +363,14 @@ impl<T, A: Allocator> Core<T, A> {
         }
     }
 
-    /// Closes the idle connections that are idle too long or too old: they stand in the caller's list then, oldest first. The
-    /// others keep their order. It tops up, also where it closed none, and answers how many openings it ordered.
+    /// Closes the idle connections that are idle too long or too old: they stand in the caller's
+    /// list then, oldest first. The others keep their order. It tops up, also where it closed none,
+    /// and answers how many openings it ordered.
     ///
-    /// `out` is to be empty, with room for `max_size`. `steps` counts each look at an idle connection and each move of one: at most
-    /// two for each there is. Where `max_lifetime` is not set, at most one more than two for each that is closed; and none where
-    /// `idle_timeout` is not set either.
+    /// `out` is to be empty, with room for `max_size`. `steps` counts each look at an idle
+    /// connection and each move of one: at most two for each there is. Where `max_lifetime` is not
+    /// set, at most one more than two for each that is closed; and none where `idle_timeout` is not
+    /// set either.
     pub fn reap<L: Ledger>(
         &mut self,
         now: Duration,
@@ -368,13 +379,16 @@ impl<T, A: Allocator> Core<T, A> {
     ) -> u32
         requires empty { vec_len out.old ≡ 0 }
         requires room { self.old.on_order.limits.max_size ≤ vec_capacity out.old }
-        ensures released { map seen_released out.new.items ≡ table.reap_closed (as_nanos now) self.old }
+        ensures released { map seen_released out.new.items
+            ≡ table.reap_closed (as_nanos now) self.old }
         ensures answer { result ≡ table.reap_orders (as_nanos now) self.old }
         ensures after { self.new ≡ table.after_reap (as_nanos now) self.old }
         ensures sound { IsSound self.new }
         ensures two_for_each { steps.new ≤ steps.old + 2 * length self.old.idle }
-        ensures two_for_each_closed { self.old.on_order.limits.max_lifetime ≡ None → steps.new ≤ steps.old + (2 * length out.new.items + 1) }
-        ensures none_without_limits { self.old.on_order.limits.max_lifetime ≡ None → self.old.on_order.limits.idle_timeout ≡ None → steps.new ≡ steps.old }
+        ensures two_for_each_closed { self.old.on_order.limits.max_lifetime ≡ None
+            → steps.new ≤ steps.old + (2 * length out.new.items + 1) }
+        ensures none_without_limits { self.old.on_order.limits.max_lifetime ≡ None
+            → self.old.on_order.limits.idle_timeout ≡ None → steps.new ≡ steps.old }
     {
         self.latest = later(self.latest, now);
         self.idle
@@ -387,7 +401,8 @@ impl<T, A: Allocator> Core<T, A> {
     pub fn reap_uncounted(&mut self, now: Duration, out: &mut Vec<Released<T>>) -> u32
         requires empty { vec_len out.old ≡ 0 }
         requires room { self.old.on_order.limits.max_size ≤ vec_capacity out.old }
-        ensures released { map seen_released out.new.items ≡ table.reap_closed (as_nanos now) self.old }
+        ensures released { map seen_released out.new.items
+            ≡ table.reap_closed (as_nanos now) self.old }
         ensures answer { result ≡ table.reap_orders (as_nanos now) self.old }
         ensures after { self.new ≡ table.after_reap (as_nanos now) self.old }
         ensures sound { IsSound self.new }
@@ -407,7 +422,8 @@ impl<T, A: Allocator> Core<T, A> {
         requires some { 0 < L.parts }
         requires empty { vec_len out.old ≡ 0 }
         requires room { self.old.on_order.limits.max_size ≤ vec_capacity out.old }
-        ensures released { map seen_released out.new.items ≡ table.reap_closed (as_nanos now) self.old }
+        ensures released { map seen_released out.new.items
+            ≡ table.reap_closed (as_nanos now) self.old }
         ensures answer { result ≡ table.reap_orders (as_nanos now) self.old }
         ensures after { self.new ≡ table.after_reap (as_nanos now) self.old }
         ensures sound { IsSound self.new }
@@ -416,7 +432,8 @@ impl<T, A: Allocator> Core<T, A> {
         self.reap(now, out, &mut steps)
     }
 
-    /// The latest text recorded since the last admission, if it was not told yet: each is told once.
+    /// The latest text recorded since the last admission, if it was not told yet: each is told
+    /// once.
     pub fn take_error(&mut self) -> Option<String>
         ensures answer { option_map string_bytes result ≡ self.old.last_error }
         ensures after { self.new ≡ table.after_take_error self.old }
@@ -437,7 +454,8 @@ impl<T, A: Allocator> Core<T, A> {
     }
 }
 
-// Whether the first is the lesser. Their parts are compared, so it costs less than to compare their lengths in nanoseconds.
+// Whether the first is the lesser. Their parts are compared, so it costs less than to compare their
+// lengths in nanoseconds.
 pub(crate) fn is_before(a: Duration, b: Duration) -> bool
     ensures { result ≡ nat_lt (as_nanos a) (as_nanos b) }
 {
@@ -456,7 +474,8 @@ ghost use Rattle.r2d2_core.specs.Seen.{or_text};
 
 // A text takes the place of the last one; where there is none, that stays.
 fn keep_text(last_error: &mut Option<String>, text: Option<String>)
-    ensures { option_map string_bytes last_error.new ≡ or_text text (option_map string_bytes last_error.old) }
+    ensures { option_map string_bytes last_error.new
+        ≡ or_text text (option_map string_bytes last_error.old) }
 {
     if let Some(text) = text {
         *last_error = Some(text);

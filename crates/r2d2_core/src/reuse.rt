@@ -1,8 +1,10 @@
 // Newest-first and oldest-first compared with every other choice of the connection to lend.
-ghost use Rattle.std.specs.Prelude.{◌≡◌, ◌≤◌, ◌↔◌, ◌++◌, ◌∷◌, [], Some, None, map, drop, length, vec_len, ◌-◌, IsTrue, OnOk, IfOk, IfSome, IsSomeAnd};
+ghost use Rattle.std.specs.Prelude.{◌≡◌, ◌≤◌, ◌↔◌, ◌++◌, ◌∷◌, [], Some, None, map, drop, length};
+ghost use Rattle.std.specs.Prelude.{vec_len, ◌-◌, IsTrue, OnOk, IfOk, IfSome, IsSomeAnd};
 ghost use Rattle.std.specs.Bool.{OnTrue, OnFalse};
 ghost use Rattle.std.specs.Duration.{as_nanos};
-ghost use Rattle.r2d2_core.specs.Reuse.{IsSorted, moment_in, picked, after_pick, newest_list, oldest_list, other_list, raised_now, expired, IsBetween};
+ghost use Rattle.r2d2_core.specs.Reuse.{IsSorted, moment_in, picked, after_pick, newest_list};
+ghost use Rattle.r2d2_core.specs.Reuse.{oldest_list, other_list, raised_now, expired, IsBetween};
 
 use std::alloc::{AllocError, Global};
 use std::marker::Model;
@@ -42,21 +44,23 @@ pub fn is_in_order(idle: &[Duration]) -> bool
     true
 }
 
-/// Plays the moves on three lists that start as `idle`, and counts what is expired in each in the end.
+/// Plays the moves on three lists that start as `idle`, and counts what is expired in each in the
+/// end.
 ///
-/// `idle` has the moments since which connections are idle, oldest first. A take removes the newest from the first list, the
-/// oldest from the second, and from the third the place that the next pick names, counted from 0; on an empty list it removes
-/// nothing and uses no pick. An add appends its moment to each. Expired are those whose moment is at least `limit` before `now`.
-/// No moment runs backwards: each, `now` included, counts as the latest so far, beginning with the last of `idle`.
+/// `idle` has the moments since which connections are idle, oldest first. A take removes the newest
+/// from the first list, the oldest from the second, and from the third the place that the next pick
+/// names, counted from 0; on an empty list it removes nothing and uses no pick. An add appends its
+/// moment to each. Expired are those whose moment is at least `limit` before `now`. No moment runs
+/// backwards: each, `now` included, counts as the latest so far, beginning with the last of `idle`.
 ///
-/// `None` says that a take on a list that is not empty had no pick left, or one that names no place. Picks left over are
-/// ignored. It takes memory for three lists.
+/// `None` says that a take on a list that is not empty had no pick left, or one that names no
+/// place. Picks left over are ignored. It takes memory for three lists.
 ///
-/// Whatever the picks, newest-first leaves at least as many expired, and oldest-first at most as many; the clause
-/// `at_every_threshold` says why.
+/// Whatever the picks, newest-first leaves at least as many expired, and oldest-first at most as
+/// many; the clause `at_every_threshold` says why.
 ///
-/// It takes time in proportion to `idle` and `moves`, and for each take what removing from a list costs: at most its
-/// length.
+/// It takes time in proportion to `idle` and `moves`, and for each take what removing from a list
+/// costs: at most its length.
 pub fn compare(
     alloc: Global,
     idle: &[Duration],
@@ -73,7 +77,8 @@ pub fn compare(
     ensures other { IfOk result (λ answer. IfSome answer (λ c.
         IsSomeAnd (other_list idle.now moves.now picks.now)
         (λ left. c.other ≡ expired (raised_now idle.now moves.now now) limit left))) }
-    ensures none { IfOk result (λ answer. (answer ≡ None) ↔ (other_list idle.now moves.now picks.now ≡ None)) }
+    ensures none { IfOk result
+        (λ answer. (answer ≡ None) ↔ (other_list idle.now moves.now picks.now ≡ None)) }
 
     ensures at_least { IfOk result (λ answer. IfSome answer (λ c. c.other ≤ c.newest_first)) }
     ensures at_most { IfOk result (λ answer. IfSome answer (λ c. c.oldest_first ≤ c.other)) }

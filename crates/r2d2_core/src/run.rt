@@ -76,7 +76,8 @@ pub enum Step<T> {
 /// What a step answered: the variant has the name of the step's.
 #[derive(Drop)]
 pub enum Answer<T, A: Allocator = Global> {
-    /// The idle connection that was next in the lending order, or none; and how many openings were ordered.
+    /// The idle connection that was next in the lending order, or none; and how many openings were
+    /// ordered.
     Take(Take<T>),
     /// What the worker is to do.
     Begin(Job),
@@ -154,7 +155,8 @@ impl<T, A: Allocator> Core<T, A> {
 
 impl<T, A: Allocator> Book<T, A> {
     ghost use Rattle.r2d2_core.specs.Picture.{IsSound};
-    ghost use Rattle.r2d2_core.specs.Steps.{seen_answer, step_answer, after_step, noted_step, is_reap};
+    ghost use Rattle.r2d2_core.specs.Steps.{seen_answer, step_answer, after_step, noted_step};
+    ghost use Rattle.r2d2_core.specs.Steps.{is_reap};
 
     /// As `Core::answer`. A step is noted where the call of its kind notes it.
     pub fn answer(&mut self, alloc: Global, step: Step<T>) -> Result<Answer<T, A>, AllocError>
@@ -177,8 +179,12 @@ pub fn run<T: Drop>(
     now: Duration,
     steps: Vec<Step<T>>,
 ) -> Result<(Core<T>, Vec<Answer<T>>), AllocError>
-    ensures answers { IfOk result (λ r. map seen_answer r.1.items ≡ answers_of (Made (seen_limits limits) (as_nanos now) 0) steps.items) }
-    ensures picture { IfOk result (λ r. r.0 ≡ picture_of (after_all (Made (seen_limits limits) (as_nanos now) 0) steps.items)) }
+    ensures answers { IfOk result
+        (λ r. map seen_answer r.1.items
+        ≡ answers_of (Made (seen_limits limits) (as_nanos now) 0) steps.items) }
+    ensures picture { IfOk result
+        (λ r. r.0 ≡ picture_of (after_all (Made (seen_limits limits)
+        (as_nanos now) 0) steps.items)) }
     ensures sound { IfOk result (λ r. IsSound r.0) }
 {
     let mut core: Core<T> = Core::new(alloc, limits, now)?;

@@ -1,10 +1,11 @@
 // When openings and reaps are due.
-ghost use Rattle.std.specs.Prelude.{◌≡◌, ℕ, ◌+◌, ◌*◌, ◌/◌, ◌^◌, ◌<◌, ◌≤◌, min, length, vec_len, IfOk};
+ghost use Rattle.std.specs.Prelude.{◌≡◌, ℕ, ◌+◌, ◌*◌, ◌/◌, ◌^◌, ◌<◌, ◌≤◌, min, length, vec_len};
+ghost use Rattle.std.specs.Prelude.{IfOk};
 ghost use Rattle.std.specs.Duration.{as_nanos};
 ghost use Rattle.r2d2_core.specs.Schedule.{is_due_before};
 
 use crate::steps::Steps;
-pub use limits::{LendingOrder, Limits};
+pub use limits::{LendingOrder, LimitSettings, Limits};
 use opening::Opening;
 use std::alloc::{AllocError, Allocator, Global};
 use std::marker::Model;
@@ -33,7 +34,8 @@ pub enum Job {
 
 /// Openings by the moment at which they are due, and the next reap.
 ///
-/// All memory is taken at the making; no other call takes any. A step of a call that counts them is one comparison of two openings.
+/// All memory is taken at the making; no other call takes any. A step of a call that counts them is
+/// one comparison of two openings.
 #[derive(Drop)]
 pub struct Schedule<A: Allocator = Global> {
     max_size: u32,
@@ -63,10 +65,11 @@ impl<A: Allocator> Schedule<A> {
     ghost use Rattle.r2d2_core.specs.Jobs.{seen_job, first_job};
     ghost use Rattle.r2d2_core.specs.Heap.{binary_digits, steps_of_job};
 
-    /// No openings, room for `max_size` of them, and the first reap, where an age or an idle time is limited: `reap_every` after `now`. The
-    /// error comes only where memory is refused.
+    /// No openings, room for `max_size` of them, and the first reap, where an age or an idle time
+    /// is limited: `reap_every` after `now`. The error comes only where memory is refused.
     pub fn new(alloc: A, limits: Limits, now: Duration) -> Result<Schedule<A>, AllocError>
-        ensures { IfOk result (λ schedule. schedule ≡ first_schedule (seen_limits limits) (as_nanos now)) }
+        ensures { IfOk result
+            (λ schedule. schedule ≡ first_schedule (seen_limits limits) (as_nanos now)) }
     {
         let max_size = limits.max_size();
         let reap_every = limits.reap_every();
@@ -93,8 +96,9 @@ impl<A: Allocator> Schedule<A> {
         self.held
     }
 
-    /// Adds an opening that is due at `due` and failed `tries` times. There is room while `len` is below `max_size`. It takes at most as many
-    /// steps as the number of openings that are held then has binary digits.
+    /// Adds an opening that is due at `due` and failed `tries` times. There is room while `len` is
+    /// below `max_size`. It takes at most as many steps as the number of openings that are held
+    /// then has binary digits.
     pub fn order<L: Ledger>(&mut self, due: Duration, tries: u32, steps: &mut Steps<L>)
         requires { length self.old.openings < self.old.max_size }
         ensures after { self.new ≡ joined (opening (as_nanos due) tries) self.old }
@@ -105,13 +109,16 @@ impl<A: Allocator> Schedule<A> {
         self.held += 1;
     }
 
-    /// What is to be done at the moment `now`, and taken out then: the opening that is due first, by its tries among equals, or the next reap if
-    /// that is due before it. What is not due yet stays: then the answer is to wait for it. Where an opening is handed out it takes at most
+    /// What is to be done at the moment `now`, and taken out then: the opening that is due first,
+    /// by its tries among equals, or the next reap if that is due before it. What is not due yet
+    /// stays: then the answer is to wait for it. Where an opening is handed out it takes at most
     /// twice as many steps as the number of openings that were held has binary digits, else none.
     pub fn next<L: Ledger>(&mut self, now: Duration, steps: &mut Steps<L>) -> Job
-        ensures answer { seen_job result ≡ first_job (as_nanos now) self.old.openings self.old.next_reap }
+        ensures answer { seen_job result
+            ≡ first_job (as_nanos now) self.old.openings self.old.next_reap }
         ensures after { self.new ≡ after_job (seen_job result) self.old }
-        ensures cost { steps.new ≤ steps.old + steps_of_job (seen_job result) (length self.old.openings) }
+        ensures cost { steps.new
+            ≤ steps.old + steps_of_job (seen_job result) (length self.old.openings) }
     {
         if self.held > 0 {
             let due = self.entries[0].due();
@@ -157,7 +164,8 @@ fn filled<A: Allocator>(alloc: A, count: u32) -> Result<Vec<Opening, A>, AllocEr
     Ok(entries)
 }
 
-/// The `k`-th delay in a row of one opening: 200 ms doubled `k` times, or half of `connection_timeout` if that is less.
+/// The `k`-th delay in a row of one opening: 200 ms doubled `k` times, or half of
+/// `connection_timeout` if that is less.
 pub fn delay(connection_timeout: Duration, k: u32) -> Duration
     ensures { as_nanos result ≡ min (as_nanos connection_timeout / 2) (200_000_000 * 2 ^ k) }
 {

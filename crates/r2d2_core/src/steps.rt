@@ -4,8 +4,8 @@ ghost use Rattle.std.specs.Prelude.{◌≡◌, ◌+◌, ◌<◌};
 use std::marker::Model;
 use std::sync::ledger::{Blank, Book, Ledger, Share};
 
-/// How many steps were taken, in a ledger of the caller's. It takes no bytes, and nothing is counted when the program runs: the
-/// count is there for contracts.
+/// How many steps were taken, in a ledger of the caller's. It takes no bytes, and nothing is
+/// counted when the program runs: the count is there for contracts.
 #[derive(Drop)]
 pub struct Steps<L: Ledger> {
     book: Book<L>,

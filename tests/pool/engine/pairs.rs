@@ -2,7 +2,7 @@
 
 use r2d2::engine::{Outcome, Settled, Wakes, give_back, lend, settle, sweep};
 use r2d2_core::journal::Report;
-use r2d2_core::{Book, Limits};
+use r2d2_core::{Book, LimitSettings};
 use std::alloc::{AllocError, AllocGlobal, Global};
 use std::fmt;
 use std::process::Abort;
@@ -60,7 +60,16 @@ fn compared(
 // Room for three connections, one of them wanted idle. One that is idle for a second is expired.
 fn book_at(alloc: Global, stage: Stage) -> Result<Book<u32>, Fail> {
     let second = Duration::from_secs(1);
-    let limits = Limits::of(3, Some(1), None, Some(second), second, second).ok_or("limits")?;
+    let limits = LimitSettings {
+        max_size: 3,
+        min_idle: Some(1),
+        max_lifetime: None,
+        idle_timeout: Some(second),
+        connection_timeout: second,
+        reap_every: second,
+    }
+    .limits()
+    .ok_or("limits")?;
     let mut book = Book::new(alloc, limits, Duration::ZERO, 8)?;
     bring(&mut book, stage);
     Ok(book)

@@ -2,7 +2,7 @@
 use super::user_types::{Kept, Kind, Numbers, Silent};
 use r2d2::engine::{Outcome, Payload, Settled, Wakes, give_back, lend, open, settle, sweep};
 use r2d2::journal::Book;
-use r2d2::machine::{Limits, Returned, Take};
+use r2d2::machine::{LimitSettings, Returned, Take};
 use r2d2::schedule::Job;
 use std::alloc::Global;
 use std::test::Fail;
@@ -10,7 +10,16 @@ use std::time::Duration;
 
 fn book(alloc: Global) -> Result<Book<u32>, Fail> {
     let second = Duration::from_secs(1);
-    let limits = Limits::of(1, None, None, Some(second), second, second).ok_or("limits")?;
+    let limits = LimitSettings {
+        max_size: 1,
+        min_idle: None,
+        max_lifetime: None,
+        idle_timeout: Some(second),
+        connection_timeout: second,
+        reap_every: second,
+    }
+    .limits()
+    .ok_or("limits")?;
     Ok(Book::new(alloc, limits, Duration::ZERO, 8)?)
 }
 

@@ -63,7 +63,8 @@ pub fn write_answer<W: Write, A: Allocator>(
     answer: Answer<u64, A>,
 ) -> Result<(), Fault>
     ensures fault { IfErr result (λ fault. fault ≡ Write) }
-    ensures written { OnOk result (Appends (W.contents output.old) (W.contents output.new) (reply_text id (seen_answer answer))) }
+    ensures written { OnOk result (Appends (W.contents output.old) (W.contents output.new)
+        (reply_text id (seen_answer answer))) }
 {
     match answer {
         Answer::Take(take) => write_take(output, take),
@@ -87,7 +88,8 @@ fn unwritten(_: io::Error) -> Fault
 
 fn write_take<W: Write>(output: &mut W, answer: Take<u64>) -> Result<(), Fault>
     ensures fault { IfErr result (λ fault. fault ≡ Write) }
-    ensures written { OnOk result (Appends (W.contents output.old) (W.contents output.new) (take_text (seen_take answer))) }
+    ensures written { OnOk result (Appends (W.contents output.old) (W.contents output.new)
+        (take_text (seen_take answer))) }
 {
     match answer {
         Take::Found {
@@ -102,7 +104,8 @@ fn write_take<W: Write>(output: &mut W, answer: Take<u64>) -> Result<(), Fault>
 
 fn write_job<W: Write>(output: &mut W, job: Job) -> Result<(), Fault>
     ensures fault { IfErr result (λ fault. fault ≡ Write) }
-    ensures written { OnOk result (Appends (W.contents output.old) (W.contents output.new) (task_text (seen_job job))) }
+    ensures written { OnOk result (Appends (W.contents output.old) (W.contents output.new)
+        (task_text (seen_job job))) }
 {
     match job {
         Job::Open { tries } => writeln!(output, "open {tries}").map_err(unwritten),
@@ -115,7 +118,8 @@ fn write_job<W: Write>(output: &mut W, job: Job) -> Result<(), Fault>
 
 fn write_number<W: Write>(output: &mut W, answer: Result<u64, Refusal>) -> Result<(), Fault>
     ensures fault { IfErr result (λ fault. fault ≡ Write) }
-    ensures written { OnOk result (Appends (W.contents output.old) (W.contents output.new) (number_text answer)) }
+    ensures written { OnOk result (Appends (W.contents output.old) (W.contents output.new)
+        (number_text answer)) }
 {
     match answer {
         Ok(id) => writeln!(output, "numbered {id}").map_err(unwritten),
@@ -128,7 +132,8 @@ fn write_admission<W: Write>(
     answer: Result<(), (Refusal, u64)>,
 ) -> Result<(), Fault>
     ensures fault { IfErr result (λ fault. fault ≡ Write) }
-    ensures written { OnOk result (Appends (W.contents output.old) (W.contents output.new) (admission_text answer)) }
+    ensures written { OnOk result (Appends (W.contents output.old) (W.contents output.new)
+        (admission_text answer)) }
 {
     match answer {
         Ok(()) => writeln!(output, "admitted").map_err(unwritten),
@@ -138,7 +143,8 @@ fn write_admission<W: Write>(
 
 fn write_failure<W: Write>(output: &mut W, answer: Result<Duration, Refusal>) -> Result<(), Fault>
     ensures fault { IfErr result (λ fault. fault ≡ Write) }
-    ensures written { OnOk result (Appends (W.contents output.old) (W.contents output.new) (failure_text (map_ok as_nanos answer))) }
+    ensures written { OnOk result (Appends (W.contents output.old) (W.contents output.new)
+        (failure_text (map_ok as_nanos answer))) }
 {
     match answer {
         Ok(due) => writeln!(output, "retry {}", Milliseconds(due)).map_err(unwritten),
@@ -152,7 +158,8 @@ fn write_failed_check<W: Write>(
     answer: Result<Gone, Refusal>,
 ) -> Result<(), Fault>
     ensures fault { IfErr result (λ fault. fault ≡ Write) }
-    ensures written { OnOk result (Appends (W.contents output.old) (W.contents output.new) (check_text id (map_ok seen_gone answer))) }
+    ensures written { OnOk result (Appends (W.contents output.old) (W.contents output.new)
+        (check_text id (map_ok seen_gone answer))) }
 {
     match answer {
         Ok(Gone { age, ordered }) => write_gone(output, id, age, ordered),
@@ -166,7 +173,8 @@ fn write_return<W: Write>(
     answer: Result<Returned<u64>, (Refusal, u64)>,
 ) -> Result<(), Fault>
     ensures fault { IfErr result (λ fault. fault ≡ Write) }
-    ensures written { OnOk result (Appends (W.contents output.old) (W.contents output.new) (return_text id (map_ok seen_returned answer))) }
+    ensures written { OnOk result (Appends (W.contents output.old) (W.contents output.new)
+        (return_text id (map_ok seen_returned answer))) }
 {
     match answer {
         Ok(Returned::Kept) => writeln!(output, "kept").map_err(unwritten),
@@ -178,7 +186,8 @@ fn write_return<W: Write>(
 // A connection that was lent is gone.
 fn write_gone<W: Write>(output: &mut W, id: u64, age: Duration, ordered: u32) -> Result<(), Fault>
     ensures fault { IfErr result (λ fault. fault ≡ Write) }
-    ensures written { OnOk result (Appends (W.contents output.old) (W.contents output.new) (gone_text id (as_nanos age) ordered)) }
+    ensures written { OnOk result (Appends (W.contents output.old) (W.contents output.new)
+        (gone_text id (as_nanos age) ordered)) }
 {
     let age = Milliseconds(age);
     writeln!(output, "gone {id} age {age} ordered {ordered}").map_err(unwritten)
@@ -186,7 +195,8 @@ fn write_gone<W: Write>(output: &mut W, id: u64, age: Duration, ordered: u32) ->
 
 fn write_refusal<W: Write>(output: &mut W, refusal: Refusal) -> Result<(), Fault>
     ensures fault { IfErr result (λ fault. fault ≡ Write) }
-    ensures written { OnOk result (Appends (W.contents output.old) (W.contents output.new) (refusal_text refusal)) }
+    ensures written { OnOk result (Appends (W.contents output.old) (W.contents output.new)
+        (refusal_text refusal)) }
 {
     let word = word(refusal);
     writeln!(output, "refused {word}").map_err(unwritten)
@@ -231,7 +241,8 @@ fn write_released<W: Write>(output: &mut W, released: &[Released<u64>]) -> Resul
 
 fn write_error<W: Write>(output: &mut W, text: Option<String>) -> Result<(), Fault>
     ensures fault { IfErr result (λ fault. fault ≡ Write) }
-    ensures written { OnOk result (Appends (W.contents output.old) (W.contents output.new) (error_text (option_map string_bytes text))) }
+    ensures written { OnOk result (Appends (W.contents output.old) (W.contents output.new)
+        (error_text (option_map string_bytes text))) }
 {
     match text {
         Some(text) => writeln!(output, "error {text}").map_err(unwritten),
@@ -244,7 +255,8 @@ fn write_close<W: Write, A: Allocator>(
     leftover: Leftover<u64, A>,
 ) -> Result<(), Fault>
     ensures fault { IfErr result (λ fault. fault ≡ Write) }
-    ensures written { OnOk result (Appends (W.contents output.old) (W.contents output.new) (close_text leftover)) }
+    ensures written { OnOk result (Appends (W.contents output.old) (W.contents output.new)
+        (close_text leftover)) }
 {
     write!(output, "closed").map_err(unwritten)?;
     write_left(output, leftover)?;
@@ -256,7 +268,8 @@ fn write_left<W: Write, A: Allocator>(
     leftover: Leftover<u64, A>,
 ) -> Result<(), Fault>
     ensures fault { IfErr result (λ fault. fault ≡ Write) }
-    ensures written { OnOk result (Appends (W.contents output.old) (W.contents output.new) (left_text leftover)) }
+    ensures written { OnOk result (Appends (W.contents output.old) (W.contents output.new)
+        (left_text leftover)) }
 {
     for (id, _) in leftover {
         write!(output, " {id}").map_err(unwritten)?;
@@ -273,7 +286,8 @@ pub fn write_state<W: Write>(
     pending: u32,
 ) -> Result<(), Fault>
     ensures fault { IfErr result (λ fault. fault ≡ Write) }
-    ensures written { OnOk result (Appends (W.contents output.old) (W.contents output.new) (state_text connections idle pending)) }
+    ensures written { OnOk result (Appends (W.contents output.old) (W.contents output.new)
+        (state_text connections idle pending)) }
 {
     writeln!(output, "state {connections} {idle} {pending}").map_err(unwritten)
 }

@@ -16,7 +16,7 @@ ghost use Rattle.pool_lines.specs.Lines.{Admit, PutBack, Reap};
 ghost use Rattle.pool_lines.specs.Lines as spec;
 
 use super::Fault;
-use r2d2_core::{LendingOrder, Limits, Step};
+use r2d2_core::{LendingOrder, LimitSettings, Limits, Step};
 use std::alloc::{AllocError, Global};
 use std::str;
 use std::time::Duration;
@@ -24,7 +24,8 @@ use std::time::Duration;
 /// The limits that the first line says. A line of another form is not a step.
 pub fn limits(line: &[u8]) -> Result<Limits, Fault>
     ensures fault { IfErr result (λ fault. (fault ≡ NotAStep 1) ⊎ (fault ≡ LimitsRefused)) }
-    ensures given { IfOk result (λ limits. limits_in line.now ≡ Some (sizes_of (seen_limits limits))) }
+    ensures given { IfOk result
+        (λ limits. limits_in line.now ≡ Some (sizes_of (seen_limits limits))) }
     ensures legal { IfOk result (λ limits. AreLegal (seen_limits limits)) }
     ensures no_limits { IfErr result (λ fault. fault ≡ NotAStep 1 → limits_in line.now ≡ None) }
     ensures refused { IfErr result (λ fault. fault ≡ LimitsRefused
@@ -93,14 +94,15 @@ impl LimitsLine {
         ensures legal { IsSome result ↔ AreLegal (bounds_of self.now) }
         ensures given { IfSome result (λ limits. seen_limits limits ≡ bounds_of self.now) }
     {
-        let limits = Limits::of(
-            self.max_size,
-            self.min_idle,
-            self.max_lifetime,
-            self.idle_timeout,
-            self.connection_timeout,
-            self.reap_every,
-        )?;
+        let limits = LimitSettings {
+            max_size: self.max_size,
+            min_idle: self.min_idle,
+            max_lifetime: self.max_lifetime,
+            idle_timeout: self.idle_timeout,
+            connection_timeout: self.connection_timeout,
+            reap_every: self.reap_every,
+        }
+        .limits()?;
         Some(limits.with_order(self.order))
     }
 }
@@ -163,7 +165,8 @@ impl Line {
 
     #[tactic(auto, unfolding(crate::specs::Lines::said_of_connection))]
     fn of_connection(alloc: Global, word: &str, fields: &str) -> Result<Option<Line>, AllocError>
-        ensures { IfOk result (λ said. option_map seen_line said ≡ said_of_connection word.now fields.now) }
+        ensures { IfOk result
+            (λ said. option_map seen_line said ≡ said_of_connection word.now fields.now) }
     {
         match word {
             "admit" => Ok(Line::admit(fields)),
@@ -175,7 +178,8 @@ impl Line {
 
     #[tactic(auto, unfolding(crate::specs::Lines::said_of_outcome))]
     fn of_failure(alloc: Global, word: &str, fields: &str) -> Result<Option<Line>, AllocError>
-        ensures { IfOk result (λ said. option_map seen_line said ≡ said_of_outcome word.now fields.now) }
+        ensures { IfOk result
+            (λ said. option_map seen_line said ≡ said_of_outcome word.now fields.now) }
     {
         match word {
             "number" => Ok(Line::number(fields)),
@@ -186,7 +190,8 @@ impl Line {
     }
 
     fn take(fields: &str, or_order: bool) -> Option<Line>
-        ensures { option_map seen_line result ≡ option_map (λ now. Take now or_order) (time_in fields.now) }
+        ensures { option_map seen_line result
+            ≡ option_map (λ now. Take now or_order) (time_in fields.now) }
     {
         let now = time(fields)?;
         Some(Line::Step(Step::Take { now, or_order }))
@@ -207,21 +212,24 @@ impl Line {
     }
 
     fn number(fields: &str) -> Option<Line>
-        ensures { option_map seen_line result ≡ option_map (λ tries. Number tries) (number_in 32 fields.now) }
+        ensures { option_map seen_line result
+            ≡ option_map (λ tries. Number tries) (number_in 32 fields.now) }
     {
         let tries = small_number(fields)?;
         Some(Line::Step(Step::Number { tries }))
     }
 
     fn admit(fields: &str) -> Option<Line>
-        ensures { option_map seen_line result ≡ option_map (λ c. Admit c.0 c.1 c.2) (connection_in fields.now) }
+        ensures { option_map seen_line result
+            ≡ option_map (λ c. Admit c.0 c.1 c.2) (connection_in fields.now) }
     {
         let (now, id, value) = connection(fields)?;
         Some(Line::Step(Step::Admit { now, id, value }))
     }
 
     fn put_back(fields: &str, broken: bool) -> Option<Line>
-        ensures { option_map seen_line result ≡ option_map (λ c. PutBack c.0 c.1 c.2 broken) (connection_in fields.now) }
+        ensures { option_map seen_line result
+            ≡ option_map (λ c. PutBack c.0 c.1 c.2 broken) (connection_in fields.now) }
     {
         let (now, id, value) = connection(fields)?;
         Some(Line::Step(Step::PutBack {
@@ -298,7 +306,8 @@ fn connection(fields: &str) -> Option<(Duration, u64, u64)>
 // A moment, what failed then, and the text that follows, if there is one.
 #[tactic(auto, unfolding(crate::specs::Lines::failure_in, crate::specs::Lines::cut), using(crate::proofs::Fields::before_none))]
 fn failure(fields: &str) -> Option<(Duration, &str, Option<&str>)>
-    ensures { option_map (λ f. (as_nanos f.0, f.1.now, option_copied f.2)) result ≡ failure_in fields.now }
+    ensures { option_map (λ f. (as_nanos f.0, f.1.now, option_copied f.2)) result
+        ≡ failure_in fields.now }
 {
     let (now, fields) = cut(fields)?;
     let now = time(now)?;
@@ -311,7 +320,8 @@ fn failure(fields: &str) -> Option<(Duration, &str, Option<&str>)>
 // Three lengths of time, of which the first two may be left out, and what stands after them.
 #[tactic(auto, unfolding(crate::specs::Lines::lengths_in))]
 fn lengths(fields: &str) -> Option<(Option<Duration>, Option<Duration>, Duration, &str)>
-    ensures { option_map (λ l. (option_map as_nanos l.0, option_map as_nanos l.1, as_nanos l.2, l.3.now)) result
+    ensures { option_map
+        (λ l. (option_map as_nanos l.0, option_map as_nanos l.1, as_nanos l.2, l.3.now)) result
         ≡ lengths_in fields.now }
 {
     let (max_lifetime, fields) = cut(fields)?;

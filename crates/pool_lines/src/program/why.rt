@@ -112,7 +112,8 @@ pub fn no_step(alloc: Global, line: &[u8]) -> Result<Option<Wrong>, AllocError>
 
 /// Why a line is not allowed as the first one; None where it is.
 pub fn no_limits(line: &[u8]) -> Option<Wrong>
-    ensures allowed { result ≡ None → (s : Bounds) × (limits_in line.now ≡ Some (sizes_of s)) × AreLegal s }
+    ensures allowed { result ≡ None
+        → (s : Bounds) × (limits_in line.now ≡ Some (sizes_of s)) × AreLegal s }
     ensures not_allowed { IsSome result → (limits_in line.now ≡ None)
         ⊎ ((s : Bounds) × (limits_in line.now ≡ Some (sizes_of s)) × ¬ (AreLegal s)) }
 {

@@ -10,9 +10,6 @@ use std::alloc::AllocError;
 // How wide a letter of a label is.
 const LETTER: u32 = 65;
 
-// A drawing with lanes that reach further down has its labels below them too.
-const FAR: u32 = 3000;
-
 // How many columns a label by a clock takes, with two blanks; and one with thousandths.
 const CLOCK: u32 = 10;
 
@@ -24,9 +21,9 @@ impl Canvas {
         self.grid(axis)?;
         let above = self.layout.band_bottom().saturating_add(170);
         self.labels(story, axis, above)?;
-        let bottom = self.layout.lanes_bottom();
-        if bottom.saturating_sub(self.layout.lanes_top()) > FAR {
-            self.labels(story, axis, bottom.saturating_add(170))?;
+        if self.layout.has_labels_below() {
+            let below = self.layout.lanes_bottom().saturating_add(170);
+            self.labels(story, axis, below)?;
         }
         self.beginning(story)
     }
@@ -47,14 +44,31 @@ impl Canvas {
 
     // A line down the drawing at each mark.
     fn grid(&mut self, axis: Axis) -> Result<(), AllocError> {
-        let (top, bottom) = (self.layout.band_top(), self.layout.lanes_bottom());
-        let (top, height) = (Tenths(top), Tenths(bottom.saturating_sub(top)));
+        let top = self.layout.band_top();
         self.out.push_str("<path class=\"grid\" d=\"")?;
         for number in 0..axis.steps().saturating_add(1) {
-            let x = Tenths(self.layout.x_of(axis.mark(number).nanos));
-            write!(self.out, "M{x} {top}v{height}")?;
+            let x = self.layout.x_of(axis.mark(number).nanos);
+            self.down(x, top)?;
         }
         self.out.push_str("\"/>\n")
+    }
+
+    /// A line down the drawing from a place on, with an edge that sets it off.
+    pub(super) fn upright(&mut self, class: &str, x: u32, top: u32) -> Result<(), AllocError> {
+        for class in ["halo wide", class] {
+            write!(self.out, "<path class=\"{class}\" d=\"")?;
+            self.down(x, top)?;
+            self.out.push_str("\"/>\n")?;
+        }
+        Ok(())
+    }
+
+    // The path of such a line, which leaves the labels free.
+    fn down(&mut self, x: u32, top: u32) -> Result<(), AllocError> {
+        let layout = self.layout;
+        let (x, top, band) = (Tenths(x), Tenths(top), Tenths(layout.band_bottom()));
+        let (lanes, bottom) = (Tenths(layout.lanes_top()), Tenths(layout.lanes_bottom()));
+        write!(self.out, "M{x} {top}V{band}M{x} {lanes}V{bottom}")
     }
 
     fn labels(&mut self, story: &Story, axis: Axis, y: u32) -> Result<(), AllocError> {
@@ -88,13 +102,25 @@ impl Canvas {
             return Ok(());
         }
         let from = Length(story.from);
-        let (x, y) = (self.layout.left, self.layout.band_top().saturating_sub(120));
-        let (x, y) = (Tenths(x), Tenths(y));
+        let (x, anchor) = self.beside_the_closing(story);
+        let (x, y) = (Tenths(x), Tenths(self.layout.names()));
         let name = if story.lost > 0 { "base" } else { "made" };
         write!(
             self.out,
-            "<text class=\"tick\" x=\"{x}\" y=\"{y}\">{name} at {from}; "
+            "<text class=\"tick\" text-anchor=\"{anchor}\" x=\"{x}\" y=\"{y}\">"
         )?;
-        self.out.push_str("times are counted from there</text>\n")
+        writeln!(
+            self.out,
+            "{name} at {from}; times are counted from there</text>"
+        )
+    }
+
+    // At which end of the plot a text stands that keeps clear of where the pool was closed.
+    fn beside_the_closing(&self, story: &Story) -> (u32, &'static str) {
+        let (left, right) = (self.layout.left, self.layout.right);
+        match story.closing {
+            Some(at) if self.x(at) < left + (right - left) / 2 => (right, "end"),
+            _ => (left, "start"),
+        }
     }
 }

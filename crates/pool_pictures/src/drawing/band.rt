@@ -66,7 +66,8 @@ impl Canvas {
         self.closing(story)
     }
 
-    // The whiles in which the pool was exhausted: a strip over the band, and a shade over the lanes.
+    // The whiles in which the pool was exhausted: a strip over the band, and a shade over the
+    // lanes.
     fn shade(&mut self, bins: &[Most]) -> Result<(), AllocError> {
         let top = self.layout.band_top().saturating_sub(90);
         let (lanes, bottom) = (self.layout.lanes_top(), self.layout.lanes_bottom());
@@ -183,20 +184,12 @@ impl Canvas {
         let Some(at) = story.closing else {
             return Ok(());
         };
-        let x = Tenths(self.x(at));
-        let (top, bottom) = (self.layout.band_top(), self.layout.lanes_bottom());
-        let (start, y) = (
-            Tenths(top.saturating_sub(60)),
-            Tenths(top.saturating_sub(100)),
-        );
-        let bottom = Tenths(bottom);
+        let (at, y) = (self.x(at), self.layout.names());
+        self.upright("wanted", at, y.saturating_sub(90))?;
+        let (x, y) = (Tenths(at.saturating_sub(50)), Tenths(y));
         writeln!(
             self.out,
-            "<path class=\"wanted\" d=\"M{x} {start}V{bottom}\"/>"
-        )?;
-        writeln!(
-            self.out,
-            "<text class=\"tick\" text-anchor=\"middle\" x=\"{x}\" y=\"{y}\">closed</text>"
+            "<text class=\"tick\" text-anchor=\"end\" x=\"{x}\" y=\"{y}\">closed</text>"
         )
     }
 }

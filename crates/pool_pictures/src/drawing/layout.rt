@@ -12,8 +12,9 @@ pub(super) const WIDTH: u32 = 12_000;
 /// What is left free at the left of the texts.
 pub(super) const MARGIN: u32 = 240;
 
-// What is left free at the right of the plot, for the names of limits.
-const RIGHT: u32 = 1500;
+// What is left free at the right of the plot, for the names of limits and for since when a
+// connection is lent.
+const RIGHT: u32 = 1700;
 
 // From what stands above the plot to the band, with the names of single moments between them.
 const NAMES_HEIGHT: u32 = 460;
@@ -30,7 +31,13 @@ pub(super) const CLOCK_HEIGHT: u32 = 150;
 pub(super) const COLUMN: u32 = 5;
 
 // What is left free below the lanes.
-const FOOT: u32 = 360;
+const FOOT: u32 = 160;
+
+// The same with labels of the axis there, and below them how many lanes are left out.
+const LABELS_HEIGHT: u32 = 360;
+
+// Lanes that reach further down have the labels of the axis below them too.
+const FAR: u32 = 3000;
 
 /// A number of tenths, written with its decimal.
 #[derive(Clone, Copy)]
@@ -95,6 +102,7 @@ pub(super) struct Layout {
     pub(super) columns: Scale,
     band_top: u32,
     lanes_top: u32,
+    lanes_bottom: u32,
     ghost within: { left + scale.width ≤ right },
 }
 
@@ -116,19 +124,23 @@ impl Layout {
         let clock = if has_clock { CLOCK_HEIGHT } else { 0 };
         let lanes_top = band_top.saturating_add(BAND_HEIGHT + AXIS_HEIGHT + clock);
         let lanes = u32::try_from(lanes).unwrap_or(u32::MAX);
-        let height = lanes
-            .saturating_mul(pitch.lane)
-            .saturating_add(lanes_top)
-            .saturating_add(FOOT + clock);
+        let reach = lanes.saturating_mul(pitch.lane);
+        let lanes_bottom = lanes_top.saturating_add(reach);
+        let foot = if reach > FAR {
+            LABELS_HEIGHT + clock
+        } else {
+            FOOT
+        };
         Layout {
             left,
             right,
             pitch,
-            height,
+            height: lanes_bottom.saturating_add(foot),
             scale: Scale::of(story, right - left),
             columns: Scale::of(story, (right - left) / COLUMN),
             band_top,
             lanes_top,
+            lanes_bottom,
         }
     }
 
@@ -159,6 +171,11 @@ impl Layout {
             .min(self.right)
     }
 
+    /// How far down the names stand that are over the band.
+    pub(super) fn names(&self) -> u32 {
+        self.band_top.saturating_sub(120)
+    }
+
     pub(super) fn band_top(&self) -> u32 {
         self.band_top
     }
@@ -179,7 +196,12 @@ impl Layout {
     }
 
     pub(super) fn lanes_bottom(&self) -> u32 {
-        self.height.saturating_sub(FOOT)
+        self.lanes_bottom
+    }
+
+    /// Whether the lanes reach so far down that the labels of the axis stand below them too.
+    pub(super) fn has_labels_below(&self) -> bool {
+        self.lanes_bottom.saturating_sub(self.lanes_top) > FAR
     }
 
     /// The middle of the lane of this number, counted from 0.

@@ -6,6 +6,18 @@ use super::marks::{box_of, came, line, point, went};
 use crate::story::{Cause, Coming};
 use std::alloc::{AllocError, Global};
 
+// So many keys stand side by side: above those of lines and areas, and below them those of marks.
+const ACROSS: u32 = 6;
+
+// How far to the right the next key stands.
+const COLUMN: u32 = (WIDTH - 2 * MARGIN) / ACROSS;
+
+// How high a row of the legend is.
+const ROW: u32 = 220;
+
+// What is left free above the legend.
+const ABOVE: u32 = 60;
+
 /// A thing that the legend explains.
 #[derive(Clone, Copy)]
 enum Key {
@@ -18,9 +30,6 @@ enum Key {
     Came(Coming),
     Went(Cause),
 }
-
-// How high a row of the legend is.
-const ROW: u32 = 220;
 
 impl Key {
     fn name(self) -> &'static str {
@@ -38,12 +47,6 @@ impl Key {
             Key::Went(Cause::ClosedAll) => "closed with the pool",
         }
     }
-
-    // How far to the right the next one stands.
-    fn width(self) -> u32 {
-        let letters = u32::try_from(self.name().len()).unwrap_or(0);
-        letters.saturating_mul(64).saturating_add(550)
-    }
 }
 
 const KEYS: [Key; 11] = [
@@ -60,28 +63,8 @@ const KEYS: [Key; 11] = [
     Key::Went(Cause::ClosedAll),
 ];
 
-// Where each of the keys stands: from the left, and in which row.
-fn places(alloc: Global) -> Result<Vec<(Key, u32, u32)>, AllocError> {
-    let mut places = Vec::new(alloc);
-    let (mut x, mut row): (u32, u32) = (MARGIN, 0);
-    for key in KEYS {
-        if x.saturating_add(key.width()) > WIDTH {
-            (x, row) = (MARGIN, row.saturating_add(1));
-        }
-        places.push((key, x, row))?;
-        x = x.saturating_add(key.width());
-    }
-    Ok(places)
-}
-
 /// How high the legend is.
-pub(super) fn height(alloc: Global) -> Result<u32, AllocError> {
-    let rows = match places(alloc)?.last() {
-        Some((_, _, row)) => row.saturating_add(1),
-        None => 0,
-    };
-    Ok(rows.saturating_mul(ROW))
-}
+pub(super) const HEIGHT: u32 = ABOVE + 2 * ROW;
 
 const IMAGE: &str =
     r#"<li><svg class="pool" width="22" height="16" viewBox="0 0 22 16" aria-hidden="true">"#;
@@ -102,11 +85,13 @@ pub(super) fn list(alloc: Global) -> Result<String, AllocError> {
 impl Canvas {
     /// The legend, so far down.
     pub(super) fn legend(&mut self, top: u32) -> Result<(), AllocError> {
-        for (key, x, row) in places(self.alloc)? {
+        for (number, key) in (0..).zip(KEYS) {
+            let (column, row): (u32, u32) = (number % ACROSS, number / ACROSS);
+            let x = column.saturating_mul(COLUMN).saturating_add(MARGIN);
             let y = row
                 .saturating_mul(ROW)
                 .saturating_add(top)
-                .saturating_add(ROW / 2);
+                .saturating_add(ABOVE + ROW / 2);
             symbol(&mut self.out, key, x, y)?;
             let (x, y) = (Tenths(x.saturating_add(270)), Tenths(y.saturating_add(40)));
             let name = key.name();
@@ -116,18 +101,21 @@ impl Canvas {
     }
 }
 
-// What a key looks like, 200 wide from a place on, with its middle so far down.
+// How wide the symbol of a key is.
+const SYMBOL: u32 = 200;
+
+// What a key looks like, from a place on, with its middle so far down.
 fn symbol(out: &mut String, key: Key, x: u32, y: u32) -> Result<(), AllocError> {
     match key {
-        Key::Lent => line(out, "lent", x, y, 110),
-        Key::Many => line(out, "many", x, y, 110),
+        Key::Lent => line(out, "lent", x, y, SYMBOL, 110),
+        Key::Many => line(out, "many", x, y, SYMBOL, 110),
         Key::StillLent => {
-            line(out, "lent", x, y, 110)?;
-            point(out, x.saturating_add(200), y, 55)
+            line(out, "lent", x, y, SYMBOL - 55, 110)?;
+            point(out, x.saturating_add(SYMBOL - 55), y, 55)
         }
-        Key::Idle => line(out, "idle", x, y, 25),
+        Key::Idle => line(out, "idle", x, y, SYMBOL, 25),
         Key::Opening => box_of(out, "openings", x, y),
-        Key::Exhausted => line(out, "exhaustion", x, y, 60),
+        Key::Exhausted => line(out, "exhaustion", x, y, SYMBOL, 60),
         Key::Came(coming) => came(out, coming, x.saturating_add(100), y, 45),
         Key::Went(cause) => went(out, cause, x.saturating_add(100), y, 45),
     }

@@ -4,18 +4,19 @@ use super::layout::Tenths;
 use crate::story::{Cause, Coming};
 use std::alloc::AllocError;
 
-/// A line of the legend, so thick.
+/// A line of the legend, so long and so thick.
 pub(super) fn line(
     out: &mut String,
     class: &str,
     x: u32,
     y: u32,
+    length: u32,
     thick: u32,
 ) -> Result<(), AllocError> {
-    let (x, y, width) = (Tenths(x), Tenths(y), Tenths(thick));
+    let (x, y, length, width) = (Tenths(x), Tenths(y), Tenths(length), Tenths(thick));
     writeln!(
         out,
-        "<path class=\"{class}\" stroke-width=\"{width}\" d=\"M{x} {y}h20\"/>"
+        "<path class=\"{class}\" stroke-width=\"{width}\" d=\"M{x} {y}h{length}\"/>"
     )
 }
 

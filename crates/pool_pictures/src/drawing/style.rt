@@ -10,6 +10,7 @@ pub(super) const STYLE: &str = r#"<style>
 .pool .paper { fill: #ffffff }
 .pool .grid { stroke: #dde3e9; stroke-width: 1; fill: none }
 .pool .halo { stroke: #ffffff; stroke-width: 2.8; fill: none }
+.pool .wide { stroke-width: 4.8 }
 .pool .limit { stroke: #1c2733; stroke-width: 1.2; fill: none }
 .pool .wanted { stroke: #1c2733; stroke-width: 1.2; stroke-dasharray: 5 4; fill: none }
 .pool .idle { stroke: #00528a; fill: none }

@@ -84,7 +84,8 @@ pub(super) fn verdict<A: Allocator>(report: &Report<A>) -> Verdict
 
 // Whether a base is that of a pool just made.
 fn is_first<A: Allocator>(limits: &Limits, base: &Base<A>) -> bool
-    ensures { IsTrue result ↔ (seen_base base.now ≡ first_base (seen_limits limits.now) (as_nanos base.now.at)) }
+    ensures { IsTrue result
+        ↔ (seen_base base.now ≡ first_base (seen_limits limits.now) (as_nanos base.now.at)) }
 {
     base.idle.as_slice().is_empty()
         && base.lent.as_slice().is_empty()
@@ -110,7 +111,10 @@ fn making_reason<A: Allocator>(limits: &Limits, base: &Base<A>) -> MakingReason 
 
 // Whether as many are idle or pending as are wanted, if there is room and the pool is open.
 fn is_replenished<A: Allocator>(report: &Report<A>) -> bool
-    ensures { IsTrue result ↔ (report.now.closed ≡ false → (wanted_of (seen_limits report.now.limits) ≤ length report.now.idle + report.now.pending) ⊎ (report.now.connections + report.now.pending ≡ report.now.limits.max_size)) }
+    ensures { IsTrue result
+        ↔ (report.now.closed ≡ false
+        → (wanted_of (seen_limits report.now.limits) ≤ length report.now.idle + report.now.pending)
+        ⊎ (report.now.connections + report.now.pending ≡ report.now.limits.max_size)) }
 {
     let ready = report.idle.as_slice().len() as u128 + report.pending as u128;
     let all = report.connections as u64 + report.pending as u64;

@@ -253,7 +253,8 @@ fn reached(limit: Option<Duration>, length: Duration) -> bool
 
 // What is to be ordered where so many are idle, and so many connected.
 fn due<A: Allocator>(limits: &Limits, before: &Base<A>, idle: usize, connections: u32) -> u32
-    ensures { result ≡ top_up (seen_limits limits.now) before.now.closed idle connections before.now.pending }
+    ensures { result
+        ≡ top_up (seen_limits limits.now) before.now.closed idle connections before.now.pending }
 {
     if before.closed {
         return 0;

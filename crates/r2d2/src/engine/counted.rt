@@ -1,5 +1,6 @@
 // A book whose takes a ledger counts.
-ghost use Rattle.std.specs.Prelude.{ℕ, ⊤, ◌≡◌, ◌+◌, ◌*◌, ◌<◌, ◌≤◌, map, length, option_map, string_bytes, vec_len, vec_capacity, IfOk};
+ghost use Rattle.std.specs.Prelude.{ℕ, ⊤, ◌≡◌, ◌+◌, ◌*◌, ◌<◌, ◌≤◌, map, length, option_map};
+ghost use Rattle.std.specs.Prelude.{string_bytes, vec_len, vec_capacity, IfOk};
 ghost use Rattle.std.specs.Duration.{as_nanos};
 ghost use Rattle.r2d2_core.specs.Seen.{seen_take, seen_returned, seen_released, map_ok};
 ghost use Rattle.r2d2_core.specs.Jobs.{seen_job};
@@ -7,9 +8,11 @@ ghost use Rattle.r2d2_core.specs.Table as table;
 ghost use Rattle.r2d2_core.specs.Picture.{IsSound};
 ghost use Rattle.r2d2_core.specs.Noted.{noted_take, noted_return, noted_reap, noted_close};
 ghost use Rattle.r2d2_core.specs.Journal.{one_more};
-ghost use Rattle.r2d2_core.specs.Reports.{IsReportOf, DoesReplay, HasSoundCounts, CountsItsTakes, BeginsAtAMaking};
+ghost use Rattle.r2d2_core.specs.Reports.{IsReportOf, DoesReplay, HasSoundCounts, CountsItsTakes};
+ghost use Rattle.r2d2_core.specs.Reports.{BeginsAtAMaking};
 ghost use Rattle.r2d2.specs.Wakes.{wakes_of_take, wakes_of_return, wakes_of_reap};
-ghost use Rattle.r2d2.specs.Settled.{seen_settled, settle_answer, after_settle, noted_settle, wakes_of_settled};
+ghost use Rattle.r2d2.specs.Settled.{seen_settled, settle_answer, after_settle, noted_settle};
+ghost use Rattle.r2d2.specs.Settled.{wakes_of_settled};
 ghost use Rattle.r2d2.specs.Counted.{found_by, counted_up_to, counted_where};
 
 use super::{Outcome, Settled, Wakes, give_back, lend, settle, sweep};
@@ -48,7 +51,8 @@ pub trait Counter: Ties {
         ensures parts { parts tally.new ≡ parts tally.old }
         ensures amount { amount tally.new ≡ amount tally.old + per_take }
         ensures counts { counts self.old self.new }
-        ensures stands { (takes : ℕ) → Self.stands_at self.old takes → Self.stands_at self.new (one_more takes) };
+        ensures stands { (takes : ℕ) → Self.stands_at self.old takes
+            → Self.stands_at self.new (one_more takes) };
 }
 
 /// Counts nothing.
@@ -73,7 +77,8 @@ impl Counter for NoCount {
     fn count(&mut self, _tally: &mut ()) {}
 }
 
-/// Counts in the book of a ledger: a take adds one to the share that it brings, and to the ledger's total.
+/// Counts in the book of a ledger: a take adds one to the share that it brings, and to the ledger's
+/// total.
 #[derive(Drop)]
 pub struct Takes<L: Ledger> {
     book: ledger::Book<L>,
@@ -108,7 +113,8 @@ impl<L: Ledger> Counter for Takes<L> {
     }
 }
 
-/// A book beside what counts its takes: the counter stands at the number of the book's takes that found.
+/// A book beside what counts its takes: the counter stands at the number of the book's takes that
+/// found.
 ///
 /// A take is `lend`, and there is no other one. All else is the book's, and leaves the counter.
 #[derive(Drop)]
@@ -127,7 +133,8 @@ impl<T, C: Ties> Model for Tied<T, C> {
     ghost invariant = { λ c. C.stands_at c.total c.book.journal.takes };
 }
 
-/// A book beside the book of a ledger. The ledger's total is the number of the book's takes that found, up to `u64::MAX`.
+/// A book beside the book of a ledger. The ledger's total is the number of the book's takes that
+/// found, up to `u64::MAX`.
 pub type Counted<T, L> = Tied<T, Takes<L>>;
 
 impl<T> Tied<T, NoCount> {
@@ -156,7 +163,8 @@ impl<T, L: Ledger> Counted<T, L> {
         }
     }
 
-    /// The book's report, where `all` has all parts of the ledger: so its `takes` is what they counted. Nothing changes.
+    /// The book's report, where `all` has all parts of the ledger: so its `takes` is what they
+    /// counted. Nothing changes.
     pub fn audit(&mut self, all: &mut Share<L>) -> Result<Report, AllocError>
         requires { all.old.parts ≡ L.parts }
         ensures given { IfOk result (λ report. IsReportOf self.old.book report) }
@@ -192,11 +200,14 @@ impl<T, C: Ties> Tied<T, C> {
         value: T,
         broken: bool,
     ) -> (Result<Returned<T>, (Refusal, T)>, Wakes)
-        ensures answer { map_ok seen_returned result.0 ≡ table.return_answer (as_nanos now) id value broken self.old.book.picture }
+        ensures answer { map_ok seen_returned result.0
+            ≡ table.return_answer (as_nanos now) id value broken self.old.book.picture }
         ensures wakes { result.1 ≡ wakes_of_return (map_ok seen_returned result.0) }
-        ensures after { self.new.book.picture ≡ table.after_return (as_nanos now) id value broken self.old.book.picture }
+        ensures after { self.new.book.picture
+            ≡ table.after_return (as_nanos now) id value broken self.old.book.picture }
         ensures sound { IsSound self.new.book.picture }
-        ensures noted { self.new.book.journal ≡ noted_return (as_nanos now) id (map_ok seen_returned result.0) self.old.book }
+        ensures noted { self.new.book.journal
+            ≡ noted_return (as_nanos now) id (map_ok seen_returned result.0) self.old.book }
         ensures total { self.new.total ≡ self.old.total }
     {
         give_back(&mut self.book, now, id, value, broken)
@@ -204,9 +215,11 @@ impl<T, C: Ties> Tied<T, C> {
 
     /// As `settle`.
     pub fn settle(&mut self, now: Duration, outcome: Outcome<T>) -> (Settled<T>, Wakes)
-        ensures answer { seen_settled result.0 ≡ settle_answer (as_nanos now) outcome self.old.book.picture }
+        ensures answer { seen_settled result.0
+            ≡ settle_answer (as_nanos now) outcome self.old.book.picture }
         ensures wakes { result.1 ≡ wakes_of_settled (seen_settled result.0) }
-        ensures after { self.new.book.picture ≡ after_settle (as_nanos now) outcome self.old.book.picture }
+        ensures after { self.new.book.picture
+            ≡ after_settle (as_nanos now) outcome self.old.book.picture }
         ensures sound { IsSound self.new.book.picture }
         ensures noted { self.new.book.journal ≡ noted_settle (as_nanos now) outcome self.old.book }
         ensures total { self.new.total ≡ self.old.total }
@@ -218,12 +231,15 @@ impl<T, C: Ties> Tied<T, C> {
     pub fn sweep(&mut self, now: Duration, out: &mut Vec<Released<T>>) -> (u32, Wakes)
         requires empty { vec_len out.old ≡ 0 }
         requires room { self.old.book.picture.on_order.limits.max_size ≤ vec_capacity out.old }
-        ensures released { map seen_released out.new.items ≡ table.reap_closed (as_nanos now) self.old.book.picture }
+        ensures released { map seen_released out.new.items
+            ≡ table.reap_closed (as_nanos now) self.old.book.picture }
         ensures answer { result.0 ≡ table.reap_orders (as_nanos now) self.old.book.picture }
         ensures wakes { result.1 ≡ wakes_of_reap (length out.new.items) result.0 }
-        ensures after { self.new.book.picture ≡ table.after_reap (as_nanos now) self.old.book.picture }
+        ensures after { self.new.book.picture
+            ≡ table.after_reap (as_nanos now) self.old.book.picture }
         ensures sound { IsSound self.new.book.picture }
-        ensures noted { self.new.book.journal ≡ noted_reap (as_nanos now) (length out.new.items) result.0 self.old.book }
+        ensures noted { self.new.book.journal
+            ≡ noted_reap (as_nanos now) (length out.new.items) result.0 self.old.book }
         ensures total { self.new.total ≡ self.old.total }
     {
         sweep(&mut self.book, now, out)
@@ -232,7 +248,8 @@ impl<T, C: Ties> Tied<T, C> {
     /// As `Book::begin`.
     pub fn begin(&mut self, now: Duration) -> Job
         ensures answer { seen_job result ≡ table.begin_answer (as_nanos now) self.old.book.picture }
-        ensures after { self.new.book.picture ≡ table.after_begin (as_nanos now) self.old.book.picture }
+        ensures after { self.new.book.picture
+            ≡ table.after_begin (as_nanos now) self.old.book.picture }
         ensures sound { IsSound self.new.book.picture }
         ensures noted { self.new.book.journal ≡ self.old.book.journal }
         ensures total { self.new.total ≡ self.old.total }
@@ -292,11 +309,14 @@ impl<T, C: Counter> Tied<T, C> {
         requires { 0 < C.parts tally.old }
         ensures answer { seen_take result.0 ≡ table.take_answer or_order self.old.book.picture }
         ensures wakes { result.1 ≡ wakes_of_take (seen_take result.0) }
-        ensures after { self.new.book.picture ≡ table.after_take (as_nanos now) or_order self.old.book.picture }
+        ensures after { self.new.book.picture
+            ≡ table.after_take (as_nanos now) or_order self.old.book.picture }
         ensures sound { IsSound self.new.book.picture }
-        ensures noted { self.new.book.journal ≡ noted_take (as_nanos now) (seen_take result.0) self.old.book }
+        ensures noted { self.new.book.journal
+            ≡ noted_take (as_nanos now) (seen_take result.0) self.old.book }
         ensures parts { C.parts tally.new ≡ C.parts tally.old }
-        ensures amount { C.amount tally.new ≡ C.amount tally.old + found_by (seen_take result.0) * C.per_take }
+        ensures amount { C.amount tally.new
+            ≡ C.amount tally.old + found_by (seen_take result.0) * C.per_take }
         ensures total { counted_where C.counts (seen_take result.0) self.old.total self.new.total }
     {
         let (taken, wakes) = lend(&mut self.book, now, or_order);
@@ -307,7 +327,8 @@ impl<T, C: Counter> Tied<T, C> {
     }
 }
 
-/// As `lend`. A take that found adds one to the share and to the ledger's total; the share has a part at least.
+/// As `lend`. A take that found adds one to the share and to the ledger's total; the share has a
+/// part at least.
 pub fn lend_counted<T, L: Ledger>(
     counted: &mut Counted<T, L>,
     now: Duration,
@@ -317,9 +338,11 @@ pub fn lend_counted<T, L: Ledger>(
     requires { 0 < share.old.parts }
     ensures answer { seen_take result.0 ≡ table.take_answer or_order counted.old.book.picture }
     ensures wakes { result.1 ≡ wakes_of_take (seen_take result.0) }
-    ensures after { counted.new.book.picture ≡ table.after_take (as_nanos now) or_order counted.old.book.picture }
+    ensures after { counted.new.book.picture
+        ≡ table.after_take (as_nanos now) or_order counted.old.book.picture }
     ensures sound { IsSound counted.new.book.picture }
-    ensures noted { counted.new.book.journal ≡ noted_take (as_nanos now) (seen_take result.0) counted.old.book }
+    ensures noted { counted.new.book.journal
+        ≡ noted_take (as_nanos now) (seen_take result.0) counted.old.book }
     ensures parts { share.new.parts ≡ share.old.parts }
     ensures amount { share.new.amount ≡ share.old.amount + found_by (seen_take result.0) }
     ensures total { counted.new.total ≡ counted.old.total + found_by (seen_take result.0) }

@@ -1,5 +1,6 @@
 // How a book lets go of all that is idle, so that others are opened in its place.
-ghost use Rattle.std.specs.Prelude.{◌≡◌, ◌+◌, ◌*◌, ◌<◌, ◌≤◌, max, map, length, option_map, vec_len, vec_capacity};
+ghost use Rattle.std.specs.Prelude.{◌≡◌, ◌+◌, ◌*◌, ◌<◌, ◌≤◌, max, map, length, option_map, vec_len};
+ghost use Rattle.std.specs.Prelude.{vec_capacity};
 ghost use Rattle.std.specs.Duration.{as_nanos};
 ghost use Rattle.r2d2_core.specs.Seen.{seen_released};
 ghost use Rattle.r2d2_core.specs.Connections.{released_at};
@@ -13,17 +14,20 @@ use r2d2_core::{Released, Returned, Take};
 use std::time::Duration;
 
 impl<T: Drop, C: Counter> Tied<T, C> {
-    /// Closes all that is idle: each connection is taken, and given back as a broken one. They are handed over in `out`, in the order in
-    /// which they would have been lent. Each take is counted with the tally, which has a part at least.
+    /// Closes all that is idle: each connection is taken, and given back as a broken one. They are
+    /// handed over in `out`, in the order in which they would have been lent. Each take is counted
+    /// with the tally, which has a part at least.
     pub fn evict(&mut self, now: Duration, tally: &mut C::Tally, out: &mut Vec<Released<T>>)
         requires parts { 0 < C.parts tally.old }
         requires empty { vec_len out.old ≡ 0 }
         requires room { self.old.book.picture.on_order.limits.max_size ≤ vec_capacity out.old }
-        ensures released { map seen_released out.new.items ≡ evicted_of (as_nanos now) self.old.book.picture }
+        ensures released { map seen_released out.new.items
+            ≡ evicted_of (as_nanos now) self.old.book.picture }
         ensures after { IsEvicted self.old.book.picture self.new.book.picture }
         ensures sound { IsSound self.new.book.picture }
         ensures parts { C.parts tally.new ≡ C.parts tally.old }
-        ensures amount { C.amount tally.new ≡ C.amount tally.old + length out.new.items * C.per_take }
+        ensures amount { C.amount tally.new
+            ≡ C.amount tally.old + length out.new.items * C.per_take }
     {
         let _idle = self.book().idle();
         while let Some(released) = self.evict_next(now, tally) {
@@ -34,12 +38,18 @@ impl<T: Drop, C: Counter> Tied<T, C> {
     // Closes the idle connection that would be lent next; None where none is idle.
     fn evict_next(&mut self, now: Duration, tally: &mut C::Tally) -> Option<Released<T>>
         requires { 0 < C.parts tally.old }
-        ensures released { option_map seen_released result ≡ option_map (released_at (max self.old.book.picture.latest (as_nanos now))) (lent_next self.old.book.picture.on_order.limits.order self.old.book.picture.idle) }
-        ensures idle { self.new.book.picture.idle ≡ still_idle self.old.book.picture.on_order.limits.order self.old.book.picture.idle }
+        ensures released { option_map seen_released result
+            ≡ option_map (released_at (max self.old.book.picture.latest (as_nanos now)))
+            (lent_next self.old.book.picture.on_order.limits.order self.old.book.picture.idle) }
+        ensures idle { self.new.book.picture.idle
+            ≡ still_idle self.old.book.picture.on_order.limits.order self.old.book.picture.idle }
         ensures lent { self.new.book.picture.lent ≡ self.old.book.picture.lent }
-        ensures latest { max self.new.book.picture.latest (as_nanos now) ≡ max self.old.book.picture.latest (as_nanos now) }
-        ensures limits { self.new.book.picture.on_order.limits ≡ self.old.book.picture.on_order.limits }
-        ensures next_id { self.new.book.picture.on_order.next_id ≡ self.old.book.picture.on_order.next_id }
+        ensures latest { max self.new.book.picture.latest (as_nanos now)
+            ≡ max self.old.book.picture.latest (as_nanos now) }
+        ensures limits { self.new.book.picture.on_order.limits
+            ≡ self.old.book.picture.on_order.limits }
+        ensures next_id { self.new.book.picture.on_order.next_id
+            ≡ self.old.book.picture.on_order.next_id }
         ensures sound { IsSound self.new.book.picture }
         ensures parts { C.parts tally.new ≡ C.parts tally.old }
         ensures amount { C.amount tally.new ≡ C.amount tally.old + number_of result * C.per_take }

@@ -28,9 +28,10 @@ impl<
 > Builder<M, H, V, Z> {
     /// Makes a pool, and waits until as many connections are open as are wanted idle.
     ///
-    /// `min_idle` may not be above `max_size`: `limits` is the test. The error is a timeout if fewer were opened within
-    /// `connection_timeout`, with the text of the latest error of an opening if there was one; otherwise it is that of
-    /// `build_unchecked`. After an error the pool is closed.
+    /// `min_idle` may not be above `max_size`: `limits` is the test. The error is a timeout if
+    /// fewer were opened within `connection_timeout`, with the text of the latest error of an
+    /// opening if there was one; otherwise it is that of `build_unchecked`. After an error the pool
+    /// is closed.
     pub fn build<R: PoolRuntime>(self, rt: R, manager: M) -> Result<Pool<M, H, V, Z, R>, Error>
         requires { ForSome self.min_idle (λ n. n ≤ self.max_size) }
         ensures settings { IfOk result (λ pool. pool ≡ self) }
@@ -40,12 +41,13 @@ impl<
         Ok(pool)
     }
 
-    /// Makes a pool, and starts its workers, which open connections from now on. It does not wait for them.
+    /// Makes a pool, and starts its workers, which open connections from now on. It does not wait
+    /// for them.
     ///
-    /// `min_idle` may not be above `max_size`: `limits` is the test. The error is lack of memory, for here the memory
-    /// for `max_size` connections and the journal is taken; or a worker's thread that could not be started. After an
-    /// error the workers that were started end, and the manager and the handlers are dropped, at the latest with the
-    /// last of them.
+    /// `min_idle` may not be above `max_size`: `limits` is the test. The error is lack of memory,
+    /// for here the memory for `max_size` connections and the journal is taken; or a worker's
+    /// thread that could not be started. After an error the workers that were started end, and the
+    /// manager and the handlers are dropped, at the latest with the last of them.
     pub fn build_unchecked<R: PoolRuntime>(
         self,
         rt: R,
@@ -61,8 +63,9 @@ impl<
 
     /// Makes a pool whose takes are counted, and is otherwise as `build_unchecked`.
     ///
-    /// `total` is the book of a ledger that counted nothing yet. Each caller brings a share of that ledger, and each
-    /// take that finds adds one to it. After an error `total` is dropped with the rest.
+    /// `total` is the book of a ledger that counted nothing yet. Each caller brings a share of that
+    /// ledger, and each take that finds adds one to it. After an error `total` is dropped with the
+    /// rest.
     pub fn build_counted<R: PoolRuntime, L: Ledger + Send + Sync + 'static>(
         self,
         rt: R,

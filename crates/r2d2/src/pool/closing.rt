@@ -11,7 +11,8 @@ pub struct Closer<P: Drop, C: Ties, M: Drop, K: Drop, R: Clock + Wait + Drop> {
 }
 
 impl<P: Drop, C: Ties, M: Drop, K: Drop, R: Clock + Wait + Drop> Drop for Closer<P, C, M, K, R> {
-    // Closes the book, and drops what was idle, without events. The workers end even where such a drop does not.
+    // Closes the book, and drops what was idle, without events. The workers end even where such a
+    // drop does not.
     fn drop(self) {
         // Modelled in model/waiting.pml: keep both alike.
         let Closer { shared } = self;

@@ -1,6 +1,7 @@
 // The calls of a pool that counts its takes.
 ghost use Rattle.std.specs.Prelude.{◌≡◌, ◌≤◌, ◌<◌, ◌+◌, IfOk, IfErr, IfSome, OnErr};
-ghost use Rattle.r2d2_core.specs.Reports.{DoesReplay, HasSoundCounts, CountsItsTakes, BeginsAtAMaking};
+ghost use Rattle.r2d2_core.specs.Reports.{DoesReplay, HasSoundCounts, CountsItsTakes};
+ghost use Rattle.r2d2_core.specs.Reports.{BeginsAtAMaking};
 
 use super::{CountedConnection, CountedPool, PoolRuntime};
 use crate::event::HandleEvent;
@@ -20,8 +21,9 @@ impl<
     ghost use Rattle.r2d2.specs.Failures.{IsOfMemory, IsOfAGet};
     ghost use Rattle.r2d2.specs.Counted.{counted_up_to};
 
-    /// As `Pool::get`. Each take adds one to the share, which has a part at least: one where a connection is lent, and
-    /// one for each that was found before it and failed its check, also where the call ends in an error.
+    /// As `Pool::get`. Each take adds one to the share, which has a part at least: one where a
+    /// connection is lent, and one for each that was found before it and failed its check, also
+    /// where the call ends in an error.
     pub fn get(&self, share: &mut Share<L>) -> Result<CountedConnection<M, H, V, Z, R, L>, Error>
         requires { 0 < share.old.parts }
         ensures settings { IfOk result (λ lent. lent.settings ≡ self.now) }
@@ -62,7 +64,8 @@ impl<
         ensures refused { IfErr result IsOfMemory }
         ensures parts { share.new.parts ≡ share.old.parts }
         ensures amount { share.old.amount ≤ share.new.amount }
-        ensures lent { IfOk result (λ found. IfSome found (λ _. share.old.amount + 1 ≤ share.new.amount)) }
+        ensures lent { IfOk result
+            (λ found. IfSome found (λ _. share.old.amount + 1 ≤ share.new.amount)) }
     {
         self.lend_within(None, share)
     }
@@ -78,9 +81,9 @@ impl<
         self.evict_with(share)
     }
 
-    /// What happened, as `journal` says it, at a moment when `all` has all parts of the ledger: so the report's
-    /// `takes` is what all shares counted, up to `u64::MAX`, whatever threads made the calls. The share is unchanged. The
-    /// error is lack of memory; then nothing has changed.
+    /// What happened, as `journal` says it, at a moment when `all` has all parts of the ledger: so
+    /// the report's `takes` is what all shares counted, up to `u64::MAX`, whatever threads made the
+    /// calls. The share is unchanged. The error is lack of memory; then nothing has changed.
     pub fn audit(&self, all: &mut Share<L>) -> Result<Report, Error>
         requires { all.old.parts ≡ L.parts }
         ensures takes { IfOk result (λ report. report.takes ≡ counted_up_to all.old.amount) }

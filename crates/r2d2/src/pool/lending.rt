@@ -17,8 +17,8 @@ use std::time::Duration;
 impl<C: Counter, M: ManageConnection, K: Hooks<M>, R: PoolRuntime> AnyPool<C, M, K, R> {
     ghost use Rattle.r2d2.specs.Failures.{IsOfMemory, IsOfAGet};
 
-    /// Lends a connection that passed its check, and waits for one at most so long. With no timeout it does not wait, and orders none: it
-    /// answers None where none is idle.
+    /// Lends a connection that passed its check, and waits for one at most so long. With no timeout
+    /// it does not wait, and orders none: it answers None where none is idle.
     pub(super) fn lend_within(
         &self,
         timeout: Option<Duration>,
@@ -31,7 +31,8 @@ impl<C: Counter, M: ManageConnection, K: Hooks<M>, R: PoolRuntime> AnyPool<C, M,
         ensures at_once { IsNone timeout → IfErr result IsOfMemory }
         ensures parts { C.parts tally.new ≡ C.parts tally.old }
         ensures amount { C.amount tally.old ≤ C.amount tally.new }
-        ensures lent { IfOk result (λ found. IfSome found (λ _. C.amount tally.old + C.per_take ≤ C.amount tally.new)) }
+        ensures lent { IfOk result
+            (λ found. IfSome found (λ _. C.amount tally.old + C.per_take ≤ C.amount tally.new)) }
     {
         // Modelled in model/waiting.pml: keep both alike.
         let shared = self.shared();
@@ -65,7 +66,8 @@ impl<C: Counter, M: ManageConnection, K: Hooks<M>, R: PoolRuntime> AnyPool<C, M,
 }
 
 impl<C: Ties, M: ManageConnection, K: Hooks<M>, R: PoolRuntime> SharedOf<C, M, K, R> {
-    /// The connection, where it need not be checked, or its check finds it sound. Else it is closed.
+    /// The connection, where it need not be checked, or its check finds it sound. Else it is
+    /// closed.
     fn if_sound(&self, mut lent: Lent<PayloadOf<M>>) -> Option<Lent<PayloadOf<M>>> {
         if self.hooks.test_on_check_out() {
             if let Err(error) = self.manager.is_valid(&mut lent.payload.connection) {

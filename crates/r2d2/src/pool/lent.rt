@@ -29,7 +29,8 @@ impl<P> Lent<P> {
 
     /// What a take found.
     pub(super) fn of(taken: Take<P>) -> Option<Lent<P>>
-        ensures { MatchOption result (found_by (seen_take taken) ≡ 0) (λ _. found_by (seen_take taken) ≡ 1) }
+        ensures { MatchOption result (found_by (seen_take taken) ≡ 0)
+            (λ _. found_by (seen_take taken) ≡ 1) }
     {
         match taken {
             Take::Found { id, value, .. } => Some(Lent { id, payload: value }),
@@ -46,7 +47,8 @@ pub struct AnyConnection<C: Ties, M: ManageConnection, K: Hooks<M>, R: PoolRunti
     pub(super) lent: Lent<PayloadOf<M>>,
 }
 
-// Contracts see a lent connection as what can be reached through it, the settings of its pool, and how it was lent.
+// Contracts see a lent connection as what can be reached through it, the settings of its pool, and
+// how it was lent.
 impl<C: Ties, M: ManageConnection, K: Hooks<M>, R: PoolRuntime> Model
     for AnyConnection<C, M, K, R> {
     ghost use Rattle.std.specs.Arc.{arc_value};
@@ -54,7 +56,14 @@ impl<C: Ties, M: ManageConnection, K: Hooks<M>, R: PoolRuntime> Model
 
     ghost Value = { SeenConnection M.Connection M.Extension.Kind M.Extension K };
 
-    ghost view = { λ l. record { connection = l.lent.payload.connection; extensions = l.lent.payload.extensions; settings = (arc_value (arc_value l.closer).shared).hooks; id = l.lent.id; lent_at = l.lent_at } };
+    ghost view = { λ l. record {
+      connection = l.lent.payload.connection;
+      extensions = l.lent.payload.extensions;
+      settings = (arc_value
+          (arc_value l.closer).shared).hooks;
+      id = l.lent.id;
+      lent_at = l.lent_at;
+    } };
 }
 
 impl<C: Ties, M: ManageConnection, K: Hooks<M>, R: PoolRuntime> AnyConnection<C, M, K, R> {
@@ -62,24 +71,26 @@ impl<C: Ties, M: ManageConnection, K: Hooks<M>, R: PoolRuntime> AnyConnection<C,
     ghost use Rattle.r2d2.specs.contracts.extensions.Extensions.{the_row as extensions_row};
     ghost use Rattle.r2d2.specs.contracts.pool.lent.AnyConnection.{the_row};
 
-    /// The number that the pool gave the connection when it was opened: that of the events and of the journal. No other
-    /// connection of the pool ever has it.
+    /// The number that the pool gave the connection when it was opened: that of the events and of
+    /// the journal. No other connection of the pool ever has it.
     pub fn id(this: &Self) -> u64
         ensures { result ≡ this.now.id }
     {
         this.lent.id
     }
 
-    /// When it was lent, as a time since the pool was made: the moment that the checkout event tells.
+    /// When it was lent, as a time since the pool was made: the moment that the checkout event
+    /// tells.
     pub fn lent_at(this: &Self) -> Duration
         ensures { result ≡ this.now.lent_at }
     {
         this.lent_at
     }
 
-    /// Takes the connection out of the pool for good: it is the caller's from now on, and what was kept beside it is
-    /// dropped. The pool orders another one by the same rules as after a broken return. The checkin event is sent, then the
-    /// release event; the customizer is not told, since the connection is not closed.
+    /// Takes the connection out of the pool for good: it is the caller's from now on, and what was
+    /// kept beside it is dropped. The pool orders another one by the same rules as after a broken
+    /// return. The checkin event is sent, then the release event; the customizer is not told, since
+    /// the connection is not closed.
     pub fn detach(this: Self) -> M::Connection
         ensures { result ≡ this.connection }
     {
@@ -99,8 +110,8 @@ impl<C: Ties, M: ManageConnection, K: Hooks<M>, R: PoolRuntime> AnyConnection<C,
         connection
     }
 
-    /// What is kept beside the connection. It stays with the connection from one caller to the next, until it is
-    /// closed.
+    /// What is kept beside the connection. It stays with the connection from one caller to the
+    /// next, until it is closed.
     pub fn extensions(this: &Self) -> &Extensions<M::Extension>
         ensures { result.now ≡ this.now.extensions }
     {
@@ -110,7 +121,13 @@ impl<C: Ties, M: ManageConnection, K: Hooks<M>, R: PoolRuntime> AnyConnection<C,
     /// The same, to be changed.
     pub fn extensions_mut(this: &mut Self) -> &mut Extensions<M::Extension>
         ensures value { result.now ≡ this.old.extensions }
-        ensures* writes_back { sem 𝓛 (Lends (the_row C.row M.row K.row R.row M.Connection.row M.Error.row M.Extension.row M.Extension.Kind.row K.Customizer.row C.Ties M.Error.Display M.Extension.Extension M.Extension.Kind.PartialEq K.Customizer.Debug ⟦<Global as Allocator>⟧ ⟦<Global as Clone>⟧) (extensions_row M.Extension.row M.Extension.Kind.row M.Extension.Extension M.Extension.Kind.PartialEq) this.entry result (λ w. record this.old { extensions = w })) }
+        ensures* writes_back { sem 𝓛 (Lends (the_row C.row M.row K.row R.row M.Connection.row
+            M.Error.row M.Extension.row M.Extension.Kind.row K.Customizer.row C.Ties M.Error.Display
+            M.Extension.Extension M.Extension.Kind.PartialEq K.Customizer.Debug
+            ⟦<Global as Allocator>⟧ ⟦<Global as Clone>⟧)
+            (extensions_row M.Extension.row M.Extension.Kind.row
+            M.Extension.Extension M.Extension.Kind.PartialEq) this.entry result
+            (λ w. record this.old { extensions = w })) }
     {
         &mut this.lent.payload.extensions
     }
@@ -136,7 +153,12 @@ impl<C: Ties, M: ManageConnection, K: Hooks<M>, R: PoolRuntime> DerefMut
 
     fn deref_mut(&mut self) -> &mut M::Connection
         ensures value { result.now ≡ self.old.connection }
-        ensures* writes_back { sem 𝓛 (Lends (the_row C.row M.row K.row R.row M.Connection.row M.Error.row M.Extension.row M.Extension.Kind.row K.Customizer.row C.Ties M.Error.Display M.Extension.Extension M.Extension.Kind.PartialEq K.Customizer.Debug ⟦<Global as Allocator>⟧ ⟦<Global as Clone>⟧) M.Connection.row self.entry result (λ w. record self.old { connection = w })) }
+        ensures* writes_back { sem 𝓛 (Lends (the_row C.row M.row K.row R.row M.Connection.row
+            M.Error.row M.Extension.row M.Extension.Kind.row K.Customizer.row C.Ties M.Error.Display
+            M.Extension.Extension M.Extension.Kind.PartialEq K.Customizer.Debug
+            ⟦<Global as Allocator>⟧ ⟦<Global as Clone>⟧) M.Connection.row
+            self.entry result
+            (λ w. record self.old { connection = w })) }
     {
         &mut self.lent.payload.connection
     }

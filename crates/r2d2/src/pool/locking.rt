@@ -1,6 +1,8 @@
 // The lock of a pool, and each step that is made under it.
-ghost use Rattle.std.specs.Prelude.{◌≡◌, ◌≤◌, ◌<◌, ◌+◌, ◌-◌, ◌*◌, ◌^◌, min, map, length, vec_len, vec_capacity, IfOk};
-ghost use Rattle.r2d2_core.specs.Reports.{DoesReplay, HasSoundCounts, CountsItsTakes, BeginsAtAMaking};
+ghost use Rattle.std.specs.Prelude.{◌≡◌, ◌≤◌, ◌<◌, ◌+◌, ◌-◌, ◌*◌, ◌^◌, min, map, length, vec_len};
+ghost use Rattle.std.specs.Prelude.{vec_capacity, IfOk};
+ghost use Rattle.r2d2_core.specs.Reports.{DoesReplay, HasSoundCounts, CountsItsTakes};
+ghost use Rattle.r2d2_core.specs.Reports.{BeginsAtAMaking};
 
 use super::lent::Lent;
 use super::{State, Status};
@@ -17,7 +19,8 @@ use std::time::{Duration, Instant, SystemTime};
 #[derive(Drop)]
 pub struct Guarded<B> {
     pub(super) book: B,
-    /// Those at a wait who have not the lock again. So it is at least the number of those whom a wake can reach.
+    /// Those at a wait who have not the lock again. So it is at least the number of those whom a
+    /// wake can reach.
     waiting: u64,
     /// The least id that no eviction has reached: those below it are closed as they come back.
     first_kept: u64,
@@ -80,7 +83,8 @@ impl<P: Drop, C: Ties> Guarded<Tied<P, C>> {
     ghost use Rattle.r2d2.specs.Wakes.{wakes_of_return};
     ghost use Rattle.r2d2.specs.Evicted.{is_to_close, evicted_of, IsEvicted};
 
-    /// Puts a lent connection back. One that was opened before the latest eviction is closed, as a broken one is.
+    /// Puts a lent connection back. One that was opened before the latest eviction is closed, as a
+    /// broken one is.
     #[inline(always)]
     pub(super) fn give_back(
         &mut self,
@@ -89,8 +93,12 @@ impl<P: Drop, C: Ties> Guarded<Tied<P, C>> {
         value: P,
         broken: bool,
     ) -> (Result<Returned<P>, (Refusal, P)>, Wakes)
-        ensures answer { map_ok seen_returned result.0 ≡ return_answer (as_nanos now) id value (is_to_close broken id self.old.first_kept) self.old.book.book.picture }
-        ensures after { self.new.book.book.picture ≡ after_return (as_nanos now) id value (is_to_close broken id self.old.first_kept) self.old.book.book.picture }
+        ensures answer { map_ok seen_returned result.0
+            ≡ return_answer (as_nanos now) id value (is_to_close broken id self.old.first_kept)
+            self.old.book.book.picture }
+        ensures after { self.new.book.book.picture
+            ≡ after_return (as_nanos now) id value (is_to_close broken id self.old.first_kept)
+            self.old.book.book.picture }
         ensures wakes { result.1 ≡ wakes_of_return (map_ok seen_returned result.0) }
         ensures kept { self.new.first_kept ≡ self.old.first_kept }
         ensures waiting { self.new.waiting ≡ self.old.waiting }
@@ -99,7 +107,8 @@ impl<P: Drop, C: Ties> Guarded<Tied<P, C>> {
         self.book.give_back(now, id, value, broken || is_evicted)
     }
 
-    /// Closes all that is idle, into the list, and has what is lent closed as it comes back. What is opened from now on stays.
+    /// Closes all that is idle, into the list, and has what is lent closed as it comes back. What
+    /// is opened from now on stays.
     pub(super) fn evict(
         &mut self,
         now: Duration,
@@ -110,13 +119,16 @@ impl<P: Drop, C: Ties> Guarded<Tied<P, C>> {
         C: Counter,
         requires parts { 0 < C.parts tally.old }
         requires empty { vec_len evicted.old ≡ 0 }
-        requires room { self.old.book.book.picture.on_order.limits.max_size ≤ vec_capacity evicted.old }
-        ensures released { map seen_released evicted.new.items ≡ evicted_of (as_nanos now) self.old.book.book.picture }
+        requires room { self.old.book.book.picture.on_order.limits.max_size
+            ≤ vec_capacity evicted.old }
+        ensures released { map seen_released evicted.new.items
+            ≡ evicted_of (as_nanos now) self.old.book.book.picture }
         ensures after { IsEvicted self.old.book.book.picture self.new.book.book.picture }
         ensures kept { self.new.first_kept ≡ self.old.book.book.picture.on_order.next_id }
         ensures waiting { self.new.waiting ≡ self.old.waiting }
         ensures parts { C.parts tally.new ≡ C.parts tally.old }
-        ensures amount { C.amount tally.new ≡ C.amount tally.old + length evicted.new.items * C.per_take }
+        ensures amount { C.amount tally.new
+            ≡ C.amount tally.old + length evicted.new.items * C.per_take }
     {
         self.book.evict(now, tally, evicted);
         self.first_kept = self.book.book().next_id();
@@ -173,7 +185,8 @@ impl<B, M, K, R> Shared<B, M, K, R> {
         self.workers.notify_all();
     }
 
-    // Makes a step: takes the lock, reads the moment, calls, lets the lock go, wakes. What the call did to the book, nobody can say after it.
+    // Makes a step: takes the lock, reads the moment, calls, lets the lock go, wakes. What the call
+    // did to the book, nobody can say after it.
     #[inline(always)]
     fn step<X, F: FnOnce(&mut Guarded<B>, Duration) -> (X, Wakes)>(&self, call: F) -> X
     where

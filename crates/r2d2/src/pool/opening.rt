@@ -10,7 +10,8 @@ use crate::payload::{Payload, PayloadOf, open};
 use r2d2_core::Refusal;
 
 impl<C: Ties, M: ManageConnection, K: Hooks<M>, R: PoolRuntime> SharedOf<C, M, K, R> {
-    /// One opening, after so many failures. The lock is not held while the manager and the customizer are called.
+    /// One opening, after so many failures. The lock is not held while the manager and the
+    /// customizer are called.
     pub(super) fn open(&self, tries: u32) {
         // Modelled in model/waiting.pml: keep both alike.
         match open(&self.manager, self.hooks.customizer()) {

@@ -8,7 +8,8 @@ use std::fmt;
 /// The counts of a pool at one moment. Only a pool makes one.
 #[derive(Clone, Copy)]
 pub struct State {
-    /// How many connections there are, idle and lent ones together. Those that are being opened are not among them.
+    /// How many connections there are, idle and lent ones together. Those that are being opened are
+    /// not among them.
     pub connections: u32,
     /// How many of them are idle.
     pub idle_connections: u32,
@@ -30,9 +31,9 @@ impl State {
     }
 }
 
-/// What a pool is doing at one moment. `lent` and `idle` together are `connections`; `connections` and `opening`
-/// together are at most `max_size`; and unless the pool is closed, `idle` and `opening` together reach `wanted`, or
-/// there is no room for more.
+/// What a pool is doing at one moment. `lent` and `idle` together are `connections`; `connections`
+/// and `opening` together are at most `max_size`; and unless the pool is closed, `idle` and
+/// `opening` together reach `wanted`, or there is no room for more.
 #[derive(Clone, Copy, PartialEq, Eq, Debug)]
 pub struct Status {
     /// How many connections there are at most.
@@ -43,7 +44,8 @@ pub struct Status {
     pub connections: u32,
     pub idle: u32,
     pub lent: u32,
-    /// How many are ordered and not there yet, those among them that failed and will be tried again.
+    /// How many are ordered and not there yet, those among them that failed and will be tried
+    /// again.
     pub opening: u32,
     /// How many callers wait, for a connection or in a `drain`.
     pub waiting: u64,

@@ -1,10 +1,12 @@
-// Those who take the lock by themselves: a caller, the maker of a pool and a worker, who hand it to a wait, and an eviction and an audit,
-// which bring a tally.
-// Each other step is made by `Shared::step`.
-ghost use Rattle.std.specs.Prelude.{◌≡◌, ◌≤◌, ◌<◌, ◌+◌, ◌*◌, IsTrue, IsSome, MatchOption, OnErr, IfOk, IfErr, vec_len, vec_capacity};
+// Those who take the lock by themselves: a caller, the maker of a pool and a worker, who hand it to
+// a wait, and an eviction and an audit, which bring a tally. Each other step is made by
+// `Shared::step`.
+ghost use Rattle.std.specs.Prelude.{◌≡◌, ◌≤◌, ◌<◌, ◌+◌, ◌*◌, IsTrue, IsSome, MatchOption, OnErr};
+ghost use Rattle.std.specs.Prelude.{IfOk, IfErr, vec_len, vec_capacity};
 ghost use Rattle.std.specs.Option.{IsNone};
 ghost use Rattle.std.specs.Result.{IsOk};
-ghost use Rattle.r2d2_core.specs.Reports.{DoesReplay, HasSoundCounts, CountsItsTakes, BeginsAtAMaking};
+ghost use Rattle.r2d2_core.specs.Reports.{DoesReplay, HasSoundCounts, CountsItsTakes};
+ghost use Rattle.r2d2_core.specs.Reports.{BeginsAtAMaking};
 ghost use Rattle.r2d2.specs.Counted.{counted_up_to};
 ghost use Rattle.r2d2.specs.Status.{IsStatus};
 
@@ -32,8 +34,9 @@ pub enum Vain {
 }
 
 impl<P: Drop, C: Counter, M, K, R: Clock + Wait> Shared<Tied<P, C>, M, K, R> {
-    /// Takes the idle connection that is lent next. Where there is none it orders one and waits, until the moment `end`, or until the
-    /// pool is closed. With no end it neither orders nor waits, and answers None.
+    /// Takes the idle connection that is lent next. Where there is none it orders one and waits,
+    /// until the moment `end`, or until the pool is closed. With no end it neither orders nor
+    /// waits, and answers None.
     pub(super) fn lend_until(
         &self,
         end: Option<Duration>,
@@ -41,7 +44,9 @@ impl<P: Drop, C: Counter, M, K, R: Clock + Wait> Shared<Tied<P, C>, M, K, R> {
     ) -> Result<Option<Lent<P>>, Vain>
         requires { 0 < C.parts tally.old }
         ensures parts { C.parts tally.new ≡ C.parts tally.old }
-        ensures lent { IfOk result (λ found. MatchOption found (C.amount tally.new ≡ C.amount tally.old) (λ _. C.amount tally.new ≡ C.amount tally.old + C.per_take)) }
+        ensures lent { IfOk result
+            (λ found. MatchOption found (C.amount tally.new ≡ C.amount tally.old)
+            (λ _. C.amount tally.new ≡ C.amount tally.old + C.per_take)) }
         ensures refused { OnErr result (C.amount tally.new ≡ C.amount tally.old) }
         ensures waits { IsSome end → IfOk result IsSome }
         ensures at_once { IsNone end → IsOk result }
@@ -70,7 +75,8 @@ impl<P: Drop, C: Counter, M, K, R: Clock + Wait> Shared<Tied<P, C>, M, K, R> {
             guarded.end_wait();
             if outcome.timed_out() {
                 let error = guarded.book.take_error();
-                // A wait tells a timeout by the clock after it woke: the wake may have been this caller's, and is another's now.
+                // A wait tells a timeout by the clock after it woke: the wake may have been this
+                // caller's, and is another's now.
                 let wakes = guarded.who_waits(Wakes::a_caller());
                 drop(guarded);
                 self.wake(wakes);
@@ -82,7 +88,8 @@ impl<P: Drop, C: Counter, M, K, R: Clock + Wait> Shared<Tied<P, C>, M, K, R> {
 }
 
 impl<P: Drop, C: Ties, M, K, R: Clock + Wait> Shared<Tied<P, C>, M, K, R> {
-    /// Waits until there are so many connections, and as long as this at most. Past that it answers the latest error of an opening or a check.
+    /// Waits until there are so many connections, and as long as this at most. Past that it answers
+    /// the latest error of an opening or a check.
     pub(super) fn wait_for(&self, wanted: u32, timeout: Duration) -> Result<(), Option<String>> {
         // Modelled in model/waiting.pml: keep both alike.
         let mut guarded = self.guarded.lock(&self.rt);
@@ -100,7 +107,8 @@ impl<P: Drop, C: Ties, M, K, R: Clock + Wait> Shared<Tied<P, C>, M, K, R> {
         Ok(())
     }
 
-    /// Waits until nothing is lent, and as long as this at most. Past that it answers what there is.
+    /// Waits until nothing is lent, and as long as this at most. Past that it answers what there
+    /// is.
     pub(super) fn wait_for_returns(&self, timeout: Duration) -> Result<(), Status>
         ensures { IfErr result (λ status. IsStatus status × (0 < status.lent)) }
     {
@@ -115,7 +123,8 @@ impl<P: Drop, C: Ties, M, K, R: Clock + Wait> Shared<Tied<P, C>, M, K, R> {
         );
         guarded.end_wait();
         let status = guarded.status();
-        // The wake of the last return may have been this caller's, and others wait for that return too.
+        // The wake of the last return may have been this caller's, and others wait for that return
+        // too.
         let wakes = guarded.who_waits(Wakes::a_caller());
         drop(guarded);
         self.wake(wakes);
@@ -127,7 +136,8 @@ impl<P: Drop, C: Ties, M, K, R: Clock + Wait> Shared<Tied<P, C>, M, K, R> {
 }
 
 impl<C: Ties, M: ManageConnection, K: Hooks<M>, R: PoolRuntime> SharedOf<C, M, K, R> {
-    /// Does what is due, and waits where nothing is, until the pool is closed. The list is for the connections that a reap closes.
+    /// Does what is due, and waits where nothing is, until the pool is closed. The list is for the
+    /// connections that a reap closes.
     pub(super) fn work(&self, mut expired: Vec<Released<PayloadOf<M>>>) {
         // Modelled in model/waiting.pml: keep both alike.
         for _ in self.rt.forever() {
@@ -168,12 +178,13 @@ impl<C: Ties, M: ManageConnection, K: Hooks<M>, R: PoolRuntime> SharedOf<C, M, K
 }
 
 impl<C: Counter, M: ManageConnection, K: Hooks<M>, R: PoolRuntime> SharedOf<C, M, K, R> {
-    /// Closes what is idle now, and has what is lent now closed as it comes back. It answers how many were idle. The error is lack of
-    /// memory for the list of those; then nothing has changed.
+    /// Closes what is idle now, and has what is lent now closed as it comes back. It answers how
+    /// many were idle. The error is lack of memory for the list of those; then nothing has changed.
     pub(super) fn evict(&self, tally: &mut C::Tally) -> Result<usize, AllocError>
         requires { 0 < C.parts tally.old }
         ensures parts { C.parts tally.new ≡ C.parts tally.old }
-        ensures amount { IfOk result (λ n. C.amount tally.new ≡ C.amount tally.old + n * C.per_take) }
+        ensures amount { IfOk result
+            (λ n. C.amount tally.new ≡ C.amount tally.old + n * C.per_take) }
         ensures refused { OnErr result (C.amount tally.new ≡ C.amount tally.old) }
     {
         // Modelled in model/waiting.pml: keep both alike.
@@ -203,9 +214,12 @@ impl<P: Drop, C: Ties> Tied<P, C> {
     }
 }
 
-// Whether a reap or an eviction can use the list. It has room from the making on; but of a locked book its type alone is known, so this asks.
+// Whether a reap or an eviction can use the list. It has room from the making on; but of a locked
+// book its type alone is known, so this asks.
 fn has_room<P>(book: &Book<P>, expired: &Vec<Released<P>>) -> bool
-    ensures { IsTrue result → (vec_len expired.now ≡ 0) × (book.now.picture.on_order.limits.max_size ≤ vec_capacity expired.now) }
+    ensures { IsTrue result
+        → (vec_len expired.now ≡ 0)
+        × (book.now.picture.on_order.limits.max_size ≤ vec_capacity expired.now) }
 {
     expired.is_empty() && expired.capacity() >= book.limits().max_size() as usize
 }

@@ -1,5 +1,6 @@
 -- Each change of what is on order keeps every pending opening accounted for.
-use Rattle.std.proofs.Common.{◌≡◌, ℕ, ◌+◌, ◌<◌, ◌≤◌, ◌^◌, min, Bool, true, false, cond, not, List, [], ◌∷◌, length, Option, Some, None, refl, ◌∙◌, ap, subst, arith, drop, length-set, rules}
+use Rattle.std.proofs.Common.{◌≡◌, ℕ, ◌+◌, ◌<◌, ◌≤◌, ◌^◌, min, Bool, true, false, cond, not, List, [], ◌∷◌, length, Option, Some, None, refl, ◌∙◌, ap, subst}
+use Rattle.std.proofs.Common.{arith, drop, length-set, rules}
 use Rattle.std.specs.Prelude.{slice_index, is_some}
 use Rattle.std.specs.List.{All}
 use Rattle.std.proofs.lemmas.List.{length_push}
@@ -12,7 +13,8 @@ use Rattle.r2d2_core.specs.Ids.{found, same_id}
 use Rattle.r2d2_core.specs.Openings.{SeenOpening, opening, with_many}
 use Rattle.r2d2_core.specs.Jobs.{SeenJob, Open, Reap, Wait, Nothing, Closed, first_job}
 use Rattle.r2d2_core.specs.Refusals.{refused_if, unless_refused}
-use Rattle.r2d2_core.specs.OnOrder.{SeenOnOrder, IsAccounted, with_orders, first_on_order, begun_by, begun, has_in_work, number_refusal, numbered_one, after_numbering, admit_refusal, admitted_one, fail_refusal, failed_one, due_again, emptied}
+use Rattle.r2d2_core.specs.OnOrder.{SeenOnOrder, IsAccounted, with_orders, first_on_order, begun_by, begun, has_in_work, number_refusal, numbered_one}
+use Rattle.r2d2_core.specs.OnOrder.{after_numbering, admit_refusal, admitted_one, fail_refusal, failed_one, due_again, emptied}
 use Rattle.r2d2_core.proofs.Scheduling.Openings.{length-with, length-with_many}
 use Rattle.r2d2_core.proofs.Lists.Counting.{All-with_many, All-with, sum-one_more, sum-one_less, get_or-sum_le}
 use Rattle.r2d2_core.proofs.Lists.Ids.{length-without, found_self}
@@ -38,7 +40,9 @@ pub is_not : (b : Bool) → b ≡ true → b ≡ false → ⊥
 is_not b e is = cc
 
 -- a number or a failure that is accepted finds one in work, on a core that is open
-pub found_in_work : (tries : ℕ) (o : SeenOnOrder) (next : Option Refusal) → refused_if o.closed refusal.Closed (refused_if (not (has_in_work tries o)) refusal.NoOpening next) ≡ None → (o.closed ≡ false) × (0 < slice_index o.in_work tries) × (next ≡ None)
+pub found_in_work : (tries : ℕ) (o : SeenOnOrder) (next : Option Refusal)
+    → refused_if o.closed refusal.Closed (refused_if (not (has_in_work tries o)) refusal.NoOpening next) ≡ None → (o.closed ≡ false)
+    × (0 < slice_index o.in_work tries) × (next ≡ None)
 found_in_work tries o next e =
     let first = passes o.closed refusal.Closed _ e in
     let second = passes (not (has_in_work tries o)) refusal.NoOpening next first.1 in
@@ -56,7 +60,8 @@ found_numbered id o e =
 none_more : (n : ℕ) (x : SeenOpening) (xs : List SeenOpening) → n ≡ 0 → with_many n x xs ≡ xs
 none_more n x xs e = rw e refl
 
-pub accounted_orders : (n due : ℕ) (o : SeenOnOrder) → o.pending + n ≤ o.limits.max_size → (o.closed ≡ true → n ≡ 0) → IsAccounted o → IsAccounted (with_orders n due o)
+pub accounted_orders : (n due : ℕ) (o : SeenOnOrder) → o.pending + n ≤ o.limits.max_size → (o.closed ≡ true → n ≡ 0) → IsAccounted o
+    → IsAccounted (with_orders n due o)
 accounted_orders n due o within none a = record {
   placed = omega (arith, a.placed, length-with_many n (opening due 0) o.scheduled);
   within = within;
@@ -65,7 +70,13 @@ accounted_orders n due o within none a = record {
   empty_once_closed = λ closed.
       let e = a.empty_once_closed closed in
       let z : n ≡ 0 = none closed in
-      record { pending = omega (arith, e.pending); scheduled = none_more n (opening due 0) o.scheduled z ∙ e.scheduled; in_work = e.in_work; numbered = e.numbered; next_reap = e.next_reap };
+      record {
+        pending = omega (arith, e.pending);
+        scheduled = none_more n (opening due 0) o.scheduled z ∙ e.scheduled;
+        in_work = e.in_work;
+        numbered = e.numbered;
+        next_reap = e.next_reap;
+      };
 }
 
 pub accounted_first : (limits : SeenLimits) (now first_id : ℕ) → wanted_of limits ≤ limits.max_size → IsAccounted (first_on_order limits now first_id)
@@ -80,7 +91,8 @@ accounted_first limits now first_id le = record {
 -- BEGIN
 
 -- the least scheduled one is in work
-accounted_open : (x : SeenOpening) (rest : List SeenOpening) (o : SeenOnOrder) → o.scheduled ≡ x ∷ rest → o.closed ≡ false → IsAccounted o → IsAccounted (begun_by (Open x.tries) o)
+accounted_open : (x : SeenOpening) (rest : List SeenOpening) (o : SeenOnOrder) → o.scheduled ≡ x ∷ rest → o.closed ≡ false → IsAccounted o
+    → IsAccounted (begun_by (Open x.tries) o)
 accounted_open x rest o is is_open a =
     let all : All (λ x. x.tries ≤ 99) (x ∷ rest) = subst (All (λ (x : SeenOpening). x.tries ≤ 99)) is a.tries in
     let few : x.tries ≤ 99 = all 0 x (omega arith) in
@@ -103,7 +115,8 @@ accounted_reap o is_open a = record {
   empty_once_closed = λ closed. absurd (is_not o.closed closed is_open);
 }
 
-accounted_task : (task : SeenJob) (now : ℕ) (o : SeenOnOrder) → task ≡ first_job now o.scheduled o.next_reap → o.closed ≡ false → IsAccounted o → IsAccounted (begun_by task o)
+accounted_task : (task : SeenJob) (now : ℕ) (o : SeenOnOrder) → task ≡ first_job now o.scheduled o.next_reap → o.closed ≡ false → IsAccounted o
+    → IsAccounted (begun_by task o)
 accounted_task (Open tries) now o is is_open a =
     let first = opens_first tries now o.scheduled o.next_reap is in
     subst (λ (k : ℕ). IsAccounted (begun_by (Open k) o)) first.3 (accounted_open first.0 first.1 o first.2 is_open a)
@@ -112,7 +125,8 @@ accounted_task (Wait due) now o is is_open a = a
 accounted_task Nothing now o is is_open a = a
 accounted_task Closed now o is is_open a = a
 
-begun_step : (closed : Bool) (now : ℕ) (o : SeenOnOrder) → o.closed ≡ closed → IsAccounted o → IsAccounted (begun_by (cond closed Closed (first_job now o.scheduled o.next_reap)) o)
+begun_step : (closed : Bool) (now : ℕ) (o : SeenOnOrder) → o.closed ≡ closed → IsAccounted o
+    → IsAccounted (begun_by (cond closed Closed (first_job now o.scheduled o.next_reap)) o)
 begun_step true now o is a = a
 begun_step false now o is a = accounted_task (first_job now o.scheduled o.next_reap) now o refl is a
 
@@ -126,7 +140,8 @@ begins_within now k o is a =
     let all : All (λ x. x.tries ≤ 99) (first.0 ∷ first.1) = subst (All (λ (x : SeenOpening). x.tries ≤ 99)) first.2 a.tries in
     omega (arith, all 0 first.0 (omega arith), first.3)
 
-pub begins_fit : (now k : ℕ) (o : SeenOnOrder) → Open k ≡ first_job now o.scheduled o.next_reap → o.limits.max_size < 2 ^ 32 → IsAccounted o → slice_index o.in_work k + 1 < 2 ^ 32
+pub begins_fit : (now k : ℕ) (o : SeenOnOrder) → Open k ≡ first_job now o.scheduled o.next_reap → o.limits.max_size < 2 ^ 32 → IsAccounted o
+    → slice_index o.in_work k + 1 < 2 ^ 32
 begins_fit now k o is small a =
     let first = opens_first k now o.scheduled o.next_reap is in
     omega (arith, a.placed, a.within, get_or-sum_le k o.in_work, ap length first.2)
@@ -161,7 +176,8 @@ accounted_admitted id o a =
     unless_refused-keeps IsAccounted (admit_refusal id o) (admitted_one id o) o
     (λ accepted. let there = found_numbered id o accepted in accounted_less id o there.1 there.0 a) a
 
-accounted_put_off : (now tries : ℕ) (o : SeenOnOrder) → 0 < slice_index o.in_work tries → o.closed ≡ false → IsAccounted o → IsAccounted (failed_one now tries o)
+accounted_put_off : (now tries : ℕ) (o : SeenOnOrder) → 0 < slice_index o.in_work tries → o.closed ≡ false → IsAccounted o
+    → IsAccounted (failed_one now tries o)
 accounted_put_off now tries o some is_open a =
     let x = opening (due_again now tries o) (min (tries + 1) 99) in
     record {

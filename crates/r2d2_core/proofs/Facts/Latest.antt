@@ -22,14 +22,16 @@ latest-append of [] es = refl
 latest-append of (x ∷ xs) es =
     let more = latest of (xs ++ es) in
     ap (λ b. cond b more (x ∷ more)) (list_any-append (λ e. of e == of x) xs es)
-    ∙ step (list_any (λ e. of e == of x) xs) (list_any (λ e. of e == of x) es) x (λ d. is_other of es (of d)) more (latest of xs) (latest of es) refl (latest-append of xs es)
+    ∙ step (list_any (λ e. of e == of x) xs) (list_any (λ e. of e == of x) es) x (λ d. is_other of es (of d)) more (latest of xs) (latest of es) refl
+    (latest-append of xs es)
 
 or_false : (b : Bool) → not (b || false) ≡ not b
 or_false true = refl
 or_false false = refl
 
 -- the ids of one
-pub one_other : {X Y : Type 0} (of : X → ℕ) (d : X) (id_of : Y → ℕ) (ys : List Y) → filter (λ y. is_other of (d ∷ []) (id_of y)) ys ≡ filter (λ y. not (of d == id_of y)) ys
+pub one_other : {X Y : Type 0} (of : X → ℕ) (d : X) (id_of : Y → ℕ) (ys : List Y)
+    → filter (λ y. is_other of (d ∷ []) (id_of y)) ys ≡ filter (λ y. not (of d == id_of y)) ys
 one_other of d id_of ys = filter_agree (λ y. is_other of (d ∷ []) (id_of y)) (λ y. not (of d == id_of y)) (λ y. or_false (of d == id_of y)) ys
 
 -- the ids of many
@@ -42,6 +44,7 @@ left_step true g d ds e ih = ih
 left_step false g d ds e ih = ap (λ o. cons_option o (filter_map g ds)) e ∙ ih
 
 -- where none of them leaves anything, their latest ones leave nothing
-pub none_left : {X Y Z : Type 0} (of : X → ℕ) (g : X → Option Z) (f : Y → X) (cs : List Y) → ((c : Y) → g (f c) ≡ None) → filter_map g (latest of (map f cs)) ≡ []
+pub none_left : {X Y Z : Type 0} (of : X → ℕ) (g : X → Option Z) (f : Y → X) (cs : List Y) → ((c : Y) → g (f c) ≡ None)
+    → filter_map g (latest of (map f cs)) ≡ []
 none_left of g f [] e = refl
 none_left of g f (c ∷ cs) e = left_step (list_any (λ d. of d == of (f c)) (map f cs)) g (f c) (latest of (map f cs)) (e c) (none_left of g f cs e)

@@ -11,17 +11,22 @@ use Rattle.r2d2_core.specs.Refusals.{unless_refused}
 use Rattle.r2d2_core.specs.Connections.{SeenIdleConnection, SeenLentConnection, id_of_idle, id_of_lent, birth_in}
 use Rattle.r2d2_core.specs.OnOrder.{IsAccounted, job_at, begun_by, number_refusal, numbered_one, admit_refusal, admitted_one, fail_refusal, failed_one}
 use Rattle.r2d2_core.specs.Picture.{Picture, IsSound}
-use Rattle.r2d2_core.specs.Table.{raised_to, with_on_order, topped_up, first_picture, taken, after_take, after_begin, after_number, admitted_at, after_admit, failed, after_fail, lent_refusal, lent_birth, is_closing, gone_one, returned_by, returned, after_return, with_text, after_check, after_reap, after_take_error, after_close}
+use Rattle.r2d2_core.specs.Table.{raised_to, with_on_order, topped_up, first_picture, taken, after_take, after_begin, after_number, admitted_at, after_admit}
+use Rattle.r2d2_core.specs.Table.{failed, after_fail, lent_refusal, lent_birth, is_closing, gone_one, returned_by, returned, after_return, with_text}
+use Rattle.r2d2_core.specs.Table.{after_check, after_reap, after_take_error, after_close}
 use Rattle.r2d2_core.specs.Seen.{or_text}
 use Rattle.r2d2_core.proofs.Lists.Ids.{copies_of-append3}
-use Rattle.r2d2_core.proofs.Facts.Accounted.{unless_refused-keeps, passes, not_false, is_not, found_numbered, accounted_first, accounted_begun, accounted_numbering, accounted_admitted, accounted_failed, accounted_emptied}
-use Rattle.r2d2_core.proofs.Facts.Steady.{apart_still, sound_at, sound_topped_up, sound_missed, sound_rescheduled, sound_told, steady_lent_out, steady_lost, sound_kept, sound_numbered, sound_admitted, steady_swept}
+use Rattle.r2d2_core.proofs.Facts.Accounted.{unless_refused-keeps, passes, not_false, is_not, found_numbered, accounted_first, accounted_begun}
+use Rattle.r2d2_core.proofs.Facts.Accounted.{accounted_numbering, accounted_admitted, accounted_failed, accounted_emptied}
+use Rattle.r2d2_core.proofs.Facts.Steady.{apart_still, sound_at, sound_topped_up, sound_missed, sound_rescheduled, sound_told, steady_lent_out, steady_lost}
+use Rattle.r2d2_core.proofs.Facts.Steady.{sound_kept, sound_numbered, sound_admitted, steady_swept}
 
 -- what is accepted is the new one
 accepted_is : {X : Type 0} (P : X → Type 0) (why : Option Refusal) (new old : X) → why ≡ None → P (unless_refused why new old) → P new
 accepted_is P why new old e p = subst (λ (w : Option Refusal). P (unless_refused w new old)) e p
 
-loan_found : (o : Option SeenLentConnection) → is_some (option_map (λ (l : SeenLentConnection). l.birth) o) ≡ true → (l : SeenLentConnection) × (o ≡ Some l) × (l.birth ≡ unwrap_or (option_map (λ (l : SeenLentConnection). l.birth) o) 0)
+loan_found : (o : Option SeenLentConnection) → is_some (option_map (λ (l : SeenLentConnection). l.birth) o) ≡ true → (l : SeenLentConnection) × (o ≡ Some l)
+    × (l.birth ≡ unwrap_or (option_map (λ (l : SeenLentConnection). l.birth) o) 0)
 loan_found None e = absurd cc
 loan_found (Some l) e = (l, refl, refl)
 
@@ -52,7 +57,8 @@ module _ {T : Type 0} where
 
   -- TAKE
 
-  sound_taken : (or_order : Bool) (p : Picture T) (o : Option (SeenIdleConnection T)) → lent_next p.on_order.limits.order p.idle ≡ o → IsSound p → IsSound (taken o or_order p)
+  sound_taken : (or_order : Bool) (p : Picture T) (o : Option (SeenIdleConnection T)) → lent_next p.on_order.limits.order p.idle ≡ o → IsSound p
+      → IsSound (taken o or_order p)
   sound_taken or_order p None e s = sound_missed or_order s
   sound_taken or_order p (Some c) e s = sound_topped_up (steady_lent_out c e s.steady)
 
@@ -71,7 +77,8 @@ module _ {T : Type 0} where
   pub sound_begin : (t : ℕ) {p : Picture T} → IsSound p → IsSound (after_begin t p)
   sound_begin t {p} s = sound_task (job_at (max p.latest t) p.on_order) (accounted_begun (max p.latest t) p.on_order s.steady.accounted) (sound_at t s)
 
-  number_by : (tries : ℕ) (p : Picture T) (why : Option Refusal) → IsAccounted (unless_refused why (numbered_one tries p.on_order) p.on_order) → IsSound p → IsSound (with_on_order (unless_refused why (numbered_one tries p.on_order) p.on_order) p)
+  number_by : (tries : ℕ) (p : Picture T) (why : Option Refusal) → IsAccounted (unless_refused why (numbered_one tries p.on_order) p.on_order) → IsSound p
+      → IsSound (with_on_order (unless_refused why (numbered_one tries p.on_order) p.on_order) p)
   number_by tries p None a s = sound_numbered tries a s
   number_by tries p (Some why) a s = s
 
@@ -83,25 +90,29 @@ module _ {T : Type 0} where
       unless_refused-keeps IsSound (admit_refusal id p.on_order) (admitted_at (max p.latest t) id value p) p
       (λ accepted.
       let there = found_numbered id p.on_order accepted in
-      let a = accepted_is IsAccounted (admit_refusal id p.on_order) (admitted_one id p.on_order) p.on_order accepted (accounted_admitted id p.on_order s.steady.accounted) in
+      let a = accepted_is IsAccounted (admit_refusal id p.on_order) (admitted_one id p.on_order) p.on_order accepted
+      (accounted_admitted id p.on_order s.steady.accounted) in
       sound_admitted id value there.1 there.0 a (sound_at t s)) s
 
   pub sound_fail : {A : Type 0} (t tries : ℕ) (text : Option (String A)) {p : Picture T} → IsSound p → IsSound (after_fail t tries text p)
   sound_fail t tries text {p} s =
       unless_refused-keeps IsSound (fail_refusal tries p.on_order) (failed t tries text p) p
       (λ accepted.
-      let a = accepted_is IsAccounted (fail_refusal tries p.on_order) (failed_one (max p.latest t) tries p.on_order) p.on_order accepted (accounted_failed (max p.latest t) tries p.on_order s.steady.accounted) in
+      let a = accepted_is IsAccounted (fail_refusal tries p.on_order) (failed_one (max p.latest t) tries p.on_order) p.on_order accepted
+      (accounted_failed (max p.latest t) tries p.on_order s.steady.accounted) in
       sound_told (or_text text p.last_error) (sound_rescheduled _ _ _ a (sound_at t s))) s
 
   -- RETURN, FAILED CHECK
 
   -- one that is lent is found, with its birth
-  found_lent : (id : ℕ) (p : Picture T) → lent_refusal id p ≡ None → (l : SeenLentConnection) × (found id_of_lent id p.lent ≡ Some l) × (l.birth ≡ lent_birth id p)
+  found_lent : (id : ℕ) (p : Picture T) → lent_refusal id p ≡ None → (l : SeenLentConnection) × (found id_of_lent id p.lent ≡ Some l)
+      × (l.birth ≡ lent_birth id p)
   found_lent id p accepted =
       let there = passes (not (is_some (birth_in id p.lent))) refusal.NotLent None accepted in
       loan_found (found id_of_lent id p.lent) (not_false (is_some (birth_in id p.lent)) there.0)
 
-  sound_returned : (closes : Bool) (id : ℕ) (value : T) (l : SeenLentConnection) (p : Picture T) → found id_of_lent id p.lent ≡ Some l → (closes ≡ false → p.on_order.closed ≡ false) → IsSound p → IsSound (returned_by closes id l.birth value p)
+  sound_returned : (closes : Bool) (id : ℕ) (value : T) (l : SeenLentConnection) (p : Picture T) → found id_of_lent id p.lent ≡ Some l
+      → (closes ≡ false → p.on_order.closed ≡ false) → IsSound p → IsSound (returned_by closes id l.birth value p)
   sound_returned true id value l p is is_open s = sound_topped_up (steady_lost id l is s.steady)
   sound_returned false id value l p is is_open s = sound_kept id value l is (is_open refl) s
 

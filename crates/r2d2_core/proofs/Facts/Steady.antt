@@ -1,5 +1,6 @@
 -- What keeps with the changes of a picture that the steps are made of.
-use Rattle.std.proofs.Common.{◌≡◌, ◌⊎◌, ℕ, ◌+◌, ◌-◌, ◌<◌, ◌≤◌, min, max, Bool, true, false, cond, List, [], ◌∷◌, ◌++◌, map, length, Option, Some, refl, ap, arith, inl, inr}
+use Rattle.std.proofs.Common.{◌≡◌, ◌⊎◌, ℕ, ◌+◌, ◌-◌, ◌<◌, ◌≤◌, min, max, Bool, true, false, cond, List, [], ◌∷◌, ◌++◌, map, length, Option, Some, refl, ap}
+use Rattle.std.proofs.Common.{arith, inl, inr}
 use Rattle.std.specs.List.{filter}
 use Rattle.std.proofs.lemmas.List.{length_push, map-id}
 use Rattle.std.proofs.lemmas.List.Elements.{All-filter}
@@ -11,22 +12,26 @@ use Rattle.r2d2_core.specs.Limits.{wanted_of}
 use Rattle.r2d2_core.specs.Ids.{same_id, found, without, copies_of}
 use Rattle.r2d2_core.specs.Lending.{lent_next, still_idle}
 use Rattle.r2d2_core.specs.Openings.{SeenOpening}
-use Rattle.r2d2_core.specs.Connections.{SeenIdleConnection, SeenLentConnection, idle_connection, lent_connection, id_of_idle, id_of_lent, since_of, is_expired, is_kept}
+use Rattle.r2d2_core.specs.Connections.{SeenIdleConnection, SeenLentConnection, idle_connection, lent_connection, id_of_idle, id_of_lent, since_of, is_expired}
+use Rattle.r2d2_core.specs.Connections.{is_kept}
 use Rattle.r2d2_core.specs.OnOrder.{IsAccounted, admitted_one, numbered_one}
 use Rattle.r2d2_core.specs.Picture.{Picture, IsSteady, IsSound, ids_in}
 use Rattle.r2d2_core.specs.Table.{raised_to, with_on_order, ordered, top_up_of, topped_up, miss_order_of, lent_out, admitted_at, kept_one, gone_one, swept}
 use Rattle.r2d2_core.proofs.Lists.Filters.{copies_of-filter}
-use Rattle.r2d2_core.proofs.Lists.Ids.{copies_of-append, copies_of-append3, copies_of-one, copies_of-other, copies_of-push, copies_of-without, length-without, All-without, All-found, All-push, All-weaker}
+use Rattle.r2d2_core.proofs.Lists.Ids.{copies_of-append, copies_of-append3, copies_of-one, copies_of-other, copies_of-push, copies_of-without, length-without}
+use Rattle.r2d2_core.proofs.Lists.Ids.{All-without, All-found, All-push, All-weaker}
 use Rattle.r2d2_core.proofs.Lists.Lending.{none_next, length-still_idle, copies_of-next, All-next, All-still_idle, IsNonDecreasingBy-still_idle}
 use Rattle.r2d2_core.proofs.Facts.Accounted.{is_not, accounted_orders}
 
 -- HOW MANY ARE ORDERED
 
-top_up_fits : (closed : Bool) (wanted size idle connections pending : ℕ) → connections + pending ≤ size → connections + (pending + cond closed 0 (min (wanted - idle) (size - connections - pending))) ≤ size
+top_up_fits : (closed : Bool) (wanted size idle connections pending : ℕ) → connections + pending ≤ size
+    → connections + (pending + cond closed 0 (min (wanted - idle) (size - connections - pending))) ≤ size
 top_up_fits true wanted size idle connections pending le = omega arith
 top_up_fits false wanted size idle connections pending le = omega arith
 
-miss_fits : (closed or_order : Bool) (size connections pending : ℕ) → connections + pending ≤ size → connections + (pending + cond closed 0 (cond or_order (min 1 (size - connections - pending)) 0)) ≤ size
+miss_fits : (closed or_order : Bool) (size connections pending : ℕ) → connections + pending ≤ size
+    → connections + (pending + cond closed 0 (cond or_order (min 1 (size - connections - pending)) 0)) ≤ size
 miss_fits true or_order size connections pending le = omega arith
 miss_fits false true size connections pending le = omega arith
 miss_fits false false size connections pending le = omega arith
@@ -46,19 +51,23 @@ open_all false n e = refl
 abbrev Reaches : ℕ → ℕ → ℕ → ℕ → ℕ → Type 0
 Reaches wanted idle pending connections size = (wanted ≤ idle + pending) ⊎ (connections + pending ≡ size)
 
-after_top_up : (wanted size idle connections pending n : ℕ) → connections + pending ≤ size → n ≡ min (wanted - idle) (size - connections - pending) → Reaches wanted idle (pending + n) connections size
+after_top_up : (wanted size idle connections pending n : ℕ) → connections + pending ≤ size → n ≡ min (wanted - idle) (size - connections - pending)
+    → Reaches wanted idle (pending + n) connections size
 after_top_up wanted size idle connections pending n le e =
     elim (cases_lt (idle + (pending + n)) wanted) [ inl h ↦ inr (omega arith) | inr h ↦ inl h ]
 
-with_more_pending : (n wanted idle connections pending size : ℕ) → connections + (pending + n) ≤ size → Reaches wanted idle pending connections size → Reaches wanted idle (pending + n) connections size
+with_more_pending : (n wanted idle connections pending size : ℕ) → connections + (pending + n) ≤ size → Reaches wanted idle pending connections size
+    → Reaches wanted idle (pending + n) connections size
 with_more_pending n wanted idle connections pending size fits (inl h) = inl (omega arith)
 with_more_pending n wanted idle connections pending size fits (inr h) = inr (omega arith)
 
-with_one_kept : (wanted pending connections size idle more : ℕ) → more ≡ idle + 1 → Reaches wanted idle pending connections size → Reaches wanted more pending connections size
+with_one_kept : (wanted pending connections size idle more : ℕ) → more ≡ idle + 1 → Reaches wanted idle pending connections size
+    → Reaches wanted more pending connections size
 with_one_kept wanted pending connections size idle more e (inl h) = inl (omega arith)
 with_one_kept wanted pending connections size idle more e (inr h) = inr h
 
-with_one_admitted : (wanted idle more connections pending size : ℕ) → more ≡ idle + 1 → 0 < pending → Reaches wanted idle pending connections size → Reaches wanted more (pending - 1) (connections + 1) size
+with_one_admitted : (wanted idle more connections pending size : ℕ) → more ≡ idle + 1 → 0 < pending → Reaches wanted idle pending connections size
+    → Reaches wanted more (pending - 1) (connections + 1) size
 with_one_admitted wanted idle more connections pending size e some (inl h) = inl (omega arith)
 with_one_admitted wanted idle more connections pending size e some (inr h) = inr (omega arith)
 
@@ -89,7 +98,8 @@ module _ {T : Type 0} where
 
   -- ORDERS
 
-  pub steady_orders : (n : ℕ) {p : Picture T} → p.connections + (p.on_order.pending + n) ≤ p.on_order.limits.max_size → (p.on_order.closed ≡ true → n ≡ 0) → IsSteady p → IsSteady (ordered n p)
+  pub steady_orders : (n : ℕ) {p : Picture T} → p.connections + (p.on_order.pending + n) ≤ p.on_order.limits.max_size → (p.on_order.closed ≡ true → n ≡ 0)
+      → IsSteady p → IsSteady (ordered n p)
   steady_orders n {p} fits none s = record {
     apart = s.apart;
     below_next = s.below_next;
@@ -108,8 +118,10 @@ module _ {T : Type 0} where
   sound_topped_up {p} s =
       let o = p.on_order in
       record {
-        steady = steady_orders (top_up_of p) (top_up_fits o.closed (wanted_of o.limits) o.limits.max_size (length p.idle) p.connections o.pending s.fits) (closed_none o.closed _) s;
-        replenished = λ is_open. after_top_up (wanted_of o.limits) o.limits.max_size (length p.idle) p.connections o.pending (top_up_of p) s.fits (open_all o.closed _ is_open);
+        steady = steady_orders (top_up_of p) (top_up_fits o.closed (wanted_of o.limits) o.limits.max_size (length p.idle) p.connections o.pending s.fits)
+            (closed_none o.closed _) s;
+        replenished = λ is_open. after_top_up (wanted_of o.limits) o.limits.max_size (length p.idle) p.connections o.pending (top_up_of p) s.fits
+            (open_all o.closed _ is_open);
       }
 
   pub sound_missed : (or_order : Bool) {p : Picture T} → IsSound p → IsSound (ordered (miss_order_of or_order p) p)
@@ -118,11 +130,13 @@ module _ {T : Type 0} where
       let fits = miss_fits o.closed or_order o.limits.max_size p.connections o.pending s.steady.fits in
       record {
         steady = steady_orders (miss_order_of or_order p) fits (closed_none o.closed _) s.steady;
-        replenished = λ is_open. with_more_pending (miss_order_of or_order p) (wanted_of o.limits) (length p.idle) p.connections o.pending o.limits.max_size fits (s.replenished is_open);
+        replenished = λ is_open. with_more_pending (miss_order_of or_order p) (wanted_of o.limits)
+            (length p.idle) p.connections o.pending o.limits.max_size fits (s.replenished is_open);
       }
 
   -- what is on order changes, but for its counts, its numbers and its limits
-  pub sound_rescheduled : (xs : List SeenOpening) (ws : List ℕ) (r : Option ℕ) {p : Picture T} → IsAccounted (record p.on_order { scheduled = xs; in_work = ws; next_reap = r }) → IsSound p
+  pub sound_rescheduled : (xs : List SeenOpening) (ws : List ℕ) (r : Option ℕ) {p : Picture T}
+      → IsAccounted (record p.on_order { scheduled = xs; in_work = ws; next_reap = r }) → IsSound p
       → IsSound (with_on_order (record p.on_order { scheduled = xs; in_work = ws; next_reap = r }) p)
   sound_rescheduled xs ws r {p} a s = record {
     steady = record {
@@ -212,7 +226,8 @@ module _ {T : Type 0} where
       }
 
   -- it is idle again
-  pub sound_kept : (id : ℕ) (value : T) (l : SeenLentConnection) {p : Picture T} → found id_of_lent id p.lent ≡ Some l → p.on_order.closed ≡ false → IsSound p → IsSound (kept_one id l.birth value p)
+  pub sound_kept : (id : ℕ) (value : T) (l : SeenLentConnection) {p : Picture T} → found id_of_lent id p.lent ≡ Some l → p.on_order.closed ≡ false → IsSound p
+      → IsSound (kept_one id l.birth value p)
   sound_kept id value l {p} is is_open s =
       let c : SeenIdleConnection T = idle_connection id l.birth p.latest value in
       let ids = apart_still p (kept_one id l.birth value p) refl (λ i. omega (
@@ -238,16 +253,19 @@ module _ {T : Type 0} where
           born_lent = All-without (λ l. l.birth ≤ p.latest) id_of_lent id p.lent s.steady.born_lent;
           none_once_closed = λ closed. absurd (is_not p.on_order.closed closed is_open);
         };
-        replenished = λ still. with_one_kept (wanted_of p.on_order.limits) p.on_order.pending p.connections p.on_order.limits.max_size (length p.idle) (length (p.idle ++ c ∷ [])) more (s.replenished still);
+        replenished = λ still. with_one_kept (wanted_of p.on_order.limits) p.on_order.pending p.connections p.on_order.limits.max_size (length p.idle)
+            (length (p.idle ++ c ∷ [])) more (s.replenished still);
       }
 
   -- NUMBER, ADMIT
 
   -- the next id is numbered
-  pub sound_numbered : (tries : ℕ) {p : Picture T} → IsAccounted (numbered_one tries p.on_order) → IsSound p → IsSound (with_on_order (numbered_one tries p.on_order) p)
+  pub sound_numbered : (tries : ℕ) {p : Picture T} → IsAccounted (numbered_one tries p.on_order) → IsSound p
+      → IsSound (with_on_order (numbered_one tries p.on_order) p)
   sound_numbered tries {p} a s =
       let next = p.on_order.next_id in
-      let count : (i : ℕ) → copies_of i (ids_in (with_on_order (numbered_one tries p.on_order) p)) ≡ copies_of i (ids_in p) + copies_of i (next ∷ []) = λ i. omega (
+      let count : (i : ℕ) → copies_of i (ids_in (with_on_order (numbered_one tries p.on_order) p)) ≡ copies_of i (ids_in p) + copies_of i
+      (next ∷ []) = λ i. omega (
         arith,
         copies_of-append3 i (map id_of_idle p.idle) (map id_of_lent p.lent) p.on_order.numbered,
         copies_of-append3 i (map id_of_idle p.idle) (map id_of_lent p.lent) (p.on_order.numbered ++ next ∷ []),
@@ -273,7 +291,8 @@ module _ {T : Type 0} where
       }
 
   -- a numbered one is idle
-  pub sound_admitted : (id : ℕ) (value : T) {p : Picture T} → found same_id id p.on_order.numbered ≡ Some id → p.on_order.closed ≡ false → IsAccounted (admitted_one id p.on_order) → IsSound p → IsSound (admitted_at p.latest id value p)
+  pub sound_admitted : (id : ℕ) (value : T) {p : Picture T} → found same_id id p.on_order.numbered ≡ Some id → p.on_order.closed ≡ false
+      → IsAccounted (admitted_one id p.on_order) → IsSound p → IsSound (admitted_at p.latest id value p)
   sound_admitted id value {p} is is_open a s =
       let o = p.on_order in
       let c : SeenIdleConnection T = idle_connection id p.latest p.latest value in
@@ -302,7 +321,8 @@ module _ {T : Type 0} where
           born_lent = s.steady.born_lent;
           none_once_closed = λ closed. absurd (is_not o.closed closed is_open);
         };
-        replenished = λ still. with_one_admitted (wanted_of o.limits) (length p.idle) (length (p.idle ++ c ∷ [])) p.connections o.pending o.limits.max_size more some (s.replenished still);
+        replenished = λ still. with_one_admitted (wanted_of o.limits) (length p.idle) (length
+            (p.idle ++ c ∷ [])) p.connections o.pending o.limits.max_size more some (s.replenished still);
       }
 
   -- REAP

@@ -1,5 +1,6 @@
 -- An admission follows the history.
-use Rattle.std.proofs.Common.{◌≡◌, ℕ, ◌+◌, ◌-◌, ◌≤◌, max, Bool, true, false, cond, ◌||◌, not, ◌==◌, List, [], ◌∷◌, map, length, Option, Some, None, refl, sym, ◌∙◌, ap, subst, arith, Ok}
+use Rattle.std.proofs.Common.{◌≡◌, ℕ, ◌+◌, ◌-◌, ◌≤◌, max, Bool, true, false, cond, ◌||◌, not, ◌==◌, List, [], ◌∷◌, map, length, Option, Some, None, refl, sym}
+use Rattle.std.proofs.Common.{◌∙◌, ap, subst, arith, Ok}
 use Rattle.std.specs.Prelude.{filter, is_some}
 use Rattle.std.specs.List.{list_any}
 use Rattle.std.specs.Duration.{as_nanos}
@@ -62,16 +63,22 @@ admitted_fewer false ordered admitted e some = omega arith
 module _ {T : Type 0} where
   refusal_of-admit : (h : History T) (now : Duration) (id : ℕ) (value : T) → refusal_of h (step.Admit now id value) ≡ admit_refusal id (on_order_of h)
   unfolding on_order_of
-  refusal_of-admit h now id value = ap (λ b. refused_if (is_closed h) refusal.Closed (refused_if (not b) refusal.NotNumbered None)) (sym (is_some-found same_id id (numbered_of h)))
+  refusal_of-admit h now id value = ap (λ b. refused_if (is_closed h) refusal.Closed (refused_if (not b) refusal.NotNumbered None))
+      (sym (is_some-found same_id id (numbered_of h)))
 
   -- a number that is found stands once, and is neither idle nor lent
-  copies_in : (h : History T) (i : ℕ) → IsSound (picture_of h) → copies_of i (map id_of_idle (idle_of h)) + (copies_of i (map id_of_lent (lent_of h)) + copies_of i (numbered_of h)) ≤ 1
+  copies_in : (h : History T) (i : ℕ) → IsSound (picture_of h) → copies_of i (map id_of_idle (idle_of h)) +
+      (copies_of i (map id_of_lent (lent_of h)) + copies_of i (numbered_of h)) ≤ 1
   unfolding picture_of on_order_of
   copies_in h i sound = omega (arith, sound.steady.apart i, copies_of-append3 i (map id_of_idle (idle_of h)) (map id_of_lent (lent_of h)) (numbered_of h))
 
   none_past : (h : History T) (i : ℕ) → IsSound (picture_of h) → next_id_of h ≤ i → copies_of i (numbered_of h) ≡ 0
   unfolding picture_of on_order_of
-  none_past h i sound past = omega (arith, sound.steady.below_next i past, copies_of-append3 i (map id_of_idle (idle_of h)) (map id_of_lent (lent_of h)) (numbered_of h))
+  none_past h i sound past = omega (
+    arith,
+    sound.steady.below_next i past,
+    copies_of-append3 i (map id_of_idle (idle_of h)) (map id_of_lent (lent_of h)) (numbered_of h),
+  )
 
   numbered_of-open : (h : History T) → is_closed h ≡ false → numbered_of h ≡ filter (λ i. not (is_admitted h i)) (ids_of h)
   unfolding numbered_of
@@ -89,7 +96,8 @@ module _ {T : Type 0} where
   unfolding pending_of
   pending_of-admit h now id value = pending_less (is_closed h) (ordered_of h) (admitted_count h)
 
-  connections_of-admit : (h : History T) (now : Duration) (id : ℕ) (value : T) → gone_count h ≤ admitted_count h → connections_of (Then h (step.Admit now id value) (Admitted (Ok tt))) ≡ connections_of h + 1
+  connections_of-admit : (h : History T) (now : Duration) (id : ℕ) (value : T) → gone_count h ≤ admitted_count h
+      → connections_of (Then h (step.Admit now id value) (Admitted (Ok tt))) ≡ connections_of h + 1
   unfolding connections_of
   connections_of-admit h now id value le = omega arith
 
@@ -124,12 +132,17 @@ module _ {T : Type 0} where
     ended_were_begun = kept.ended_were_begun;
     few_tries = kept.few_tries;
     none_admitted_ahead = λ i ahead.
-        let other : (id == i) ≡ false = ne_eqb id i (λ same. absurd (omega (arith, copies_of-found id (numbered_of h) e, none_past h id kept.sound (omega (arith, ahead, same))))) in
+        let other : (id == i) ≡ false = ne_eqb id i (λ same. absurd (omega (
+          arith,
+          copies_of-found id (numbered_of h) e,
+          none_past h id kept.sound (omega (arith, ahead, same)),
+        ))) in
         ap (λ b. b || is_admitted h i) other ∙ kept.none_admitted_ahead i ahead;
   }
 
   admit_by : (h : History T) (now : Duration) (id : ℕ) (value : T) (why : Option Refusal) → admit_refusal id (on_order_of h) ≡ why → IsKept h
-      → Follows h (step.Admit now id value) (Admitted (ok_or_back why value tt)) (unless_refused why (admitted_at (max (now_of h) (as_nanos now)) id value (picture_of h)) (picture_of h))
+      → Follows h (step.Admit now id value) (Admitted (ok_or_back why value tt)) (unless_refused why
+      (admitted_at (max (now_of h) (as_nanos now)) id value (picture_of h)) (picture_of h))
   unfolding picture_of on_order_of
   admit_by h now id value None e kept =
       let s = step.Admit now id value in

@@ -20,7 +20,8 @@ use Rattle.r2d2_core.proofs.Histories.Kept.{IsKept, Follows}
 use Rattle.r2d2_core.proofs.Histories.Deeds.{idle_of-none, lent_of-none}
 use Rattle.r2d2_core.proofs.Facts.Accounted.{begins_within}
 use Rattle.r2d2_core.proofs.Histories.InWork.{in_work_of-one_more}
-use Rattle.r2d2_core.proofs.Histories.Orders.{IsOrdering, same_on_order, picture_of-is, picture_of-unordered, pending_of-same, in_work_of-same, next_reap_of-same, kept_ordered}
+use Rattle.r2d2_core.proofs.Histories.Orders.{IsOrdering, same_on_order, picture_of-is, picture_of-unordered, pending_of-same, in_work_of-same}
+use Rattle.r2d2_core.proofs.Histories.Orders.{next_reap_of-same, kept_ordered}
 use Rattle.r2d2_core.proofs.Histories.Following.{follows_accepted}
 use Rattle.r2d2_core.proofs.Facts.Sounds.{sound_begin}
 
@@ -28,7 +29,8 @@ use Rattle.r2d2_core.proofs.Facts.Sounds.{sound_begin}
 next_by-later : (start every n : ℕ) → later_by (later_by start (every * (1 + n))) every ≡ later_by start (every * (1 + (n + 1)))
 next_by-later start every n = let more : every * (1 + (n + 1)) ≡ every * (1 + n) + every = omega arith in omega (arith, more)
 
-next_by-reap : (b : Bool) (start every n : ℕ) → cond b (Some (later_by start (every * (1 + (n + 1))))) None ≡ next_by every (cond b (Some (later_by start (every * (1 + n)))) None)
+next_by-reap : (b : Bool) (start every n : ℕ) → cond b (Some (later_by start (every * (1 + (n + 1))))) None ≡ next_by every
+    (cond b (Some (later_by start (every * (1 + n)))) None)
 next_by-reap true start every n = ap Some (sym (next_by-later start every n))
 next_by-reap false start every n = refl
 
@@ -39,16 +41,27 @@ opens_open false k task e = (refl, sym e)
 
 -- none is begun with more tries
 begun_few : (tries k n : ℕ) → tries ≤ 99 → 100 ≤ k → n ≡ 0 → n + cond (tries == k) 1 0 ≡ 0
-begun_few tries k n few many none = let other : (tries == k) ≡ false = ne_eqb tries k (λ e. absurd (omega arith)) in ap (λ b. n + cond b 1 0) other ∙ omega (arith, none)
+begun_few tries k n few many none = let other : (tries == k) ≡ false = ne_eqb tries k (λ e. absurd (omega arith)) in ap (λ b. n + cond b 1 0) other
+    ∙ omega (arith, none)
 
 module _ {T : Type 0} where
-  next_reap_of-reap : (h : History T) (now : Duration) → next_reap_of (Then h (step.Begin now) (Begun Reap)) ≡ next_by (as_nanos (limits_of h).reap_every) (next_reap_of h)
+  next_reap_of-reap : (h : History T) (now : Duration) → next_reap_of (Then h (step.Begin now) (Begun Reap)) ≡ next_by (as_nanos (limits_of h).reap_every)
+      (next_reap_of h)
   unfolding next_reap_of
   next_reap_of-reap h now = next_by-reap (not (is_closed h) && has_reaps (limits_of h)) (start_of h) (as_nanos (limits_of h).reap_every) (reaps_of h)
 
   -- what waits, and what has nothing to do, changes nothing
   waiting : (h : History T) (now : Duration) (due : ℕ) → IsOrdering h (step.Begin now) (Begun (Wait due))
-  waiting h now due = record { closed = refl; scheduled = refl; begun = λ k. refl; ended = λ k. refl; ids = refl; admitted = λ i. refl; count = refl; reaps = refl }
+  waiting h now due = record {
+    closed = refl;
+    scheduled = refl;
+    begun = λ k. refl;
+    ended = λ k. refl;
+    ids = refl;
+    admitted = λ i. refl;
+    count = refl;
+    reaps = refl;
+  }
 
   idling : (h : History T) (now : Duration) → IsOrdering h (step.Begin now) (Begun Nothing)
   idling h now = record { closed = refl; scheduled = refl; begun = λ k. refl; ended = λ k. refl; ids = refl; admitted = λ i. refl; count = refl; reaps = refl }
@@ -81,17 +94,21 @@ module _ {T : Type 0} where
   picture_of-begin h now (Wait due) e kept =
       let s = step.Begin now in
       let r = Begun (Wait due) in
-      picture_of-unordered h s r (raised_to (as_nanos now) (picture_of h)) (waiting h now due) kept refl refl (idle_of-none h s r refl (λ i. refl)) (lent_of-none h s r refl (λ i. refl)) refl refl refl
+      picture_of-unordered h s r (raised_to (as_nanos now) (picture_of h)) (waiting h now due) kept refl refl (idle_of-none h s r refl (λ i. refl))
+      (lent_of-none h s r refl (λ i. refl)) refl refl refl
   picture_of-begin h now Nothing e kept =
       let s = step.Begin now in
       let r = Begun Nothing in
-      picture_of-unordered h s r (raised_to (as_nanos now) (picture_of h)) (idling h now) kept refl refl (idle_of-none h s r refl (λ i. refl)) (lent_of-none h s r refl (λ i. refl)) refl refl refl
+      picture_of-unordered h s r (raised_to (as_nanos now) (picture_of h)) (idling h now) kept refl refl (idle_of-none h s r refl (λ i. refl))
+      (lent_of-none h s r refl (λ i. refl)) refl refl refl
   picture_of-begin h now Closed e kept =
       let s = step.Begin now in
       let r = Begun Closed in
-      picture_of-unordered h s r (raised_to (as_nanos now) (picture_of h)) (ending h now) kept refl refl (idle_of-none h s r refl (λ i. refl)) (lent_of-none h s r refl (λ i. refl)) refl refl refl
+      picture_of-unordered h s r (raised_to (as_nanos now) (picture_of h)) (ending h now) kept refl refl (idle_of-none h s r refl (λ i. refl))
+      (lent_of-none h s r refl (λ i. refl)) refl refl refl
 
-  kept_begin : (h : History T) (now : Duration) (task : SeenJob) → job_of h (moment_of h (step.Begin now)) ≡ task → IsKept h → IsSound (picture_of (Then h (step.Begin now) (Begun task))) → IsKept (Then h (step.Begin now) (Begun task))
+  kept_begin : (h : History T) (now : Duration) (task : SeenJob) → job_of h (moment_of h (step.Begin now)) ≡ task → IsKept h
+      → IsSound (picture_of (Then h (step.Begin now) (Begun task))) → IsKept (Then h (step.Begin now) (Begun task))
   unfolding picture_of on_order_of next_id_of
   kept_begin h now (Open tries) e kept sound =
       let s = step.Begin now in
@@ -117,7 +134,8 @@ module _ {T : Type 0} where
   kept_begin h now Nothing e kept sound = kept_ordered h (step.Begin now) (Begun Nothing) (idling h now) kept sound kept.gone_were_admitted
   kept_begin h now Closed e kept sound = kept_ordered h (step.Begin now) (Begun Closed) (ending h now) kept sound kept.gone_were_admitted
 
-  pub follows_begin : (h : History T) (now : Duration) → IsKept h → Follows h (step.Begin now) (Begun (begin_answer (as_nanos now) (picture_of h))) (after_begin (as_nanos now) (picture_of h))
+  pub follows_begin : (h : History T) (now : Duration) → IsKept h → Follows h (step.Begin now) (Begun (begin_answer (as_nanos now) (picture_of h)))
+      (after_begin (as_nanos now) (picture_of h))
   unfolding picture_of on_order_of
   follows_begin h now kept =
       let s = step.Begin now in

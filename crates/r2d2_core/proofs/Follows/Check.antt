@@ -33,10 +33,13 @@ module _ {T : Type 0} where
   abbrev then_lost : History T → Duration → ℕ → Option (String Global) → ℕ → History T
   then_lost h now id text n = Then h (checking now id text) (lost_reply h (as_nanos now) id n)
 
-  idle_of-check : (h : History T) (now : Duration) (id : ℕ) (text : Option (String Global)) (n : ℕ) → is_lent h id ≡ true → IsSound (picture_of h) → idle_of (then_lost h now id text n) ≡ idle_of h
-  idle_of-check h now id text n lent sound = idle_of-lost h (checking now id text) (lost_reply h (as_nanos now) id n) id (max (now_of h) (as_nanos now)) refl (λ i. refl) lent (apart_in h sound)
+  idle_of-check : (h : History T) (now : Duration) (id : ℕ) (text : Option (String Global)) (n : ℕ) → is_lent h id ≡ true → IsSound (picture_of h)
+      → idle_of (then_lost h now id text n) ≡ idle_of h
+  idle_of-check h now id text n lent sound = idle_of-lost h (checking now id text) (lost_reply h (as_nanos now) id n) id (max (now_of h) (as_nanos now)) refl
+      (λ i. refl) lent (apart_in h sound)
 
-  connections_of-check : (h : History T) (now : Duration) (id : ℕ) (text : Option (String Global)) (n : ℕ) → connections_of (then_lost h now id text n) ≡ connections_of h - 1
+  connections_of-check : (h : History T) (now : Duration) (id : ℕ) (text : Option (String Global)) (n : ℕ)
+      → connections_of (then_lost h now id text n) ≡ connections_of h - 1
   unfolding connections_of
   connections_of-check h now id text n = omega arith
 
@@ -47,7 +50,8 @@ module _ {T : Type 0} where
       orders_of-top_up h (checking now id text) (length (idle_of h)) (connections_of h - 1) refl
       (ap length (idle_of-check h now id text 0 lent sound)) (connections_of-check h now id text 0)
 
-  ordering_check : (h : History T) (now : Duration) (id : ℕ) (text : Option (String Global)) (n : ℕ) → IsOrdering h (checking now id text) (lost_reply h (as_nanos now) id n)
+  ordering_check : (h : History T) (now : Duration) (id : ℕ) (text : Option (String Global)) (n : ℕ)
+      → IsOrdering h (checking now id text) (lost_reply h (as_nanos now) id n)
   ordering_check h now id text n = record {
     closed = refl;
     scheduled = refl;
@@ -68,7 +72,8 @@ module _ {T : Type 0} where
       let r = lost_reply h (as_nanos now) id n in
       let p = gone_one id (with_text text (raised_to (as_nanos now) (picture_of h))) in
       picture_of-ordered h s r p n (ordering_check h now id text n) kept refl none
-      refl (idle_of-check h now id text n lent kept.sound) (lent_of-back h s r id (max (now_of h) (as_nanos now)) Going refl (λ i. refl) (λ birth. refl) (apart_in h kept.sound)) refl (connections_of-check h now id text n) refl
+      refl (idle_of-check h now id text n lent kept.sound) (lent_of-back h s r id (max (now_of h) (as_nanos now)) Going refl (λ i. refl) (λ birth. refl)
+      (apart_in h kept.sound)) refl (connections_of-check h now id text n) refl
       ∙ ap (λ k. ordered k p) orders
 
   pub follows_check : (h : History T) (now : Duration) (id : ℕ) (text : Option (String Global)) → IsKept h
@@ -87,7 +92,8 @@ module _ {T : Type 0} where
     new : Picture T
     new = topped_up (gone_one id (with_text text (raised_to (as_nanos now) (picture_of h))))
 
-    by : (why : Option Refusal) → refusal_of h s ≡ why → Follows h s (CheckFailed (check_answer (as_nanos now) id (picture_of h))) (after_check (as_nanos now) id text (picture_of h))
+    by : (why : Option Refusal) → refusal_of h s ≡ why → Follows h s (CheckFailed (check_answer (as_nanos now) id (picture_of h)))
+        (after_check (as_nanos now) id text (picture_of h))
     by None accepted =
         let none : lent_refusal id (picture_of h) ≡ None = lent_refusal-is h id ∙ accepted in
         let lent : is_lent h id ≡ true = not_false (is_lent h id) (passes (not (is_lent h id)) refusal.NotLent None accepted).0 in
@@ -99,7 +105,8 @@ module _ {T : Type 0} where
         ∙ (ap (λ birth. CheckFailed (Ok (lost_at birth))) (lent_birth-is h id lent)
         ∙ ap (λ k. lost_reply h (as_nanos now) id k) (sym orders)))
         (joins ∙ sym picture)
-        (kept_ordered h s (lost_reply h (as_nanos now) id n) (ordering_check h now id text n) kept (subst IsSound (sym picture) (subst IsSound joins (sound_check (as_nanos now) id text kept.sound))) (lent_is_connected h id lent kept.sound))
+        (kept_ordered h s (lost_reply h (as_nanos now) id n) (ordering_check h now id text n) kept
+        (subst IsSound (sym picture) (subst IsSound joins (sound_check (as_nanos now) id text kept.sound))) (lent_is_connected h id lent kept.sound))
     by (Some why) refused =
         let some : lent_refusal id (picture_of h) ≡ Some why = lent_refusal-is h id ∙ refused in
         follows_refused h s _ _ why refused

@@ -34,7 +34,8 @@ module _ {T : Type 0} where
   left_by h = Left (map pair_of (idle_of h))
 
   -- the deeds of a close: all that are idle go
-  all_go : (h : History T) → deeds_in (moment_of h step.Close) step.Close (left_by h) ≡ going_deeds id_of_idle (moment_of h step.Close) (filter (λ c. true) (idle_of h))
+  all_go : (h : History T) → deeds_in (moment_of h step.Close) step.Close (left_by h) ≡ going_deeds id_of_idle (moment_of h step.Close)
+      (filter (λ c. true) (idle_of h))
   all_go h = pairs_go (now_of h) (idle_of h) ∙ ap (going_deeds id_of_idle (now_of h)) (sym (filter_true (idle_of h)))
 
   pub idle_of-close : (h : History T) → IsKept h → idle_of (Then h step.Close (left_by h)) ≡ []
@@ -46,7 +47,8 @@ module _ {T : Type 0} where
   -- two pictures that differ in these fields alone
   same_close : (p : Picture T) {idle idle' : List (SeenIdleConnection T)} {lent lent' : List SeenLentConnection} {work work' : List ℕ} {n n' : ℕ}
       → idle ≡ idle' → lent ≡ lent' → work ≡ work' → n ≡ n'
-      → ◌≡◌ {A = Picture T} (record p { idle = idle; lent = lent; on_order = record (emptied p.on_order) { in_work = work }; connections = n }) (record p { idle = idle'; lent = lent'; on_order = record (emptied p.on_order) { in_work = work' }; connections = n' })
+      → ◌≡◌ {A = Picture T} (record p { idle = idle; lent = lent; on_order = record (emptied p.on_order) { in_work = work }; connections = n })
+      (record p { idle = idle'; lent = lent'; on_order = record (emptied p.on_order) { in_work = work' }; connections = n' })
   same_close p e1 e2 e3 e4 = rw (e1, e2, e3, e4)
 
   -- the picture after a close
@@ -84,7 +86,8 @@ module _ {T : Type 0} where
 
   next_reap_of-closed : (h : History T) → is_closed h ≡ true → next_reap_of h ≡ None
   unfolding next_reap_of
-  next_reap_of-closed h closed = ap (λ b. if not b && has_reaps (limits_of h) then Some (later_by (start_of h) (as_nanos (limits_of h).reap_every * (1 + reaps_of h))) else None) closed
+  next_reap_of-closed h closed = ap (λ b. if not b && has_reaps (limits_of h) then Some (later_by (start_of h)
+      (as_nanos (limits_of h).reap_every * (1 + reaps_of h))) else None) closed
 
   -- and changes nothing
   pub after_close-closed : (h : History T) → IsKept h → is_closed h ≡ true → after_close (picture_of h) ≡ picture_of h

@@ -35,11 +35,14 @@ module _ {T : Type 0} where
   abbrev then_failed : History T → Duration → ℕ → Option (String Global) → History T
   then_failed h now tries text = Then h (failing now tries text) (Failed (Ok (due h (as_nanos now) tries)))
 
-  same_refusal : (h : History T) (now : Duration) (tries : ℕ) (text : Option (String Global)) → IsKept h → fail_refusal tries (picture_of h).on_order ≡ refusal_of h (failing now tries text)
+  same_refusal : (h : History T) (now : Duration) (tries : ℕ) (text : Option (String Global)) → IsKept h
+      → fail_refusal tries (picture_of h).on_order ≡ refusal_of h (failing now tries text)
   unfolding picture_of on_order_of
-  same_refusal h now tries text kept = ap (λ b. refused_if (is_closed h) refusal.Closed (refused_if (not b) refusal.NoOpening None)) (sym (is_in_work-on_order h tries kept))
+  same_refusal h now tries text kept = ap (λ b. refused_if (is_closed h) refusal.Closed (refused_if (not b) refusal.NoOpening None))
+      (sym (is_in_work-on_order h tries kept))
 
-  on_order_of-fail : (h : History T) (now : Duration) (tries : ℕ) (text : Option (String Global)) → on_order_of (then_failed h now tries text) ≡ failed_one (max (now_of h) (as_nanos now)) tries (on_order_of h)
+  on_order_of-fail : (h : History T) (now : Duration) (tries : ℕ) (text : Option (String Global))
+      → on_order_of (then_failed h now tries text) ≡ failed_one (max (now_of h) (as_nanos now)) tries (on_order_of h)
   unfolding on_order_of pending_of numbered_of next_reap_of next_id_of
   on_order_of-fail h now tries text =
       let same : ordered_of h + 0 ≡ ordered_of h = omega arith in
@@ -47,7 +50,8 @@ module _ {T : Type 0} where
       (in_work_of-one_less h (then_failed h now tries text) tries refl (λ j. refl) (λ j. refl)) refl refl refl
       (ap (λ n. cond (is_closed h) 0 (n - admitted_count h)) same) refl
 
-  picture_of-fail : (h : History T) (now : Duration) (tries : ℕ) (text : Option (String Global)) → picture_of (then_failed h now tries text) ≡ failed (as_nanos now) tries text (picture_of h)
+  picture_of-fail : (h : History T) (now : Duration) (tries : ℕ) (text : Option (String Global))
+      → picture_of (then_failed h now tries text) ≡ failed (as_nanos now) tries text (picture_of h)
   unfolding picture_of connections_of
   picture_of-fail h now tries text =
       let s = failing now tries text in
@@ -85,11 +89,13 @@ module _ {T : Type 0} where
         let none : fail_refusal tries (picture_of h).on_order ≡ None = same_refusal h now tries text kept ∙ accepted in
         let first = passes (is_closed h) refusal.Closed _ accepted in
         let second = passes (not (is_in_work h tries)) refusal.NoOpening None first.1 in
-        let joins : new ≡ failed (as_nanos now) tries text (picture_of h) = ap (λ o. unless_refused o (failed (as_nanos now) tries text (picture_of h)) (picture_of h)) none in
+        let joins : new ≡ failed (as_nanos now) tries text (picture_of h) = ap (λ o. unless_refused o (failed (as_nanos now) tries text (picture_of h))
+        (picture_of h)) none in
         follows_accepted h s reply new accepted
         (ap (λ o. Failed (ok_unless o (due h (as_nanos now) tries))) none)
         (joins ∙ sym (picture_of-fail h now tries text))
-        (kept_fail h now tries text kept first.0 (not_false (is_in_work h tries) second.0) (subst IsSound joins (sound_fail (as_nanos now) tries text kept.sound)))
+        (kept_fail h now tries text kept first.0 (not_false (is_in_work h tries) second.0) (subst IsSound joins
+        (sound_fail (as_nanos now) tries text kept.sound)))
     by (Some why) refused =
         let some : fail_refusal tries (picture_of h).on_order ≡ Some why = same_refusal h now tries text kept ∙ refused in
         follows_refused h s reply new why refused

@@ -1,5 +1,6 @@
 -- A numbering follows the history.
-use Rattle.std.proofs.Common.{◌≡◌, ℕ, ◌+◌, ◌-◌, ◌^◌, ◌<◌, ◌≤◌, Bool, true, false, cond, List, [], ◌∷◌, ◌++◌, Option, Some, None, refl, sym, ◌∙◌, ap, subst, arith, Ok}
+use Rattle.std.proofs.Common.{◌≡◌, ℕ, ◌+◌, ◌-◌, ◌^◌, ◌<◌, ◌≤◌, Bool, true, false, cond, List, [], ◌∷◌, ◌++◌, Option, Some, None, refl, sym, ◌∙◌, ap, subst}
+use Rattle.std.proofs.Common.{arith, Ok}
 use Rattle.std.specs.Prelude.{filter, ◌==◌, not}
 use Rattle.std.proofs.lemmas.List.{length_push}
 use Rattle.std.proofs.lemmas.List.Elements.{filter-append}
@@ -25,13 +26,15 @@ use Rattle.r2d2_core.proofs.Histories.Following.{follows_accepted, follows_refus
 use Rattle.r2d2_core.proofs.Facts.Sounds.{sound_number}
 
 -- the next id awaits its admission
-numbered_more : (closed admitted : Bool) (xs ys : List ℕ) (i : ℕ) → closed ≡ false → admitted ≡ false → cond closed [] (xs ++ cond (not admitted) (i ∷ []) []) ≡ cond closed [] xs ++ i ∷ []
+numbered_more : (closed admitted : Bool) (xs ys : List ℕ) (i : ℕ) → closed ≡ false → admitted ≡ false
+    → cond closed [] (xs ++ cond (not admitted) (i ∷ []) []) ≡ cond closed [] xs ++ i ∷ []
 numbered_more true admitted xs ys i e is = absurd cc
 numbered_more false true xs ys i e is = absurd cc
 numbered_more false false xs ys i e is = refl
 
 -- where one is in work, one more may end
-ended_less : (closed same : Bool) (begun ended : ℕ) → closed ≡ false → (same ≡ true → 0 < cond closed 0 (begun - ended)) → ended ≤ begun → ended + cond same 1 0 ≤ begun
+ended_less : (closed same : Bool) (begun ended : ℕ) → closed ≡ false → (same ≡ true → 0 < cond closed 0 (begun - ended)) → ended ≤ begun
+    → ended + cond same 1 0 ≤ begun
 ended_less true same begun ended e some le = absurd cc
 ended_less false true begun ended e some le = omega (arith, some refl)
 ended_less false false begun ended e some le = omega arith
@@ -40,13 +43,16 @@ module _ {T : Type 0} where
   refusal_of-number : (h : History T) (tries : ℕ) → IsKept h → refusal_of h (step.Number tries) ≡ number_refusal tries (on_order_of h)
   unfolding on_order_of
   refusal_of-number h tries kept =
-      ap (λ b. refused_if (is_closed h) refusal.Closed (refused_if (not b) refusal.NoOpening (refused_if (next_id_of h == 2 ^ 64 - 1) refusal.IdsUsedUp None))) (is_in_work-on_order h tries kept)
+      ap (λ b. refused_if (is_closed h) refusal.Closed (refused_if (not b) refusal.NoOpening (refused_if (next_id_of h == 2 ^ 64 - 1) refusal.IdsUsedUp None)))
+      (is_in_work-on_order h tries kept)
 
-  numbered_of-number : (h : History T) (tries : ℕ) → is_closed h ≡ false → IsKept h → numbered_of (Then h (step.Number tries) (Numbered (Ok (next_id_of h)))) ≡ numbered_of h ++ next_id_of h ∷ []
+  numbered_of-number : (h : History T) (tries : ℕ) → is_closed h ≡ false → IsKept h
+      → numbered_of (Then h (step.Number tries) (Numbered (Ok (next_id_of h)))) ≡ numbered_of h ++ next_id_of h ∷ []
   unfolding numbered_of
   numbered_of-number h tries is_open kept =
       ap (λ l. cond (is_closed h) [] l) (filter-append (λ i. not (is_admitted h i)) (ids_of h) (next_id_of h ∷ []))
-      ∙ numbered_more (is_closed h) (is_admitted h (next_id_of h)) (filter (λ i. not (is_admitted h i)) (ids_of h)) [] (next_id_of h) is_open (kept.none_admitted_ahead (next_id_of h) (omega arith))
+      ∙ numbered_more (is_closed h) (is_admitted h (next_id_of h)) (filter (λ i. not (is_admitted h i)) (ids_of h)) [] (next_id_of h) is_open
+      (kept.none_admitted_ahead (next_id_of h) (omega arith))
 
   next_id_of-number : (h : History T) (tries : ℕ) → next_id_of (Then h (step.Number tries) (Numbered (Ok (next_id_of h)))) ≡ next_id_of h + 1
   unfolding next_id_of
@@ -69,20 +75,23 @@ module _ {T : Type 0} where
       refl)
       refl refl
 
-  kept_number : (h : History T) (tries : ℕ) → is_closed h ≡ false → 0 < in_work_at h tries → IsKept h → IsSound (picture_of (Then h (step.Number tries) (Numbered (Ok (next_id_of h)))))
+  kept_number : (h : History T) (tries : ℕ) → is_closed h ≡ false → 0 < in_work_at h tries → IsKept h
+      → IsSound (picture_of (Then h (step.Number tries) (Numbered (Ok (next_id_of h)))))
       → IsKept (Then h (step.Number tries) (Numbered (Ok (next_id_of h))))
   unfolding in_work_at
   kept_number h tries is_open some kept sound = record {
     sound = sound;
     gone_were_admitted = kept.gone_were_admitted;
     admitted_were_ordered = λ is_open. omega (arith, kept.admitted_were_ordered is_open);
-    ended_were_begun = λ k. ended_less (is_closed h) (tries == k) (begun_of h k) (ended_of h k) is_open (λ same. subst (λ k. 0 < in_work_at h k) (eqb-true tries k same) some) (kept.ended_were_begun k);
+    ended_were_begun = λ k. ended_less (is_closed h) (tries == k) (begun_of h k) (ended_of h k) is_open
+        (λ same. subst (λ k. 0 < in_work_at h k) (eqb-true tries k same) some) (kept.ended_were_begun k);
     few_tries = kept.few_tries;
     none_admitted_ahead = λ i ahead. kept.none_admitted_ahead i (omega (arith, ahead, next_id_of-number h tries));
   }
 
   number_by : (h : History T) (tries : ℕ) (why : Option Refusal) → number_refusal tries (on_order_of h) ≡ why → IsKept h
-      → Follows h (step.Number tries) (Numbered (ok_unless why (next_id_of h))) (with_on_order (unless_refused why (numbered_one tries (on_order_of h)) (on_order_of h)) (picture_of h))
+      → Follows h (step.Number tries) (Numbered (ok_unless why (next_id_of h))) (with_on_order
+      (unless_refused why (numbered_one tries (on_order_of h)) (on_order_of h)) (picture_of h))
   unfolding picture_of on_order_of
   number_by h tries None e kept =
       let s = step.Number tries in
@@ -90,12 +99,15 @@ module _ {T : Type 0} where
       let some : 0 < in_work_at h tries = subst (λ n. 0 < n) (slice_index-in_work_of h tries kept) there.1 in
       let picture = picture_of-number h tries there.0 kept in
       let sound : IsSound (with_on_order (numbered_one tries (on_order_of h)) (picture_of h)) =
-      subst (λ why. IsSound (with_on_order (unless_refused why (numbered_one tries (on_order_of h)) (on_order_of h)) (picture_of h))) e (sound_number tries kept.sound) in
-      follows_accepted h s (Numbered (Ok (next_id_of h))) (with_on_order (numbered_one tries (on_order_of h)) (picture_of h)) (refusal_of-number h tries kept ∙ e) refl (sym picture)
+      subst (λ why. IsSound (with_on_order (unless_refused why (numbered_one tries (on_order_of h)) (on_order_of h)) (picture_of h))) e
+      (sound_number tries kept.sound) in
+      follows_accepted h s (Numbered (Ok (next_id_of h))) (with_on_order (numbered_one tries (on_order_of h)) (picture_of h))
+      (refusal_of-number h tries kept ∙ e) refl (sym picture)
       (kept_number h tries there.0 some kept (subst IsSound (sym picture) sound))
   number_by h tries (Some why) e kept =
       follows_refused h (step.Number tries) _ (picture_of h) why (refusal_of-number h tries kept ∙ e) refl refl kept
 
-  pub follows_number : (h : History T) (tries : ℕ) → IsKept h → Follows h (step.Number tries) (Numbered (number_answer tries (picture_of h))) (after_number tries (picture_of h))
+  pub follows_number : (h : History T) (tries : ℕ) → IsKept h → Follows h (step.Number tries) (Numbered (number_answer tries (picture_of h)))
+      (after_number tries (picture_of h))
   unfolding picture_of on_order_of
   follows_number h tries kept = number_by h tries (number_refusal tries (on_order_of h)) refl kept

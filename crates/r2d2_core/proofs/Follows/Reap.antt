@@ -31,20 +31,25 @@ module _ {T : Type 0} where
   abbrev reaped_by : History T → Duration → ℕ → SeenAnswer T
   reaped_by h now n = Reaped (closed_of (limits_of h) (reaped_at h now) (idle_of h)) n
 
-  expired_go : (h : History T) (now : Duration) (n : ℕ) → deeds_in (moment_of h (step.Reap now)) (step.Reap now) (reaped_by h now n) ≡ going_deeds id_of_idle (reaped_at h now) (expired_of h now)
+  expired_go : (h : History T) (now : Duration) (n : ℕ) → deeds_in (moment_of h (step.Reap now)) (step.Reap now) (reaped_by h now n) ≡ going_deeds id_of_idle
+      (reaped_at h now) (expired_of h now)
   expired_go h now n = closings_go (reaped_at h now) (reaped_at h now) (expired_of h now)
 
-  pub idle_of-reap : (h : History T) (now : Duration) (n : ℕ) → IsKept h → idle_of (Then h (step.Reap now) (reaped_by h now n)) ≡ filter (is_kept (limits_of h) (reaped_at h now)) (idle_of h)
+  pub idle_of-reap : (h : History T) (now : Duration) (n : ℕ) → IsKept h → idle_of (Then h (step.Reap now) (reaped_by h now n)) ≡ filter
+      (is_kept (limits_of h) (reaped_at h now)) (idle_of h)
   unfolding is_expired is_kept
-  idle_of-reap h now n kept = idle_of-going h (step.Reap now) (reaped_by h now n) (reaped_at h now) (is_expired (limits_of h) (reaped_at h now)) (expired_go h now n) (λ i. refl) (apart_in h kept.sound)
+  idle_of-reap h now n kept = idle_of-going h (step.Reap now) (reaped_by h now n) (reaped_at h now) (is_expired (limits_of h) (reaped_at h now))
+      (expired_go h now n) (λ i. refl) (apart_in h kept.sound)
 
   pub lent_of-reap : (h : History T) (now : Duration) (n : ℕ) → IsKept h → lent_of (Then h (step.Reap now) (reaped_by h now n)) ≡ lent_of h
-  lent_of-reap h now n kept = lent_of-going h (step.Reap now) (reaped_by h now n) (reaped_at h now) (is_expired (limits_of h) (reaped_at h now)) (expired_go h now n) (λ i. refl) (apart_in h kept.sound)
+  lent_of-reap h now n kept = lent_of-going h (step.Reap now) (reaped_by h now n) (reaped_at h now) (is_expired (limits_of h) (reaped_at h now))
+      (expired_go h now n) (λ i. refl) (apart_in h kept.sound)
 
   length-closed_of : (h : History T) (now : Duration) → length (closed_of (limits_of h) (reaped_at h now) (idle_of h)) ≡ length (expired_of h now)
   length-closed_of h now = length-map (expired_of h now) (released_at (reaped_at h now))
 
-  pub connections_of-reap : (h : History T) (now : Duration) (n : ℕ) → connections_of (Then h (step.Reap now) (reaped_by h now n)) ≡ connections_of h - length (expired_of h now)
+  pub connections_of-reap : (h : History T) (now : Duration) (n : ℕ) → connections_of (Then h (step.Reap now) (reaped_by h now n)) ≡ connections_of h - length
+      (expired_of h now)
   unfolding connections_of
   connections_of-reap h now n = less_gone (admitted_count h) (gone_count h) _ (length (expired_of h now)) (length-closed_of h now)
 
@@ -52,7 +57,13 @@ module _ {T : Type 0} where
   gone_of-reap : (h : History T) (now : Duration) → IsKept h → gone_count h + length (closed_of (limits_of h) (reaped_at h now) (idle_of h)) ≤ admitted_count h
   unfolding is_expired is_kept
   gone_of-reap h now kept =
-      omega (arith, admitted_are h kept, length-closed_of h now, length-filter_both (is_expired (limits_of h) (reaped_at h now)) (is_kept (limits_of h) (reaped_at h now)) (λ c. refl) (idle_of h))
+      omega (
+        arith,
+        admitted_are h kept,
+        length-closed_of h now,
+        length-filter_both (is_expired (limits_of h) (reaped_at h now))
+            (is_kept (limits_of h) (reaped_at h now)) (λ c. refl) (idle_of h),
+      )
 
   -- what a reap orders
   orders_of-reap : (h : History T) (now : Duration) → IsKept h → orders_of h (step.Reap now) ≡ reap_orders (as_nanos now) (picture_of h)
@@ -84,14 +95,18 @@ module _ {T : Type 0} where
       ∙ ap (λ k. ordered k p) orders
 
   pub follows_reap : (h : History T) (now : Duration) → IsKept h
-      → Follows h (step.Reap now) (Reaped (reap_closed (as_nanos now) (picture_of h)) (reap_orders (as_nanos now) (picture_of h))) (after_reap (as_nanos now) (picture_of h))
+      → Follows h (step.Reap now) (Reaped (reap_closed (as_nanos now) (picture_of h)) (reap_orders (as_nanos now) (picture_of h)))
+      (after_reap (as_nanos now) (picture_of h))
   unfolding picture_of on_order_of
   follows_reap h now kept =
       let s = step.Reap now in
       let n = orders_of h s in
       let orders : n ≡ reap_orders (as_nanos now) (picture_of h) = orders_of-reap h now kept in
-      let picture : picture_of (Then h s (reaped_by h now n)) ≡ after_reap (as_nanos now) (picture_of h) = picture_of-reap h now n kept orders (orders_if_closed h s) in
-      follows_accepted h s (Reaped (reap_closed (as_nanos now) (picture_of h)) (reap_orders (as_nanos now) (picture_of h))) (after_reap (as_nanos now) (picture_of h)) refl
+      let picture : picture_of (Then h s (reaped_by h now n)) ≡ after_reap (as_nanos now) (picture_of h) = picture_of-reap h now n kept orders
+      (orders_if_closed h s) in
+      follows_accepted h s (Reaped (reap_closed (as_nanos now) (picture_of h)) (reap_orders (as_nanos now) (picture_of h)))
+      (after_reap (as_nanos now) (picture_of h)) refl
       (ap (λ k. reaped_by h now k) (sym orders))
       (sym picture)
-      (kept_ordered h s (reaped_by h now n) (ordering_reap h now n) kept (subst IsSound (sym picture) (sound_reap (as_nanos now) kept.sound)) (gone_of-reap h now kept))
+      (kept_ordered h s (reaped_by h now n) (ordering_reap h now n) kept (subst IsSound (sym picture) (sound_reap (as_nanos now) kept.sound))
+      (gone_of-reap h now kept))

@@ -10,7 +10,8 @@ use Rattle.r2d2_core.specs.Refusals.{ok_or_back, unless_refused}
 use Rattle.r2d2_core.specs.Seen.{SeenAnswer, Kept, CameBack}
 use Rattle.r2d2_core.specs.OnOrder.{top_up_beside}
 use Rattle.r2d2_core.specs.Picture.{Picture, IsSound}
-use Rattle.r2d2_core.specs.Table.{raised_to, ordered, lent_refusal, lent_birth, kept_one, gone_one, return_by, returned_by, return_of, returned, return_answer, after_return}
+use Rattle.r2d2_core.specs.Table.{raised_to, ordered, lent_refusal, lent_birth, kept_one, gone_one, return_by, returned_by, return_of, returned, return_answer}
+use Rattle.r2d2_core.specs.Table.{after_return}
 use Rattle.r2d2_core.specs.History.{History, Then, is_closed, now_of}
 use Rattle.r2d2_core.specs.Deeds.{Going, Keeping, birth_of, idle_of, connections_of, admitted_count, gone_count}
 use Rattle.r2d2_core.specs.Pending.{on_order_of}
@@ -35,14 +36,18 @@ module _ {T : Type 0} where
   abbrev then_back : History T → Duration → ℕ → T → Bool → ℕ → Bool → History T
   then_back h now id value broken n b = Then h (step.PutBack now id value broken) (back_reply h (as_nanos now) id value n b)
 
-  idle_of-gone : (h : History T) (now : Duration) (id : ℕ) (value : T) (broken : Bool) (n : ℕ) → is_lent h id ≡ true → IsSound (picture_of h) → idle_of (then_back h now id value broken n true) ≡ idle_of h
-  idle_of-gone h now id value broken n lent sound = idle_of-lost h (step.PutBack now id value broken) (back_reply h (as_nanos now) id value n true) id (max (now_of h) (as_nanos now)) refl (λ i. refl) lent (apart_in h sound)
+  idle_of-gone : (h : History T) (now : Duration) (id : ℕ) (value : T) (broken : Bool) (n : ℕ) → is_lent h id ≡ true → IsSound (picture_of h)
+      → idle_of (then_back h now id value broken n true) ≡ idle_of h
+  idle_of-gone h now id value broken n lent sound = idle_of-lost h (step.PutBack now id value broken) (back_reply h (as_nanos now) id value n true) id
+      (max (now_of h) (as_nanos now)) refl (λ i. refl) lent (apart_in h sound)
 
-  connections_of-gone : (h : History T) (now : Duration) (id : ℕ) (value : T) (broken : Bool) (n : ℕ) → connections_of (then_back h now id value broken n true) ≡ connections_of h - 1
+  connections_of-gone : (h : History T) (now : Duration) (id : ℕ) (value : T) (broken : Bool) (n : ℕ)
+      → connections_of (then_back h now id value broken n true) ≡ connections_of h - 1
   unfolding connections_of
   connections_of-gone h now id value broken n = omega arith
 
-  connections_of-kept : (h : History T) (now : Duration) (id : ℕ) (value : T) (broken : Bool) (n : ℕ) → connections_of (then_back h now id value broken n false) ≡ connections_of h
+  connections_of-kept : (h : History T) (now : Duration) (id : ℕ) (value : T) (broken : Bool) (n : ℕ)
+      → connections_of (then_back h now id value broken n false) ≡ connections_of h
   unfolding connections_of
   connections_of-kept h now id value broken n = refl
 
@@ -55,7 +60,8 @@ module _ {T : Type 0} where
   unfolding orders_of
   orders_of-kept h s r = ap (λ r. cond (is_closed h) 0 (orders_by h (Then h s r) s r)) r ∙ none_ordered (is_closed h)
 
-  orders_of-return : (h : History T) (now : Duration) (id : ℕ) (value : T) (broken b : Bool) → closes h (max (now_of h) (as_nanos now)) id broken ≡ b → is_lent h id ≡ true → IsSound (picture_of h)
+  orders_of-return : (h : History T) (now : Duration) (id : ℕ) (value : T) (broken b : Bool) → closes h (max (now_of h) (as_nanos now)) id broken ≡ b
+      → is_lent h id ≡ true → IsSound (picture_of h)
       → orders_of h (step.PutBack now id value broken) ≡ back_orders h b
   orders_of-return h now id value broken true e lent sound =
       let s : Step T = step.PutBack now id value broken in
@@ -64,9 +70,11 @@ module _ {T : Type 0} where
       (subst (λ r. orders_by h (Then h s r) s r ≡ top_up_after h (Then h s r)) (sym r) refl)
       (ap (λ r. length (idle_of (Then h s r))) r ∙ ap length (idle_of-gone h now id value broken 0 lent sound))
       (ap (λ r. connections_of (Then h s r)) r ∙ connections_of-gone h now id value broken 0)
-  orders_of-return h now id value broken false e lent sound = orders_of-kept h (step.PutBack now id value broken) (ap (back_reply h (as_nanos now) id value 0) e)
+  orders_of-return h now id value broken false e lent sound = orders_of-kept h (step.PutBack now id value broken)
+      (ap (back_reply h (as_nanos now) id value 0) e)
 
-  ordering_return : (h : History T) (now : Duration) (id : ℕ) (value : T) (broken : Bool) (n : ℕ) (b : Bool) → IsOrdering h (step.PutBack now id value broken) (back_reply h (as_nanos now) id value n b)
+  ordering_return : (h : History T) (now : Duration) (id : ℕ) (value : T) (broken : Bool) (n : ℕ) (b : Bool)
+      → IsOrdering h (step.PutBack now id value broken) (back_reply h (as_nanos now) id value n b)
   ordering_return h now id value broken n b = record {
     closed = refl;
     scheduled = refl;
@@ -87,16 +95,20 @@ module _ {T : Type 0} where
       let r = back_reply h (as_nanos now) id value n true in
       let p = gone_one id (raised_to (as_nanos now) (picture_of h)) in
       picture_of-ordered h s r p n (ordering_return h now id value broken n true) kept refl none
-      refl (idle_of-gone h now id value broken n lent kept.sound) (lent_of-back h s r id (max (now_of h) (as_nanos now)) Going refl (λ i. refl) (λ birth. refl) (apart_in h kept.sound)) refl (connections_of-gone h now id value broken n) refl
+      refl (idle_of-gone h now id value broken n lent kept.sound) (lent_of-back h s r id (max (now_of h) (as_nanos now)) Going refl (λ i. refl) (λ birth. refl)
+      (apart_in h kept.sound)) refl (connections_of-gone h now id value broken n) refl
       ∙ ap (λ k. ordered k p) orders
   picture_of-return h now id value broken n false lent kept orders none =
       let s : Step T = step.PutBack now id value broken in
       let r = back_reply h (as_nanos now) id value n false in
       let t = max (now_of h) (as_nanos now) in
-      picture_of-unordered h s r (kept_one id (birth_of h id) value (raised_to (as_nanos now) (picture_of h))) (ordering_return h now id value broken n false) kept refl
-      refl (idle_of-kept h s r id t value refl (λ i. refl) lent (apart_in h kept.sound)) (lent_of-back h s r id t (Keeping value) refl (λ i. refl) (λ birth. refl) (apart_in h kept.sound)) refl (connections_of-kept h now id value broken n) refl
+      picture_of-unordered h s r (kept_one id (birth_of h id) value (raised_to (as_nanos now) (picture_of h)))
+      (ordering_return h now id value broken n false) kept refl
+      refl (idle_of-kept h s r id t value refl (λ i. refl) lent (apart_in h kept.sound)) (lent_of-back h s r id t (Keeping value) refl (λ i. refl)
+      (λ birth. refl) (apart_in h kept.sound)) refl (connections_of-kept h now id value broken n) refl
 
-  gone_of-return : (h : History T) (now : Duration) (id : ℕ) (value : T) (broken : Bool) (n : ℕ) (b : Bool) → is_lent h id ≡ true → IsKept h → gone_count (then_back h now id value broken n b) ≤ admitted_count h
+  gone_of-return : (h : History T) (now : Duration) (id : ℕ) (value : T) (broken : Bool) (n : ℕ) (b : Bool) → is_lent h id ≡ true → IsKept h
+      → gone_count (then_back h now id value broken n b) ≤ admitted_count h
   gone_of-return h now id value broken n true lent kept = lent_is_connected h id lent kept.sound
   gone_of-return h now id value broken n false lent kept = kept.gone_were_admitted
 
@@ -111,21 +123,25 @@ module _ {T : Type 0} where
   follows_back : (h : History T) (now : Duration) (id : ℕ) (value : T) (broken b : Bool) → IsKept h → is_lent h id ≡ true
       → closes h (max (now_of h) (as_nanos now)) id broken ≡ b → refusal_of h (step.PutBack now id value broken) ≡ None
       → IsSound (returned_by b id (birth_of h id) value (raised_to (as_nanos now) (picture_of h)))
-      → Follows h (step.PutBack now id value broken) (CameBack (Ok (return_by b id (birth_of h id) value (raised_to (as_nanos now) (picture_of h))))) (returned_by b id (birth_of h id) value (raised_to (as_nanos now) (picture_of h)))
+      → Follows h (step.PutBack now id value broken) (CameBack (Ok (return_by b id (birth_of h id) value (raised_to (as_nanos now) (picture_of h)))))
+      (returned_by b id (birth_of h id) value (raised_to (as_nanos now) (picture_of h)))
   follows_back h now id value broken b kept lent e accepted sound =
       let s : Step T = step.PutBack now id value broken in
       let n = orders_of h s in
       let orders : n ≡ back_orders h b = orders_of-return h now id value broken b e lent kept.sound in
-      let picture : picture_of (then_back h now id value broken n b) ≡ returned_by b id (birth_of h id) value (raised_to (as_nanos now) (picture_of h)) = picture_of-return h now id value broken n b lent kept orders (orders_if_closed h s) in
+      let picture : picture_of (then_back h now id value broken n b) ≡ returned_by b id (birth_of h id) value
+      (raised_to (as_nanos now) (picture_of h)) = picture_of-return h now id value broken n b lent kept orders (orders_if_closed h s) in
       let r : reply_with h n s ≡ back_reply h (as_nanos now) id value n b = ap (back_reply h (as_nanos now) id value n) e in
       follows_accepted h s _ _ accepted
       (return_by-is h now id value n b orders ∙ sym r)
       (sym picture ∙ ap (λ r. picture_of (Then h s r)) (sym r))
       (subst (λ r. IsKept (Then h s r)) (sym r)
-      (kept_ordered h s (back_reply h (as_nanos now) id value n b) (ordering_return h now id value broken n b) kept (subst IsSound (sym picture) sound) (gone_of-return h now id value broken n b lent kept)))
+      (kept_ordered h s (back_reply h (as_nanos now) id value n b) (ordering_return h now id value broken n b) kept (subst IsSound (sym picture) sound)
+      (gone_of-return h now id value broken n b lent kept)))
 
   pub follows_return : (h : History T) (now : Duration) (id : ℕ) (value : T) (broken : Bool) → IsKept h
-      → Follows h (step.PutBack now id value broken) (CameBack (return_answer (as_nanos now) id value broken (picture_of h))) (after_return (as_nanos now) id value broken (picture_of h))
+      → Follows h (step.PutBack now id value broken) (CameBack (return_answer (as_nanos now) id value broken (picture_of h)))
+      (after_return (as_nanos now) id value broken (picture_of h))
   unfolding picture_of on_order_of
   follows_return h now id value broken kept = by (refusal_of h s) refl where
     s : Step T
@@ -134,14 +150,20 @@ module _ {T : Type 0} where
     p : Picture T
     p = raised_to (as_nanos now) (picture_of h)
 
-    by : (why : Option Refusal) → refusal_of h s ≡ why → Follows h s (CameBack (return_answer (as_nanos now) id value broken (picture_of h))) (after_return (as_nanos now) id value broken (picture_of h))
+    by : (why : Option Refusal) → refusal_of h s ≡ why → Follows h s (CameBack (return_answer (as_nanos now) id value broken (picture_of h)))
+        (after_return (as_nanos now) id value broken (picture_of h))
     by None accepted =
         let none : lent_refusal id (picture_of h) ≡ None = lent_refusal-is h id ∙ accepted in
         let lent : is_lent h id ≡ true = not_false (is_lent h id) (passes (not (is_lent h id)) refusal.NotLent None accepted).0 in
         let born : lent_birth id (picture_of h) ≡ birth_of h id = lent_birth-is h id lent in
-        let reply : return_answer (as_nanos now) id value broken (picture_of h) ≡ Ok (return_of id (birth_of h id) value broken p) = ap (λ o. ok_or_back o value (return_of id (lent_birth id (picture_of h)) value broken p)) none ∙ ap (λ birth. Ok (return_of id birth value broken p)) born in
-        let new : after_return (as_nanos now) id value broken (picture_of h) ≡ returned id (birth_of h id) value broken p = ap (λ o. unless_refused o (returned id (lent_birth id (picture_of h)) value broken p) (picture_of h)) none ∙ ap (λ birth. returned id birth value broken p) born in
-        let follows = follows_back h now id value broken (closes h (max (now_of h) (as_nanos now)) id broken) kept lent refl accepted (subst IsSound new (sound_return (as_nanos now) id value broken kept.sound)) in
+        let reply : return_answer (as_nanos now) id value broken (picture_of h) ≡ Ok (return_of id (birth_of h id) value broken p) = ap
+        (λ o. ok_or_back o value (return_of id (lent_birth id (picture_of h)) value broken p)) none
+        ∙ ap (λ birth. Ok (return_of id birth value broken p)) born in
+        let new : after_return (as_nanos now) id value broken (picture_of h) ≡ returned id (birth_of h id) value broken p = ap
+        (λ o. unless_refused o (returned id (lent_birth id (picture_of h)) value broken p) (picture_of h)) none
+        ∙ ap (λ birth. returned id birth value broken p) born in
+        let follows = follows_back h now id value broken (closes h (max (now_of h) (as_nanos now)) id broken) kept lent refl accepted
+        (subst IsSound new (sound_return (as_nanos now) id value broken kept.sound)) in
         record {
           answer_is = ap CameBack reply ∙ follows.answer_is;
           picture_is = new ∙ follows.picture_is;

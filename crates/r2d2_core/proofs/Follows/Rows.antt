@@ -1,5 +1,6 @@
 -- Worked rows: what lists of steps answer, and what they leave, computed from the definitions. A row's name says what it shows.
-use Rattle.std.proofs.Common.{◌≡◌, ℕ, zero, suc, ◌*◌, ◌/◌, ◌%◌, min, true, false, List, [], ◌∷◌, ◌++◌, length, replicate, Option, Some, None, option_map, Ok, Err, String, string_bytes, Global, refl}
+use Rattle.std.proofs.Common.{◌≡◌, ℕ, zero, suc, ◌*◌, ◌/◌, ◌%◌, min, true, false, List, [], ◌∷◌, ◌++◌, length, replicate, Option, Some, None, option_map, Ok}
+use Rattle.std.proofs.Common.{Err, String, string_bytes, Global, refl}
 use Rattle.std.specs.declared.time.Duration.{Duration}
 use Rattle.r2d2_core.specs.declared.run.Step.{Step}
 use Rattle.r2d2_core.specs.declared.run.Step.TheVariants as step
@@ -231,7 +232,8 @@ delays_double : run (new (sized 1)) (begin 0 ∷ fail 0 0 ∷ begin 399 ∷ begi
 unfolding connections_of idle_of lent_of pending_of in_work_of in_work_at numbered_of next_reap_of next_id_of orders_of is_before is_expired is_kept released_at
 delays_double = refl
 
-delays_are_at_most_half_the_timeout : run (new (limits 1 None None None 1000 30_000)) (begin 0 ∷ fail 0 0 ∷ begin 400 ∷ fail 400 1 ∷ begin 900 ∷ fail 900 2 ∷ [])
+delays_are_at_most_half_the_timeout : run (new (limits 1 None None None 1000 30_000)) (begin 0 ∷ fail 0 0 ∷ begin 400 ∷ fail 400 1 ∷ begin 900 ∷ fail 900 2 ∷
+    [])
     ≡ ends 0 0 1 (opens 0 ∷ retry 400 ∷ opens 1 ∷ retry 900 ∷ opens 2 ∷ retry 1400 ∷ [])
 unfolding connections_of idle_of lent_of pending_of in_work_of in_work_at numbered_of next_reap_of next_id_of orders_of is_before is_expired is_kept released_at
 delays_are_at_most_half_the_timeout = refl
@@ -275,14 +277,16 @@ an_earlier_reap_before_a_later_opening = refl
 
 -- MOMENTS
 
-moments_never_fall : run (opened_one (limits 1 None None (Some 1000) 30_000 60_000)) (take 10 ∷ return 9000 4 1 ∷ reap 5000 ∷ return 10 0 70 ∷ reap 5999 ∷ reap 6000 ∷ [])
+moments_never_fall : run (opened_one (limits 1 None None (Some 1000) 30_000 60_000)) (take 10 ∷ return 9000 4 1 ∷ reap 5000 ∷ return 10 0 70 ∷ reap 5999 ∷ reap
+    6000 ∷ [])
     ≡ ends 0 0 1 (taken 0 0 70 0 ∷ not_lent 1 ∷ Reaped [] 0 ∷ kept ∷ Reaped [] 0 ∷ Reaped (gone 0 6000 70 ∷ []) 1 ∷ [])
 unfolding connections_of idle_of lent_of pending_of in_work_of in_work_at numbered_of next_reap_of next_id_of orders_of is_before is_expired is_kept released_at
 moments_never_fall = refl
 
 refused_steps_make_nothing_older : run (new (sized 2)) (begin 0 ∷ begin 0 ∷ fail 9000 3 ∷ fail 0 0 ∷ number 0 ∷ admit 9000 5 1 ∷ admit 5 0 7 ∷ take 6
     ∷ broken 9000 4 7 ∷ bad 9000 4 ∷ broken 7 0 7 ∷ [])
-    ≡ ends 0 0 2 (opens 0 ∷ opens 0 ∷ Failed (Err refusal.NoOpening) ∷ retry 400 ∷ numbered 0 ∷ Admitted (Err (refusal.NotNumbered, 1)) ∷ admitted ∷ taken 0 5 7 0
+    ≡ ends 0 0 2 (opens 0 ∷ opens 0 ∷ Failed (Err refusal.NoOpening) ∷ retry 400 ∷ numbered 0 ∷ Admitted
+    (Err (refusal.NotNumbered, 1)) ∷ admitted ∷ taken 0 5 7 0
     ∷ not_lent 7 ∷ CheckFailed (Err refusal.NotLent) ∷ closed 7 2 1 ∷ [])
 unfolding connections_of idle_of lent_of pending_of in_work_of in_work_at numbered_of next_reap_of next_id_of orders_of is_before is_expired is_kept released_at
 refused_steps_make_nothing_older = refl
@@ -322,7 +326,8 @@ reaps_at_the_greatest_moment = refl
 
 strangers_are_refused : run (new (sized 1)) (number 0 ∷ admit 0 5 1 ∷ begin 0 ∷ number 3 ∷ number 0 ∷ admit 0 0 7 ∷ return 1 9 5 ∷ take 2 ∷ return 3 0 7
     ∷ return 4 0 7 ∷ [])
-    ≡ ends 1 1 0 (Numbered (Err refusal.NoOpening) ∷ Admitted (Err (refusal.NotNumbered, 1)) ∷ opens 0 ∷ Numbered (Err refusal.NoOpening) ∷ numbered 0 ∷ admitted
+    ≡ ends 1 1 0 (Numbered (Err refusal.NoOpening) ∷ Admitted (Err (refusal.NotNumbered, 1)) ∷ opens 0 ∷ Numbered
+    (Err refusal.NoOpening) ∷ numbered 0 ∷ admitted
     ∷ not_lent 5 ∷ taken 0 0 7 0 ∷ kept ∷ not_lent 7 ∷ [])
 unfolding connections_of idle_of lent_of pending_of in_work_of in_work_at numbered_of next_reap_of next_id_of orders_of is_before is_expired is_kept released_at
 strangers_are_refused = refl
@@ -339,7 +344,8 @@ no_id_at_all = refl
 
 -- CLOSING
 
-closed_for_good : run (new (sized 1)) (step.Close ∷ number 3 ∷ admit 0 9 1 ∷ fail 0 9 ∷ bad 0 9 ∷ broken 0 9 1 ∷ reap 0 ∷ want 0 ∷ begin 0 ∷ step.TakeError ∷ step.Close ∷ [])
+closed_for_good : run (new (sized 1)) (step.Close ∷ number 3 ∷ admit 0 9 1 ∷ fail 0 9 ∷ bad 0 9 ∷ broken 0 9 1 ∷ reap 0 ∷ want 0 ∷ begin 0 ∷ step.TakeError ∷
+    step.Close ∷ [])
     ≡ ends 0 0 0 (Left [] ∷ Numbered (Err refusal.Closed) ∷ Admitted (Err (refusal.Closed, 1)) ∷ Failed (Err refusal.Closed) ∷ CheckFailed (Err refusal.NotLent)
     ∷ not_lent 1 ∷ Reaped [] 0 ∷ empty 0 ∷ Begun JobClosed ∷ Told None ∷ Left [] ∷ [])
 unfolding connections_of idle_of lent_of pending_of in_work_of in_work_at numbered_of next_reap_of next_id_of orders_of is_before is_expired is_kept released_at
@@ -350,7 +356,8 @@ closing_hands_out_the_oldest_first : run (opened_two (sized 2)) (step.Close ∷ 
 unfolding connections_of idle_of lent_of pending_of in_work_of in_work_at numbered_of next_reap_of next_id_of orders_of is_before is_expired is_kept released_at
 closing_hands_out_the_oldest_first = refl
 
-closing_amid_openings : run (new (sized 2)) (begin 0 ∷ begin 0 ∷ number 0 ∷ admit 0 0 7 ∷ take 1 ∷ number 0 ∷ step.Close ∷ admit 2 1 8 ∷ fail 3 0 ∷ take 4 ∷ begin 4
+closing_amid_openings : run (new (sized 2)) (begin 0 ∷ begin 0 ∷ number 0 ∷ admit 0 0 7 ∷ take 1 ∷ number 0 ∷ step.Close ∷ admit 2 1 8 ∷ fail 3 0 ∷ take 4 ∷
+    begin 4
     ∷ return 5 0 7 ∷ step.Close ∷ [])
     ≡ ends 0 0 0 (opens 0 ∷ opens 0 ∷ numbered 0 ∷ admitted ∷ taken 0 0 7 0 ∷ numbered 1 ∷ Left [] ∷ Admitted (Err (refusal.Closed, 8))
     ∷ Failed (Err refusal.Closed) ∷ empty 0 ∷ Begun JobClosed ∷ closed 7 5 0 ∷ Left [] ∷ [])
@@ -359,11 +366,22 @@ closing_amid_openings = refl
 
 each_pending_opening_has_its_place : on_order_of (after_all (new (limits 4 None None (Some 1000) 30_000 30_000)) (begin 0 ∷ begin 0 ∷ begin 0 ∷ number 0
     ∷ admit 0 0 7 ∷ take 1 ∷ number 0 ∷ []))
-    ≡ record { limits = limits 4 None None (Some 1000) 30_000 30_000; scheduled = opening 0 0 ∷ []; in_work = 1 ∷ replicate 99 0; numbered = 1 ∷ []; next_reap = Some 30_000_000_000; next_id = 2; pending = 3; closed = false }
-unfolding connections_of idle_of lent_of pending_of in_work_of in_work_at numbered_of next_reap_of next_id_of orders_of is_before is_expired is_kept released_at on_order_of
+    ≡ record {
+      limits = limits 4 None None (Some 1000) 30_000 30_000;
+      scheduled = opening 0 0 ∷ [];
+      in_work = 1 ∷ replicate 99 0;
+      numbered = 1 ∷ [];
+      next_reap = Some 30_000_000_000;
+      next_id = 2;
+      pending = 3;
+      closed = false;
+    }
+unfolding connections_of idle_of lent_of pending_of in_work_of in_work_at numbered_of next_reap_of next_id_of orders_of is_before is_expired is_kept released_at
+    on_order_of
 each_pending_opening_has_its_place = refl
 
-nothing_is_on_order_once_closed : picture_of (after_all (new (limits 4 None None (Some 1000) 30_000 30_000)) (begin 0 ∷ begin 0 ∷ begin 0 ∷ number 0 ∷ admit 0 0 7
+nothing_is_on_order_once_closed : picture_of (after_all (new (limits 4 None None (Some 1000) 30_000 30_000))
+    (begin 0 ∷ begin 0 ∷ begin 0 ∷ number 0 ∷ admit 0 0 7
     ∷ take 1 ∷ number 0 ∷ step.Close ∷ []))
     ≡ record {
       latest = 1_000_000;
@@ -372,15 +390,27 @@ nothing_is_on_order_once_closed : picture_of (after_all (new (limits 4 None None
       connections = 1;
       last_error = None;
       on_order =
-          record { limits = limits 4 None None (Some 1000) 30_000 30_000; scheduled = []; in_work = replicate 100 0; numbered = []; next_reap = None; next_id = 2; pending = 0; closed = true };
+          record {
+            limits = limits 4 None None (Some 1000) 30_000 30_000;
+            scheduled = [];
+            in_work = replicate 100 0;
+            numbered = [];
+            next_reap = None;
+            next_id = 2;
+            pending = 0;
+            closed = true;
+          };
     }
-unfolding connections_of idle_of lent_of pending_of in_work_of in_work_at numbered_of next_reap_of next_id_of orders_of is_before is_expired is_kept released_at on_order_of picture_of
+unfolding connections_of idle_of lent_of pending_of in_work_of in_work_at numbered_of next_reap_of next_id_of orders_of is_before is_expired is_kept released_at
+    on_order_of picture_of
 nothing_is_on_order_once_closed = refl
 
 -- THE LAST ERROR, whatever the texts
 
-the_last_error : (blammo first second : String Global) → run (new (sized 1)) (begin 0 ∷ fail_by 0 0 blammo ∷ step.TakeError ∷ step.TakeError ∷ begin 400 ∷ fail_by 400 1 first
-    ∷ begin 1200 ∷ fail 1200 2 ∷ step.TakeError ∷ begin 2800 ∷ fail_by 2800 3 second ∷ begin 6000 ∷ number 4 ∷ admit 6000 0 7 ∷ step.TakeError ∷ step.Close ∷ [])
+the_last_error : (blammo first second : String Global) → run (new (sized 1)) (begin 0 ∷ fail_by 0 0 blammo ∷ step.TakeError ∷ step.TakeError ∷ begin 400 ∷
+    fail_by 400 1 first
+    ∷ begin 1200 ∷ fail 1200 2 ∷ step.TakeError ∷ begin 2800 ∷ fail_by 2800 3 second ∷ begin 6000 ∷ number 4 ∷ admit 6000 0 7 ∷ step.TakeError ∷ step.Close ∷
+    [])
     ≡ ends 0 0 0 (opens 0 ∷ retry 400 ∷ told blammo ∷ Told None ∷ opens 1 ∷ retry 1200 ∷ opens 2 ∷ retry 2800 ∷ told first ∷ opens 3 ∷ retry 6000 ∷ opens 4
     ∷ numbered 0 ∷ admitted ∷ Told None ∷ Left ((0, 7) ∷ []) ∷ [])
 unfolding connections_of idle_of lent_of pending_of in_work_of in_work_at numbered_of next_reap_of next_id_of orders_of is_before is_expired is_kept released_at
@@ -391,7 +421,8 @@ a_failed_check_is_told : (sick : String Global) → run (opened_two (sized 2)) (
 unfolding connections_of idle_of lent_of pending_of in_work_of in_work_at numbered_of next_reap_of next_id_of orders_of is_before is_expired is_kept released_at
 a_failed_check_is_told sick = refl
 
-told_once_closed : (sick worse : String Global) → run (opened_two (sized 2)) (take 1 ∷ take 1 ∷ bad_by 2 1 sick ∷ step.Close ∷ step.TakeError ∷ bad_by 3 0 worse ∷ step.TakeError ∷ [])
+told_once_closed : (sick worse : String Global) → run (opened_two (sized 2)) (take 1 ∷ take 1 ∷ bad_by 2 1 sick ∷ step.Close ∷ step.TakeError ∷ bad_by 3 0 worse
+    ∷ step.TakeError ∷ [])
     ≡ ends 0 0 0 (taken 1 0 71 0 ∷ taken 0 0 70 0 ∷ lost 2 1 ∷ Left [] ∷ told sick ∷ lost 3 0 ∷ told worse ∷ [])
 unfolding connections_of idle_of lent_of pending_of in_work_of in_work_at numbered_of next_reap_of next_id_of orders_of is_before is_expired is_kept released_at
 told_once_closed sick worse = refl

@@ -15,7 +15,8 @@ module _ {T : Type 0} where
   after_all-push h [] s = refl
   after_all-push h (x ∷ steps) s = after_all-push (after h x) steps s
 
-  pub answers_of-push : (h : History T) (steps : List (Step T)) (s : Step T) → answers_of h (steps ++ s ∷ []) ≡ answers_of h steps ++ answer_of (after_all h steps) s ∷ []
+  pub answers_of-push : (h : History T) (steps : List (Step T)) (s : Step T)
+      → answers_of h (steps ++ s ∷ []) ≡ answers_of h steps ++ answer_of (after_all h steps) s ∷ []
   answers_of-push h [] s = refl
   answers_of-push h (x ∷ steps) s = ap (λ l. answer_of h x ∷ l) (answers_of-push (after h x) steps s)
 
@@ -34,7 +35,9 @@ module _ {T A : Type 0} where
       let f = follows_there (after_all start steps) s run.kept run.picture_is answered went in
       let next : after_all start (steps ++ s ∷ []) ≡ after (after_all start steps) s = after_all-push start steps s in
       record {
-        answers_are = ap (map seen_answer) pushed ∙ (map-append seen_answer answers (a ∷ []) ∙ (ap (λ l. l ++ seen_answer a ∷ []) run.answers_are ∙ (ap (λ r. answers_of start steps ++ r ∷ []) f.answer_is ∙ sym (answers_of-push start steps s))));
+        answers_are = ap (map seen_answer) pushed ∙ (map-append seen_answer answers (a ∷ [])
+            ∙ (ap (λ l. l ++ seen_answer a ∷ []) run.answers_are ∙ (ap (λ r. answers_of start steps ++ r ∷ []) f.answer_is
+            ∙ sym (answers_of-push start steps s))));
         picture_is = f.picture_is ∙ ap picture_of (sym next);
         kept = subst IsKept (sym next) f.kept;
       }

@@ -33,7 +33,8 @@ module _ {T : Type 0} where
   follows_step h step.Close kept = follows_close h kept
 
   -- a core that shows h answers, and goes on, as the table says of the picture of h
-  pub follows_there : (h : History T) (s : Step T) {core new : Picture T} {reply : SeenAnswer T} → IsKept h → core ≡ picture_of h → reply ≡ step_answer s core → new ≡ after_step s core → Follows h s reply new
+  pub follows_there : (h : History T) (s : Step T) {core new : Picture T} {reply : SeenAnswer T} → IsKept h → core ≡ picture_of h → reply ≡ step_answer s core
+      → new ≡ after_step s core → Follows h s reply new
   follows_there h s kept is answered went =
       let f = follows_step h s kept in
       record {

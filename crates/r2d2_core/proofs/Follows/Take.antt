@@ -22,13 +22,15 @@ use Rattle.r2d2_core.proofs.Histories.Following.{follows_accepted}
 use Rattle.r2d2_core.proofs.Facts.Sounds.{sound_take}
 
 module _ {T : Type 0} where
-  connections_of-take : (h : History T) (now : Duration) (or_order : Bool) (m : Option (SeenIdleConnection T)) (n : ℕ) → connections_of (Then h (step.Take now or_order) (Taken (take_with m n))) ≡ connections_of h
+  connections_of-take : (h : History T) (now : Duration) (or_order : Bool) (m : Option (SeenIdleConnection T)) (n : ℕ)
+      → connections_of (Then h (step.Take now or_order) (Taken (take_with m n))) ≡ connections_of h
   unfolding connections_of
   connections_of-take h now or_order None n = refl
   connections_of-take h now or_order (Some c) n = refl
 
   -- what a take orders
-  orders_of-take : (h : History T) (now : Duration) (or_order : Bool) (m : Option (SeenIdleConnection T)) → lent_next (limits_of h).order (idle_of h) ≡ m → IsSound (picture_of h)
+  orders_of-take : (h : History T) (now : Duration) (or_order : Bool) (m : Option (SeenIdleConnection T)) → lent_next (limits_of h).order (idle_of h) ≡ m
+      → IsSound (picture_of h)
       → orders_of h (step.Take now or_order) ≡ take_orders m or_order (picture_of h)
   unfolding orders_of picture_of on_order_of
   orders_of-take h now or_order None e sound =
@@ -41,7 +43,8 @@ module _ {T : Type 0} where
       (rw e (ap length (idle_of-found h s (Taken (Found c.id c.birth c.value 0)) _ (limits_of h).order c refl (λ i. refl) e (apart_in h sound))))
       (connections_of-take h now or_order (lent_next (limits_of h).order (idle_of h)) 0)
 
-  ordering_take : (h : History T) (now : Duration) (or_order : Bool) (m : Option (SeenIdleConnection T)) (n : ℕ) → IsOrdering h (step.Take now or_order) (Taken (take_with m n))
+  ordering_take : (h : History T) (now : Duration) (or_order : Bool) (m : Option (SeenIdleConnection T)) (n : ℕ)
+      → IsOrdering h (step.Take now or_order) (Taken (take_with m n))
   ordering_take h now or_order m n = record {
     closed = refl;
     scheduled = refl;
@@ -54,7 +57,8 @@ module _ {T : Type 0} where
   }
 
   -- the picture after a take
-  picture_of-take : (h : History T) (now : Duration) (or_order : Bool) (m : Option (SeenIdleConnection T)) (n : ℕ) → lent_next (limits_of h).order (idle_of h) ≡ m → IsKept h
+  picture_of-take : (h : History T) (now : Duration) (or_order : Bool) (m : Option (SeenIdleConnection T)) (n : ℕ)
+      → lent_next (limits_of h).order (idle_of h) ≡ m → IsKept h
       → n ≡ take_orders m or_order (picture_of h) → (is_closed h ≡ true → n ≡ 0)
       → picture_of (Then h (step.Take now or_order) (Taken (take_with m n))) ≡ taken m or_order (raised_to (as_nanos now) (picture_of h))
   unfolding picture_of on_order_of
@@ -62,16 +66,20 @@ module _ {T : Type 0} where
       let s = step.Take now or_order in
       let p = raised_to (as_nanos now) (picture_of h) in
       picture_of-ordered h s (Taken (Empty n)) p n (ordering_take h now or_order None n) kept refl none
-      refl (idle_of-none h s (Taken (Empty n)) refl (λ i. refl)) (lent_of-none h s (Taken (Empty n)) refl (λ i. refl)) refl (connections_of-take h now or_order None n) refl
+      refl (idle_of-none h s (Taken (Empty n)) refl (λ i. refl)) (lent_of-none h s (Taken (Empty n)) refl (λ i. refl)) refl
+      (connections_of-take h now or_order None n) refl
       ∙ ap (λ k. ordered k p) orders
   picture_of-take h now or_order (Some c) n e kept orders none =
       let s = step.Take now or_order in
       let p = lent_out c (raised_to (as_nanos now) (picture_of h)) in
       picture_of-ordered h s (Taken (Found c.id c.birth c.value n)) p n (ordering_take h now or_order (Some c) n) kept refl none
-      refl (idle_of-found h s (Taken (Found c.id c.birth c.value n)) _ (limits_of h).order c refl (λ i. refl) e (apart_in h kept.sound)) (lent_of-found h s (Taken (Found c.id c.birth c.value n)) _ (limits_of h).order c refl (λ i. refl) e (apart_in h kept.sound)) refl (connections_of-take h now or_order (Some c) n) refl
+      refl (idle_of-found h s (Taken (Found c.id c.birth c.value n)) _ (limits_of h).order c refl (λ i. refl) e (apart_in h kept.sound))
+      (lent_of-found h s (Taken (Found c.id c.birth c.value n)) _ (limits_of h).order c refl (λ i. refl) e (apart_in h kept.sound)) refl
+      (connections_of-take h now or_order (Some c) n) refl
       ∙ ap (λ k. ordered k p) orders
 
-  gone_of-take : (h : History T) (now : Duration) (or_order : Bool) (m : Option (SeenIdleConnection T)) (n : ℕ) → gone_count (Then h (step.Take now or_order) (Taken (take_with m n))) ≡ gone_count h
+  gone_of-take : (h : History T) (now : Duration) (or_order : Bool) (m : Option (SeenIdleConnection T)) (n : ℕ)
+      → gone_count (Then h (step.Take now or_order) (Taken (take_with m n))) ≡ gone_count h
   gone_of-take h now or_order None n = refl
   gone_of-take h now or_order (Some c) n = refl
 
@@ -83,8 +91,10 @@ module _ {T : Type 0} where
       let m = lent_next (limits_of h).order (idle_of h) in
       let n = orders_of h s in
       let orders : n ≡ take_orders m or_order (picture_of h) = orders_of-take h now or_order m refl kept.sound in
-      let picture : picture_of (Then h s (Taken (take_with m n))) ≡ after_take (as_nanos now) or_order (picture_of h) = picture_of-take h now or_order m n refl kept orders (orders_if_closed h s) in
+      let picture : picture_of (Then h s (Taken (take_with m n))) ≡ after_take (as_nanos now) or_order
+      (picture_of h) = picture_of-take h now or_order m n refl kept orders (orders_if_closed h s) in
       follows_accepted h s (Taken (take_answer or_order (picture_of h))) (after_take (as_nanos now) or_order (picture_of h)) refl
       (ap (λ k. Taken (take_with m k)) (sym orders))
       (sym picture)
-      (kept_ordered h s (Taken (take_with m n)) (ordering_take h now or_order m n) kept (subst IsSound (sym picture) (sound_take (as_nanos now) or_order kept.sound)) (omega (arith, kept.gone_were_admitted, gone_of-take h now or_order m n)))
+      (kept_ordered h s (Taken (take_with m n)) (ordering_take h now or_order m n) kept (subst IsSound (sym picture)
+      (sound_take (as_nanos now) or_order kept.sound)) (omega (arith, kept.gone_were_admitted, gone_of-take h now or_order m n)))

@@ -39,4 +39,5 @@ module _ {T : Type 0} where
       let picture = picture_of-take_error h kept in
       follows_accepted h step.TakeError (Told (picture_of h).last_error) (after_take_error (picture_of h)) refl refl
       (sym picture)
-      (kept_ordered h step.TakeError (Told (last_error_of h)) (ordering_take_error h) kept (subst IsSound (sym picture) (sound_take_error kept.sound)) kept.gone_were_admitted)
+      (kept_ordered h step.TakeError (Told (last_error_of h)) (ordering_take_error h) kept (subst IsSound (sym picture)
+      (sound_take_error kept.sound)) kept.gone_were_admitted)

@@ -23,16 +23,19 @@ next_holds P lending.NewestFirst xs c all e = last_holds P xs c all e
 next_holds P lending.OldestFirst [] c all e = absurd cc
 next_holds P lending.OldestFirst (x ∷ xs) c all e = let same : x ≡ c = cc in subst P same all.0
 
-shown_step : {X Y : Type 0} (P : Y → Type 0) (f : X → Option Y) (o : Option Y) (x : X) (xs : List X) → f x ≡ o → MatchOption o (Unit {0}) P → AllByRecursion P (filter_map f xs) → AllByRecursion P (filter_map f (x ∷ xs))
+shown_step : {X Y : Type 0} (P : Y → Type 0) (f : X → Option Y) (o : Option Y) (x : X) (xs : List X) → f x ≡ o → MatchOption o (Unit {0}) P
+    → AllByRecursion P (filter_map f xs) → AllByRecursion P (filter_map f (x ∷ xs))
 shown_step P f None x xs e p all = rw e all
 shown_step P f (Some y) x xs e p all = rw e (p, all)
 
 -- what is so of each that is shown is so of all of them
-pub shown_all : {X Y : Type 0} (P : Y → Type 0) (f : X → Option Y) → ((x : X) → MatchOption (f x) (Unit {0}) P) → (xs : List X) → AllByRecursion P (filter_map f xs)
+pub shown_all : {X Y : Type 0} (P : Y → Type 0) (f : X → Option Y) → ((x : X) → MatchOption (f x) (Unit {0}) P) → (xs : List X)
+    → AllByRecursion P (filter_map f xs)
 shown_all P f p [] = tt
 shown_all P f p (x ∷ xs) = shown_step P f (f x) x xs refl (p x) (shown_all P f p xs)
 
-birth_shown : {T : Type 0} (birth : ℕ → ℕ) (i at : ℕ) (w : What T) → MatchOption (as_idle (birth i) (record { id = i; at = at; what = w })) (Unit {0}) (λ c. c.birth ≡ birth c.id)
+birth_shown : {T : Type 0} (birth : ℕ → ℕ) (i at : ℕ) (w : What T) → MatchOption (as_idle (birth i) (record { id = i; at = at; what = w })) (Unit {0})
+    (λ c. c.birth ≡ birth c.id)
 birth_shown birth i at (Admission v) = refl
 birth_shown birth i at (Keeping v) = refl
 birth_shown birth i at Taking_out = tt
@@ -40,7 +43,8 @@ birth_shown birth i at Going = tt
 
 pub births_of-idle : {T : Type 0} (h : History T) → AllByRecursion (λ c. c.birth ≡ birth_of h c.id) (idle_of h)
 unfolding idle_of
-births_of-idle h = shown_all (λ c. c.birth ≡ birth_of h c.id) (λ d. as_idle (birth_of h d.id) d) (λ d. birth_shown (birth_of h) d.id d.at d.what) (latest id_of_deed (deeds_of h))
+births_of-idle h = shown_all (λ c. c.birth ≡ birth_of h c.id) (λ d. as_idle (birth_of h d.id) d) (λ d. birth_shown (birth_of h) d.id d.at d.what)
+    (latest id_of_deed (deeds_of h))
 
 -- the one that is lent next too
 pub birth_of-next : {T : Type 0} (h : History T) (o : LendingOrder) (c : SeenIdleConnection T) → lent_next o (idle_of h) ≡ Some c → c.birth ≡ birth_of h c.id

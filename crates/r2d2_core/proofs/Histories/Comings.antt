@@ -30,14 +30,17 @@ other_admits id i e = by (id == i) e where
 
 module _ {T : Type 0} where
   -- the idle one that is lent next stands once among the idle, and is not lent
-  next_once : (h : History T) (o : LendingOrder) (c : SeenIdleConnection T) → lent_next o (idle_of h) ≡ Some c → AreApart h → copies_of c.id (map id_of_idle (still_idle o (idle_of h))) ≡ 0
+  next_once : (h : History T) (o : LendingOrder) (c : SeenIdleConnection T) → lent_next o (idle_of h) ≡ Some c → AreApart h
+      → copies_of c.id (map id_of_idle (still_idle o (idle_of h))) ≡ 0
   next_once h o c e apart = omega (arith, apart c.id, copies_of-next id_of_idle c.id o (idle_of h) c e, copies_of-self c.id)
 
-  idle_not_lent : (h : History T) (o : LendingOrder) (c : SeenIdleConnection T) → lent_next o (idle_of h) ≡ Some c → AreApart h → copies_of c.id (map id_of_lent (lent_of h)) ≡ 0
+  idle_not_lent : (h : History T) (o : LendingOrder) (c : SeenIdleConnection T) → lent_next o (idle_of h) ≡ Some c → AreApart h
+      → copies_of c.id (map id_of_lent (lent_of h)) ≡ 0
   idle_not_lent h o c e apart = omega (arith, apart c.id, copies_of-next id_of_idle c.id o (idle_of h) c e, copies_of-self c.id)
 
   -- what is idle after a step that lends the one that is next
-  pub idle_of-found : (h : History T) (s : Step T) (r : SeenAnswer T) (t : ℕ) (o : LendingOrder) (c : SeenIdleConnection T) → deeds_in (moment_of h s) s r ≡ deed c.id t Taking_out ∷ [] → ((i : ℕ) → admits s i ≡ false)
+  pub idle_of-found : (h : History T) (s : Step T) (r : SeenAnswer T) (t : ℕ) (o : LendingOrder) (c : SeenIdleConnection T)
+      → deeds_in (moment_of h s) s r ≡ deed c.id t Taking_out ∷ [] → ((i : ℕ) → admits s i ≡ false)
       → lent_next o (idle_of h) ≡ Some c → AreApart h → idle_of (Then h s r) ≡ still_idle o (idle_of h)
   idle_of-found h s r t o c es none e apart =
       let d : Deed T = deed c.id t Taking_out in
@@ -47,27 +50,32 @@ module _ {T : Type 0} where
       ∙ filter-next id_of_idle o (idle_of h) c e (next_once h o c e apart)))
 
   -- and what is lent
-  pub lent_of-found : (h : History T) (s : Step T) (r : SeenAnswer T) (t : ℕ) (o : LendingOrder) (c : SeenIdleConnection T) → deeds_in (moment_of h s) s r ≡ deed c.id t Taking_out ∷ [] → ((i : ℕ) → admits s i ≡ false)
+  pub lent_of-found : (h : History T) (s : Step T) (r : SeenAnswer T) (t : ℕ) (o : LendingOrder) (c : SeenIdleConnection T)
+      → deeds_in (moment_of h s) s r ≡ deed c.id t Taking_out ∷ [] → ((i : ℕ) → admits s i ≡ false)
       → lent_next o (idle_of h) ≡ Some c → AreApart h → lent_of (Then h s r) ≡ lent_of h ++ lent_connection c.id c.birth ∷ []
   lent_of-found h s r t o c es none e apart =
       let d : Deed T = deed c.id t Taking_out in
       lent_of-then h s r (d ∷ []) es (λ i other. none i)
-      ∙ (ap (λ l. l ++ lent_connection c.id (birth_of (Then h s r) c.id) ∷ []) (one_other id_of_deed d id_of_lent (lent_of h) ∙ filter-absent id_of_lent c.id (lent_of h) (idle_not_lent h o c e apart))
+      ∙ (ap (λ l. l ++ lent_connection c.id (birth_of (Then h s r) c.id) ∷ []) (one_other id_of_deed d id_of_lent (lent_of h)
+      ∙ filter-absent id_of_lent c.id (lent_of h) (idle_not_lent h o c e apart))
       ∙ (ap (λ b. lent_of h ++ lent_connection c.id (cond b (moment_of h s) (birth_of h c.id)) ∷ []) (none c.id)
       ∙ ap (λ b. lent_of h ++ lent_connection c.id b ∷ []) (sym (birth_of-next h o c e))))
 
   -- what is idle after an admission of an id that is not idle
   pub idle_of-admitted : (h : History T) (now : Duration) (id : ℕ) (value : T) (r : SeenAnswer T) → copies_of id (map id_of_idle (idle_of h)) ≡ 0
-      → idle_of (Then h (step.Admit now id value) r) ≡ idle_of h ++ idle_connection id (max (now_of h) (as_nanos now)) (max (now_of h) (as_nanos now)) value ∷ []
+      → idle_of (Then h (step.Admit now id value) r) ≡ idle_of h ++ idle_connection id (max (now_of h) (as_nanos now))
+      (max (now_of h) (as_nanos now)) value ∷ []
   idle_of-admitted h now id value r none =
       let t = max (now_of h) (as_nanos now) in
       let d : Deed T = deed id t (Admission value) in
       idle_of-then h (step.Admit now id value) r (d ∷ []) refl (other_admits id)
-      ∙ (ap (λ l. l ++ idle_connection id (cond (id == id) t (birth_of h id)) t value ∷ []) (one_other id_of_deed d id_of_idle (idle_of h) ∙ filter-absent id_of_idle id (idle_of h) none)
+      ∙ (ap (λ l. l ++ idle_connection id (cond (id == id) t (birth_of h id)) t value ∷ [])
+      (one_other id_of_deed d id_of_idle (idle_of h) ∙ filter-absent id_of_idle id (idle_of h) none)
       ∙ ap (λ b. idle_of h ++ idle_connection id (cond b t (birth_of h id)) t value ∷ []) (eq-eqb id id refl))
 
   -- and what is lent, where it is not lent
-  pub lent_of-admitted : (h : History T) (now : Duration) (id : ℕ) (value : T) (r : SeenAnswer T) → copies_of id (map id_of_lent (lent_of h)) ≡ 0 → lent_of (Then h (step.Admit now id value) r) ≡ lent_of h
+  pub lent_of-admitted : (h : History T) (now : Duration) (id : ℕ) (value : T) (r : SeenAnswer T) → copies_of id (map id_of_lent (lent_of h)) ≡ 0
+      → lent_of (Then h (step.Admit now id value) r) ≡ lent_of h
   lent_of-admitted h now id value r none =
       let d : Deed T = deed id (max (now_of h) (as_nanos now)) (Admission value) in
       lent_of-then h (step.Admit now id value) r (d ∷ []) refl (other_admits id)

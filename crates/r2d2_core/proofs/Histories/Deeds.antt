@@ -9,7 +9,8 @@ use Rattle.r2d2_core.specs.declared.run.Step.{Step}
 use Rattle.r2d2_core.specs.Ids.{latest, copies_of}
 use Rattle.r2d2_core.specs.Connections.{id_of_idle, id_of_lent}
 use Rattle.r2d2_core.specs.History.{History, Then, moment_of}
-use Rattle.r2d2_core.specs.Deeds.{Deed, What, Admission, Taking_out, Keeping, Going, deeds_of, deeds_in, id_of_deed, birth_of, admits, as_idle, as_lent, idle_of, lent_of}
+use Rattle.r2d2_core.specs.Deeds.{Deed, What, Admission, Taking_out, Keeping, Going, deeds_of, deeds_in, id_of_deed, birth_of, admits, as_idle, as_lent}
+use Rattle.r2d2_core.specs.Deeds.{idle_of, lent_of}
 use Rattle.r2d2_core.specs.Seen.{SeenAnswer}
 use Rattle.r2d2_core.proofs.Lists.Filters.{filter_true}
 use Rattle.r2d2_core.proofs.Facts.Latest.{is_other, latest-append}
@@ -33,31 +34,36 @@ filter_map-filter f p q h [] = refl
 filter_map-filter f p q h (x ∷ xs) = keeps_step (p x) (f x) q f x (filter p xs) (filter_map f xs) [] refl (h x) (filter_map-filter f p q h xs)
 
 -- a test of ids sees what is shown as it sees the deed
-pub idle_keeps : {T : Type 0} (q : ℕ → Bool) (birth i at : ℕ) (w : What T) → MatchOption (as_idle birth (record { id = i; at = at; what = w })) (Unit {0}) (λ c. q c.id ≡ q i)
+pub idle_keeps : {T : Type 0} (q : ℕ → Bool) (birth i at : ℕ) (w : What T)
+    → MatchOption (as_idle birth (record { id = i; at = at; what = w })) (Unit {0}) (λ c. q c.id ≡ q i)
 idle_keeps q birth i at (Admission v) = refl
 idle_keeps q birth i at (Keeping v) = refl
 idle_keeps q birth i at Taking_out = tt
 idle_keeps q birth i at Going = tt
 
-pub lent_keeps : {T : Type 0} (q : ℕ → Bool) (birth i at : ℕ) (w : What T) → MatchOption (as_lent birth (record { id = i; at = at; what = w })) (Unit {0}) (λ c. q c.id ≡ q i)
+pub lent_keeps : {T : Type 0} (q : ℕ → Bool) (birth i at : ℕ) (w : What T)
+    → MatchOption (as_lent birth (record { id = i; at = at; what = w })) (Unit {0}) (λ c. q c.id ≡ q i)
 lent_keeps q birth i at (Admission v) = tt
 lent_keeps q birth i at (Keeping v) = tt
 lent_keeps q birth i at Taking_out = refl
 lent_keeps q birth i at Going = tt
 
-births_step : {X Y : Type 0} (b : Bool) (f g : X → Option Y) (x : X) (xs : List X) → (b ≡ true → f x ≡ g x) → filter_map f xs ≡ filter_map g xs → filter_map f (cond b (x ∷ xs) xs) ≡ filter_map g (cond b (x ∷ xs) xs)
+births_step : {X Y : Type 0} (b : Bool) (f g : X → Option Y) (x : X) (xs : List X) → (b ≡ true → f x ≡ g x) → filter_map f xs ≡ filter_map g xs
+    → filter_map f (cond b (x ∷ xs) xs) ≡ filter_map g (cond b (x ∷ xs) xs)
 births_step true f g x xs e ih = rw (e refl, ih) refl
 births_step false f g x xs e ih = ih
 
 -- two ways to show that agree on what passes
-pub filter_map-agree : {X Y : Type 0} (p : X → Bool) (f g : X → Option Y) → ((x : X) → p x ≡ true → f x ≡ g x) → (xs : List X) → filter_map f (filter p xs) ≡ filter_map g (filter p xs)
+pub filter_map-agree : {X Y : Type 0} (p : X → Bool) (f g : X → Option Y) → ((x : X) → p x ≡ true → f x ≡ g x) → (xs : List X)
+    → filter_map f (filter p xs) ≡ filter_map g (filter p xs)
 filter_map-agree p f g e [] = refl
 filter_map-agree p f g e (x ∷ xs) = births_step (p x) f g x (filter p xs) (e x) (filter_map-agree p f g e xs)
 
 -- what is idle after a step: what was, but for the ids of its deeds, and what its deeds leave
 pub idle_of-then : {T : Type 0} (h : History T) (s : Step T) (r : SeenAnswer T) (es : List (Deed T)) → deeds_in (moment_of h s) s r ≡ es
     → ((i : ℕ) → is_other id_of_deed es i ≡ true → admits s i ≡ false)
-    → idle_of (Then h s r) ≡ filter (λ c. is_other id_of_deed es c.id) (idle_of h) ++ filter_map (λ d. as_idle (birth_of (Then h s r) d.id) d) (latest id_of_deed es)
+    → idle_of (Then h s r) ≡ filter (λ c. is_other id_of_deed es c.id) (idle_of h) ++ filter_map (λ d. as_idle (birth_of (Then h s r) d.id) d)
+    (latest id_of_deed es)
 unfolding idle_of
 idle_of-then h s r es e new =
     let now = λ (d : Deed _). as_idle (birth_of (Then h s r) d.id) d in
@@ -65,13 +71,16 @@ idle_of-then h s r es e new =
     ∙ (ap (filter_map now) (latest-append id_of_deed (deeds_of h) es)
     ∙ (filter_map-append now (filter (λ d. is_other id_of_deed es d.id) (latest id_of_deed (deeds_of h))) (latest id_of_deed es)
     ∙ ap (λ l. l ++ filter_map now (latest id_of_deed es))
-    (filter_map-agree (λ d. is_other id_of_deed es d.id) now (λ d. as_idle (birth_of h d.id) d) (λ d other. ap (λ b. as_idle (cond b (moment_of h s) (birth_of h d.id)) d) (new d.id other)) (latest id_of_deed (deeds_of h))
-    ∙ filter_map-filter (λ d. as_idle (birth_of h d.id) d) (λ d. is_other id_of_deed es d.id) (λ c. is_other id_of_deed es c.id) (λ d. idle_keeps (is_other id_of_deed es) (birth_of h d.id) d.id d.at d.what) (latest id_of_deed (deeds_of h)))))
+    (filter_map-agree (λ d. is_other id_of_deed es d.id) now (λ d. as_idle (birth_of h d.id) d)
+    (λ d other. ap (λ b. as_idle (cond b (moment_of h s) (birth_of h d.id)) d) (new d.id other)) (latest id_of_deed (deeds_of h))
+    ∙ filter_map-filter (λ d. as_idle (birth_of h d.id) d) (λ d. is_other id_of_deed es d.id) (λ c. is_other id_of_deed es c.id)
+    (λ d. idle_keeps (is_other id_of_deed es) (birth_of h d.id) d.id d.at d.what) (latest id_of_deed (deeds_of h)))))
 
 -- the same of what is lent
 pub lent_of-then : {T : Type 0} (h : History T) (s : Step T) (r : SeenAnswer T) (es : List (Deed T)) → deeds_in (moment_of h s) s r ≡ es
     → ((i : ℕ) → is_other id_of_deed es i ≡ true → admits s i ≡ false)
-    → lent_of (Then h s r) ≡ filter (λ c. is_other id_of_deed es c.id) (lent_of h) ++ filter_map (λ d. as_lent (birth_of (Then h s r) d.id) d) (latest id_of_deed es)
+    → lent_of (Then h s r) ≡ filter (λ c. is_other id_of_deed es c.id) (lent_of h) ++ filter_map (λ d. as_lent (birth_of (Then h s r) d.id) d)
+    (latest id_of_deed es)
 unfolding lent_of
 lent_of-then h s r es e new =
     let now = λ (d : Deed _). as_lent (birth_of (Then h s r) d.id) d in
@@ -79,12 +88,16 @@ lent_of-then h s r es e new =
     ∙ (ap (filter_map now) (latest-append id_of_deed (deeds_of h) es)
     ∙ (filter_map-append now (filter (λ d. is_other id_of_deed es d.id) (latest id_of_deed (deeds_of h))) (latest id_of_deed es)
     ∙ ap (λ l. l ++ filter_map now (latest id_of_deed es))
-    (filter_map-agree (λ d. is_other id_of_deed es d.id) now (λ d. as_lent (birth_of h d.id) d) (λ d other. ap (λ b. as_lent (cond b (moment_of h s) (birth_of h d.id)) d) (new d.id other)) (latest id_of_deed (deeds_of h))
-    ∙ filter_map-filter (λ d. as_lent (birth_of h d.id) d) (λ d. is_other id_of_deed es d.id) (λ c. is_other id_of_deed es c.id) (λ d. lent_keeps (is_other id_of_deed es) (birth_of h d.id) d.id d.at d.what) (latest id_of_deed (deeds_of h)))))
+    (filter_map-agree (λ d. is_other id_of_deed es d.id) now (λ d. as_lent (birth_of h d.id) d)
+    (λ d other. ap (λ b. as_lent (cond b (moment_of h s) (birth_of h d.id)) d) (new d.id other)) (latest id_of_deed (deeds_of h))
+    ∙ filter_map-filter (λ d. as_lent (birth_of h d.id) d) (λ d. is_other id_of_deed es d.id) (λ c. is_other id_of_deed es c.id)
+    (λ d. lent_keeps (is_other id_of_deed es) (birth_of h d.id) d.id d.at d.what) (latest id_of_deed (deeds_of h)))))
 
 -- a step with no deeds leaves what is idle and lent
-pub idle_of-none : {T : Type 0} (h : History T) (s : Step T) (r : SeenAnswer T) → deeds_in (moment_of h s) s r ≡ [] → ((i : ℕ) → admits s i ≡ false) → idle_of (Then h s r) ≡ idle_of h
+pub idle_of-none : {T : Type 0} (h : History T) (s : Step T) (r : SeenAnswer T) → deeds_in (moment_of h s) s r ≡ [] → ((i : ℕ) → admits s i ≡ false)
+    → idle_of (Then h s r) ≡ idle_of h
 idle_of-none h s r e a = idle_of-then h s r [] e (λ i other. a i) ∙ (append-nil _ ∙ filter_true (idle_of h))
 
-pub lent_of-none : {T : Type 0} (h : History T) (s : Step T) (r : SeenAnswer T) → deeds_in (moment_of h s) s r ≡ [] → ((i : ℕ) → admits s i ≡ false) → lent_of (Then h s r) ≡ lent_of h
+pub lent_of-none : {T : Type 0} (h : History T) (s : Step T) (r : SeenAnswer T) → deeds_in (moment_of h s) s r ≡ [] → ((i : ℕ) → admits s i ≡ false)
+    → lent_of (Then h s r) ≡ lent_of h
 lent_of-none h s r e a = lent_of-then h s r [] e (λ i other. a i) ∙ (append-nil _ ∙ filter_true (lent_of h))

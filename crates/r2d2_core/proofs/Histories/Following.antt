@@ -22,7 +22,8 @@ module _ {T : Type 0} where
       }
 
   -- something does
-  pub follows_refused : (h : History T) (s : Step T) (reply : SeenAnswer T) (new : Picture T) (why : Refusal) → refusal_of h s ≡ Some why → reply ≡ refused_with s why → new ≡ picture_of h → IsKept h → Follows h s reply new
+  pub follows_refused : (h : History T) (s : Step T) (reply : SeenAnswer T) (new : Picture T) (why : Refusal) → refusal_of h s ≡ Some why
+      → reply ≡ refused_with s why → new ≡ picture_of h → IsKept h → Follows h s reply new
   follows_refused h s reply new why some is picture kept =
       let next : after h s ≡ h = ap (λ o. if is_some o then h else Then h s (reply_with h (orders_of h s) s)) some in
       record {

@@ -1,5 +1,6 @@
 -- Lent connections: whether an id is lent, when it was admitted, and what stays idle and lent once it comes back or goes.
-use Rattle.std.proofs.Common.{◌≡◌, ℕ, ◌+◌, ◌≤◌, Bool, true, false, cond, ◌||◌, not, ◌==◌, List, [], ◌∷◌, ◌++◌, map, length, Option, Some, None, is_some, refl, ◌∙◌, ap, arith}
+use Rattle.std.proofs.Common.{◌≡◌, ℕ, ◌+◌, ◌≤◌, Bool, true, false, cond, ◌||◌, not, ◌==◌, List, [], ◌∷◌, ◌++◌, map, length, Option, Some, None, is_some, refl}
+use Rattle.std.proofs.Common.{◌∙◌, ap, arith}
 use Rattle.std.specs.Prelude.{filter, unwrap_or, option_map}
 use Rattle.std.specs.List.{list_any, cons_option, AllByRecursion}
 use Rattle.std.specs.Option.{MatchOption}
@@ -14,7 +15,8 @@ use Rattle.r2d2_core.specs.Seen.{SeenAnswer}
 use Rattle.r2d2_core.specs.Picture.{IsSound}
 use Rattle.r2d2_core.specs.Table.{lent_refusal, lent_birth}
 use Rattle.r2d2_core.specs.History.{History, Then, moment_of}
-use Rattle.r2d2_core.specs.Deeds.{Deed, What, Admission, Taking_out, Keeping, Going, deed, deeds_of, deeds_in, id_of_deed, birth_of, admits, as_lent, idle_of, lent_of, connections_of, admitted_count, gone_count}
+use Rattle.r2d2_core.specs.Deeds.{Deed, What, Admission, Taking_out, Keeping, Going, deed, deeds_of, deeds_in, id_of_deed, birth_of, admits, as_lent, idle_of}
+use Rattle.r2d2_core.specs.Deeds.{lent_of, connections_of, admitted_count, gone_count}
 use Rattle.r2d2_core.specs.Answers.{is_lent, picture_of}
 use Rattle.r2d2_core.proofs.Histories.Births.{shown_all}
 use Rattle.r2d2_core.proofs.Histories.Deeds.{AreApart, idle_of-then, lent_of-then}
@@ -23,7 +25,8 @@ use Rattle.r2d2_core.proofs.Lists.Filters.{filter-absent, filter-once}
 
 -- AMONG LENT ONES
 
-birth_step : (b c : Bool) (x : SeenLentConnection) (o : Option SeenLentConnection) → is_some (option_map (λ (c : SeenLentConnection). c.birth) o) ≡ c → is_some (option_map (λ (c : SeenLentConnection). c.birth) (cond b (Some x) o)) ≡ (b || c)
+birth_step : (b c : Bool) (x : SeenLentConnection) (o : Option SeenLentConnection) → is_some (option_map (λ (c : SeenLentConnection). c.birth) o) ≡ c
+    → is_some (option_map (λ (c : SeenLentConnection). c.birth) (cond b (Some x) o)) ≡ (b || c)
 birth_step true c x o e = refl
 birth_step false c x o e = e
 
@@ -39,9 +42,11 @@ born_step birth_at i true rest x o is born ih e = born ∙ ap birth_at (eqb-true
 born_step birth_at i false rest x o is born ih e = ih e
 
 -- where each birth is that of the id, so is the one that is found
-born_as : (birth_at : ℕ → ℕ) (i : ℕ) (lent : List SeenLentConnection) → AllByRecursion (λ c. c.birth ≡ birth_at c.id) lent → list_any (λ c. c.id == i) lent ≡ true → unwrap_or (birth_in i lent) 0 ≡ birth_at i
+born_as : (birth_at : ℕ → ℕ) (i : ℕ) (lent : List SeenLentConnection) → AllByRecursion (λ c. c.birth ≡ birth_at c.id) lent
+    → list_any (λ c. c.id == i) lent ≡ true → unwrap_or (birth_in i lent) 0 ≡ birth_at i
 born_as birth_at i [] all e = absurd cc
-born_as birth_at i (x ∷ xs) all e = born_step birth_at i (x.id == i) (list_any (λ c. c.id == i) xs) x (found id_of_lent i xs) refl all.0 (born_as birth_at i xs all.1) e
+born_as birth_at i (x ∷ xs) all e = born_step birth_at i (x.id == i) (list_any (λ c. c.id == i) xs) x (found id_of_lent i xs) refl all.0
+    (born_as birth_at i xs all.1) e
 
 stands_step : (b rest : Bool) (n : ℕ) → (rest ≡ true → 1 ≤ n) → (b || rest) ≡ true → 1 ≤ cond b 1 0 + n
 stands_step true rest n ih e = omega arith
@@ -57,7 +62,8 @@ pub some-found : {X : Type 0} (p : X → Bool) (xs : List X) → list_any p xs �
 some-found p [] e = absurd cc
 some-found p (x ∷ xs) e = omega arith
 
-birth_shown : {T : Type 0} (birth_at : ℕ → ℕ) (i at : ℕ) (w : What T) → MatchOption (as_lent (birth_at i) (record { id = i; at = at; what = w })) (Unit {0}) (λ c. c.birth ≡ birth_at c.id)
+birth_shown : {T : Type 0} (birth_at : ℕ → ℕ) (i at : ℕ) (w : What T) → MatchOption (as_lent (birth_at i) (record { id = i; at = at; what = w })) (Unit {0})
+    (λ c. c.birth ≡ birth_at c.id)
 birth_shown birth_at i at (Admission v) = tt
 birth_shown birth_at i at (Keeping v) = tt
 birth_shown birth_at i at Taking_out = refl
@@ -69,7 +75,8 @@ module _ {T : Type 0} where
   -- a lent one was born when its id was admitted
   births_of_lent : (h : History T) → AllByRecursion (λ c. c.birth ≡ birth_of h c.id) (lent_of h)
   unfolding lent_of
-  births_of_lent h = shown_all (λ c. c.birth ≡ birth_of h c.id) (λ d. as_lent (birth_of h d.id) d) (λ d. birth_shown (birth_of h) d.id d.at d.what) (latest id_of_deed (deeds_of h))
+  births_of_lent h = shown_all (λ c. c.birth ≡ birth_of h c.id) (λ d. as_lent (birth_of h d.id) d) (λ d. birth_shown (birth_of h) d.id d.at d.what)
+      (latest id_of_deed (deeds_of h))
 
   pub birth_of-lent : (h : History T) (id : ℕ) → is_lent h id ≡ true → unwrap_or (birth_in id (lent_of h)) 0 ≡ birth_of h id
   birth_of-lent h id lent = born_as (birth_of h) id (lent_of h) (births_of_lent h) lent
@@ -88,7 +95,8 @@ module _ {T : Type 0} where
   lent_not_idle h id lent apart = omega (arith, apart id, copies_of-found id_of_lent id (lent_of h) lent)
 
   -- a step that takes a lent one back, whether it keeps it or not
-  pub lent_of-back : (h : History T) (s : Step T) (r : SeenAnswer T) (id t : ℕ) (w : What T) → deeds_in (moment_of h s) s r ≡ deed id t w ∷ [] → ((i : ℕ) → admits s i ≡ false)
+  pub lent_of-back : (h : History T) (s : Step T) (r : SeenAnswer T) (id t : ℕ) (w : What T) → deeds_in (moment_of h s) s r ≡ deed id t w ∷ []
+      → ((i : ℕ) → admits s i ≡ false)
       → ((birth : ℕ) → as_lent birth (deed id t w) ≡ None) → AreApart h → lent_of (Then h s r) ≡ without id_of_lent id (lent_of h)
   lent_of-back h s r id t w e none not_taken apart =
       let d : Deed T = deed id t w in
@@ -99,7 +107,8 @@ module _ {T : Type 0} where
       ∙ filter-once id_of_lent id (lent_of h) (omega (arith, apart id)))))
 
   -- what is idle stays where it is gone
-  pub idle_of-lost : (h : History T) (s : Step T) (r : SeenAnswer T) (id t : ℕ) → deeds_in (moment_of h s) s r ≡ deed id t Going ∷ [] → ((i : ℕ) → admits s i ≡ false)
+  pub idle_of-lost : (h : History T) (s : Step T) (r : SeenAnswer T) (id t : ℕ) → deeds_in (moment_of h s) s r ≡ deed id t Going ∷ []
+      → ((i : ℕ) → admits s i ≡ false)
       → is_lent h id ≡ true → AreApart h → idle_of (Then h s r) ≡ idle_of h
   idle_of-lost h s r id t e none lent apart =
       let d : Deed T = deed id t Going in
@@ -109,12 +118,14 @@ module _ {T : Type 0} where
       ∙ filter-absent id_of_idle id (idle_of h) (lent_not_idle h id lent apart)))
 
   -- where it is kept, it is the last
-  pub idle_of-kept : (h : History T) (s : Step T) (r : SeenAnswer T) (id t : ℕ) (value : T) → deeds_in (moment_of h s) s r ≡ deed id t (Keeping value) ∷ [] → ((i : ℕ) → admits s i ≡ false)
+  pub idle_of-kept : (h : History T) (s : Step T) (r : SeenAnswer T) (id t : ℕ) (value : T) → deeds_in (moment_of h s) s r ≡ deed id t (Keeping value) ∷ []
+      → ((i : ℕ) → admits s i ≡ false)
       → is_lent h id ≡ true → AreApart h → idle_of (Then h s r) ≡ idle_of h ++ idle_connection id (birth_of h id) t value ∷ []
   idle_of-kept h s r id t value e none lent apart =
       let d : Deed T = deed id t (Keeping value) in
       idle_of-then h s r (d ∷ []) e (λ i other. none i)
-      ∙ (ap (λ l. l ++ idle_connection id (birth_of (Then h s r) id) t value ∷ []) (one_other id_of_deed d id_of_idle (idle_of h) ∙ filter-absent id_of_idle id (idle_of h) (lent_not_idle h id lent apart))
+      ∙ (ap (λ l. l ++ idle_connection id (birth_of (Then h s r) id) t value ∷ []) (one_other id_of_deed d id_of_idle (idle_of h)
+      ∙ filter-absent id_of_idle id (idle_of h) (lent_not_idle h id lent apart))
       ∙ ap (λ b. idle_of h ++ idle_connection id (cond b (moment_of h s) (birth_of h id)) t value ∷ []) (none id))
 
   -- a lent one was admitted and is not gone

@@ -13,7 +13,8 @@ use Rattle.r2d2_core.specs.Picture.{Picture, IsSound}
 use Rattle.r2d2_core.specs.Table.{ordered}
 use Rattle.r2d2_core.specs.History.{History, Then, limits_of, is_closed, now_of, moment_of}
 use Rattle.r2d2_core.specs.Deeds.{idle_of, lent_of, connections_of, admitted_count, gone_count}
-use Rattle.r2d2_core.specs.Pending.{ordered_in, ordered_of, pending_of, scheduled_of, begun_of, ended_of, in_work_at, in_work_of, ids_of, next_id_of, is_admitted, numbered_of, reaps_of, next_reap_of, on_order_of}
+use Rattle.r2d2_core.specs.Pending.{ordered_in, ordered_of, pending_of, scheduled_of, begun_of, ended_of, in_work_at, in_work_of, ids_of, next_id_of}
+use Rattle.r2d2_core.specs.Pending.{is_admitted, numbered_of, reaps_of, next_reap_of, on_order_of}
 use Rattle.r2d2_core.specs.Answers.{orders_of, orders_by, top_up_after, reply_with, last_error_of, picture_of}
 use Rattle.r2d2_core.proofs.Histories.Kept.{IsKept}
 
@@ -43,10 +44,29 @@ pending_more false a n m zero_if le = let l : m ≤ a = le refl in omega arith
 pub with_orders-none : (t : ℕ) (o : SeenOnOrder) → with_orders 0 t o ≡ o
 with_orders-none t o = let e : o.pending + 0 ≡ o.pending = omega arith in ap (λ n. record o { pending = n }) e
 
-pub same_on_order : (o : SeenOnOrder) {scheduled scheduled' : List _} {in_work in_work' numbered numbered' : List ℕ} {next_reap next_reap' : Option ℕ} {next_id next_id' pending pending' : ℕ} {closed closed' : Bool}
+pub same_on_order : (o : SeenOnOrder) {scheduled scheduled' : List _} {in_work in_work' numbered numbered' : List ℕ} {next_reap next_reap' : Option ℕ}
+    {next_id next_id' pending pending' : ℕ} {closed closed' : Bool}
     → scheduled ≡ scheduled' → in_work ≡ in_work' → numbered ≡ numbered' → next_reap ≡ next_reap' → next_id ≡ next_id' → pending ≡ pending' → closed ≡ closed'
-    → ◌≡◌ {A = SeenOnOrder} (record { limits = o.limits; scheduled = scheduled; in_work = in_work; numbered = numbered; next_reap = next_reap; next_id = next_id; pending = pending; closed = closed })
-    (record { limits = o.limits; scheduled = scheduled'; in_work = in_work'; numbered = numbered'; next_reap = next_reap'; next_id = next_id'; pending = pending'; closed = closed' })
+    → ◌≡◌ {A = SeenOnOrder} (record {
+      limits = o.limits;
+      scheduled = scheduled;
+      in_work = in_work;
+      numbered = numbered;
+      next_reap = next_reap;
+      next_id = next_id;
+      pending = pending;
+      closed = closed;
+    })
+    (record {
+      limits = o.limits;
+      scheduled = scheduled';
+      in_work = in_work';
+      numbered = numbered';
+      next_reap = next_reap';
+      next_id = next_id';
+      pending = pending';
+      closed = closed';
+    })
 same_on_order o e1 e2 e3 e4 e5 e6 e7 = rw (e1, e2, e3, e4, e5, e6, e7) refl
 
 module _ {T : Type 0} where
@@ -55,41 +75,49 @@ module _ {T : Type 0} where
   unfolding orders_of
   orders_if_closed h s e = ap (λ b. cond b 0 (orders_by h (Then h s (reply_with h 0 s)) s (reply_with h 0 s))) e
 
-  pub pending_of-ordered : (h : History T) (s : Step T) (r : SeenAnswer T) → IsOrdering h s r → IsKept h → (is_closed h ≡ true → ordered_in r ≡ 0) → pending_of (Then h s r) ≡ pending_of h + ordered_in r
+  pub pending_of-ordered : (h : History T) (s : Step T) (r : SeenAnswer T) → IsOrdering h s r → IsKept h → (is_closed h ≡ true → ordered_in r ≡ 0)
+      → pending_of (Then h s r) ≡ pending_of h + ordered_in r
   unfolding pending_of
   pending_of-ordered h s r o kept none =
       ap (λ b. cond b 0 (ordered_of h + ordered_in r - admitted_count (Then h s r))) o.closed
       ∙ (ap (λ n. cond (is_closed h) 0 (ordered_of h + ordered_in r - n)) o.count
       ∙ pending_more (is_closed h) (ordered_of h) (ordered_in r) (admitted_count h) none kept.admitted_were_ordered)
 
-  pub in_work_at-same : (h : History T) (s : Step T) (r : SeenAnswer T) (k : ℕ) → is_closed (Then h s r) ≡ is_closed h → begun_of (Then h s r) k ≡ begun_of h k → ended_of (Then h s r) k ≡ ended_of h k
+  pub in_work_at-same : (h : History T) (s : Step T) (r : SeenAnswer T) (k : ℕ) → is_closed (Then h s r) ≡ is_closed h → begun_of (Then h s r) k ≡ begun_of h k
+      → ended_of (Then h s r) k ≡ ended_of h k
       → in_work_at (Then h s r) k ≡ in_work_at h k
   unfolding in_work_at
   in_work_at-same h s r k closed begun ended = rw (closed, begun, ended) refl
 
-  pub in_work_of-same : (h : History T) (s : Step T) (r : SeenAnswer T) → is_closed (Then h s r) ≡ is_closed h → ((k : ℕ) → begun_of (Then h s r) k ≡ begun_of h k) → ((k : ℕ) → ended_of (Then h s r) k ≡ ended_of h k)
+  pub in_work_of-same : (h : History T) (s : Step T) (r : SeenAnswer T) → is_closed (Then h s r) ≡ is_closed h
+      → ((k : ℕ) → begun_of (Then h s r) k ≡ begun_of h k) → ((k : ℕ) → ended_of (Then h s r) k ≡ ended_of h k)
       → in_work_of (Then h s r) ≡ in_work_of h
   unfolding in_work_of
-  in_work_of-same h s r closed begun ended = maps_agree (in_work_at (Then h s r)) (in_work_at h) (range_with_len 0 100) (λ k. in_work_at-same h s r k closed (begun k) (ended k))
+  in_work_of-same h s r closed begun ended = maps_agree (in_work_at (Then h s r)) (in_work_at h) (range_with_len 0 100)
+      (λ k. in_work_at-same h s r k closed (begun k) (ended k))
 
   pub next_id_of-same : (h : History T) (s : Step T) (r : SeenAnswer T) → ids_of (Then h s r) ≡ ids_of h → next_id_of (Then h s r) ≡ next_id_of h
   unfolding next_id_of
   next_id_of-same h s r ids = rw ids refl
 
-  pub numbered_of-same : (h : History T) (s : Step T) (r : SeenAnswer T) → is_closed (Then h s r) ≡ is_closed h → ids_of (Then h s r) ≡ ids_of h → ((i : ℕ) → is_admitted (Then h s r) i ≡ is_admitted h i)
+  pub numbered_of-same : (h : History T) (s : Step T) (r : SeenAnswer T) → is_closed (Then h s r) ≡ is_closed h → ids_of (Then h s r) ≡ ids_of h
+      → ((i : ℕ) → is_admitted (Then h s r) i ≡ is_admitted h i)
       → numbered_of (Then h s r) ≡ numbered_of h
   unfolding numbered_of
   numbered_of-same h s r closed ids admitted =
       ap (λ b. cond b [] (filter (λ i. not (is_admitted (Then h s r) i)) (ids_of (Then h s r)))) closed
       ∙ (ap (λ l. cond (is_closed h) [] (filter (λ i. not (is_admitted (Then h s r) i)) l)) ids
-      ∙ ap (λ l. cond (is_closed h) [] l) (filters_agree (λ i. not (is_admitted (Then h s r) i)) (λ i. not (is_admitted h i)) (ids_of h) (λ i. ap not (admitted i))))
+      ∙ ap (λ l. cond (is_closed h) [] l) (filters_agree (λ i. not (is_admitted (Then h s r) i)) (λ i. not (is_admitted h i)) (ids_of h)
+      (λ i. ap not (admitted i))))
 
-  pub next_reap_of-same : (h : History T) (s : Step T) (r : SeenAnswer T) → is_closed (Then h s r) ≡ is_closed h → reaps_of (Then h s r) ≡ reaps_of h → next_reap_of (Then h s r) ≡ next_reap_of h
+  pub next_reap_of-same : (h : History T) (s : Step T) (r : SeenAnswer T) → is_closed (Then h s r) ≡ is_closed h → reaps_of (Then h s r) ≡ reaps_of h
+      → next_reap_of (Then h s r) ≡ next_reap_of h
   unfolding next_reap_of
   next_reap_of-same h s r closed reaps = rw (closed, reaps) refl
 
   -- a step that orders and admits none
-  pub pending_of-same : (h : History T) (s : Step T) (r : SeenAnswer T) → is_closed (Then h s r) ≡ is_closed h → ordered_in r ≡ 0 → admitted_count (Then h s r) ≡ admitted_count h → pending_of (Then h s r) ≡ pending_of h
+  pub pending_of-same : (h : History T) (s : Step T) (r : SeenAnswer T) → is_closed (Then h s r) ≡ is_closed h → ordered_in r ≡ 0
+      → admitted_count (Then h s r) ≡ admitted_count h → pending_of (Then h s r) ≡ pending_of h
   unfolding pending_of
   pending_of-same h s r closed none count =
       let ordered_is : ordered_of h + ordered_in r ≡ ordered_of h = omega (arith, none) in
@@ -109,25 +137,30 @@ module _ {T : Type 0} where
       o.closed
 
   -- a step that orders nothing, and does nothing else to what is on order
-  pub on_order_of-unchanged : (h : History T) (s : Step T) (r : SeenAnswer T) → IsOrdering h s r → IsKept h → ordered_in r ≡ 0 → on_order_of (Then h s r) ≡ on_order_of h
+  pub on_order_of-unchanged : (h : History T) (s : Step T) (r : SeenAnswer T) → IsOrdering h s r → IsKept h → ordered_in r ≡ 0
+      → on_order_of (Then h s r) ≡ on_order_of h
   on_order_of-unchanged h s r o kept none =
       on_order_of-ordered h s r o kept (λ closed. none)
       ∙ (ap (λ n. with_orders n (moment_of h s) (on_order_of h)) none ∙ with_orders-none (moment_of h s) (on_order_of h))
 
-  pub same_picture : {latest latest' : ℕ} {idle idle' : List (SeenIdleConnection T)} {lent lent' : List SeenLentConnection} {on_order on_order' : SeenOnOrder} {connections connections' : ℕ} {last_error last_error' : Option (List ℕ)}
+  pub same_picture : {latest latest' : ℕ} {idle idle' : List (SeenIdleConnection T)} {lent lent' : List SeenLentConnection} {on_order on_order' : SeenOnOrder}
+      {connections connections' : ℕ} {last_error last_error' : Option (List ℕ)}
       → latest ≡ latest' → idle ≡ idle' → lent ≡ lent' → on_order ≡ on_order' → connections ≡ connections' → last_error ≡ last_error'
       → ◌≡◌ {A = Picture T} (record { latest = latest; idle = idle; lent = lent; on_order = on_order; connections = connections; last_error = last_error })
       (record { latest = latest'; idle = idle'; lent = lent'; on_order = on_order'; connections = connections'; last_error = last_error' })
   same_picture e1 e2 e3 e4 e5 e6 = rw (e1, e2, e3, e4, e5, e6) refl
 
   -- the picture of a history, field by field
-  pub picture_of-is : (h : History T) (p : Picture T) → now_of h ≡ p.latest → idle_of h ≡ p.idle → lent_of h ≡ p.lent → on_order_of h ≡ p.on_order → connections_of h ≡ p.connections → last_error_of h ≡ p.last_error → picture_of h ≡ p
+  pub picture_of-is : (h : History T) (p : Picture T) → now_of h ≡ p.latest → idle_of h ≡ p.idle → lent_of h ≡ p.lent → on_order_of h ≡ p.on_order
+      → connections_of h ≡ p.connections → last_error_of h ≡ p.last_error → picture_of h ≡ p
   unfolding picture_of
   picture_of-is h p latest idle lent on_order connections last_error = same_picture latest idle lent on_order connections last_error
 
   -- the picture after a step that orders n, where p is the picture with all else that the step does
-  pub picture_of-ordered : (h : History T) (s : Step T) (r : SeenAnswer T) (p : Picture T) (n : ℕ) → IsOrdering h s r → IsKept h → ordered_in r ≡ n → (is_closed h ≡ true → n ≡ 0)
-      → moment_of h s ≡ p.latest → idle_of (Then h s r) ≡ p.idle → lent_of (Then h s r) ≡ p.lent → on_order_of h ≡ p.on_order → connections_of (Then h s r) ≡ p.connections → last_error_of (Then h s r) ≡ p.last_error
+  pub picture_of-ordered : (h : History T) (s : Step T) (r : SeenAnswer T) (p : Picture T) (n : ℕ) → IsOrdering h s r → IsKept h → ordered_in r ≡ n
+      → (is_closed h ≡ true → n ≡ 0)
+      → moment_of h s ≡ p.latest → idle_of (Then h s r) ≡ p.idle → lent_of (Then h s r) ≡ p.lent → on_order_of h ≡ p.on_order
+      → connections_of (Then h s r) ≡ p.connections → last_error_of (Then h s r) ≡ p.last_error
       → picture_of (Then h s r) ≡ ordered n p
   picture_of-ordered h s r p n o kept is_n none latest idle lent on_order connections last_error =
       picture_of-is (Then h s r) (ordered n p) latest idle lent
@@ -138,7 +171,8 @@ module _ {T : Type 0} where
 
   -- the picture after a step that orders nothing
   pub picture_of-unordered : (h : History T) (s : Step T) (r : SeenAnswer T) (p : Picture T) → IsOrdering h s r → IsKept h → ordered_in r ≡ 0
-      → moment_of h s ≡ p.latest → idle_of (Then h s r) ≡ p.idle → lent_of (Then h s r) ≡ p.lent → on_order_of h ≡ p.on_order → connections_of (Then h s r) ≡ p.connections → last_error_of (Then h s r) ≡ p.last_error
+      → moment_of h s ≡ p.latest → idle_of (Then h s r) ≡ p.idle → lent_of (Then h s r) ≡ p.lent → on_order_of h ≡ p.on_order
+      → connections_of (Then h s r) ≡ p.connections → last_error_of (Then h s r) ≡ p.last_error
       → picture_of (Then h s r) ≡ p
   picture_of-unordered h s r p o kept none latest idle lent on_order connections last_error =
       picture_of-is (Then h s r) p latest idle lent (on_order_of-unchanged h s r o kept none ∙ on_order) connections last_error
@@ -151,11 +185,13 @@ module _ {T : Type 0} where
   unfolding orders_of on_order_of
   orders_of-top_up h s idle connections tops_up idle_is connections_is =
       ap (λ n. cond (is_closed h) 0 n) tops_up
-      ∙ (ap (λ n. cond (is_closed h) 0 (min (wanted_of (limits_of h) - n) ((limits_of h).max_size - connections_of (Then h s (reply_with h 0 s)) - pending_of h))) idle_is
+      ∙ (ap (λ n. cond (is_closed h) 0 (min (wanted_of (limits_of h) - n) ((limits_of h).max_size - connections_of
+      (Then h s (reply_with h 0 s)) - pending_of h))) idle_is
       ∙ ap (λ n. cond (is_closed h) 0 (min (wanted_of (limits_of h) - idle) ((limits_of h).max_size - n - pending_of h))) connections_is)
 
   -- what keeps with a step that orders
-  pub kept_ordered : (h : History T) (s : Step T) (r : SeenAnswer T) → IsOrdering h s r → IsKept h → IsSound (picture_of (Then h s r)) → gone_count (Then h s r) ≤ admitted_count h → IsKept (Then h s r)
+  pub kept_ordered : (h : History T) (s : Step T) (r : SeenAnswer T) → IsOrdering h s r → IsKept h → IsSound (picture_of (Then h s r))
+      → gone_count (Then h s r) ≤ admitted_count h → IsKept (Then h s r)
   kept_ordered h s r o kept sound gone = record {
     sound = sound;
     gone_were_admitted = omega (arith, gone, o.count);

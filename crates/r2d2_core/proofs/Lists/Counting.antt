@@ -18,7 +18,8 @@ sum-one_more k xs lt = omega (arith, sum_by-set (λ x. x) xs k (slice_index xs k
 pub sum-one_less : (k : ℕ) (xs : List ℕ) → 0 < slice_index xs k → sum (one_less k xs) + 1 ≡ sum xs
 sum-one_less k xs some = omega (arith, sum_by-set (λ x. x) xs k (slice_index xs k - 1) 0 (within_counts k xs some))
 
-with_step : (P : SeenOpening → Type 0) (b : Bool) (x y : SeenOpening) (ys zs : List SeenOpening) → P x → All P (y ∷ ys) → All P zs → All P (cond b (y ∷ zs) (x ∷ y ∷ ys))
+with_step : (P : SeenOpening → Type 0) (b : Bool) (x y : SeenOpening) (ys zs : List SeenOpening) → P x → All P (y ∷ ys) → All P zs
+    → All P (cond b (y ∷ zs) (x ∷ y ∷ ys))
 with_step P true x y ys zs p all rest zero d lt = all 0 d (omega arith)
 with_step P true x y ys zs p all rest (suc k) d lt = rest k d (omega arith)
 with_step P false x y ys zs p all rest zero d lt = p

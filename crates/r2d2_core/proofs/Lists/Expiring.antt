@@ -15,16 +15,19 @@ or_none true = refl
 or_none false = refl
 
 module _ {T : Type 0} where
-  by_idle_time : (limits : SeenLimits) (now : ℕ) (c : SeenIdleConnection T) → limits.max_lifetime ≡ None → is_expired limits now c ≡ has_reached limits.idle_timeout (now - c.since)
+  by_idle_time : (limits : SeenLimits) (now : ℕ) (c : SeenIdleConnection T) → limits.max_lifetime ≡ None
+      → is_expired limits now c ≡ has_reached limits.idle_timeout (now - c.since)
   unfolding is_expired
   by_idle_time limits now c none = rw none (or_none (has_reached limits.idle_timeout (now - c.since)))
 
   -- who is idle for longer expires first
   pub expires_earlier : (limits : SeenLimits) (now : ℕ) → limits.max_lifetime ≡ None → IsForEarlier since_of (is_expired {T = T} limits now)
   expires_earlier limits now none = record {
-    holds = λ a b le is. rw (by_idle_time limits now a none) (reached_earlier limits.idle_timeout now a.since b.since le (rw (← by_idle_time limits now b none) is));
+    holds = λ a b le is. rw (by_idle_time limits now a none) (reached_earlier limits.idle_timeout now a.since b.since le
+        (rw (← by_idle_time limits now b none) is));
   }
 
   -- where nothing is limited none expires
-  pub never_expires : (limits : SeenLimits) (now : ℕ) → limits.max_lifetime ≡ None → limits.idle_timeout ≡ None → (c : SeenIdleConnection T) → is_expired limits now c ≡ false
+  pub never_expires : (limits : SeenLimits) (now : ℕ) → limits.max_lifetime ≡ None → limits.idle_timeout ≡ None → (c : SeenIdleConnection T)
+      → is_expired limits now c ≡ false
   never_expires limits now none idle c = rw (by_idle_time limits now c none, idle) refl

@@ -42,7 +42,8 @@ module _ {X : Type 0} where
       ∙ (ap (λ b. filter (λ y. not (id_of x == id_of y)) xs ++ cond (not b) (x ∷ []) []) (eq-eqb (id_of x) (id_of x) refl)
       ∙ (append-nil _ ∙ filter-absent id_of (id_of x) xs e))
 
-  once_step : (b : Bool) (x : X) (n : ℕ) (xs fs ws : List X) → cond b 1 0 + n ≤ 1 → (n ≡ 0 → fs ≡ xs) → (n ≤ 1 → fs ≡ ws) → cond (not b) (x ∷ fs) fs ≡ cond b xs (x ∷ ws)
+  once_step : (b : Bool) (x : X) (n : ℕ) (xs fs ws : List X) → cond b 1 0 + n ≤ 1 → (n ≡ 0 → fs ≡ xs) → (n ≤ 1 → fs ≡ ws)
+      → cond (not b) (x ∷ fs) fs ≡ cond b xs (x ∷ ws)
   once_step true x n xs fs ws le absent ih = absent (omega arith)
   once_step false x n xs fs ws le absent ih = ap (λ l. x ∷ l) (ih (omega arith))
 
@@ -51,9 +52,11 @@ module _ {X : Type 0} where
   filter-once id_of i [] le = refl
   filter-once id_of i (x ∷ xs) le =
       ap (λ b. cond (not b) (x ∷ filter (λ y. not (i == id_of y)) xs) (filter (λ y. not (i == id_of y)) xs)) (eqb-sym i (id_of x))
-      ∙ once_step (id_of x == i) x (copies_of i (map id_of xs)) xs (filter (λ y. not (i == id_of y)) xs) (without id_of i xs) le (filter-absent id_of i xs) (filter-once id_of i xs)
+      ∙ once_step (id_of x == i) x (copies_of i (map id_of xs)) xs (filter (λ y. not (i == id_of y)) xs) (without id_of i xs) le (filter-absent id_of i xs)
+      (filter-once id_of i xs)
 
-  both_step : (a b : Bool) (x : X) (q : X → Bool) (l : List X) → q x ≡ not a → cond (not (a || b)) (x ∷ filter q l) (filter q l) ≡ filter q (cond (not b) (x ∷ l) l)
+  both_step : (a b : Bool) (x : X) (q : X → Bool) (l : List X) → q x ≡ not a
+      → cond (not (a || b)) (x ∷ filter q l) (filter q l) ≡ filter q (cond (not b) (x ∷ l) l)
   both_step true true x q l e = refl
   both_step true false x q l e = rw e
   both_step false true x q l e = refl
@@ -68,7 +71,8 @@ module _ {X : Type 0} where
 
   -- BY MANY IDS
 
-  copies-filter_step : (b : Bool) (id_of : X → ℕ) (i : ℕ) (x : X) (xs fs : List X) → copies_of i (map id_of fs) ≤ copies_of i (map id_of xs) → copies_of i (map id_of (cond b (x ∷ fs) fs)) ≤ cond (id_of x == i) 1 0 + copies_of i (map id_of xs)
+  copies-filter_step : (b : Bool) (id_of : X → ℕ) (i : ℕ) (x : X) (xs fs : List X) → copies_of i (map id_of fs) ≤ copies_of i (map id_of xs)
+      → copies_of i (map id_of (cond b (x ∷ fs) fs)) ≤ cond (id_of x == i) 1 0 + copies_of i (map id_of xs)
   copies-filter_step true id_of i x xs fs le = omega (arith, le)
   copies-filter_step false id_of i x xs fs le = omega (arith, le)
 
@@ -88,7 +92,8 @@ module _ {X : Type 0} where
 
   outside_step : (p : X → Bool) (id_of : X → ℕ) (x : X) (xs : List X) (b : Bool) → copies_of (id_of x) (map id_of xs) ≡ 0
       → filter (λ y. not (list_any (λ c. id_of c == id_of y) (filter p xs))) xs ≡ filter (λ y. not (p y)) xs
-      → filter (λ y. not (list_any (λ c. id_of c == id_of y) (cond b (x ∷ filter p xs) (filter p xs)))) (x ∷ xs) ≡ cond (not b) (x ∷ filter (λ y. not (p y)) xs) (filter (λ y. not (p y)) xs)
+      → filter (λ y. not (list_any (λ c. id_of c == id_of y) (cond b (x ∷ filter p xs) (filter p xs)))) (x ∷ xs) ≡ cond (not b) (x ∷ filter (λ y. not (p y)) xs)
+      (filter (λ y. not (p y)) xs)
   outside_step p id_of x xs true once ih =
       let among = λ (y : X). list_any (λ c. id_of c == id_of y) (filter p xs) in
       let rest = filter (λ y. not (id_of x == id_of y || among y)) xs in
@@ -110,7 +115,8 @@ module _ {X : Type 0} where
       outside_step p id_of x xs (p x) (first_apart id_of x xs apart) (filter-outside p id_of xs (λ i. omega (arith, apart i)))
 
 -- all are left where no id is among the others
-pub filter-apart : {X Y : Type 0} (of : Y → ℕ) (id_of : X → ℕ) (cs : List Y) (xs : List X) → ((i : ℕ) → copies_of i (map of cs) + copies_of i (map id_of xs) ≤ 1)
+pub filter-apart : {X Y : Type 0} (of : Y → ℕ) (id_of : X → ℕ) (cs : List Y) (xs : List X)
+    → ((i : ℕ) → copies_of i (map of cs) + copies_of i (map id_of xs) ≤ 1)
     → filter (λ x. not (list_any (λ c. of c == id_of x) cs)) xs ≡ xs
 filter-apart of id_of cs [] apart = refl
 filter-apart of id_of cs (x ∷ xs) apart =

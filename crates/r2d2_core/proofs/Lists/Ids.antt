@@ -1,5 +1,6 @@
 -- Lists of things with ids.
-use Rattle.std.proofs.Common.{◌≡◌, ℕ, zero, suc, ◌+◌, ◌-◌, ◌≤◌, Bool, true, false, cond, List, [], ◌∷◌, ◌++◌, map, length, take, get_or, Option, Some, refl, sym, ◌∙◌, ap, subst, arith}
+use Rattle.std.proofs.Common.{◌≡◌, ℕ, zero, suc, ◌+◌, ◌-◌, ◌≤◌, Bool, true, false, cond, List, [], ◌∷◌, ◌++◌, map, length, take, get_or, Option, Some, refl}
+use Rattle.std.proofs.Common.{sym, ◌∙◌, ap, subst, arith}
 use Rattle.std.specs.Prelude.{◌==◌}
 use Rattle.std.specs.List.{slice_get, All}
 use Rattle.std.specs.Option.{is_some}
@@ -45,10 +46,12 @@ pub copies_of-append3 : (i : ℕ) (xs ys zs : List ℕ) → copies_of i (xs ++ (
 copies_of-append3 i xs ys zs = omega (arith, copies_of-append i xs (ys ++ zs), copies_of-append i ys zs)
 
 module _ {X : Type 0} where
-  pub copies_of-push : (id_of : X → ℕ) (i : ℕ) (xs : List X) (x : X) → copies_of i (map id_of (xs ++ x ∷ [])) ≡ copies_of i (map id_of xs) + copies_of i (id_of x ∷ [])
+  pub copies_of-push : (id_of : X → ℕ) (i : ℕ) (xs : List X) (x : X) → copies_of i (map id_of (xs ++ x ∷ [])) ≡ copies_of i (map id_of xs) + copies_of i
+      (id_of x ∷ [])
   copies_of-push id_of i xs x = ap (copies_of i) (map-append id_of xs (x ∷ [])) ∙ copies_of-append i (map id_of xs) (id_of x ∷ [])
 
-  pub copies_of-last : (id_of : X → ℕ) (i : ℕ) (xs : List X) (c : X) → last_of xs ≡ Some c → copies_of i (map id_of xs) ≡ copies_of i (map id_of (front xs)) + copies_of i (id_of c ∷ [])
+  pub copies_of-last : (id_of : X → ℕ) (i : ℕ) (xs : List X) (c : X) → last_of xs ≡ Some c
+      → copies_of i (map id_of xs) ≡ copies_of i (map id_of (front xs)) + copies_of i (id_of c ∷ [])
   copies_of-last id_of i xs c e = ap (λ l. copies_of i (map id_of l)) (last_is xs c e) ∙ copies_of-push id_of i (front xs) c
 
   copies_step : (id_of : X → ℕ) (i j : ℕ) (b : Bool) (x y : X) (xs : List X) (rest : ℕ) → (id_of x == i) ≡ b → cond b (Some x) (found id_of i xs) ≡ Some y
@@ -60,11 +63,13 @@ module _ {X : Type 0} where
   copies_step id_of i j false x y xs rest is e ih = omega (arith, ih e)
 
   -- the one that is found is taken out, and no other
-  pub copies_of-without : (id_of : X → ℕ) (i j : ℕ) (xs : List X) (y : X) → found id_of i xs ≡ Some y → copies_of j (map id_of (without id_of i xs)) + copies_of j (i ∷ []) ≡ copies_of j (map id_of xs)
+  pub copies_of-without : (id_of : X → ℕ) (i j : ℕ) (xs : List X) (y : X) → found id_of i xs ≡ Some y
+      → copies_of j (map id_of (without id_of i xs)) + copies_of j (i ∷ []) ≡ copies_of j (map id_of xs)
   copies_of-without id_of i j [] y e = absurd cc
   copies_of-without id_of i j (x ∷ xs) y e = copies_step id_of i j (id_of x == i) x y xs 0 refl e (copies_of-without id_of i j xs y)
 
-  length_step : (b : Bool) (x y : X) (xs ws : List X) (o : Option X) → cond b (Some x) o ≡ Some y → (o ≡ Some y → length ws + 1 ≡ length xs) → length (cond b xs (x ∷ ws)) + 1 ≡ suc (length xs)
+  length_step : (b : Bool) (x y : X) (xs ws : List X) (o : Option X) → cond b (Some x) o ≡ Some y → (o ≡ Some y → length ws + 1 ≡ length xs)
+      → length (cond b xs (x ∷ ws)) + 1 ≡ suc (length xs)
   length_step true x y xs ws o e ih = omega arith
   length_step false x y xs ws o e ih = omega (arith, ih e)
 
@@ -94,7 +99,8 @@ module _ {X : Type 0} where
   -- what holds of all holds of the one that is found
   pub All-found : (P : X → Type 0) (id_of : X → ℕ) (i : ℕ) (xs : List X) (y : X) → All P xs → found id_of i xs ≡ Some y → P y
   All-found P id_of i [] y all e = absurd cc
-  All-found P id_of i (x ∷ xs) y all e = found_step P (id_of x == i) x y (found id_of i xs) (all 0 x (omega arith)) e (All-found P id_of i xs y (all_tail P x xs all))
+  All-found P id_of i (x ∷ xs) y all e = found_step P (id_of x == i) x y (found id_of i xs) (all 0 x (omega arith)) e
+      (All-found P id_of i xs y (all_tail P x xs all))
 
   one_step : (P : X → Type 0) (x : X) → P x → All P (x ∷ [])
   one_step P x p zero d lt = p
@@ -120,7 +126,8 @@ copies_of-one i n = by (n == i) where
 pub copies_of-other : (i n : ℕ) → (i ≡ n → ⊥) → copies_of i (n ∷ []) ≡ 0
 copies_of-other i n ne = ap (λ b. cond b 1 0 + 0) (ne_eqb n i (λ e. ne (sym e)))
 
-found_self_step : (b : Bool) (x i : ℕ) (o : Option ℕ) → (x == i) ≡ b → (is_some o ≡ true → o ≡ Some i) → is_some (cond b (Some x) o) ≡ true → cond b (Some x) o ≡ Some i
+found_self_step : (b : Bool) (x i : ℕ) (o : Option ℕ) → (x == i) ≡ b → (is_some o ≡ true → o ≡ Some i) → is_some (cond b (Some x) o) ≡ true
+    → cond b (Some x) o ≡ Some i
 found_self_step true x i o e ih is = ap Some (eqb-true x i e)
 found_self_step false x i o e ih is = ih is
 

@@ -1,5 +1,6 @@
 -- The idle connection that is lent next, and the others, whatever the order.
-use Rattle.std.proofs.Common.{◌≡◌, ℕ, suc, ◌+◌, ◌-◌, ◌≤◌, Bool, true, false, cond, not, ◌==◌, List, [], ◌∷◌, ◌++◌, map, length, Option, Some, None, refl, sym, ◌∙◌, ap, subst, arith}
+use Rattle.std.proofs.Common.{◌≡◌, ℕ, suc, ◌+◌, ◌-◌, ◌≤◌, Bool, true, false, cond, not, ◌==◌, List, [], ◌∷◌, ◌++◌, map, length, Option, Some, None, refl, sym}
+use Rattle.std.proofs.Common.{◌∙◌, ap, subst, arith}
 use Rattle.std.specs.Prelude.{filter}
 use Rattle.std.specs.List.{All}
 use Rattle.std.specs.List.Sorted.{IsNonDecreasingBy}
@@ -39,7 +40,8 @@ module _ {X : Type 0} where
   length-still_idle lending.OldestFirst [] c e = absurd cc
   length-still_idle lending.OldestFirst (x ∷ xs) c e = omega arith
 
-  pub copies_of-next : (id_of : X → ℕ) (i : ℕ) (o : LendingOrder) (xs : List X) (c : X) → lent_next o xs ≡ Some c → copies_of i (map id_of xs) ≡ copies_of i (map id_of (still_idle o xs)) + copies_of i (id_of c ∷ [])
+  pub copies_of-next : (id_of : X → ℕ) (i : ℕ) (o : LendingOrder) (xs : List X) (c : X) → lent_next o xs ≡ Some c
+      → copies_of i (map id_of xs) ≡ copies_of i (map id_of (still_idle o xs)) + copies_of i (id_of c ∷ [])
   copies_of-next id_of i lending.NewestFirst xs c e = copies_of-last id_of i xs c e
   copies_of-next id_of i lending.OldestFirst [] c e = absurd cc
   copies_of-next id_of i lending.OldestFirst (x ∷ xs) c e =
@@ -62,12 +64,14 @@ module _ {X : Type 0} where
   IsNonDecreasingBy-still_idle f lending.OldestFirst xs rises = IsNonDecreasingBy-drop f 1 xs rises
 
   -- leaving out the id of the one leaves the others, where no other has it
-  pub filter-next : (id_of : X → ℕ) (o : LendingOrder) (xs : List X) (c : X) → lent_next o xs ≡ Some c → copies_of (id_of c) (map id_of (still_idle o xs)) ≡ 0 → filter (λ y. not (id_of c == id_of y)) xs ≡ still_idle o xs
+  pub filter-next : (id_of : X → ℕ) (o : LendingOrder) (xs : List X) (c : X) → lent_next o xs ≡ Some c → copies_of (id_of c) (map id_of (still_idle o xs)) ≡ 0
+      → filter (λ y. not (id_of c == id_of y)) xs ≡ still_idle o xs
   filter-next id_of lending.NewestFirst xs c e once = ap (filter (λ y. not (id_of c == id_of y))) (last_is xs c e) ∙ filter-last id_of (front xs) c once
   filter-next id_of lending.OldestFirst [] c e once = absurd cc
   filter-next id_of lending.OldestFirst (x ∷ xs) c e once =
       let same : x ≡ c = cc in
-      ap (λ b. cond (not b) (x ∷ filter (λ y. not (id_of c == id_of y)) xs) (filter (λ y. not (id_of c == id_of y)) xs)) (eq-eqb (id_of c) (id_of x) (ap id_of (sym same)))
+      ap (λ b. cond (not b) (x ∷ filter (λ y. not (id_of c == id_of y)) xs) (filter (λ y. not (id_of c == id_of y)) xs))
+      (eq-eqb (id_of c) (id_of x) (ap id_of (sym same)))
       ∙ filter-absent id_of (id_of c) xs once
 
   found_push_step : (id_of : X → ℕ) (b : Bool) (x y : X) (n : ℕ) (o : Option X) → cond b 1 0 + n ≡ 0 → (n ≡ 0 → o ≡ Some y) → cond b (Some x) o ≡ Some y
@@ -76,13 +80,16 @@ module _ {X : Type 0} where
 
   found-push : (id_of : X → ℕ) (xs : List X) (x : X) → copies_of (id_of x) (map id_of xs) ≡ 0 → found id_of (id_of x) (xs ++ x ∷ []) ≡ Some x
   found-push id_of [] x e = ap (λ b. cond b (Some x) None) (eq-eqb (id_of x) (id_of x) refl)
-  found-push id_of (y ∷ xs) x e = found_push_step id_of (id_of y == id_of x) y x (copies_of (id_of x) (map id_of xs)) (found id_of (id_of x) (xs ++ x ∷ [])) e (found-push id_of xs x)
+  found-push id_of (y ∷ xs) x e = found_push_step id_of (id_of y == id_of x) y x (copies_of (id_of x) (map id_of xs)) (found id_of (id_of x) (xs ++ x ∷ [])) e
+      (found-push id_of xs x)
 
   -- no other has the id of the one, where ids are apart
-  once_next : (id_of : X → ℕ) (o : LendingOrder) (xs : List X) (c : X) → lent_next o xs ≡ Some c → ((i : ℕ) → copies_of i (map id_of xs) ≤ 1) → copies_of (id_of c) (map id_of (still_idle o xs)) ≡ 0
+  once_next : (id_of : X → ℕ) (o : LendingOrder) (xs : List X) (c : X) → lent_next o xs ≡ Some c → ((i : ℕ) → copies_of i (map id_of xs) ≤ 1)
+      → copies_of (id_of c) (map id_of (still_idle o xs)) ≡ 0
   once_next id_of o xs c e apart = omega (arith, apart (id_of c), copies_of-next id_of (id_of c) o xs c e, copies_self (id_of c))
 
-  found_next_by : (id_of : X → ℕ) (o : LendingOrder) (xs : List X) (c : X) → lent_next o xs ≡ Some c → copies_of (id_of c) (map id_of (still_idle o xs)) ≡ 0 → found id_of (id_of c) xs ≡ Some c
+  found_next_by : (id_of : X → ℕ) (o : LendingOrder) (xs : List X) (c : X) → lent_next o xs ≡ Some c → copies_of (id_of c) (map id_of (still_idle o xs)) ≡ 0
+      → found id_of (id_of c) xs ≡ Some c
   found_next_by id_of lending.NewestFirst xs c e once = ap (found id_of (id_of c)) (last_is xs c e) ∙ found-push id_of (front xs) c once
   found_next_by id_of lending.OldestFirst [] c e once = absurd cc
   found_next_by id_of lending.OldestFirst (x ∷ xs) c e once =
@@ -90,10 +97,12 @@ module _ {X : Type 0} where
       ap (λ b. cond b (Some x) (found id_of (id_of c) xs)) (eq-eqb (id_of x) (id_of c) (ap id_of same)) ∙ ap Some same
 
   -- the one is found by its id, and leaves the others
-  pub found-next : (id_of : X → ℕ) (o : LendingOrder) (xs : List X) (c : X) → lent_next o xs ≡ Some c → ((i : ℕ) → copies_of i (map id_of xs) ≤ 1) → found id_of (id_of c) xs ≡ Some c
+  pub found-next : (id_of : X → ℕ) (o : LendingOrder) (xs : List X) (c : X) → lent_next o xs ≡ Some c → ((i : ℕ) → copies_of i (map id_of xs) ≤ 1)
+      → found id_of (id_of c) xs ≡ Some c
   found-next id_of o xs c e apart = found_next_by id_of o xs c e (once_next id_of o xs c e apart)
 
-  pub without-next : (id_of : X → ℕ) (o : LendingOrder) (xs : List X) (c : X) → lent_next o xs ≡ Some c → ((i : ℕ) → copies_of i (map id_of xs) ≤ 1) → without id_of (id_of c) xs ≡ still_idle o xs
+  pub without-next : (id_of : X → ℕ) (o : LendingOrder) (xs : List X) (c : X) → lent_next o xs ≡ Some c → ((i : ℕ) → copies_of i (map id_of xs) ≤ 1)
+      → without id_of (id_of c) xs ≡ still_idle o xs
   without-next id_of o xs c e apart = sym (filter-once id_of (id_of c) xs (apart (id_of c))) ∙ filter-next id_of o xs c e (once_next id_of o xs c e apart)
 
 module _ {X Y : Type 0} where

@@ -17,10 +17,12 @@ module _ {X : Type 0} where
   pub sifted_there : (p : X → Bool) (xs : List X) (k : ℕ) (ring : List X) → Sifted p xs k ring → k < length xs → slice_get ring 0 ≡ None → ⊥
   sifted_there p xs k ring h lt none = turned_there (turned p xs k ring h) lt none
 
-  pub sifted_gone : (p : X → Bool) (xs : List X) (k : ℕ) (ring : List X) (e : X) → Sifted p xs k ring → k < length xs → slice_get ring 0 ≡ Some e → p e ≡ true → Sifted p xs (k + 1) (drop 1 ring)
+  pub sifted_gone : (p : X → Bool) (xs : List X) (k : ℕ) (ring : List X) (e : X) → Sifted p xs k ring → k < length xs → slice_get ring 0 ≡ Some e → p e ≡ true
+      → Sifted p xs (k + 1) (drop 1 ring)
   sifted_gone p xs k ring e h lt first is = let t = turned_closed e e (turned p xs k ring h) lt first is refl in record { ring_is = t.ring_is }
 
-  pub sifted_kept : (p : X → Bool) (xs : List X) (k : ℕ) (ring : List X) (e : X) → Sifted p xs k ring → k < length xs → slice_get ring 0 ≡ Some e → p e ≡ false → Sifted p xs (k + 1) (drop 1 ring ++ e ∷ [])
+  pub sifted_kept : (p : X → Bool) (xs : List X) (k : ℕ) (ring : List X) (e : X) → Sifted p xs k ring → k < length xs → slice_get ring 0 ≡ Some e → p e ≡ false
+      → Sifted p xs (k + 1) (drop 1 ring ++ e ∷ [])
   sifted_kept p xs k ring e h lt first isnt = let t = turned_kept e (turned p xs k ring h) lt first isnt in record { ring_is = t.ring_is }
 
   pub sifted_fits : (p : X → Bool) (xs : List X) (k : ℕ) (ring : List X) → Sifted p xs k ring → k ≤ length xs → length ring ≤ length xs
@@ -33,8 +35,10 @@ module _ {X : Type 0} where
   abbrev pub IsFronted : (p : X → Bool) (xs : List X) (k : ℕ) (ring : List X) → Type 0
   IsFronted p xs k ring = Fronted p (λ (x : X). x) (λ (x : X). x) xs k ring (take k xs)
 
-  pub fronted_gone : (p : X → Bool) (xs : List X) (k : ℕ) (ring : List X) (e : X) → IsFronted p xs k ring → k < length xs → slice_get ring 0 ≡ Some e → p e ≡ true → IsFronted p xs (k + 1) (drop 1 ring)
-  fronted_gone p xs k ring e h lt first is = let t = fronted_more e e h lt first is refl in record { ring_is = t.ring_is; out_is = refl; closed = t.closed; kept = t.kept }
+  pub fronted_gone : (p : X → Bool) (xs : List X) (k : ℕ) (ring : List X) (e : X) → IsFronted p xs k ring → k < length xs → slice_get ring 0 ≡ Some e
+      → p e ≡ true → IsFronted p xs (k + 1) (drop 1 ring)
+  fronted_gone p xs k ring e h lt first is = let t = fronted_more e e h lt first is refl in
+      record { ring_is = t.ring_is; out_is = refl; closed = t.closed; kept = t.kept }
 
   pub some_there : (xs : List X) (x : X) → slice_get xs 0 ≡ Some x → 1 ≤ length xs
   some_there [] x e = absurd cc

@@ -1,5 +1,6 @@
 -- Slots that hold one thing each, or nothing: what they hold as the list grows, shrinks and loses its holes.
-use Rattle.std.proofs.Common.{◌≡◌, ℕ, zero, suc, ◌+◌, ◌<◌, ◌≤◌, Bool, true, false, cond, List, [], ◌∷◌, ◌++◌, map, length, take, set, get_or, Option, Some, None, refl, ◌∙◌, ap, arith}
+use Rattle.std.proofs.Common.{◌≡◌, ℕ, zero, suc, ◌+◌, ◌<◌, ◌≤◌, Bool, true, false, cond, List, [], ◌∷◌, ◌++◌, map, length, take, set, get_or, Option, Some}
+use Rattle.std.proofs.Common.{None, refl, ◌∙◌, ap, arith}
 use Rattle.std.specs.Prelude.{◌==◌, IfNone}
 use Rattle.std.specs.Option.{is_some}
 use Rattle.std.specs.List.{filter}
@@ -40,10 +41,12 @@ module _ {X : Type 0} where
   push_hole xs (Some x) e = absurd cc
 
   -- a hole at the end may go
-  pub held-take_less : (xs : List (Option X)) (n : ℕ) (d : Option X) → n < length xs → is_some (get_or xs n d) ≡ false → held (take (n + 1) xs) ≡ held (take n xs)
+  pub held-take_less : (xs : List (Option X)) (n : ℕ) (d : Option X) → n < length xs → is_some (get_or xs n d) ≡ false
+      → held (take (n + 1) xs) ≡ held (take n xs)
   held-take_less xs n d lt e = ap held (take_more xs n d lt) ∙ push_hole (take n xs) (get_or xs n d) e
 
-  some_held : (id_of : X → ℕ) (i : ℕ) (slots : List (Option X)) (p : ℕ) → p < length slots → ((d : Option X) → holds id_of i (get_or slots p d) ≡ true) → 1 ≤ copies_of i (map id_of (held slots))
+  some_held : (id_of : X → ℕ) (i : ℕ) (slots : List (Option X)) (p : ℕ) → p < length slots → ((d : Option X) → holds id_of i (get_or slots p d) ≡ true)
+      → 1 ≤ copies_of i (map id_of (held slots))
   some_held id_of i [] p lt here = absurd (omega arith)
   some_held id_of i (None ∷ slots) zero lt here = let no : false ≡ true = here None in absurd cc
   some_held id_of i (Some x ∷ slots) zero lt here = one_copy (id_of x == i) (copies_of i (map id_of (held slots))) (here None)
@@ -51,7 +54,8 @@ module _ {X : Type 0} where
   some_held id_of i (Some x ∷ slots) (suc p) lt here = omega (arith, some_held id_of i slots p (omega arith) here)
 
   -- the one with the id, where it stands once, is the one in the slot that holds it
-  pub found-held : (id_of : X → ℕ) (i : ℕ) (slots : List (Option X)) (p : ℕ) (d : Option X) → copies_of i (map id_of (held slots)) ≤ 1 → p < length slots → ((d : Option X) → holds id_of i (get_or slots p d) ≡ true) → found id_of i (held slots) ≡ get_or slots p d
+  pub found-held : (id_of : X → ℕ) (i : ℕ) (slots : List (Option X)) (p : ℕ) (d : Option X) → copies_of i (map id_of (held slots)) ≤ 1 → p < length slots
+      → ((d : Option X) → holds id_of i (get_or slots p d) ≡ true) → found id_of i (held slots) ≡ get_or slots p d
   found-held id_of i [] p d apart lt here = absurd (omega arith)
   found-held id_of i (None ∷ slots) zero d apart lt here = let no : false ≡ true = here None in absurd cc
   found-held id_of i (Some x ∷ slots) zero d apart lt here = cond-true _ _ _ (here None)
@@ -61,7 +65,8 @@ module _ {X : Type 0} where
       let other = no_other (id_of x == i) (copies_of i (map id_of (held slots))) apart one in
       cond-false _ _ _ other ∙ found-held id_of i slots p d (omega arith) (omega arith) here
 
-  pub without-held : (id_of : X → ℕ) (i : ℕ) (slots : List (Option X)) (p : ℕ) → copies_of i (map id_of (held slots)) ≤ 1 → p < length slots → ((d : Option X) → holds id_of i (get_or slots p d) ≡ true) → without id_of i (held slots) ≡ held (set slots p None)
+  pub without-held : (id_of : X → ℕ) (i : ℕ) (slots : List (Option X)) (p : ℕ) → copies_of i (map id_of (held slots)) ≤ 1 → p < length slots
+      → ((d : Option X) → holds id_of i (get_or slots p d) ≡ true) → without id_of i (held slots) ≡ held (set slots p None)
   without-held id_of i [] p apart lt here = absurd (omega arith)
   without-held id_of i (None ∷ slots) zero apart lt here = let no : false ≡ true = here None in absurd cc
   without-held id_of i (Some x ∷ slots) zero apart lt here = cond-true _ _ _ (here None)
@@ -72,7 +77,8 @@ module _ {X : Type 0} where
       cond-false _ _ _ other ∙ ap (λ l. x ∷ l) (without-held id_of i slots p (omega arith) (omega arith) here)
 
   -- one less is held
-  pub length-held : (id_of : X → ℕ) (i : ℕ) (slots : List (Option X)) (p : ℕ) → p < length slots → ((d : Option X) → holds id_of i (get_or slots p d) ≡ true) → length (held (set slots p None)) + 1 ≡ length (held slots)
+  pub length-held : (id_of : X → ℕ) (i : ℕ) (slots : List (Option X)) (p : ℕ) → p < length slots → ((d : Option X) → holds id_of i (get_or slots p d) ≡ true)
+      → length (held (set slots p None)) + 1 ≡ length (held slots)
   length-held id_of i [] p lt here = absurd (omega arith)
   length-held id_of i (None ∷ slots) zero lt here = let no : false ≡ true = here None in absurd cc
   length-held id_of i (Some x ∷ slots) zero lt here = omega arith
@@ -85,12 +91,14 @@ module _ {X : Type 0} where
   pub found-none_held : (id_of : X → ℕ) (i : ℕ) (slots : List (Option X)) → NoneHeldFrom id_of i slots 0 → found id_of i (held slots) ≡ None
   found-none_held id_of i [] none = refl
   found-none_held id_of i (None ∷ slots) none = found-none_held id_of i slots (none_later id_of i None slots none)
-  found-none_held id_of i (Some x ∷ slots) none = cond-false _ _ _ (none 0 None (omega arith) (omega arith)) ∙ found-none_held id_of i slots (none_later id_of i (Some x) slots none)
+  found-none_held id_of i (Some x ∷ slots) none = cond-false _ _ _ (none 0 None (omega arith) (omega arith))
+      ∙ found-none_held id_of i slots (none_later id_of i (Some x) slots none)
 
   pub without-none_held : (id_of : X → ℕ) (i : ℕ) (slots : List (Option X)) → NoneHeldFrom id_of i slots 0 → without id_of i (held slots) ≡ held slots
   without-none_held id_of i [] none = refl
   without-none_held id_of i (None ∷ slots) none = without-none_held id_of i slots (none_later id_of i None slots none)
-  without-none_held id_of i (Some x ∷ slots) none = cond-false _ _ _ (none 0 None (omega arith) (omega arith)) ∙ ap (λ l. x ∷ l) (without-none_held id_of i slots (none_later id_of i (Some x) slots none))
+  without-none_held id_of i (Some x ∷ slots) none = cond-false _ _ _ (none 0 None (omega arith) (omega arith))
+      ∙ ap (λ l. x ∷ l) (without-none_held id_of i slots (none_later id_of i (Some x) slots none))
 
   -- a slot that holds one is no hole
   pub full : (P : Type 0) (id_of : X → ℕ) (i : ℕ) (slot : Option X) → holds id_of i slot ≡ true → IfNone slot P

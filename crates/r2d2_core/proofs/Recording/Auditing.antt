@@ -1,5 +1,7 @@
 -- That the tests of a report's audit find what the definitions ask for.
-use Rattle.std.proofs.Common.{◌≡◌, ℕ, zero, suc, ◌+◌, ◌≤◌, ◌<◌, Bool, true, false, cond, ◌||◌, not, ◌==◌, List, [], ◌∷◌, ◌++◌, map, length, drop, take, append_assoc, get_or, set, length-set, get_or-set_same, get_or-set_other, Option, Some, None, refl, sym, ◌∙◌, ap, subst, arith, add-one}
+use Rattle.std.proofs.Common.{◌≡◌, ℕ, zero, suc, ◌+◌, ◌≤◌, ◌<◌, Bool, true, false, cond, ◌||◌, not, ◌==◌, List, [], ◌∷◌, ◌++◌, map, length, drop, take}
+use Rattle.std.proofs.Common.{append_assoc, get_or, set, length-set, get_or-set_same, get_or-set_other, Option, Some, None, refl, sym, ◌∙◌, ap, subst, arith}
+use Rattle.std.proofs.Common.{add-one}
 use Rattle.std.specs.Prelude.{◌&&◌, nat_le, sum_by, filter, is_some}
 use Rattle.std.specs.Prelude.{IsTrue, IfOk, MatchOption, Result, Ok, Err}
 use Rattle.std.specs.List.{All, swap}
@@ -49,18 +51,23 @@ pub counts_of_legal : (limits : SeenLimits) (b : SeenBase) → IsLegalBase limit
 counts_of_legal limits b legal =
     both _ _ (eq-eqb b.connections _ legal.counted)
     (both _ _ (le_is _ _ legal.fits)
-    (is_or b.closed _ (λ c. both _ _ (eq-eqb (length b.idle) 0 (ap (λ (l : List BareConnection). length l) (legal.none_idle c))) (eq-eqb b.pending 0 (legal.none_pending c)))))
+    (is_or b.closed _ (λ c. both _ _ (eq-eqb (length b.idle) 0 (ap (λ (l : List BareConnection). length l) (legal.none_idle c)))
+    (eq-eqb b.pending 0 (legal.none_pending c)))))
 
 -- MOMENTS
 
 tail_rises : (c : BareConnection) (cs : List BareConnection) → IsNonDecreasingBy since_of (c ∷ cs) → IsNonDecreasingBy since_of cs
 tail_rises c cs h = λ i j d ij lt. h (suc i) (suc j) d (omega (arith, ij)) (omega (arith, lt))
 
-pub order_of_legal : (at last : ℕ) (cs : List BareConnection) → IsNonDecreasingBy since_of cs → ((d : BareConnection) → 0 < length cs → last ≤ since_of (get_or cs 0 d)) → All (λ c. c.since ≤ at) cs → All (λ c. c.birth ≤ c.since) cs → are_in_order at last cs ≡ true
+pub order_of_legal : (at last : ℕ) (cs : List BareConnection) → IsNonDecreasingBy since_of cs
+    → ((d : BareConnection) → 0 < length cs → last ≤ since_of (get_or cs 0 d)) → All (λ c. c.since ≤ at) cs → All (λ c. c.birth ≤ c.since) cs
+    → are_in_order at last cs ≡ true
 order_of_legal at last [] rises first seen born = refl
 order_of_legal at last (c ∷ cs) rises first seen born =
-    both _ _ (both _ _ (le_is c.birth c.since (born 0 c (omega arith))) (both _ _ (le_is last c.since (first c (omega arith))) (le_is c.since at (seen 0 c (omega arith)))))
-    (order_of_legal at c.since cs (tail_rises c cs rises) (λ d some. rises 0 1 d (omega arith) (omega (arith, some))) (λ k d lt. seen (suc k) d (omega (arith, lt))) (λ k d lt. born (suc k) d (omega (arith, lt))))
+    both _ _ (both _ _ (le_is c.birth c.since (born 0 c (omega arith))) (both _ _ (le_is last c.since (first c (omega arith)))
+    (le_is c.since at (seen 0 c (omega arith)))))
+    (order_of_legal at c.since cs (tail_rises c cs rises) (λ d some. rises 0 1 d (omega arith) (omega (arith, some)))
+    (λ k d lt. seen (suc k) d (omega (arith, lt))) (λ k d lt. born (suc k) d (omega (arith, lt))))
 
 pub born_of_legal : (at : ℕ) (ls : List SeenLentConnection) → All (λ l. l.birth ≤ at) ls → are_born at ls ≡ true
 born_of_legal at [] born = refl
@@ -73,13 +80,16 @@ pub record AreOrdered (at last : ℕ) (cs : List BareConnection) : Type 0 where
   pub seen : All (λ c. c.since ≤ at) cs
   pub born : All (λ c. c.birth ≤ c.since) cs
 
-rises_more : (c : BareConnection) (cs : List BareConnection) → ((k : ℕ) (d : BareConnection) → k < length cs → c.since ≤ since_of (get_or cs k d)) → IsNonDecreasingBy since_of cs → IsNonDecreasingBy since_of (c ∷ cs)
+rises_more : (c : BareConnection) (cs : List BareConnection) → ((k : ℕ) (d : BareConnection) → k < length cs → c.since ≤ since_of (get_or cs k d))
+    → IsNonDecreasingBy since_of cs → IsNonDecreasingBy since_of (c ∷ cs)
 rises_more c cs after rises zero zero d ij lt = omega arith
 rises_more c cs after rises zero (suc j) d ij lt = after j d (omega (arith, lt))
 rises_more c cs after rises (suc i) zero d ij lt = absurd (omega (arith, ij))
 rises_more c cs after rises (suc i) (suc j) d ij lt = rises i j d (omega (arith, ij)) (omega (arith, lt))
 
-after_more : (last : ℕ) (c : BareConnection) (cs : List BareConnection) → last ≤ c.since → ((k : ℕ) (d : BareConnection) → k < length cs → c.since ≤ since_of (get_or cs k d)) → (k : ℕ) (d : BareConnection) → k < suc (length cs) → last ≤ since_of (get_or (c ∷ cs) k d)
+after_more : (last : ℕ) (c : BareConnection) (cs : List BareConnection) → last ≤ c.since
+    → ((k : ℕ) (d : BareConnection) → k < length cs → c.since ≤ since_of (get_or cs k d)) → (k : ℕ) (d : BareConnection) → k < suc (length cs)
+    → last ≤ since_of (get_or (c ∷ cs) k d)
 after_more last c cs le after zero d lt = le
 after_more last c cs le after (suc k) d lt = omega (arith, le, after k d (omega (arith, lt)))
 
@@ -112,7 +122,8 @@ born_by at (l ∷ ls) e = let f = split _ _ e in all_more (λ l. l.birth ≤ at)
 
 -- THE BASE
 
-pub legal_by : (limits : SeenLimits) (b : SeenBase) → counts_fit limits b ≡ true → ((i : ℕ) → copies_of i (ids_of b) ≤ 1) → (are_in_order b.at 0 b.idle && are_born b.at b.lent) ≡ true → IsLegalBase limits b
+pub legal_by : (limits : SeenLimits) (b : SeenBase) → counts_fit limits b ≡ true → ((i : ℕ) → copies_of i (ids_of b) ≤ 1)
+    → (are_in_order b.at 0 b.idle && are_born b.at b.lent) ≡ true → IsLegalBase limits b
 legal_by limits b counts apart order =
     let c = split _ _ counts in
     let d = split _ _ c.1 in
@@ -131,7 +142,8 @@ legal_by limits b counts apart order =
     }
 
 pub order_in : (limits : SeenLimits) (b : SeenBase) → IsLegalBase limits b → (are_in_order b.at 0 b.idle && are_born b.at b.lent) ≡ true
-order_in limits b legal = both _ _ (order_of_legal b.at 0 b.idle legal.is_sorted (λ d some. omega arith) legal.seen legal.born) (born_of_legal b.at b.lent legal.born_lent)
+order_in limits b legal = both _ _ (order_of_legal b.at 0 b.idle legal.is_sorted (λ d some. omega arith) legal.seen legal.born)
+    (born_of_legal b.at b.lent legal.born_lent)
 
 -- IDS
 
@@ -203,7 +215,8 @@ copies-swap i (x ∷ xs) p q lp lq =
 
 -- the order of ids changes no count
 pub copies-permutation : (i : ℕ) (xs ys : List ℕ) → IsPermutation xs ys → copies_of i ys ≡ copies_of i xs
-copies-permutation i xs ys h = IsPermutation-keeps xs (λ (l : List ℕ). copies_of i l ≡ copies_of i xs) refl (λ l p q lp lq e. copies-swap i l p q lp lq ∙ e) ys h
+copies-permutation i xs ys h = IsPermutation-keeps xs (λ (l : List ℕ). copies_of i l ≡ copies_of i xs) refl
+    (λ l p q lp lq e. copies-swap i l p q lp lq ∙ e) ys h
 
 -- RECORDS
 
@@ -251,7 +264,8 @@ left limits (Closed at id n) b = omega (arith, fewer_without id_of_lent id b.len
 left limits (Reaped at n) b = omega arith
 left limits (ClosedAll at) b = omega arith
 
-pub following_start : (limits : SeenLimits) (rs : List SeenRecord) (b : SeenBase) (room : Rooms) → IsLegalBase limits b → ((i : ℕ) → copies_of i (known_in b rs) ≤ 1) → room ≡ rooms_for b rs → IsFollowing limits rs b 0 b room
+pub following_start : (limits : SeenLimits) (rs : List SeenRecord) (b : SeenBase) (room : Rooms) → IsLegalBase limits b
+    → ((i : ℕ) → copies_of i (known_in b rs) ≤ 1) → room ≡ rooms_for b rs → IsFollowing limits rs b 0 b room
 following_start limits rs b room legal apart is = record {
   legal = legal;
   apart = apart;
@@ -261,37 +275,46 @@ following_start limits rs b room legal apart is = record {
   folds = refl;
 }
 
-pub following_more : (limits : SeenLimits) (rs : List SeenRecord) (b : SeenBase) (k : ℕ) (now : SeenBase) (room : Rooms) (r : SeenRecord) → drop k rs ≡ r ∷ drop (k + 1) rs → take (k + 1) rs ≡ take k rs ++ r ∷ [] → may_follow limits r now ≡ true
+pub following_more : (limits : SeenLimits) (rs : List SeenRecord) (b : SeenBase) (k : ℕ) (now : SeenBase) (room : Rooms) (r : SeenRecord)
+    → drop k rs ≡ r ∷ drop (k + 1) rs → take (k + 1) rs ≡ take k rs ++ r ∷ [] → may_follow limits r now ≡ true
     → IsFollowing limits rs b k now room → IsFollowing limits rs b (k + 1) (folded limits r now) room
 following_more limits rs b k now room r next front may h =
     let rest = drop (k + 1) rs in
     let apart : (i : ℕ) → copies_of i (known_in now (r ∷ rest)) ≤ 1 = λ i. subst (λ (l : List SeenRecord). copies_of i (known_in now l) ≤ 1) next (h.apart i) in
-    let idle_room : length now.idle + made_idle_in (r ∷ rest) ≤ room.idle = subst (λ (l : List SeenRecord). length now.idle + made_idle_in l ≤ room.idle) next h.idle_room in
-    let lent_room : length now.lent + made_lent_in (r ∷ rest) ≤ room.lent = subst (λ (l : List SeenRecord). length now.lent + made_lent_in l ≤ room.lent) next h.lent_room in
+    let idle_room : length now.idle + made_idle_in (r ∷ rest) ≤ room.idle = subst (λ (l : List SeenRecord). length now.idle + made_idle_in l ≤ room.idle) next
+    h.idle_room in
+    let lent_room : length now.lent + made_lent_in (r ∷ rest) ≤ room.lent = subst (λ (l : List SeenRecord). length now.lent + made_lent_in l ≤ room.lent) next
+    h.lent_room in
     record {
       legal = legal_folded limits r now h.legal may (λ i. omega (arith, apart i, known_first i now r rest));
       apart = λ i. omega (arith, apart i, known_folded limits r rest now h.legal.apart may i);
       idle_room = omega (arith, idle_room, rested limits r now);
       lent_room = omega (arith, lent_room, left limits r now);
-      may = ap (λ (l : List SeenRecord). all_follow limits l b) front ∙ (follow-push limits (take k rs) r b ∙ both _ _ h.may (ap (may_follow limits r) h.folds ∙ may));
+      may = ap (λ (l : List SeenRecord). all_follow limits l b) front ∙ (follow-push limits (take k rs) r b
+          ∙ both _ _ h.may (ap (may_follow limits r) h.folds ∙ may));
       folds = ap (λ (l : List SeenRecord). replay limits l b) front ∙ (replay-push limits (take k rs) r b ∙ ap (folded limits r) h.folds);
     }
 
-pub following_stop : (limits : SeenLimits) (rs : List SeenRecord) (b : SeenBase) (k : ℕ) (now : SeenBase) (room : Rooms) (r : SeenRecord) → take (k + 1) rs ≡ take k rs ++ r ∷ [] → may_follow limits r now ≡ false
+pub following_stop : (limits : SeenLimits) (rs : List SeenRecord) (b : SeenBase) (k : ℕ) (now : SeenBase) (room : Rooms) (r : SeenRecord)
+    → take (k + 1) rs ≡ take k rs ++ r ∷ [] → may_follow limits r now ≡ false
     → IsFollowing limits rs b k now room → all_follow limits (take (k + 1) rs) b ≡ false
 following_stop limits rs b k now room r front may h =
     ap (λ (l : List SeenRecord). all_follow limits l b) front
     ∙ (follow-push limits (take k rs) r b
     ∙ (ap (λ c. c && may_follow limits r (replay limits (take k rs) b)) h.may ∙ (ap (may_follow limits r) h.folds ∙ may)))
 
-pub following_fits : (limits : SeenLimits) (rs : List SeenRecord) (b : SeenBase) (k : ℕ) (now : SeenBase) (room : Rooms) (r : SeenRecord) → drop k rs ≡ r ∷ drop (k + 1) rs → IsFollowing limits rs b k now room
+pub following_fits : (limits : SeenLimits) (rs : List SeenRecord) (b : SeenBase) (k : ℕ) (now : SeenBase) (room : Rooms) (r : SeenRecord)
+    → drop k rs ≡ r ∷ drop (k + 1) rs → IsFollowing limits rs b k now room
     → (length now.idle + made_idle_by r ≤ room.idle) × (length now.lent + made_lent_by r ≤ room.lent)
 following_fits limits rs b k now room r next h =
-    let idle_room : length now.idle + made_idle_in (r ∷ drop (k + 1) rs) ≤ room.idle = subst (λ (l : List SeenRecord). length now.idle + made_idle_in l ≤ room.idle) next h.idle_room in
-    let lent_room : length now.lent + made_lent_in (r ∷ drop (k + 1) rs) ≤ room.lent = subst (λ (l : List SeenRecord). length now.lent + made_lent_in l ≤ room.lent) next h.lent_room in
+    let idle_room : length now.idle + made_idle_in (r ∷ drop (k + 1) rs) ≤ room.idle = subst
+    (λ (l : List SeenRecord). length now.idle + made_idle_in l ≤ room.idle) next h.idle_room in
+    let lent_room : length now.lent + made_lent_in (r ∷ drop (k + 1) rs) ≤ room.lent = subst
+    (λ (l : List SeenRecord). length now.lent + made_lent_in l ≤ room.lent) next h.lent_room in
     (omega (arith, idle_room), omega (arith, lent_room))
 
-pub following_end : (limits : SeenLimits) (rs : List SeenRecord) (b : SeenBase) (k : ℕ) (now : SeenBase) (room : Rooms) → length rs ≤ k → IsFollowing limits rs b k now room → replay limits rs b ≡ now
+pub following_end : (limits : SeenLimits) (rs : List SeenRecord) (b : SeenBase) (k : ℕ) (now : SeenBase) (room : Rooms) → length rs ≤ k
+    → IsFollowing limits rs b k now room → replay limits rs b ≡ now
 following_end limits rs b k now room past h = ap (λ (l : List SeenRecord). replay limits l b) (sym (take_all k rs past)) ∙ h.folds
 
 next_at : {P X : Type 0} (seen : P → X) (xs : List P) (k : ℕ) (d : P) → k < length xs → drop k (map seen xs) ≡ seen (get_or xs k d) ∷ drop (suc k) (map seen xs)
@@ -304,38 +327,48 @@ abbrev pub some_record : Record
 some_record = record_.Taken (record { secs = 0; nanos = 0 }) 0 0
 
 -- the next of a list that is seen
-pub seen_next : {P X : Type 0} (seen : P → X) (xs : List P) (k : ℕ) (d : P) → k < length xs → drop k (map seen xs) ≡ seen (get_or xs k d) ∷ drop (k + 1) (map seen xs)
+pub seen_next : {P X : Type 0} (seen : P → X) (xs : List P) (k : ℕ) (d : P) → k < length xs
+    → drop k (map seen xs) ≡ seen (get_or xs k d) ∷ drop (k + 1) (map seen xs)
 seen_next seen xs k d lt = next_at seen xs k d lt ∙ ap (λ n. seen (get_or xs k d) ∷ drop n (map seen xs)) (sym (add-one k))
 
-next_taken : {P X Y : Type 0} (f : X → Y) (seen : P → X) (xs : List P) (k : ℕ) (d : P) → k < length xs → take (suc k) (map f (map seen xs)) ≡ take k (map f (map seen xs)) ++ f (seen (get_or xs k d)) ∷ []
+next_taken : {P X Y : Type 0} (f : X → Y) (seen : P → X) (xs : List P) (k : ℕ) (d : P) → k < length xs
+    → take (suc k) (map f (map seen xs)) ≡ take k (map f (map seen xs)) ++ f (seen (get_or xs k d)) ∷ []
 next_taken f seen [] k d lt = absurd (omega (arith, lt))
 next_taken f seen (x ∷ xs) zero d lt = refl
 next_taken f seen (x ∷ xs) (suc k) d lt = ap (λ l. f (seen x) ∷ l) (next_taken f seen xs k d (omega (arith, lt)))
 
 -- the first so many, and one more
-pub taken_next : {P X Y : Type 0} (f : X → Y) (seen : P → X) (xs : List P) (k : ℕ) (d : P) → k < length xs → take (k + 1) (map f (map seen xs)) ≡ take k (map f (map seen xs)) ++ f (seen (get_or xs k d)) ∷ []
+pub taken_next : {P X Y : Type 0} (f : X → Y) (seen : P → X) (xs : List P) (k : ℕ) (d : P) → k < length xs
+    → take (k + 1) (map f (map seen xs)) ≡ take k (map f (map seen xs)) ++ f (seen (get_or xs k d)) ∷ []
 taken_next f seen xs k d lt = ap (λ n. take n (map f (map seen xs))) (add-one k) ∙ next_taken f seen xs k d lt
 
-next_seen : {P X : Type 0} (seen : P → X) (xs : List P) (k : ℕ) (d : P) → k < length xs → take (suc k) (map seen xs) ≡ take k (map seen xs) ++ seen (get_or xs k d) ∷ []
+next_seen : {P X : Type 0} (seen : P → X) (xs : List P) (k : ℕ) (d : P) → k < length xs
+    → take (suc k) (map seen xs) ≡ take k (map seen xs) ++ seen (get_or xs k d) ∷ []
 next_seen seen [] k d lt = absurd (omega (arith, lt))
 next_seen seen (x ∷ xs) zero d lt = refl
 next_seen seen (x ∷ xs) (suc k) d lt = ap (λ l. seen x ∷ l) (next_seen seen xs k d (omega (arith, lt)))
 
-pub seen_taken : {P X : Type 0} (seen : P → X) (xs : List P) (k : ℕ) (d : P) → k < length xs → take (k + 1) (map seen xs) ≡ take k (map seen xs) ++ seen (get_or xs k d) ∷ []
+pub seen_taken : {P X : Type 0} (seen : P → X) (xs : List P) (k : ℕ) (d : P) → k < length xs
+    → take (k + 1) (map seen xs) ≡ take k (map seen xs) ++ seen (get_or xs k d) ∷ []
 seen_taken seen xs k d lt = ap (λ n. take n (map seen xs)) (add-one k) ∙ next_seen seen xs k d lt
 
 -- one more is added behind what was added
-pub added_more : {X : Type 0} (old now ids front front' : List X) (x : X) → now ≡ ids ++ x ∷ [] → ids ≡ old ++ front → front' ≡ front ++ x ∷ [] → now ≡ old ++ front'
+pub added_more : {X : Type 0} (old now ids front front' : List X) (x : X) → now ≡ ids ++ x ∷ [] → ids ≡ old ++ front → front' ≡ front ++ x ∷ []
+    → now ≡ old ++ front'
 added_more old now ids front front' x e f h = e ∙ (ap (λ l. l ++ x ∷ []) f ∙ (append_assoc old front (x ∷ []) ∙ ap (λ l. old ++ l) (sym h)))
 
-next_admitted : {P : Type 0} (seen : P → SeenRecord) (xs : List P) (k : ℕ) (d : P) → k < length xs → admitted_in (take (suc k) (map seen xs)) ≡ admitted_in (take k (map seen xs)) ++ admitted_by (seen (get_or xs k d))
+next_admitted : {P : Type 0} (seen : P → SeenRecord) (xs : List P) (k : ℕ) (d : P) → k < length xs
+    → admitted_in (take (suc k) (map seen xs)) ≡ admitted_in (take k (map seen xs)) ++ admitted_by (seen (get_or xs k d))
 next_admitted seen [] k d lt = absurd (omega (arith, lt))
 next_admitted seen (x ∷ xs) zero d lt = append-nil (admitted_by (seen x))
 next_admitted seen (x ∷ xs) (suc k) d lt =
-    ap (λ l. admitted_by (seen x) ++ l) (next_admitted seen xs k d (omega (arith, lt))) ∙ sym (append_assoc (admitted_by (seen x)) (admitted_in (take k (map seen xs))) (admitted_by (seen (get_or xs k d))))
+    ap (λ l. admitted_by (seen x) ++ l) (next_admitted seen xs k d (omega (arith, lt)))
+    ∙ sym (append_assoc (admitted_by (seen x)) (admitted_in (take k (map seen xs))) (admitted_by (seen (get_or xs k d))))
 
-pub admitted_next : {P : Type 0} (seen : P → SeenRecord) (xs : List P) (k : ℕ) (d : P) (ids : List ℕ) → k < length xs → admitted_by (seen (get_or xs k d)) ≡ ids → admitted_in (take (k + 1) (map seen xs)) ≡ admitted_in (take k (map seen xs)) ++ ids
-admitted_next seen xs k d ids lt e = ap (λ n. admitted_in (take n (map seen xs))) (add-one k) ∙ (next_admitted seen xs k d lt ∙ ap (λ l. admitted_in (take k (map seen xs)) ++ l) e)
+pub admitted_next : {P : Type 0} (seen : P → SeenRecord) (xs : List P) (k : ℕ) (d : P) (ids : List ℕ) → k < length xs → admitted_by (seen (get_or xs k d)) ≡ ids
+    → admitted_in (take (k + 1) (map seen xs)) ≡ admitted_in (take k (map seen xs)) ++ ids
+admitted_next seen xs k d ids lt e = ap (λ n. admitted_in (take n (map seen xs))) (add-one k)
+    ∙ (next_admitted seen xs k d lt ∙ ap (λ l. admitted_in (take k (map seen xs)) ++ l) e)
 
 rest-push : (rs : List SeenRecord) (r : SeenRecord) → made_idle_in (rs ++ r ∷ []) ≡ made_idle_in rs + made_idle_by r
 rest-push [] r = omega arith
@@ -346,25 +379,31 @@ leave-push [] r = omega arith
 leave-push (s ∷ rs) r = omega (arith, leave-push rs r)
 
 -- what comes with the next of some records
-pub rest_next : {P : Type 0} (seen : P → SeenRecord) (xs : List P) (k : ℕ) (d : P) → k < length xs → made_idle_in (take (k + 1) (map seen xs)) ≡ made_idle_in (take k (map seen xs)) + made_idle_by (seen (get_or xs k d))
+pub rest_next : {P : Type 0} (seen : P → SeenRecord) (xs : List P) (k : ℕ) (d : P) → k < length xs
+    → made_idle_in (take (k + 1) (map seen xs)) ≡ made_idle_in (take k (map seen xs)) + made_idle_by (seen (get_or xs k d))
 rest_next seen xs k d lt = ap (λ (l : List SeenRecord). made_idle_in l) (seen_taken seen xs k d lt) ∙ rest-push (take k (map seen xs)) (seen (get_or xs k d))
 
-pub leave_next : {P : Type 0} (seen : P → SeenRecord) (xs : List P) (k : ℕ) (d : P) → k < length xs → made_lent_in (take (k + 1) (map seen xs)) ≡ made_lent_in (take k (map seen xs)) + made_lent_by (seen (get_or xs k d))
+pub leave_next : {P : Type 0} (seen : P → SeenRecord) (xs : List P) (k : ℕ) (d : P) → k < length xs
+    → made_lent_in (take (k + 1) (map seen xs)) ≡ made_lent_in (take k (map seen xs)) + made_lent_by (seen (get_or xs k d))
 leave_next seen xs k d lt = ap (λ (l : List SeenRecord). made_lent_in l) (seen_taken seen xs k d lt) ∙ leave-push (take k (map seen xs)) (seen (get_or xs k d))
 
 -- idle ones in order, one by one
-pub order_more : (at last k : ℕ) (cs : List BareConnection) (c : BareConnection) (whole : Bool) → drop k cs ≡ c ∷ drop (k + 1) cs → (nat_le c.birth c.since && (nat_le last c.since && nat_le c.since at)) ≡ true
+pub order_more : (at last k : ℕ) (cs : List BareConnection) (c : BareConnection) (whole : Bool) → drop k cs ≡ c ∷ drop (k + 1) cs
+    → (nat_le c.birth c.since && (nat_le last c.since && nat_le c.since at)) ≡ true
     → whole ≡ are_in_order at last (drop k cs) → whole ≡ are_in_order at c.since (drop (k + 1) cs)
 order_more at last k cs c whole next fits e = e ∙ (ap (are_in_order at last) next ∙ ap (λ b. b && are_in_order at c.since (drop (k + 1) cs)) fits)
 
-pub order_stops : (at last k : ℕ) (cs : List BareConnection) (c : BareConnection) (whole : Bool) → drop k cs ≡ c ∷ drop (k + 1) cs → (nat_le c.birth c.since && (nat_le last c.since && nat_le c.since at)) ≡ false
+pub order_stops : (at last k : ℕ) (cs : List BareConnection) (c : BareConnection) (whole : Bool) → drop k cs ≡ c ∷ drop (k + 1) cs
+    → (nat_le c.birth c.since && (nat_le last c.since && nat_le c.since at)) ≡ false
     → whole ≡ are_in_order at last (drop k cs) → false ≡ whole
 order_stops at last k cs c whole next fits e = sym (e ∙ (ap (are_in_order at last) next ∙ ap (λ b. b && are_in_order at c.since (drop (k + 1) cs)) fits))
 
-pub born_more : (at k : ℕ) (ls : List SeenLentConnection) (l : SeenLentConnection) (whole : Bool) → drop k ls ≡ l ∷ drop (k + 1) ls → nat_le l.birth at ≡ true → whole ≡ are_born at (drop k ls) → whole ≡ are_born at (drop (k + 1) ls)
+pub born_more : (at k : ℕ) (ls : List SeenLentConnection) (l : SeenLentConnection) (whole : Bool) → drop k ls ≡ l ∷ drop (k + 1) ls → nat_le l.birth at ≡ true
+    → whole ≡ are_born at (drop k ls) → whole ≡ are_born at (drop (k + 1) ls)
 born_more at k ls l whole next fits e = e ∙ (ap (are_born at) next ∙ ap (λ b. b && are_born at (drop (k + 1) ls)) fits)
 
-pub born_stops : (at k : ℕ) (ls : List SeenLentConnection) (l : SeenLentConnection) (whole : Bool) → drop k ls ≡ l ∷ drop (k + 1) ls → nat_le l.birth at ≡ false → whole ≡ are_born at (drop k ls) → false ≡ whole
+pub born_stops : (at k : ℕ) (ls : List SeenLentConnection) (l : SeenLentConnection) (whole : Bool) → drop k ls ≡ l ∷ drop (k + 1) ls → nat_le l.birth at ≡ false
+    → whole ≡ are_born at (drop k ls) → false ≡ whole
 born_stops at k ls l whole next fits e = sym (e ∙ (ap (are_born at) next ∙ ap (λ b. b && are_born at (drop (k + 1) ls)) fits))
 
 -- ids in order, where none falls
@@ -378,23 +417,27 @@ apart_in xs ys h up i = omega (arith, copies-permutation i xs ys h, apart_rising
 
 -- a base is put in place where its moments are in order, and there alone
 abbrev pub IsPut : SeenBase → Rooms → Option SeenRunningBase → Type 0
-IsPut b room made = MatchOption made ((are_in_order b.at 0 b.idle && are_born b.at b.lent) ≡ false) (λ there. ((are_in_order b.at 0 b.idle && are_born b.at b.lent) ≡ true) × (there ≡ running_base b room))
+IsPut b room made = MatchOption made ((are_in_order b.at 0 b.idle && are_born b.at b.lent) ≡ false)
+    (λ there. ((are_in_order b.at 0 b.idle && are_born b.at b.lent) ≡ true) × (there ≡ running_base b room))
 
 -- it is put where it is legal, and there alone
 abbrev pub IsStart : SeenLimits → SeenBase → Rooms → Option SeenRunningBase → Type 0
 IsStart limits b room made = MatchOption made (IsLegalBase limits b → ⊥) (λ there. IsLegalBase limits b × (there ≡ running_base b room))
 
-pub starts : (limits : SeenLimits) (b : SeenBase) (room : Rooms) (made : Option SeenRunningBase) → counts_fit limits b ≡ true → ((i : ℕ) → copies_of i (ids_of b) ≤ 1) → IsPut b room made → IsStart limits b room made
+pub starts : (limits : SeenLimits) (b : SeenBase) (room : Rooms) (made : Option SeenRunningBase) → counts_fit limits b ≡ true
+    → ((i : ℕ) → copies_of i (ids_of b) ≤ 1) → IsPut b room made → IsStart limits b room made
 starts limits b room None counts apart none = λ legal. cc (none, order_in limits b legal)
 starts limits b room (Some there) counts apart put = (legal_by limits b counts apart put.0, put.1)
 
 pub no_start : (limits : SeenLimits) (b : SeenBase) → counts_fit limits b ≡ false → IsLegalBase limits b → ⊥
 no_start limits b wrong legal = cc (wrong, counts_of_legal limits b legal)
 
-pub start_there : (limits : SeenLimits) (b : SeenBase) (room : Rooms) (made : Option SeenRunningBase) (s : SeenRunningBase) → made ≡ Some s → IsStart limits b room made → IsLegalBase limits b × (s ≡ running_base b room)
+pub start_there : (limits : SeenLimits) (b : SeenBase) (room : Rooms) (made : Option SeenRunningBase) (s : SeenRunningBase) → made ≡ Some s
+    → IsStart limits b room made → IsLegalBase limits b × (s ≡ running_base b room)
 start_there limits b room made s is h = subst (IsStart limits b room) is h
 
-pub start_none : (limits : SeenLimits) (b : SeenBase) (room : Rooms) (made : Option SeenRunningBase) → made ≡ None → IsStart limits b room made → IsLegalBase limits b → ⊥
+pub start_none : (limits : SeenLimits) (b : SeenBase) (room : Rooms) (made : Option SeenRunningBase) → made ≡ None → IsStart limits b room made
+    → IsLegalBase limits b → ⊥
 start_none limits b room made is h = subst (IsStart limits b room) is h
 
 -- the ids of a base are apart where those that are known are
@@ -409,7 +452,12 @@ admitted_before i (suc k) (r ∷ rs) =
     omega (arith, admitted_before i k rs, copies_of-append i (admitted_by r) (admitted_in (take k rs)), copies_of-append i (admitted_by r) (admitted_in rs))
 
 pub known_before : (i k : ℕ) (b : SeenBase) (rs : List SeenRecord) → copies_of i (known_in b (take k rs)) ≤ copies_of i (known_in b rs)
-known_before i k b rs = omega (arith, admitted_before i k rs, copies_of-append i (ids_of b) (admitted_in (take k rs)), copies_of-append i (ids_of b) (admitted_in rs))
+known_before i k b rs = omega (
+  arith,
+  admitted_before i k rs,
+  copies_of-append i (ids_of b) (admitted_in (take k rs)),
+  copies_of-append i (ids_of b) (admitted_in rs),
+)
 
 follow_before : (limits : SeenLimits) (k : ℕ) (rs : List SeenRecord) (b : SeenBase) → all_follow limits rs b ≡ true → all_follow limits (take k rs) b ≡ true
 follow_before limits zero rs b all = refl
@@ -423,14 +471,17 @@ legal_before limits k rs b are = record {
 }
 
 -- where all follow, none stops them
-pub follows_all : (limits : SeenLimits) (rs : List SeenRecord) (b : SeenBase) (n : ℕ) → n ≤ length rs → all_follow limits rs b ≡ true → (n < length rs → all_follow limits (take (n + 1) rs) b ≡ false) → n ≡ length rs
-follows_all limits rs b n within all stops = ⊎_elim (λ lt. absurd (cc (stops lt, follow_before limits (n + 1) rs b all))) (λ le. omega (arith, within, le)) (cases_lt n (length rs))
+pub follows_all : (limits : SeenLimits) (rs : List SeenRecord) (b : SeenBase) (n : ℕ) → n ≤ length rs → all_follow limits rs b ≡ true
+    → (n < length rs → all_follow limits (take (n + 1) rs) b ≡ false) → n ≡ length rs
+follows_all limits rs b n within all stops = ⊎_elim (λ lt. absurd (cc (stops lt, follow_before limits (n + 1) rs b all))) (λ le. omega (arith, within, le))
+    (cases_lt n (length rs))
 
 -- ids that are apart, with and without records
 pub apart_same : (b : SeenBase) (rs rs' : List SeenRecord) → rs ≡ rs' → ((i : ℕ) → copies_of i (known_in b rs) ≤ 1) → (i : ℕ) → copies_of i (known_in b rs') ≤ 1
 apart_same b rs rs' e h = subst (λ (l : List SeenRecord). (i : ℕ) → copies_of i (known_in b l) ≤ 1) e h
 
-pub some_records : (b : SeenBase) (rs : List Record) → ((i : ℕ) → copies_of i (known_in b []) ≤ 1) → (((i : ℕ) → copies_of i (known_in b (map seen_record rs)) ≤ 1) → ⊥) → 0 < length rs
+pub some_records : (b : SeenBase) (rs : List Record) → ((i : ℕ) → copies_of i (known_in b []) ≤ 1)
+    → (((i : ℕ) → copies_of i (known_in b (map seen_record rs)) ≤ 1) → ⊥) → 0 < length rs
 some_records b [] apart twice = absurd (twice apart)
 some_records b (r ∷ rs) apart twice = omega arith
 
@@ -450,16 +501,24 @@ module _ {B : Type 0} (r : Report B) where
   pub wrong_replays : (w : Wrong) → IsWrong w r → DoesReplay r → ⊥
   wrong_replays wrong.Base none d = none d.base
   wrong_replays (wrong.Record place) at d = at.wrong (legal_before (seen_limits r.limits) (place + 1) r.records (seen_base r.base) d.legal)
-  wrong_replays wrong.Counts comes d = comes.other (record { idle = d.idle; lent = d.lent; connections = d.connections; pending = d.pending; closed = d.closed })
+  wrong_replays wrong.Counts comes d = comes.other (record {
+    idle = d.idle;
+    lent = d.lent;
+    connections = d.connections;
+    pending = d.pending;
+    closed = d.closed;
+  })
 
-  pub none_wrong : (found : Option Wrong) (result : Bool) → is_some found ≡ not result → MatchOption found (DoesReplay r) (λ w. IsWrong w r) → (IsTrue result → DoesReplay r) × (DoesReplay r → IsTrue result)
+  pub none_wrong : (found : Option Wrong) (result : Bool) → is_some found ≡ not result → MatchOption found (DoesReplay r) (λ w. IsWrong w r)
+      → (IsTrue result → DoesReplay r) × (DoesReplay r → IsTrue result)
   none_wrong None true is does = (λ _. does, λ _. refl)
   none_wrong None false is does = absurd cc
   none_wrong (Some w) true is at = absurd cc
   none_wrong (Some w) false is at = (λ t. absurd (cc t), λ d. absurd (wrong_replays w at d))
 
   -- records that follow, and admit no id twice
-  pub first_wrong_at : (apart followed : ℕ) → IsLegalBase (seen_limits r.limits) (seen_base r.base) → AreApartUpTo r apart → followed ≤ apart → followed < length r.records
+  pub first_wrong_at : (apart followed : ℕ) → IsLegalBase (seen_limits r.limits) (seen_base r.base) → AreApartUpTo r apart → followed ≤ apart
+      → followed < length r.records
       → all_follow (seen_limits r.limits) (take followed (take apart r.records)) (seen_base r.base) ≡ true
       → (followed < apart → all_follow (seen_limits r.limits) (take (followed + 1) (take apart r.records)) (seen_base r.base) ≡ false)
       → IsFirstWrong r followed
@@ -473,22 +532,30 @@ module _ {B : Type 0} (r : Report B) where
         here = here;
         before = record {
           follow = subst (λ (l : List SeenRecord). all_follow limits l base ≡ true) front may;
-          apart = λ i. omega (arith, upto.apart i, known_before i followed base (take apart rs), ap (λ (l : List SeenRecord). copies_of i (known_in base l)) front);
+          apart = λ i. omega (
+            arith,
+            upto.apart i,
+            known_before i followed base (take apart rs),
+            ap (λ (l : List SeenRecord). copies_of i (known_in base l)) front,
+          );
         };
         wrong = λ are. ⊎_elim (λ lt. before lt are) (λ le. behind le are) (cases_lt followed apart);
       } where
         before : followed < apart → AreLegalFrom (seen_limits r.limits) (seen_base r.base) (take (followed + 1) r.records) → ⊥
         before lt are =
-            let front : take (followed + 1) (take apart r.records) ≡ take (followed + 1) r.records = take-take (followed + 1) apart r.records (omega (arith, lt)) in
+            let front : take (followed + 1) (take apart r.records) ≡ take (followed + 1) r.records = take-take (followed + 1) apart r.records
+            (omega (arith, lt)) in
             cc (ap (λ (l : List SeenRecord). all_follow (seen_limits r.limits) l (seen_base r.base)) front, stops lt, are.follow)
 
         behind : apart ≤ followed → AreLegalFrom (seen_limits r.limits) (seen_base r.base) (take (followed + 1) r.records) → ⊥
         behind le are =
             let same : followed ≡ apart = omega (arith, le, within) in
-            upto.stops (omega (arith, same, here)) (subst (λ n. (i : ℕ) → copies_of i (known_in (seen_base r.base) (take (n + 1) r.records)) ≤ 1) same are.apart)
+            upto.stops (omega (arith, same, here)) (subst (λ n. (i : ℕ) → copies_of i (known_in (seen_base r.base)
+            (take (n + 1) r.records)) ≤ 1) same are.apart)
 
   -- all follow
-  pub all_legal : (apart followed : ℕ) → AreApartUpTo r apart → followed ≤ apart → length r.records ≤ followed → all_follow (seen_limits r.limits) (take followed (take apart r.records)) (seen_base r.base) ≡ true
+  pub all_legal : (apart followed : ℕ) → AreApartUpTo r apart → followed ≤ apart → length r.records ≤ followed
+      → all_follow (seen_limits r.limits) (take followed (take apart r.records)) (seen_base r.base) ≡ true
       → AreLegalFrom (seen_limits r.limits) (seen_base r.base) r.records
   all_legal apart followed upto within past may =
       let rs = r.records in
@@ -499,5 +566,6 @@ module _ {B : Type 0} (r : Report B) where
         apart = λ i. subst (λ (l : List SeenRecord). copies_of i (known_in (seen_base r.base) l) ≤ 1) some (upto.apart i);
       }
 
-  pub does : IsLegalBase (seen_limits r.limits) (seen_base r.base) → AreLegalFrom (seen_limits r.limits) (seen_base r.base) r.records → ShowsCounts (told_in r) r → DoesReplay r
+  pub does : IsLegalBase (seen_limits r.limits) (seen_base r.base) → AreLegalFrom (seen_limits r.limits) (seen_base r.base) r.records
+      → ShowsCounts (told_in r) r → DoesReplay r
   does base legal s = record { base = base; legal = legal; idle = s.idle; lent = s.lent; connections = s.connections; pending = s.pending; closed = s.closed }

@@ -1,5 +1,6 @@
 -- A journal beside its machine: where it has no room, what is before its records is what the machine shows.
-use Rattle.std.proofs.Common.{◌≡◌, ℕ, zero, suc, ◌<◌, ◌≤◌, ◌==◌, Bool, true, false, cond, List, [], ◌∷◌, ◌++◌, length, drop, Option, Some, None, refl, sym, ◌∙◌, ap, subst, arith}
+use Rattle.std.proofs.Common.{◌≡◌, ℕ, zero, suc, ◌<◌, ◌≤◌, ◌==◌, Bool, true, false, cond, List, [], ◌∷◌, ◌++◌, length, drop, Option, Some, None, refl, sym, ◌∙◌}
+use Rattle.std.proofs.Common.{ap, subst, arith}
 use Rattle.std.specs.Prelude.{nat_lt}
 use Rattle.std.proofs.lemmas.Bool.Decides.{nat_tests}
 use Rattle.r2d2_core.specs.Limits.{SeenLimits, wanted_of}
@@ -36,7 +37,12 @@ none_alone l = alone_by (l.room == 0) l
 -- what is noted changes the base only where it counts a record as lost
 begins_by : (l : SeenJournal) (r : SeenRecord) (has_room : Bool) → BeginsAtTheMaking l
     → BeginsAtTheMaking (cond has_room (record l { records = l.records ++ r ∷ []; takes = takes_with r l.takes })
-    (record l { base = with_oldest l.limits (l.records ++ r ∷ []) l.base; records = drop 1 (l.records ++ r ∷ []); lost = one_more l.lost; takes = takes_with r l.takes }))
+    (record l {
+      base = with_oldest l.limits (l.records ++ r ∷ []) l.base;
+      records = drop 1 (l.records ++ r ∷ []);
+      lost = one_more l.lost;
+      takes = takes_with r l.takes;
+    }))
 begins_by l r true begins = begins
 begins_by l r false begins = λ none. absurd (none_lost l.lost none)
 
@@ -47,7 +53,12 @@ begins_noted (Some r) l begins = begins_by l r (nat_lt (length l.records) l.room
 -- a journal's room stays
 room_by : (l : SeenJournal) (r : SeenRecord) (has_room : Bool)
     → (let n = cond has_room (record l { records = l.records ++ r ∷ []; takes = takes_with r l.takes })
-    (record l { base = with_oldest l.limits (l.records ++ r ∷ []) l.base; records = drop 1 (l.records ++ r ∷ []); lost = one_more l.lost; takes = takes_with r l.takes }) in
+    (record l {
+      base = with_oldest l.limits (l.records ++ r ∷ []) l.base;
+      records = drop 1 (l.records ++ r ∷ []);
+      lost = one_more l.lost;
+      takes = takes_with r l.takes;
+    }) in
     n.room ≡ l.room)
 room_by l r true = refl
 room_by l r false = refl
@@ -91,7 +102,8 @@ module _ {T : Type 0} where
       ∙ ap (λ (x : SeenBase). journal limits since x [] 0 (one_more lost) (takes_with r takes))
       (sym (is_shown (folded limits r (shown_at b.at p)) p' k.replays.shows ∙ ap (λ n. shown_at n p') (at_folded limits r (shown_at b.at p))))
 
-  noted_at : (limits : SeenLimits) (since : ℕ) (b : SeenBase) (rs : List SeenRecord) (room lost takes : ℕ) (made : Option SeenRecord) (p p' : Picture T) (m : SeenJournal) → (room ≡ 0 → rs ≡ [])
+  noted_at : (limits : SeenLimits) (since : ℕ) (b : SeenBase) (rs : List SeenRecord) (room lost takes : ℕ) (made : Option SeenRecord) (p p' : Picture T)
+      (m : SeenJournal) → (room ≡ 0 → rs ≡ [])
       → KeepsWith (beside p (journal limits since b rs room lost takes)) made p' → m ≡ kept_alone made (journal limits since b rs room lost takes)
       → beside p' m ≡ with_noted made (beside p (journal limits since b rs room lost takes))
   noted_at limits since b [] zero lost takes made p p' m none k is = noted_bare limits since b lost takes made p p' m k is
@@ -104,7 +116,8 @@ module _ {T : Type 0} where
       ∙ ap (with_noted made) (sym (beside_same p l some)))
 
   -- what a journal notes alone is, beside the machine after the step, what the definitions note beside the machine before it
-  pub noted_beside : (l m : SeenJournal) (made : Option SeenRecord) (p p' : Picture T) → IsFaithful (book_in p l) → KeepsWith (beside p l) made p' → m ≡ kept_alone made l → beside p' m ≡ with_noted made (beside p l)
+  pub noted_beside : (l m : SeenJournal) (made : Option SeenRecord) (p p' : Picture T) → IsFaithful (book_in p l) → KeepsWith (beside p l) made p'
+      → m ≡ kept_alone made l → beside p' m ≡ with_noted made (beside p l)
   noted_beside l m made p p' old k is = noted_at l.limits l.made l.base l.records l.room l.lost l.takes made p p' m old.none_without_room k is
 
   -- what is kept with a record and a picture is kept with what they are
@@ -118,7 +131,8 @@ module _ {T : Type 0} where
       record { legal = alone.replays.base; follow = alone.replays.legal }
 
   -- then the book keeps what its type keeps
-  pub faithful : (l m : SeenJournal) (made : Option SeenRecord) (p p' : Picture T) → IsFaithful (book_in p l) → IsSound p' → KeepsWith (beside p l) made p' → m ≡ kept_alone made l → IsFaithful (book_in p' m)
+  pub faithful : (l m : SeenJournal) (made : Option SeenRecord) (p p' : Picture T) → IsFaithful (book_in p l) → IsSound p' → KeepsWith (beside p l) made p'
+      → m ≡ kept_alone made l → IsFaithful (book_in p' m)
   faithful l m made p p' old sound k is =
       let noted = noted_beside l m made p p' old k is in
       record {
@@ -135,10 +149,13 @@ same_by true b = refl
 same_by false b = refl
 
 -- at the making the machine shows what the journal begins with
-pub beside_first : (T : Type 0) (limits : SeenLimits) (now first_id room : ℕ) → beside (first_picture {T = T} limits now first_id) (first_journal limits now room) ≡ first_journal limits now room
-beside_first T limits now first_id room = ap (λ (b : SeenBase). record (first_journal limits now room) { base = b }) (same_by (room == 0) (first_base limits now))
+pub beside_first : (T : Type 0) (limits : SeenLimits) (now first_id room : ℕ)
+    → beside (first_picture {T = T} limits now first_id) (first_journal limits now room) ≡ first_journal limits now room
+beside_first T limits now first_id room = ap (λ (b : SeenBase). record (first_journal limits now room) { base = b })
+    (same_by (room == 0) (first_base limits now))
 
-pub faithful_first : (T : Type 0) (limits : SeenLimits) (now first_id room : ℕ) → wanted_of limits ≤ limits.max_size → IsSound (first_picture {T = T} limits now first_id)
+pub faithful_first : (T : Type 0) (limits : SeenLimits) (now first_id room : ℕ) → wanted_of limits ≤ limits.max_size
+    → IsSound (first_picture {T = T} limits now first_id)
     → IsFaithful (book_in (first_picture {T = T} limits now first_id) (first_journal limits now room))
 faithful_first T limits now first_id room within sound =
     subst (λ (l : SeenJournal). IsFaithful (seen_book (first_picture {T = T} limits now first_id) l)) (sym (beside_first T limits now first_id room))

@@ -1,5 +1,6 @@
 -- The takes that a journal notes are those that its records tell of.
-use Rattle.std.proofs.Common.{◌≡◌, ℕ, ◌+◌, ◌<◌, ◌≤◌, ◌-◌, ◌^◌, Bool, true, false, cond, List, [], ◌∷◌, ◌++◌, length, map, drop, Option, None, refl, sym, ◌∙◌, ap, subst, arith}
+use Rattle.std.proofs.Common.{◌≡◌, ℕ, ◌+◌, ◌<◌, ◌≤◌, ◌-◌, ◌^◌, Bool, true, false, cond, List, [], ◌∷◌, ◌++◌, length, map, drop, Option, None, refl, sym, ◌∙◌}
+use Rattle.std.proofs.Common.{ap, subst, arith}
 use Rattle.std.specs.Prelude.{nat_lt, is_some, slice_get}
 use Rattle.std.proofs.lemmas.List.{length-map, map-append, length_push}
 use Rattle.std.proofs.lemmas.Bool.{ltb-true}
@@ -22,17 +23,20 @@ counts_more rs (Reaped at ordered) n few is = omega (arith, takes_more rs (Reape
 counts_more rs (ClosedAll at) n few is = omega (arith, takes_more rs (ClosedAll at), is)
 
 -- a list that has room keeps what is put at its end, and its takes are counted
-pub still_counts : (items : List Record) (made : Record) (capacity lost takes taken : ℕ) → length items < capacity → capacity < 2 ^ 64 → (lost ≡ 0 → takes ≡ takes_in (map seen_record items))
+pub still_counts : (items : List Record) (made : Record) (capacity lost takes taken : ℕ) → length items < capacity → capacity < 2 ^ 64
+    → (lost ≡ 0 → takes ≡ takes_in (map seen_record items))
     → taken ≡ takes_with (seen_record made) takes → let now = drop (length (items ++ made ∷ []) - capacity) (items ++ made ∷ []) in
     (length now ≤ capacity) × (capacity < 2 ^ 64) × (lost ≡ 0 → taken ≡ takes_in (map seen_record now))
 still_counts items made capacity lost takes taken room few old is =
     let none_given : length (items ++ made ∷ []) - capacity ≡ 0 = omega (arith, length_push items made) in
-    subst (λ k. (length (drop k (items ++ made ∷ [])) ≤ capacity) × (capacity < 2 ^ 64) × (lost ≡ 0 → taken ≡ takes_in (map seen_record (drop k (items ++ made ∷ []))))) (sym none_given) (
+    subst (λ k. (length (drop k (items ++ made ∷ [])) ≤ capacity) × (capacity < 2 ^ 64)
+    × (lost ≡ 0 → taken ≡ takes_in (map seen_record (drop k (items ++ made ∷ []))))) (sym none_given) (
       omega (arith, length_push items made),
       few,
       λ none.
           is
-          ∙ (counts_more (map seen_record items) (seen_record made) takes ((let long : length (map seen_record items) ≡ length items = length-map items seen_record in omega (arith, long, room, few))) (old none)
+          ∙ (counts_more (map seen_record items) (seen_record made) takes ((let long : length
+          (map seen_record items) ≡ length items = length-map items seen_record in omega (arith, long, room, few))) (old none)
           ∙ ap takes_in (sym (map-append seen_record items (made ∷ [])))),
     )
 

@@ -1,5 +1,6 @@
 -- The law of folding: a legal record folded into a legal base leaves the base legal, and the records behind it legal from there.
-use Rattle.std.proofs.Common.{◌≡◌, ℕ, ◌+◌, ◌-◌, ◌≤◌, ◌<◌, min, Bool, true, false, cond, not, ◌==◌, List, [], ◌∷◌, ◌++◌, map, length, Option, Some, None, refl, sym, ◌∙◌, ap, subst, arith}
+use Rattle.std.proofs.Common.{◌≡◌, ℕ, ◌+◌, ◌-◌, ◌≤◌, ◌<◌, min, Bool, true, false, cond, not, ◌==◌, List, [], ◌∷◌, ◌++◌, map, length, Option, Some, None, refl}
+use Rattle.std.proofs.Common.{sym, ◌∙◌, ap, subst, arith}
 use Rattle.std.specs.Prelude.{◌&&◌, nat_le, nat_lt, is_some, filter, option_map, unwrap_or}
 use Rattle.std.specs.List.{All}
 use Rattle.std.specs.List.Sorted.{IsNonDecreasingBy}
@@ -16,7 +17,8 @@ use Rattle.r2d2_core.specs.Lending.{lent_next, still_idle}
 use Rattle.r2d2_core.specs.Connections.{SeenLentConnection, idle_connection, lent_connection, birth_in, id_of_idle, id_of_lent, since_of, is_expired, is_kept}
 use Rattle.r2d2_core.specs.Records.{SeenRecord, Taken, Ordered, Admitted, Kept, Closed, Reaped, ClosedAll}
 use Rattle.r2d2_core.specs.Bases.{SeenBase, BareConnection, ids_of, IsLegalBase}
-use Rattle.r2d2_core.specs.Folding.{moment_in, birth_of_idle, birth_of_lent, idle_after_reap, expired_in, folded, replay, is_next, fits, may_follow, all_follow, admitted_by, admitted_in, known_in, AreLegalFrom}
+use Rattle.r2d2_core.specs.Folding.{moment_in, birth_of_idle, birth_of_lent, idle_after_reap, expired_in, folded, replay, is_next, fits, may_follow, all_follow}
+use Rattle.r2d2_core.specs.Folding.{admitted_by, admitted_in, known_in, AreLegalFrom}
 use Rattle.r2d2_core.proofs.Lists.Filters.{copies_of-filter}
 use Rattle.r2d2_core.proofs.Lists.Ids.{copies_of-append, copies_of-push, copies_of-without, length-without, All-without, All-found, All-push, All-weaker}
 use Rattle.r2d2_core.proofs.Lists.Lending.{found-next, without-next, IsNonDecreasingBy-still_idle}
@@ -46,7 +48,8 @@ closed_none : (closed : Bool) (n m : ℕ) → n ≡ cond closed 0 m → closed �
 closed_none true n m e c = e
 closed_none false n m e c = absurd cc
 
-ordered_fits : (closed : Bool) (n wanted size idle connections pending : ℕ) → connections + pending ≤ size → n ≡ cond closed 0 (min (wanted - idle) (size - connections - pending)) → connections + (pending + n) ≤ size
+ordered_fits : (closed : Bool) (n wanted size idle connections pending : ℕ) → connections + pending ≤ size
+    → n ≡ cond closed 0 (min (wanted - idle) (size - connections - pending)) → connections + (pending + n) ≤ size
 ordered_fits true n wanted size idle connections pending le e = omega (arith, le, e)
 ordered_fits false n wanted size idle connections pending le e = omega (arith, le, e)
 
@@ -57,7 +60,8 @@ pub record NextIs (limits : SeenLimits) (id : ℕ) (b : SeenBase) : Type 0 where
   pub next : lent_next limits.order b.idle ≡ Some c
   pub same : c.id ≡ id
 
-next_by : (limits : SeenLimits) (id : ℕ) (b : SeenBase) (o : Option BareConnection) → lent_next limits.order b.idle ≡ o → unwrap_or (option_map (λ c. c.id == id) o) false ≡ true → NextIs limits id b
+next_by : (limits : SeenLimits) (id : ℕ) (b : SeenBase) (o : Option BareConnection) → lent_next limits.order b.idle ≡ o
+    → unwrap_or (option_map (λ c. c.id == id) o) false ≡ true → NextIs limits id b
 next_by limits id b None e is = absurd cc
 next_by limits id b (Some c) e is = record { c = c; next = e; same = eqb-true c.id id is }
 
@@ -70,7 +74,8 @@ pub record StandsNext (limits : SeenLimits) (id : ℕ) (b : SeenBase) : Type 0 w
   pub there : found id_of_idle id b.idle ≡ Some c
   pub others : without id_of_idle id b.idle ≡ still_idle limits.order b.idle
 
-pub stands_next : (limits : SeenLimits) (id : ℕ) (b : SeenBase) → ((i : ℕ) → copies_of i (map id_of_idle b.idle) ≤ 1) → is_next limits id b ≡ true → StandsNext limits id b
+pub stands_next : (limits : SeenLimits) (id : ℕ) (b : SeenBase) → ((i : ℕ) → copies_of i (map id_of_idle b.idle) ≤ 1) → is_next limits id b ≡ true
+    → StandsNext limits id b
 stands_next limits id b apart is =
     let n = next_is limits id b is in
     record {
@@ -83,7 +88,8 @@ pub record IsThere (id : ℕ) (b : SeenBase) : Type 0 where
   pub l : SeenLentConnection
   pub there : found id_of_lent id b.lent ≡ Some l
 
-there_by : (id : ℕ) (b : SeenBase) (o : Option SeenLentConnection) → found id_of_lent id b.lent ≡ o → is_some (option_map (λ (c : SeenLentConnection). c.birth) o) ≡ true → IsThere id b
+there_by : (id : ℕ) (b : SeenBase) (o : Option SeenLentConnection) → found id_of_lent id b.lent ≡ o
+    → is_some (option_map (λ (c : SeenLentConnection). c.birth) o) ≡ true → IsThere id b
 there_by id b None e is = absurd cc
 there_by id b (Some l) e is = record { l = l; there = e }
 
@@ -162,7 +168,8 @@ module _ (limits : SeenLimits) (b : SeenBase) (legal : IsLegalBase limits b) whe
       IsNonDecreasingBy-push since_of b.idle c legal.is_sorted
       (λ d some. omega (arith, legal.seen (length b.idle - 1) d (omega (arith, some)), later))
 
-  legal_taken : (at id n : ℕ) → b.at ≤ at → fits limits (Taken at id n) b ≡ true → ((i : ℕ) → copies_of i (ids_of (folded limits (Taken at id n) b)) ≤ 1) → IsLegalBase limits (folded limits (Taken at id n) b)
+  legal_taken : (at id n : ℕ) → b.at ≤ at → fits limits (Taken at id n) b ≡ true → ((i : ℕ) → copies_of i (ids_of (folded limits (Taken at id n) b)) ≤ 1)
+      → IsLegalBase limits (folded limits (Taken at id n) b)
   legal_taken at id n later fit apart =
       let f = split _ _ fit in
       let s = stands_next limits id b (idle_apart b legal.apart) f.0 in
@@ -183,7 +190,8 @@ module _ (limits : SeenLimits) (b : SeenBase) (legal : IsLegalBase limits b) whe
         none_pending = λ closed. omega (arith, legal.none_pending closed, closed_none b.closed n _ is closed);
       }
 
-  legal_ordered : (at n : ℕ) → b.at ≤ at → fits limits (Ordered at n) b ≡ true → ((i : ℕ) → copies_of i (ids_of (folded limits (Ordered at n) b)) ≤ 1) → IsLegalBase limits (folded limits (Ordered at n) b)
+  legal_ordered : (at n : ℕ) → b.at ≤ at → fits limits (Ordered at n) b ≡ true → ((i : ℕ) → copies_of i (ids_of (folded limits (Ordered at n) b)) ≤ 1)
+      → IsLegalBase limits (folded limits (Ordered at n) b)
   legal_ordered at n later fit apart =
       let f = split _ _ ((split _ _ fit).1) in
       let g = split _ _ f.1 in
@@ -201,7 +209,8 @@ module _ (limits : SeenLimits) (b : SeenBase) (legal : IsLegalBase limits b) whe
         none_pending = λ closed. absurd (let still = is_false b.closed g.0 in cc (closed, still));
       }
 
-  legal_admitted : (at id : ℕ) → b.at ≤ at → fits limits (Admitted at id) b ≡ true → ((i : ℕ) → copies_of i (ids_of (folded limits (Admitted at id) b)) ≤ 1) → IsLegalBase limits (folded limits (Admitted at id) b)
+  legal_admitted : (at id : ℕ) → b.at ≤ at → fits limits (Admitted at id) b ≡ true → ((i : ℕ) → copies_of i (ids_of (folded limits (Admitted at id) b)) ≤ 1)
+      → IsLegalBase limits (folded limits (Admitted at id) b)
   legal_admitted at id later fit apart =
       let some : 0 < b.pending = is_lt _ _ fit in
       let c = idle_connection id at at tt in
@@ -217,7 +226,8 @@ module _ (limits : SeenLimits) (b : SeenBase) (legal : IsLegalBase limits b) whe
         none_pending = λ closed. absurd (omega (arith, some, legal.none_pending closed));
       }
 
-  legal_kept : (at id : ℕ) → b.at ≤ at → fits limits (Kept at id) b ≡ true → ((i : ℕ) → copies_of i (ids_of (folded limits (Kept at id) b)) ≤ 1) → IsLegalBase limits (folded limits (Kept at id) b)
+  legal_kept : (at id : ℕ) → b.at ≤ at → fits limits (Kept at id) b ≡ true → ((i : ℕ) → copies_of i (ids_of (folded limits (Kept at id) b)) ≤ 1)
+      → IsLegalBase limits (folded limits (Kept at id) b)
   legal_kept at id later fit apart =
       let f = split _ _ fit in
       let g = split _ _ f.1 in
@@ -237,7 +247,8 @@ module _ (limits : SeenLimits) (b : SeenBase) (legal : IsLegalBase limits b) whe
         none_pending = legal.none_pending;
       }
 
-  legal_closed : (at id n : ℕ) → b.at ≤ at → fits limits (Closed at id n) b ≡ true → ((i : ℕ) → copies_of i (ids_of (folded limits (Closed at id n) b)) ≤ 1) → IsLegalBase limits (folded limits (Closed at id n) b)
+  legal_closed : (at id n : ℕ) → b.at ≤ at → fits limits (Closed at id n) b ≡ true → ((i : ℕ) → copies_of i (ids_of (folded limits (Closed at id n) b)) ≤ 1)
+      → IsLegalBase limits (folded limits (Closed at id n) b)
   legal_closed at id n later fit apart =
       let f = split _ _ fit in
       let s = is_there id b f.0 in
@@ -254,7 +265,8 @@ module _ (limits : SeenLimits) (b : SeenBase) (legal : IsLegalBase limits b) whe
         none_pending = λ closed. omega (arith, legal.none_pending closed, closed_none b.closed n _ is closed);
       }
 
-  legal_reaped : (at n : ℕ) → b.at ≤ at → fits limits (Reaped at n) b ≡ true → ((i : ℕ) → copies_of i (ids_of (folded limits (Reaped at n) b)) ≤ 1) → IsLegalBase limits (folded limits (Reaped at n) b)
+  legal_reaped : (at n : ℕ) → b.at ≤ at → fits limits (Reaped at n) b ≡ true → ((i : ℕ) → copies_of i (ids_of (folded limits (Reaped at n) b)) ≤ 1)
+      → IsLegalBase limits (folded limits (Reaped at n) b)
   unfolding is_kept is_expired
   legal_reaped at n later fit apart =
       let f = split _ _ fit in
@@ -262,7 +274,8 @@ module _ (limits : SeenLimits) (b : SeenBase) (legal : IsLegalBase limits b) whe
       record {
         apart = apart;
         counted = omega (arith, legal.counted, length-filter_both (is_expired limits at) (is_kept limits at) (λ c. refl) b.idle);
-        fits = ordered_fits b.closed n (wanted_of limits) limits.max_size (length (idle_after_reap limits at b)) (b.connections - expired_in limits at b) b.pending (omega (arith, legal.fits)) is;
+        fits = ordered_fits b.closed n (wanted_of limits) limits.max_size (length (idle_after_reap limits at b))
+            (b.connections - expired_in limits at b) b.pending (omega (arith, legal.fits)) is;
         is_sorted = IsNonDecreasingBy-filter since_of (is_kept limits at) b.idle legal.is_sorted;
         seen = All-filter (is_kept limits at) (λ c. c.since ≤ at) b.idle (seen_at at later);
         born = All-filter (is_kept limits at) (λ c. c.birth ≤ c.since) b.idle legal.born;
@@ -271,7 +284,8 @@ module _ (limits : SeenLimits) (b : SeenBase) (legal : IsLegalBase limits b) whe
         none_pending = λ closed. omega (arith, legal.none_pending closed, closed_none b.closed n _ is closed);
       }
 
-  legal_closed_all : (at : ℕ) → b.at ≤ at → ((i : ℕ) → copies_of i (ids_of (folded limits (ClosedAll at) b)) ≤ 1) → IsLegalBase limits (folded limits (ClosedAll at) b)
+  legal_closed_all : (at : ℕ) → b.at ≤ at → ((i : ℕ) → copies_of i (ids_of (folded limits (ClosedAll at) b)) ≤ 1)
+      → IsLegalBase limits (folded limits (ClosedAll at) b)
   legal_closed_all at later apart = record {
     apart = apart;
     counted = omega (arith, legal.counted);
@@ -284,7 +298,8 @@ module _ (limits : SeenLimits) (b : SeenBase) (legal : IsLegalBase limits b) whe
     none_pending = λ closed. refl;
   }
 
-  legal_by : (r : SeenRecord) → b.at ≤ moment_in r → fits limits r b ≡ true → ((i : ℕ) → copies_of i (ids_of (folded limits r b)) ≤ 1) → IsLegalBase limits (folded limits r b)
+  legal_by : (r : SeenRecord) → b.at ≤ moment_in r → fits limits r b ≡ true → ((i : ℕ) → copies_of i (ids_of (folded limits r b)) ≤ 1)
+      → IsLegalBase limits (folded limits r b)
   legal_by (Taken at id n) later fit apart = legal_taken at id n later fit apart
   legal_by (Ordered at n) later fit apart = legal_ordered at n later fit apart
   legal_by (Admitted at id) later fit apart = legal_admitted at id later fit apart
@@ -294,7 +309,8 @@ module _ (limits : SeenLimits) (b : SeenBase) (legal : IsLegalBase limits b) whe
   legal_by (ClosedAll at) later fit apart = legal_closed_all at later apart
 
 -- a base with a record that may follow it is legal
-pub legal_folded : (limits : SeenLimits) (r : SeenRecord) (b : SeenBase) → IsLegalBase limits b → may_follow limits r b ≡ true → ((i : ℕ) → copies_of i (ids_of b) + copies_of i (admitted_by r) ≤ 1) → IsLegalBase limits (folded limits r b)
+pub legal_folded : (limits : SeenLimits) (r : SeenRecord) (b : SeenBase) → IsLegalBase limits b → may_follow limits r b ≡ true
+    → ((i : ℕ) → copies_of i (ids_of b) + copies_of i (admitted_by r) ≤ 1) → IsLegalBase limits (folded limits r b)
 legal_folded limits r b legal may apart =
     let f = split _ _ may in
     legal_by limits b legal r (is_le _ _ f.0) f.1 (λ i. omega (arith, apart i, ids_folded limits r b legal.apart f.1 i))
@@ -307,16 +323,19 @@ pub record FoldsFirst (limits : SeenLimits) (r : SeenRecord) (rs : List SeenReco
   pub rest : AreLegalFrom limits (folded limits r b) rs
   pub same : replay limits (r ∷ rs) b ≡ replay limits rs (folded limits r b)
 
-pub known_first : (i : ℕ) (b : SeenBase) (r : SeenRecord) (rs : List SeenRecord) → copies_of i (known_in b (r ∷ rs)) ≡ copies_of i (ids_of b) + (copies_of i (admitted_by r) + copies_of i (admitted_in rs))
+pub known_first : (i : ℕ) (b : SeenBase) (r : SeenRecord) (rs : List SeenRecord)
+    → copies_of i (known_in b (r ∷ rs)) ≡ copies_of i (ids_of b) + (copies_of i (admitted_by r) + copies_of i (admitted_in rs))
 known_first i b r rs = omega (arith, copies_of-append i (ids_of b) (admitted_in (r ∷ rs)), copies_of-append i (admitted_by r) (admitted_in rs))
 
 -- and no more ids are known
-pub known_folded : (limits : SeenLimits) (r : SeenRecord) (rs : List SeenRecord) (b : SeenBase) → ((i : ℕ) → copies_of i (ids_of b) ≤ 1) → may_follow limits r b ≡ true → (i : ℕ)
+pub known_folded : (limits : SeenLimits) (r : SeenRecord) (rs : List SeenRecord) (b : SeenBase) → ((i : ℕ) → copies_of i (ids_of b) ≤ 1)
+    → may_follow limits r b ≡ true → (i : ℕ)
     → copies_of i (known_in (folded limits r b) rs) ≤ copies_of i (known_in b (r ∷ rs))
 known_folded limits r rs b apart may i =
     omega (arith, ids_folded limits r b apart ((split _ _ may).1) i, known_first i b r rs, copies_of-append i (ids_of (folded limits r b)) (admitted_in rs))
 
-pub folds_first : (limits : SeenLimits) (r : SeenRecord) (rs : List SeenRecord) (b : SeenBase) → IsLegalBase limits b → AreLegalFrom limits b (r ∷ rs) → FoldsFirst limits r rs b
+pub folds_first : (limits : SeenLimits) (r : SeenRecord) (rs : List SeenRecord) (b : SeenBase) → IsLegalBase limits b → AreLegalFrom limits b (r ∷ rs)
+    → FoldsFirst limits r rs b
 folds_first limits r rs b legal are =
     let f = split _ _ are.follow in
     record {
@@ -327,7 +346,8 @@ folds_first limits r rs b legal are =
 
 -- ONE MORE
 
-pub replay-push : (limits : SeenLimits) (rs : List SeenRecord) (r : SeenRecord) (b : SeenBase) → replay limits (rs ++ r ∷ []) b ≡ folded limits r (replay limits rs b)
+pub replay-push : (limits : SeenLimits) (rs : List SeenRecord) (r : SeenRecord) (b : SeenBase)
+    → replay limits (rs ++ r ∷ []) b ≡ folded limits r (replay limits rs b)
 replay-push limits [] r b = refl
 replay-push limits (s ∷ rs) r b = replay-push limits rs r (folded limits s b)
 
@@ -339,17 +359,25 @@ and_true : (a : Bool) → (a && true) ≡ a
 and_true true = refl
 and_true false = refl
 
-pub follow-push : (limits : SeenLimits) (rs : List SeenRecord) (r : SeenRecord) (b : SeenBase) → all_follow limits (rs ++ r ∷ []) b ≡ (all_follow limits rs b && may_follow limits r (replay limits rs b))
+pub follow-push : (limits : SeenLimits) (rs : List SeenRecord) (r : SeenRecord) (b : SeenBase)
+    → all_follow limits (rs ++ r ∷ []) b ≡ (all_follow limits rs b && may_follow limits r (replay limits rs b))
 follow-push limits [] r b = and_true (may_follow limits r b)
 follow-push limits (s ∷ rs) r b = ap (λ c. may_follow limits s b && c) (follow-push limits rs r (folded limits s b)) ∙ and_assoc (may_follow limits s b) _ _
 
-pub admitted-push : (i : ℕ) (rs : List SeenRecord) (r : SeenRecord) → copies_of i (admitted_in (rs ++ r ∷ [])) ≡ copies_of i (admitted_in rs) + copies_of i (admitted_by r)
+pub admitted-push : (i : ℕ) (rs : List SeenRecord) (r : SeenRecord) → copies_of i (admitted_in (rs ++ r ∷ [])) ≡ copies_of i (admitted_in rs) + copies_of i
+    (admitted_by r)
 admitted-push i [] r = omega (arith, copies_of-append i (admitted_by r) [])
 admitted-push i (s ∷ rs) r =
     omega (arith, admitted-push i rs r, copies_of-append i (admitted_by s) (admitted_in (rs ++ r ∷ [])), copies_of-append i (admitted_by s) (admitted_in rs))
 
-pub known-push : (i : ℕ) (b : SeenBase) (rs : List SeenRecord) (r : SeenRecord) → copies_of i (known_in b (rs ++ r ∷ [])) ≡ copies_of i (known_in b rs) + copies_of i (admitted_by r)
-known-push i b rs r = omega (arith, admitted-push i rs r, copies_of-append i (ids_of b) (admitted_in (rs ++ r ∷ [])), copies_of-append i (ids_of b) (admitted_in rs))
+pub known-push : (i : ℕ) (b : SeenBase) (rs : List SeenRecord) (r : SeenRecord)
+    → copies_of i (known_in b (rs ++ r ∷ [])) ≡ copies_of i (known_in b rs) + copies_of i (admitted_by r)
+known-push i b rs r = omega (
+  arith,
+  admitted-push i rs r,
+  copies_of-append i (ids_of b) (admitted_in (rs ++ r ∷ [])),
+  copies_of-append i (ids_of b) (admitted_in rs),
+)
 
 -- records that are legal from a legal base come to a legal one, with no more ids
 pub record ComeToLegal (limits : SeenLimits) (rs : List SeenRecord) (b : SeenBase) : Type 0 where

@@ -41,7 +41,8 @@ none_at_all closed n e = by (closed == 0) (n == 0) refl refl e where
   by true false ea eb e = absurd cc
   by false b ea eb e = absurd cc
 
-all_stay_step : {X : Type 0} (b : Bool) (x : X) (gone stay xs : List X) → length (cond b (x ∷ gone) gone) ≡ 0 → (length gone ≡ 0 → stay ≡ xs) → cond (not b) (x ∷ stay) stay ≡ x ∷ xs
+all_stay_step : {X : Type 0} (b : Bool) (x : X) (gone stay xs : List X) → length (cond b (x ∷ gone) gone) ≡ 0 → (length gone ≡ 0 → stay ≡ xs)
+    → cond (not b) (x ∷ stay) stay ≡ x ∷ xs
 all_stay_step true x gone stay xs e h = absurd (omega arith)
 all_stay_step false x gone stay xs e h = ap (λ l. x ∷ l) (h e)
 
@@ -51,8 +52,10 @@ all_stay p [] e = refl
 all_stay p (x ∷ xs) e = all_stay_step (p x) x (filter p xs) (filter (λ y. not (p y)) xs) xs e (all_stay p xs)
 
 -- the same is ordered beside as many idle ones and connections
-orders_same : (closed : Bool) (n m wanted size c d pending : ℕ) → n ≡ m → c ≡ d → (cond closed 0 (min (wanted - m) (size - d - pending)) == cond closed 0 (min (wanted - n) (size - c - pending))) ≡ true
-orders_same closed n m wanted size c d pending e f = eq-eqb _ _ (ap (λ k. cond closed 0 (min (wanted - k) (size - d - pending))) (sym e) ∙ ap (λ k. cond closed 0 (min (wanted - n) (size - k - pending))) (sym f))
+orders_same : (closed : Bool) (n m wanted size c d pending : ℕ) → n ≡ m → c ≡ d
+    → (cond closed 0 (min (wanted - m) (size - d - pending)) == cond closed 0 (min (wanted - n) (size - c - pending))) ≡ true
+orders_same closed n m wanted size c d pending e f = eq-eqb _ _ (ap (λ k. cond closed 0 (min (wanted - k) (size - d - pending))) (sym e)
+    ∙ ap (λ k. cond closed 0 (min (wanted - n) (size - k - pending))) (sym f))
 
 module _ {T : Type 0} where
   filter_bare : (p : BareConnection → Bool) (xs : List (SeenIdleConnection T)) → filter p (map bare xs) ≡ map bare (filter (λ c. p (bare c)) xs)
@@ -60,11 +63,13 @@ module _ {T : Type 0} where
   filter_bare p (x ∷ xs) = ap (λ l. cond (p (bare x)) (bare x ∷ l) l) (filter_bare p xs) ∙ sym (map_cond bare (p (bare x)) x (filter (λ c. p (bare c)) xs))
 
   -- a payload is not asked for
-  expired_bare : (limits : SeenLimits) (now : ℕ) (xs : List (SeenIdleConnection T)) → filter (is_expired limits now) (map bare xs) ≡ map bare (filter (is_expired limits now) xs)
+  expired_bare : (limits : SeenLimits) (now : ℕ) (xs : List (SeenIdleConnection T))
+      → filter (is_expired limits now) (map bare xs) ≡ map bare (filter (is_expired limits now) xs)
   unfolding is_expired
   expired_bare limits now xs = filter_bare (is_expired limits now) xs
 
-  kept_bare : (limits : SeenLimits) (now : ℕ) (xs : List (SeenIdleConnection T)) → filter (is_kept limits now) (map bare xs) ≡ map bare (filter (is_kept limits now) xs)
+  kept_bare : (limits : SeenLimits) (now : ℕ) (xs : List (SeenIdleConnection T))
+      → filter (is_kept limits now) (map bare xs) ≡ map bare (filter (is_kept limits now) xs)
   unfolding is_expired is_kept
   kept_bare limits now xs = filter_bare (is_kept limits now) xs
 
@@ -73,12 +78,14 @@ module _ {T : Type 0} where
   gone_in p = filter (is_expired p.on_order.limits p.latest) p.idle
 
   -- a reap that closed or ordered, at its moment
-  says_reaped : (m : ℕ) (p : Picture T) → ((length (gone_in p) == 0) && (top_up_of (swept p) == 0)) ≡ false → Says m p (Reaped p.latest (top_up_of (swept p))) (topped_up (swept p))
+  says_reaped : (m : ℕ) (p : Picture T) → ((length (gone_in p) == 0) && (top_up_of (swept p) == 0)) ≡ false
+      → Says m p (Reaped p.latest (top_up_of (swept p))) (topped_up (swept p))
   says_reaped m p some =
       let limits = p.on_order.limits in
       let still = filter (is_kept limits p.latest) p.idle in
       let kept : filter (is_kept limits p.latest) (map bare p.idle) ≡ map bare still = kept_bare limits p.latest p.idle in
-      let gone : length (filter (is_expired limits p.latest) (map bare p.idle)) ≡ length (gone_in p) = ap length (expired_bare limits p.latest p.idle) ∙ length-map (gone_in p) bare in
+      let gone : length (filter (is_expired limits p.latest) (map bare p.idle)) ≡ length (gone_in p) = ap length (expired_bare limits p.latest p.idle)
+      ∙ length-map (gone_in p) bare in
       record {
         fit = both _ _
             (orders_same p.on_order.closed (length (filter (is_kept limits p.latest) (map bare p.idle))) (length still) (wanted_of limits) limits.max_size
@@ -90,18 +97,21 @@ module _ {T : Type 0} where
         not_after = omega arith;
       }
 
-  reap_step : (limits : SeenLimits) (b : SeenBase) (rs : List SeenRecord) (p : Picture T) (none : Bool) → ((length (gone_in p) == 0) && (top_up_of (swept p) == 0)) ≡ none → IsSound p
+  reap_step : (limits : SeenLimits) (b : SeenBase) (rs : List SeenRecord) (p : Picture T) (none : Bool)
+      → ((length (gone_in p) == 0) && (top_up_of (swept p) == 0)) ≡ none → IsSound p
       → KeepReplaying limits b rs p → KeepReplaying limits b (added (cond none None (Some (Reaped p.latest (top_up_of (swept p))))) rs) (topped_up (swept p))
   unfolding is_expired is_kept
   reap_step limits b rs p true e sound k =
       let none = none_at_all (length (gone_in p)) (top_up_of (swept p)) e in
       with_none_more limits b rs p (topped_up (swept p)) refl
-      (sym (ap (map bare) (all_stay (is_expired p.on_order.limits p.latest) p.idle none.0))) refl (omega (arith, none.0)) (omega (arith, none.1)) refl (omega arith) (λ i past. past) (λ i n few none. few) k
+      (sym (ap (map bare) (all_stay (is_expired p.on_order.limits p.latest) p.idle none.0))) refl (omega (arith, none.0)) (omega (arith, none.1)) refl
+      (omega arith) (λ i past. past) (λ i n few none. few) k
   reap_step limits b rs p false e sound k = with_one_more limits b rs _ p _ sound (λ m. says_reaped m p e) refl refl (λ i. omega arith) k
 
   -- a reap, at its moment
   pub replaying_reap : (limits : SeenLimits) (b : SeenBase) (rs : List SeenRecord) (p : Picture T) → IsSound p → KeepReplaying limits b rs p
-      → KeepReplaying limits b (added (record_of_reap p.latest (length (filter (is_expired p.on_order.limits p.latest) p.idle)) (top_up_of (swept p))) rs) (topped_up (swept p))
+      → KeepReplaying limits b (added (record_of_reap p.latest (length (filter (is_expired p.on_order.limits p.latest) p.idle)) (top_up_of (swept p))) rs)
+      (topped_up (swept p))
   replaying_reap limits b rs p sound k = reap_step limits b rs p _ refl sound k
 
   -- CLOSE
@@ -114,12 +124,14 @@ module _ {T : Type 0} where
     not_after = omega arith;
   }
 
-  close_step : (limits : SeenLimits) (b : SeenBase) (rs : List SeenRecord) (p : Picture T) (closed : Bool) → p.on_order.closed ≡ closed → IsSound p → KeepReplaying limits b rs p
+  close_step : (limits : SeenLimits) (b : SeenBase) (rs : List SeenRecord) (p : Picture T) (closed : Bool) → p.on_order.closed ≡ closed → IsSound p
+      → KeepReplaying limits b rs p
       → KeepReplaying limits b (added (cond closed None (Some (ClosedAll p.latest))) rs) (after_close p)
   close_step limits b rs p true e sound k =
       let empty : IsEmpty p.on_order = sound.steady.accounted.empty_once_closed e in
       with_none_more limits b rs p (after_close p) refl
-      (ap (map bare) (sound.steady.none_once_closed e)) refl (omega (arith, ap length (sound.steady.none_once_closed e))) empty.pending e (omega arith) (λ i past. past) (λ i n few none. omega (arith, few)) k
+      (ap (map bare) (sound.steady.none_once_closed e)) refl (omega (arith, ap length (sound.steady.none_once_closed e))) empty.pending e (omega arith)
+      (λ i past. past) (λ i n few none. omega (arith, few)) k
   close_step limits b rs p false e sound k = with_one_more limits b rs _ p _ sound (λ m. says_closed m p e) refl refl (λ i. omega arith) k
 
   -- a close

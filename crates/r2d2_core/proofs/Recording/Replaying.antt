@@ -41,9 +41,15 @@ module _ {T : Type 0} where
   -- the ids of what is idle in a sound picture are apart, also without payloads
   pub idle_apart : (p : Picture T) → IsSound p → (i : ℕ) → copies_of i (map id_of_idle (map bare p.idle)) ≤ 1
   idle_apart p sound i =
-      omega (arith, ap (copies_of i) (ids_bare p.idle), sound.steady.apart i, copies_of-append3 i (map id_of_idle p.idle) (map id_of_lent p.lent) p.on_order.numbered)
+      omega (
+        arith,
+        ap (copies_of i) (ids_bare p.idle),
+        sound.steady.apart i,
+        copies_of-append3 i (map id_of_idle p.idle) (map id_of_lent p.lent) p.on_order.numbered,
+      )
 
-  shown_by : (at : ℕ) (i : List BareConnection) (l : List SeenLentConnection) (n m : ℕ) (c : Bool) (p : Picture T) → i ≡ map bare p.idle → l ≡ p.lent → n ≡ p.connections → m ≡ p.on_order.pending → c ≡ p.on_order.closed
+  shown_by : (at : ℕ) (i : List BareConnection) (l : List SeenLentConnection) (n m : ℕ) (c : Bool) (p : Picture T) → i ≡ map bare p.idle → l ≡ p.lent
+      → n ≡ p.connections → m ≡ p.on_order.pending → c ≡ p.on_order.closed
       → ◌≡◌ {A = SeenBase} (record { at = at; idle = i; lent = l; connections = n; pending = m; closed = c }) (shown_at at p)
   shown_by at i l n m c p e1 e2 e3 e4 e5 = rw (e1, e2, e3, e4, e5) refl
 
@@ -66,30 +72,43 @@ module _ {T : Type 0} where
       let now = replay limits rs b in
       let is = is_shown now p k.replays.shows in
       let s = says now.at in
-      let fit : fits limits r now ≡ true = subst (λ (l : SeenLimits). fits l r now ≡ true) (sym k.same) (subst (λ (x : SeenBase). fits p.on_order.limits r x ≡ true) (sym is) s.fit) in
-      let comes : ComesTo (folded limits r now) p' = subst (λ (l : SeenLimits). ComesTo (folded l r now) p') (sym k.same) (subst (λ (x : SeenBase). ComesTo (folded p.on_order.limits r x) p') (sym is) s.comes) in
+      let fit : fits limits r now ≡ true = subst (λ (l : SeenLimits). fits l r now ≡ true) (sym k.same)
+      (subst (λ (x : SeenBase). fits p.on_order.limits r x ≡ true) (sym is) s.fit) in
+      let comes : ComesTo (folded limits r now) p' = subst (λ (l : SeenLimits). ComesTo (folded l r now) p') (sym k.same)
+      (subst (λ (x : SeenBase). ComesTo (folded p.on_order.limits r x) p') (sym is) s.comes) in
       let late : nat_le now.at (moment_in r) ≡ true = le_is now.at (moment_in r) (omega (arith, k.not_after, s.later)) in
       let numbered = λ (i : ℕ). copies_of-append3 i (map id_of_idle p.idle) (map id_of_lent p.lent) p.on_order.numbered in
-      let fresh : (i : ℕ) → copies_of i (known_in b (rs ++ r ∷ [])) + copies_of i p'.on_order.numbered ≤ 1 = λ i. omega (arith, known-push i b rs r, numbers i, k.fresh i) in
+      let fresh : (i : ℕ) → copies_of i (known_in b (rs ++ r ∷ [])) + copies_of i p'.on_order.numbered ≤ 1 = λ i. omega
+      (arith, known-push i b rs r, numbers i, k.fresh i) in
       record {
         same = k.same ∙ same;
         replays = record {
           base = k.replays.base;
           legal = record {
-            follow = follow-push limits rs r b ∙ both (all_follow limits rs b) (may_follow limits r now) k.replays.legal.follow (both (nat_le now.at (moment_in r)) (fits limits r now) late fit);
+            follow = follow-push limits rs r b ∙ both (all_follow limits rs b) (may_follow limits r now) k.replays.legal.follow
+                (both (nat_le now.at (moment_in r)) (fits limits r now) late fit);
             apart = λ i. omega (arith, fresh i);
           };
           shows = subst (λ (x : SeenBase). ComesTo x p') (sym (replay-push limits rs r b)) comes;
         };
         not_after = omega (arith, ap at_of (replay-push limits rs r b), at_folded limits r now, s.not_after);
         fresh = fresh;
-        below_next = λ i past. omega (arith, known-push i b rs r, numbers i, k.below_next i (omega (arith, next, past)), sound.steady.below_next i (omega (arith, next, past)), numbered i);
+        below_next = λ i past. omega (
+          arith,
+          known-push i b rs r,
+          numbers i,
+          k.below_next i (omega (arith, next, past)),
+          sound.steady.below_next i (omega (arith, next, past)),
+          numbered i,
+        );
       }
 
   -- a step with no record
   pub with_none_more : (limits : SeenLimits) (b : SeenBase) (rs : List SeenRecord) (p p' : Picture T) → p.on_order.limits ≡ p'.on_order.limits
-      → map bare p.idle ≡ map bare p'.idle → p.lent ≡ p'.lent → p.connections ≡ p'.connections → p.on_order.pending ≡ p'.on_order.pending → p.on_order.closed ≡ p'.on_order.closed → p.latest ≤ p'.latest
-      → ((i : ℕ) → p'.on_order.next_id ≤ i → p.on_order.next_id ≤ i) → ((i : ℕ) (n : ℕ) → n + copies_of i p.on_order.numbered ≤ 1 → (p.on_order.next_id ≤ i → n ≡ 0) → n + copies_of i p'.on_order.numbered ≤ 1)
+      → map bare p.idle ≡ map bare p'.idle → p.lent ≡ p'.lent → p.connections ≡ p'.connections → p.on_order.pending ≡ p'.on_order.pending
+      → p.on_order.closed ≡ p'.on_order.closed → p.latest ≤ p'.latest
+      → ((i : ℕ) → p'.on_order.next_id ≤ i → p.on_order.next_id ≤ i) → ((i : ℕ) (n : ℕ) → n + copies_of i p.on_order.numbered ≤ 1
+      → (p.on_order.next_id ≤ i → n ≡ 0) → n + copies_of i p'.on_order.numbered ≤ 1)
       → KeepReplaying limits b rs p → KeepReplaying limits b rs p'
   with_none_more limits b rs p p' same idle lent connections pending closed later next numbers k =
       let shows = k.replays.shows in
@@ -112,7 +131,8 @@ module _ {T : Type 0} where
       }
 
   -- the oldest record is folded into the base
-  pub with_one_folded : (limits : SeenLimits) (b : SeenBase) (r : SeenRecord) (rs : List SeenRecord) (p : Picture T) → KeepReplaying limits b (r ∷ rs) p → KeepReplaying limits (folded limits r b) rs p
+  pub with_one_folded : (limits : SeenLimits) (b : SeenBase) (r : SeenRecord) (rs : List SeenRecord) (p : Picture T) → KeepReplaying limits b (r ∷ rs) p
+      → KeepReplaying limits (folded limits r b) rs p
   with_one_folded limits b r rs p k =
       let first = folds_first limits r rs b k.replays.base k.replays.legal in
       let known = known_folded limits r rs b k.replays.base.apart ((split (may_follow limits r b) _ k.replays.legal.follow).0) in
@@ -124,6 +144,7 @@ module _ {T : Type 0} where
         below_next = λ i past. omega (arith, known i, k.below_next i past);
       }
 
-  pub with_oldest_folded : (limits : SeenLimits) (b : SeenBase) (rs : List SeenRecord) (p : Picture T) → KeepReplaying limits b rs p → KeepReplaying limits (with_oldest limits rs b) (drop 1 rs) p
+  pub with_oldest_folded : (limits : SeenLimits) (b : SeenBase) (rs : List SeenRecord) (p : Picture T) → KeepReplaying limits b rs p
+      → KeepReplaying limits (with_oldest limits rs b) (drop 1 rs) p
   with_oldest_folded limits b [] p k = k
   with_oldest_folded limits b (r ∷ rs) p k = with_one_folded limits b r rs p k

@@ -56,11 +56,13 @@ pub report_counts : {T B : Type 0} (a : SeenBook T) (r : Report B) → IsReportO
 report_counts a r is counted none = is.takes ∙ counted (sym is.lost ∙ none) ∙ ap takes_in (sym is.records)
 
 -- where a book's base is that of the making, its report's is, and stands at that moment
-pub report_begins : {T B : Type 0} (a : SeenBook T) (r : Report B) → IsReportOf a r → IsRecorded a → BeginsAtTheMaking a.journal → r.lost ≡ 0 → seen_base r.base ≡ first_base (seen_limits r.limits) a.journal.made
+pub report_begins : {T B : Type 0} (a : SeenBook T) (r : Report B) → IsReportOf a r → IsRecorded a → BeginsAtTheMaking a.journal → r.lost ≡ 0
+    → seen_base r.base ≡ first_base (seen_limits r.limits) a.journal.made
 report_begins a r is recorded begins none =
     is.base ∙ begins (sym is.lost ∙ none) ∙ ap (λ (l : SeenLimits). first_base l a.journal.made) (recorded.same ∙ sym is.limits)
 
-pub report_since : {T B : Type 0} (a : SeenBook T) (r : Report B) → IsReportOf a r → IsRecorded a → BeginsAtTheMaking a.journal → r.lost ≡ 0 → as_nanos r.base.at ≡ a.journal.made
+pub report_since : {T B : Type 0} (a : SeenBook T) (r : Report B) → IsReportOf a r → IsRecorded a → BeginsAtTheMaking a.journal → r.lost ≡ 0
+    → as_nanos r.base.at ≡ a.journal.made
 report_since a r is recorded begins none = ap (λ (b : SeenBase). b.at) (report_begins a r is recorded begins none)
 
 pub report_whole : {T B : Type 0} (a : SeenBook T) (r : Report B) → IsReportOf a r → IsRecorded a → BeginsAtTheMaking a.journal → BeginsAtAMaking r

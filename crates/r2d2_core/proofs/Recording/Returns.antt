@@ -36,23 +36,28 @@ module _ {T : Type 0} where
       }
 
   -- one that was lent is gone, at its moment
-  says_lost : (m : ℕ) (p : Picture T) (id : ℕ) → is_some (birth_in id p.lent) ≡ true → Says m p (Closed p.latest id (top_up_of (gone_one id p))) (topped_up (gone_one id p))
+  says_lost : (m : ℕ) (p : Picture T) (id : ℕ) → is_some (birth_in id p.lent) ≡ true
+      → Says m p (Closed p.latest id (top_up_of (gone_one id p))) (topped_up (gone_one id p))
   says_lost m p id lent =
       record {
-        fit = both _ _ lent (orders_alike p.on_order.closed (length (map bare p.idle)) (length p.idle) (wanted_of p.on_order.limits) (room_beside (p.connections - 1) p.on_order) (length-map p.idle bare));
+        fit = both _ _ lent (orders_alike p.on_order.closed (length (map bare p.idle)) (length p.idle) (wanted_of p.on_order.limits)
+            (room_beside (p.connections - 1) p.on_order) (length-map p.idle bare));
         comes = record { idle = refl; lent = refl; connections = refl; pending = refl; closed = refl };
         later = omega arith;
         not_after = omega arith;
       }
 
-  pub replaying_lost : (limits : SeenLimits) (b : SeenBase) (rs : List SeenRecord) (p : Picture T) (id : ℕ) → is_some (birth_in id p.lent) ≡ true → IsSound p → KeepReplaying limits b rs p
+  pub replaying_lost : (limits : SeenLimits) (b : SeenBase) (rs : List SeenRecord) (p : Picture T) (id : ℕ) → is_some (birth_in id p.lent) ≡ true → IsSound p
+      → KeepReplaying limits b rs p
       → KeepReplaying limits b (rs ++ Closed p.latest id (top_up_of (gone_one id p)) ∷ []) (topped_up (gone_one id p))
   replaying_lost limits b rs p id lent sound k = with_one_more limits b rs _ p _ sound (λ m. says_lost m p id lent) refl refl (λ i. omega arith) k
 
   -- a return, at its moment
-  pub replaying_returned : (closes : Bool) (limits : SeenLimits) (b : SeenBase) (rs : List SeenRecord) (p : Picture T) (id : ℕ) (value : T) (broken : Bool) → is_closing (lent_birth id p) broken p ≡ closes → is_some (birth_in id p.lent) ≡ true
+  pub replaying_returned : (closes : Bool) (limits : SeenLimits) (b : SeenBase) (rs : List SeenRecord) (p : Picture T) (id : ℕ) (value : T) (broken : Bool)
+      → is_closing (lent_birth id p) broken p ≡ closes → is_some (birth_in id p.lent) ≡ true
       → IsSound p → KeepReplaying limits b rs p
-      → KeepReplaying limits b (added (record_of_return p.latest id (Ok (return_by closes id (lent_birth id p) value p))) rs) (returned_by closes id (lent_birth id p) value p)
+      → KeepReplaying limits b (added (record_of_return p.latest id (Ok (return_by closes id (lent_birth id p) value p))) rs)
+      (returned_by closes id (lent_birth id p) value p)
   replaying_returned true limits b rs p id value broken e lent sound k = replaying_lost limits b rs p id lent sound k
   replaying_returned false limits b rs p id value broken e lent sound k =
       let none = none_closes broken (has_reached p.on_order.limits.max_lifetime (p.latest - lent_birth id p)) p.on_order.closed e in

@@ -81,7 +81,8 @@ unfolding is_expired is_kept
 one_reaped-replays = refl
 
 -- after a base: one is lent from before, and comes back
-after_base-replays : replay_from pair (Kept (ms 7) 4 ∷ []) (record (running_base (ms 5) 1 1 false) { lent = lent_connection 4 (ms 2) ∷ [] }) ≡ record (running_base (ms 7) 1 1 false) { idle = idle_connection 4 (ms 2) (ms 7) tt ∷ [] }
+after_base-replays : replay_from pair (Kept (ms 7) 4 ∷ []) (record (running_base (ms 5) 1 1 false) { lent = lent_connection 4 (ms 2) ∷ [] }) ≡ record
+    (running_base (ms 7) 1 1 false) { idle = idle_connection 4 (ms 2) (ms 7) tt ∷ [] }
 unfolding is_expired is_kept
 after_base-replays = refl
 

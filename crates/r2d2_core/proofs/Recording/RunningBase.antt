@@ -18,37 +18,45 @@ use Rattle.r2d2_core.proofs.Lists.Lending.{found-next, without-next, length-stil
 abbrev base_with : ℕ → List BareConnection → List SeenLentConnection → ℕ → ℕ → Bool → SeenBase
 base_with at idle lent connections pending closed = record { at = at; idle = idle; lent = lent; connections = connections; pending = pending; closed = closed }
 
-pub same_base : (at pending : ℕ) (closed : Bool) (i i' : List BareConnection) (l l' : List SeenLentConnection) (n n' : ℕ) → i ≡ i' → l ≡ l' → n ≡ n' → base_with at i l n pending closed ≡ base_with at i' l' n' pending closed
+pub same_base : (at pending : ℕ) (closed : Bool) (i i' : List BareConnection) (l l' : List SeenLentConnection) (n n' : ℕ) → i ≡ i' → l ≡ l' → n ≡ n'
+    → base_with at i l n pending closed ≡ base_with at i' l' n' pending closed
 same_base at pending closed i i' l l' n n' e f h = rw (e, f, h) refl
 
 abbrev pub birth_of : BareConnection → ℕ
 birth_of c = c.birth
 
 -- the next one is lent
-pub lends : (o : LendingOrder) (at pending : ℕ) (closed : Bool) (idle : List BareConnection) (lent : List SeenLentConnection) (room : Rooms) (id birth : ℕ) (c : BareConnection) → ((i : ℕ) → copies_of i (map id_of_idle idle) ≤ 1)
+pub lends : (o : LendingOrder) (at pending : ℕ) (closed : Bool) (idle : List BareConnection) (lent : List SeenLentConnection) (room : Rooms) (id birth : ℕ)
+    (c : BareConnection) → ((i : ℕ) → copies_of i (map id_of_idle idle) ≤ 1)
     → lent_next o idle ≡ Some c → c.id ≡ id → birth ≡ c.birth
-    → (let l = lent_connection id birth in running_base (base_with at (still_idle o idle) (lent ++ l ∷ []) (length (still_idle o idle) + length (lent ++ l ∷ [])) pending closed) room
+    → (let l = lent_connection id birth in running_base (base_with at (still_idle o idle) (lent ++ l ∷ [])
+    (length (still_idle o idle) + length (lent ++ l ∷ [])) pending closed) room
     ≡ running_base (lent_out id (base_with at idle lent (length idle + length lent) pending closed)) room)
 lends o at pending closed idle lent room id birth c apart next is born_then =
     let l = lent_connection id birth in
-    let others : still_idle o idle ≡ without id_of_idle id idle = sym (subst (λ i. without id_of_idle i idle ≡ still_idle o idle) is (without-next id_of_idle o idle c next apart)) in
+    let others : still_idle o idle ≡ without id_of_idle id idle = sym (subst (λ i. without id_of_idle i idle ≡ still_idle o idle) is
+    (without-next id_of_idle o idle c next apart)) in
     let there : found id_of_idle id idle ≡ Some c = subst (λ i. found id_of_idle i idle ≡ Some c) is (found-next id_of_idle o idle c next apart) in
     let born : birth ≡ birth_of_idle id idle = born_then ∙ sym (ap (λ o. unwrap_or (option_map (λ (c : BareConnection). c.birth) o) 0) there) in
     ap (λ b. running_base b room)
-    (same_base at pending closed (still_idle o idle) (without id_of_idle id idle) (lent ++ l ∷ []) (lent ++ lent_connection id (birth_of_idle id idle) ∷ []) _ (length idle + length lent)
+    (same_base at pending closed (still_idle o idle) (without id_of_idle id idle) (lent ++ l ∷ []) (lent ++ lent_connection id (birth_of_idle id idle) ∷ []) _
+    (length idle + length lent)
     others
     (ap (λ b. lent ++ lent_connection id b ∷ []) born)
     (omega (arith, length-still_idle o idle c next, length_push lent l)))
 
 -- the expired ones are gone
-pub sweeps : (limits : SeenLimits) (at pending : ℕ) (closed : Bool) (idle : List BareConnection) (lent : List SeenLentConnection) (room lent_room : ℕ) (now : SeenRoster BareConnection) → now ≡ roster (filter (is_kept limits at) idle) room
+pub sweeps : (limits : SeenLimits) (at pending : ℕ) (closed : Bool) (idle : List BareConnection) (lent : List SeenLentConnection) (room lent_room : ℕ)
+    (now : SeenRoster BareConnection) → now ≡ roster (filter (is_kept limits at) idle) room
     → length now.items + length (filter (is_expired limits at) idle) ≡ length idle
-    → running_base (base_with at now.items lent (length now.items + length lent) pending closed) (rooms now.room lent_room) ≡ running_base (swept_of limits (base_with at idle lent (length idle + length lent) pending closed)) (rooms room lent_room)
+    → running_base (base_with at now.items lent (length now.items + length lent) pending closed) (rooms now.room lent_room) ≡ running_base
+    (swept_of limits (base_with at idle lent (length idle + length lent) pending closed)) (rooms room lent_room)
 sweeps limits at pending closed idle lent room lent_room now is count =
     let kept : now.items ≡ filter (is_kept limits at) idle = ap (λ (r : SeenRoster BareConnection). r.items) is in
     let same : now.room ≡ room = ap (λ (r : SeenRoster BareConnection). r.room) is in
     ap (λ n. running_base (base_with at now.items lent (length now.items + length lent) pending closed) (rooms n lent_room)) same
-    ∙ ap (λ b. running_base b (rooms room lent_room)) (same_base at pending closed now.items (filter (is_kept limits at) idle) lent lent _ (length idle + length lent - length (filter (is_expired limits at) idle)) kept refl (omega (arith, count)))
+    ∙ ap (λ b. running_base b (rooms room lent_room)) (same_base at pending closed now.items (filter (is_kept limits at) idle) lent lent _
+    (length idle + length lent - length (filter (is_expired limits at) idle)) kept refl (omega (arith, count)))
 
 -- what is idle in a base has no payload
 pub bare_same : (idle : List BareConnection) → map bare idle ≡ idle

@@ -1,5 +1,6 @@
 -- The records of takes and admissions.
-use Rattle.std.proofs.Common.{◌≡◌, ℕ, ◌+◌, ◌-◌, ◌≤◌, min, Bool, true, false, cond, not, ◌==◌, List, [], ◌∷◌, ◌++◌, map, length, Option, Some, None, refl, sym, ◌∙◌, ap, arith}
+use Rattle.std.proofs.Common.{◌≡◌, ℕ, ◌+◌, ◌-◌, ◌≤◌, min, Bool, true, false, cond, not, ◌==◌, List, [], ◌∷◌, ◌++◌, map, length, Option, Some, None, refl, sym}
+use Rattle.std.proofs.Common.{◌∙◌, ap, arith}
 use Rattle.std.specs.Prelude.{unwrap_or, option_map}
 use Rattle.std.proofs.lemmas.List.{map-append, length-map, map-id}
 use Rattle.std.proofs.lemmas.Bool.{eq-eqb, eqb-true}
@@ -35,8 +36,10 @@ miss_is false false room h = absurd (omega arith)
 
 module _ {T : Type 0} where
   -- a step's moment changes nothing that records tell
-  pub replaying_at : (t : ℕ) (limits : SeenLimits) (b : SeenBase) (rs : List SeenRecord) (p : Picture T) → KeepReplaying limits b rs p → KeepReplaying limits b rs (raised_to t p)
-  replaying_at t limits b rs p k = with_none_more limits b rs p (raised_to t p) refl refl refl refl refl refl (omega arith) (λ i past. past) (λ i n few none. few) k
+  pub replaying_at : (t : ℕ) (limits : SeenLimits) (b : SeenBase) (rs : List SeenRecord) (p : Picture T) → KeepReplaying limits b rs p
+      → KeepReplaying limits b rs (raised_to t p)
+  replaying_at t limits b rs p k = with_none_more limits b rs p (raised_to t p) refl refl refl refl refl refl (omega arith) (λ i past. past)
+      (λ i n few none. few) k
 
   -- TAKE
 
@@ -54,7 +57,8 @@ module _ {T : Type 0} where
       record {
         fit = both _ _
             (ap (λ o. unwrap_or (option_map (λ (x : BareConnection). x.id == c.id) o) false) next ∙ eq-eqb c.id c.id refl)
-            (orders_alike p.on_order.closed (length idle - 1) (length (still_idle o p.idle)) (wanted_of p.on_order.limits) (room_beside p.connections p.on_order) less);
+            (orders_alike p.on_order.closed (length idle - 1) (length (still_idle o p.idle)) (wanted_of p.on_order.limits)
+            (room_beside p.connections p.on_order) less);
         comes = record {
           idle = without-next id_of_idle o idle (bare c) next apart ∙ still_idle-map bare o p.idle c e;
           lent = ap (λ b. p.lent ++ lent_connection c.id b ∷ []) born;
@@ -67,12 +71,14 @@ module _ {T : Type 0} where
       }
 
   -- a take that found none, and ordered
-  says_ordered : (m : ℕ) (p : Picture T) (o : Bool) → lent_next p.on_order.limits.order p.idle ≡ None → 1 ≤ miss_order_of o p → Says m p (Ordered p.latest (miss_order_of o p)) (ordered (miss_order_of o p) p)
+  says_ordered : (m : ℕ) (p : Picture T) (o : Bool) → lent_next p.on_order.limits.order p.idle ≡ None → 1 ≤ miss_order_of o p
+      → Says m p (Ordered p.latest (miss_order_of o p)) (ordered (miss_order_of o p) p)
   says_ordered m p o e some =
       let n = miss_order_of o p in
       let is = miss_is p.on_order.closed o (room_beside p.connections p.on_order) some in
       record {
-        fit = both _ _ (eq-eqb (length (map bare p.idle)) 0 (ap (λ (l : List (SeenIdleConnection T)). length (map bare l)) (none_is_next p.on_order.limits.order p.idle e)))
+        fit = both _ _ (eq-eqb (length (map bare p.idle)) 0 (ap (λ (l : List (SeenIdleConnection T)). length (map bare l))
+            (none_is_next p.on_order.limits.order p.idle e)))
             (both _ _ (eq-eqb n 1 is.1)
             (both _ _ (ap not is.0) (lt_is (p.connections + p.on_order.pending) p.on_order.limits.max_size (omega (arith, is.2)))));
         comes = record { idle = refl; lent = refl; connections = refl; pending = refl; closed = refl };
@@ -80,17 +86,20 @@ module _ {T : Type 0} where
         not_after = omega arith;
       }
 
-  miss_step : (limits : SeenLimits) (b : SeenBase) (rs : List SeenRecord) (p : Picture T) (o none : Bool) → lent_next p.on_order.limits.order p.idle ≡ None → (miss_order_of o p == 0) ≡ none → IsSound p → KeepReplaying limits b rs p
+  miss_step : (limits : SeenLimits) (b : SeenBase) (rs : List SeenRecord) (p : Picture T) (o none : Bool) → lent_next p.on_order.limits.order p.idle ≡ None
+      → (miss_order_of o p == 0) ≡ none → IsSound p → KeepReplaying limits b rs p
       → KeepReplaying limits b (added (cond none None (Some (Ordered p.latest (miss_order_of o p)))) rs) (ordered (miss_order_of o p) p)
   miss_step limits b rs p o true e n sound k =
-      with_none_more limits b rs p (ordered (miss_order_of o p) p) refl refl refl refl (omega (arith, eqb-true (miss_order_of o p) 0 n)) refl (omega arith) (λ i past. past) (λ i n few none. few) k
+      with_none_more limits b rs p (ordered (miss_order_of o p) p) refl refl refl refl (omega (arith, eqb-true (miss_order_of o p) 0 n)) refl (omega arith)
+      (λ i past. past) (λ i n few none. few) k
   miss_step limits b rs p o false e n sound k =
       with_one_more limits b rs _ p _ sound (λ m. says_ordered m p o e (some (miss_order_of o p) n)) refl refl (λ i. omega arith) k where
         some : (k : ℕ) → (k == 0) ≡ false → 1 ≤ k
         some k f = grind (arith, nat_tests)
 
   -- a take, at its moment
-  pub replaying_taken : (limits : SeenLimits) (b : SeenBase) (rs : List SeenRecord) (p : Picture T) (o : Bool) (m : Option (SeenIdleConnection T)) → lent_next p.on_order.limits.order p.idle ≡ m → IsSound p → KeepReplaying limits b rs p
+  pub replaying_taken : (limits : SeenLimits) (b : SeenBase) (rs : List SeenRecord) (p : Picture T) (o : Bool) (m : Option (SeenIdleConnection T))
+      → lent_next p.on_order.limits.order p.idle ≡ m → IsSound p → KeepReplaying limits b rs p
       → KeepReplaying limits b (added (record_of_take p.latest (take_with m (take_orders m o p))) rs) (taken m o p)
   replaying_taken limits b rs p o None e sound k = miss_step limits b rs p o (miss_order_of o p == 0) e refl sound k
   replaying_taken limits b rs p o (Some c) e sound k = with_one_more limits b rs _ p _ sound (λ m. says_found m p c e sound) refl refl (λ i. omega arith) k
@@ -98,7 +107,8 @@ module _ {T : Type 0} where
   -- ADMIT
 
   -- an admission, at its moment
-  says_admitted : (m : ℕ) (p : Picture T) (id : ℕ) (value : T) → found same_id id p.on_order.numbered ≡ Some id → IsSound p → Says m p (Admitted p.latest id) (admitted_at p.latest id value p)
+  says_admitted : (m : ℕ) (p : Picture T) (id : ℕ) (value : T) → found same_id id p.on_order.numbered ≡ Some id → IsSound p
+      → Says m p (Admitted p.latest id) (admitted_at p.latest id value p)
   says_admitted m p id value there sound =
       let c : SeenIdleConnection T = idle_connection id p.latest p.latest value in
       let waits : length (without same_id id p.on_order.numbered) + 1 ≡ length p.on_order.numbered = length-without same_id id p.on_order.numbered id there in
@@ -109,9 +119,15 @@ module _ {T : Type 0} where
         not_after = omega arith;
       }
 
-  pub replaying_admitted : (limits : SeenLimits) (b : SeenBase) (rs : List SeenRecord) (p : Picture T) (id : ℕ) (value : T) → found same_id id p.on_order.numbered ≡ Some id → IsSound p
+  pub replaying_admitted : (limits : SeenLimits) (b : SeenBase) (rs : List SeenRecord) (p : Picture T) (id : ℕ) (value : T)
+      → found same_id id p.on_order.numbered ≡ Some id → IsSound p
       → KeepReplaying limits b rs p → KeepReplaying limits b (rs ++ Admitted p.latest id ∷ []) (admitted_at p.latest id value p)
   replaying_admitted limits b rs p id value there sound k =
       let numbered = p.on_order.numbered in
       with_one_more limits b rs _ p _ sound (λ m. says_admitted m p id value there sound) refl refl
-      (λ i. omega (arith, copies_of-without same_id id i numbered id there, ap (copies_of i) (map-id numbered), ap (copies_of i) (map-id (without same_id id numbered)))) k
+      (λ i. omega (
+        arith,
+        copies_of-without same_id id i numbered id there,
+        ap (copies_of i) (map-id numbered),
+        ap (copies_of i) (map-id (without same_id id numbered)),
+      )) k

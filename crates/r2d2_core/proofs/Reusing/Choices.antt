@@ -1,5 +1,6 @@
 -- Why lending the newest leaves at least as many old moments as any other choice, and lending the oldest at most as many.
-use Rattle.std.proofs.Common.{◌≡◌, ℕ, suc, ◌+◌, ◌-◌, ◌≤◌, ◌<◌, max, Bool, true, false, cond, ltb, leb, List, [], ◌∷◌, ◌++◌, length, get_or, take, drop, Option, Some, None, refl, ap, arith, length-take, length-drop}
+use Rattle.std.proofs.Common.{◌≡◌, ℕ, suc, ◌+◌, ◌-◌, ◌≤◌, ◌<◌, max, Bool, true, false, cond, ltb, leb, List, [], ◌∷◌, ◌++◌, length, get_or, take, drop, Option}
+use Rattle.std.proofs.Common.{Some, None, refl, ap, arith, length-take, length-drop}
 use Rattle.std.specs.List.{count_by, remove}
 use Rattle.std.specs.List.Sorted.{IsNonDecreasing}
 use Rattle.std.specs.Option.{option_and_then, IfSome}
@@ -14,7 +15,8 @@ use Rattle.r2d2_core.specs.declared.reuse.Move.{Move}
 use Rattle.r2d2_core.specs.declared.reuse.Move.TheVariants as move
 use Rattle.r2d2_core.specs.declared.schedule.limits.LendingOrder.TheVariants as lending
 use Rattle.r2d2_core.specs.Ids.{front}
-use Rattle.r2d2_core.specs.Reuse.{IsSorted, first_seen, order_left, other_left, Picked, picked, after_pick, moments_of, newest_list, oldest_list, other_list, IsBetween}
+use Rattle.r2d2_core.specs.Reuse.{IsSorted, first_seen, order_left, other_left, Picked, picked, after_pick, moments_of, newest_list, oldest_list, other_list}
+use Rattle.r2d2_core.specs.Reuse.{IsBetween}
 
 -- a test that an earlier moment passes where a later one does
 pub record IsForOld (p : ℕ → Bool) : Type 0 where
@@ -112,13 +114,18 @@ record IsLess (before after : List ℕ) : Type 0 where
   fewer : (p : ℕ → Bool) → count_by p after ≤ count_by p before
   by_one : (p : ℕ → Bool) → count_by p before ≤ count_by p after + 1
 
-picked_less : (x : ℕ) (xs : List ℕ) (pick : ℕ) (picks : List ℕ) (b : Bool) → ltb pick (length (x ∷ xs)) ≡ b → (after : Picked) → cond b (Some (picked (remove (x ∷ xs) pick) picks)) None ≡ Some after → IsLess (x ∷ xs) after.kept
+picked_less : (x : ℕ) (xs : List ℕ) (pick : ℕ) (picks : List ℕ) (b : Bool) → ltb pick (length (x ∷ xs)) ≡ b → (after : Picked)
+    → cond b (Some (picked (remove (x ∷ xs) pick) picks)) None ≡ Some after → IsLess (x ∷ xs) after.kept
 picked_less x xs pick picks false is after e = absurd cc
 picked_less x xs pick picks true is after e =
     let within : pick < length (x ∷ xs) = grind (arith, nat_tests) in
     let kept : remove (x ∷ xs) pick ≡ after.kept = cc in
     let short : length (remove (x ∷ xs) pick) + 1 ≡ length (x ∷ xs) = length-remove (x ∷ xs) pick within in
-    rw (← kept) (record { shorter = omega (arith, short); fewer = λ p. count_by-remove p (x ∷ xs) pick x within; by_one = λ p. count_by-removed p (x ∷ xs) pick x within })
+    rw (← kept) (record {
+      shorter = omega (arith, short);
+      fewer = λ p. count_by-remove p (x ∷ xs) pick x within;
+      by_one = λ p. count_by-removed p (x ∷ xs) pick x within;
+    })
 
 after_pick_less : (kept picks : List ℕ) (after : Picked) → after_pick kept picks ≡ Some after → IsLess kept after.kept
 after_pick_less [] picks after e =
@@ -170,7 +177,8 @@ record IsAhead (p : ℕ → Bool) (seen : ℕ) (newest other : List ℕ) : Type 
   same : length newest ≡ length other
   few : count_by p other ≤ count_by p newest
 
-ahead_take : (p : ℕ → Bool) → IsForOld p → (seen moment : ℕ) (newest other after : List ℕ) → IsAhead p seen newest other → IsLess other after → IsAhead p (max seen moment) (front newest) after
+ahead_take : (p : ℕ → Bool) → IsForOld p → (seen moment : ℕ) (newest other after : List ℕ) → IsAhead p seen newest other → IsLess other after
+    → IsAhead p (max seen moment) (front newest) after
 ahead_take p old seen moment newest other after ahead less = record {
   order = IsNonDecreasingBy-take (λ x. x) (length newest - 1) newest ahead.order;
   last = seen_front seen moment newest ahead.order ahead.last;
@@ -179,7 +187,8 @@ ahead_take p old seen moment newest other after ahead less = record {
       (omega (arith, count_by-le-length p after, less.shorter, ahead.same)) (omega (arith, less.fewer p, ahead.few));
 }
 
-ahead_add : (p : ℕ → Bool) (seen moment : ℕ) (newest other : List ℕ) → IsAhead p seen newest other → seen ≤ moment → IsAhead p moment (newest ++ moment ∷ []) (other ++ moment ∷ [])
+ahead_add : (p : ℕ → Bool) (seen moment : ℕ) (newest other : List ℕ) → IsAhead p seen newest other → seen ≤ moment
+    → IsAhead p moment (newest ++ moment ∷ []) (other ++ moment ∷ [])
 ahead_add p seen moment newest other ahead later = record {
   order = IsNonDecreasingBy-push (λ x. x) newest moment ahead.order (λ d some. omega (arith, ahead.last.holds d some, later));
   last = seen_push moment newest;
@@ -188,14 +197,16 @@ ahead_add p seen moment newest other ahead later = record {
 }
 
 -- whatever the picks, at least as many of the first list pass
-at_least : (p : ℕ → Bool) → IsForOld p → (moves : List Move) (seen : ℕ) (newest : List ℕ) (other : Picked) (left : List ℕ) → IsAhead p seen newest other.kept → other_left seen other moves ≡ Some left → count_by p left ≤ count_by p (order_left lending.NewestFirst seen newest moves)
+at_least : (p : ℕ → Bool) → IsForOld p → (moves : List Move) (seen : ℕ) (newest : List ℕ) (other : Picked) (left : List ℕ) → IsAhead p seen newest other.kept
+    → other_left seen other moves ≡ Some left → count_by p left ≤ count_by p (order_left lending.NewestFirst seen newest moves)
 at_least p old [] seen newest other left ahead e =
     let is : other.kept ≡ left = cc in rw (← is) ahead.few
 at_least p old (move.Take at ∷ moves) seen newest other left ahead e =
     let t : ℕ = max seen (as_nanos at) in
     let h : (after : Picked) × (after_pick other.kept other.picks ≡ Some after) × (other_left t after moves ≡ Some left) =
     and_then_some (λ after. other_left t after moves) (after_pick other.kept other.picks) left e in
-    at_least p old moves t (front newest) h.0 left (ahead_take p old seen (as_nanos at) newest other.kept h.0.kept ahead (after_pick_less other.kept other.picks h.0 h.1)) h.2
+    at_least p old moves t (front newest) h.0 left (ahead_take p old seen (as_nanos at) newest other.kept h.0.kept ahead
+    (after_pick_less other.kept other.picks h.0 h.1)) h.2
 at_least p old (move.Add at ∷ moves) seen newest other left ahead e =
     let t : ℕ = max seen (as_nanos at) in
     at_least p old moves t (newest ++ t ∷ []) (picked (other.kept ++ t ∷ []) other.picks) left
@@ -208,7 +219,8 @@ record IsBehind (p : ℕ → Bool) (seen : ℕ) (oldest other : List ℕ) : Type
   same : length oldest ≡ length other
   few : count_by p oldest ≤ count_by p other
 
-behind_take : (p : ℕ → Bool) → IsForOld p → (seen moment : ℕ) (oldest other after : List ℕ) → IsBehind p seen oldest other → IsLess other after → IsBehind p (max seen moment) (drop 1 oldest) after
+behind_take : (p : ℕ → Bool) → IsForOld p → (seen moment : ℕ) (oldest other after : List ℕ) → IsBehind p seen oldest other → IsLess other after
+    → IsBehind p (max seen moment) (drop 1 oldest) after
 behind_take p old seen moment oldest other after behind less = record {
   order = IsNonDecreasingBy-drop (λ x. x) 1 oldest behind.order;
   last = seen_rest seen moment oldest behind.last;
@@ -216,7 +228,8 @@ behind_take p old seen moment oldest other after behind less = record {
   few = count_by-rest p old oldest behind.order (count_by p after) (omega (arith, behind.few, less.by_one p));
 }
 
-behind_add : (p : ℕ → Bool) (seen moment : ℕ) (oldest other : List ℕ) → IsBehind p seen oldest other → seen ≤ moment → IsBehind p moment (oldest ++ moment ∷ []) (other ++ moment ∷ [])
+behind_add : (p : ℕ → Bool) (seen moment : ℕ) (oldest other : List ℕ) → IsBehind p seen oldest other → seen ≤ moment
+    → IsBehind p moment (oldest ++ moment ∷ []) (other ++ moment ∷ [])
 behind_add p seen moment oldest other behind later = record {
   order = IsNonDecreasingBy-push (λ x. x) oldest moment behind.order (λ d some. omega (arith, behind.last.holds d some, later));
   last = seen_push moment oldest;
@@ -225,14 +238,16 @@ behind_add p seen moment oldest other behind later = record {
 }
 
 -- whatever the picks, at most as many pass of the list that lends the oldest
-at_most : (p : ℕ → Bool) → IsForOld p → (moves : List Move) (seen : ℕ) (oldest : List ℕ) (other : Picked) (left : List ℕ) → IsBehind p seen oldest other.kept → other_left seen other moves ≡ Some left → count_by p (order_left lending.OldestFirst seen oldest moves) ≤ count_by p left
+at_most : (p : ℕ → Bool) → IsForOld p → (moves : List Move) (seen : ℕ) (oldest : List ℕ) (other : Picked) (left : List ℕ) → IsBehind p seen oldest other.kept
+    → other_left seen other moves ≡ Some left → count_by p (order_left lending.OldestFirst seen oldest moves) ≤ count_by p left
 at_most p old [] seen oldest other left behind e =
     let is : other.kept ≡ left = cc in rw (← is) behind.few
 at_most p old (move.Take at ∷ moves) seen oldest other left behind e =
     let t : ℕ = max seen (as_nanos at) in
     let h : (after : Picked) × (after_pick other.kept other.picks ≡ Some after) × (other_left t after moves ≡ Some left) =
     and_then_some (λ after. other_left t after moves) (after_pick other.kept other.picks) left e in
-    at_most p old moves t (drop 1 oldest) h.0 left (behind_take p old seen (as_nanos at) oldest other.kept h.0.kept behind (after_pick_less other.kept other.picks h.0 h.1)) h.2
+    at_most p old moves t (drop 1 oldest) h.0 left (behind_take p old seen (as_nanos at) oldest other.kept h.0.kept behind
+    (after_pick_less other.kept other.picks h.0 h.1)) h.2
 at_most p old (move.Add at ∷ moves) seen oldest other left behind e =
     let t : ℕ = max seen (as_nanos at) in
     at_most p old moves t (oldest ++ t ∷ []) (picked (other.kept ++ t ∷ []) other.picks) left
@@ -254,12 +269,14 @@ first_is_seen xs = record {
 }
 
 -- the same of whole comparisons
-pub at_least_left : (p : ℕ → Bool) → IsForOld p → (idle : List Duration) (moves : List Move) (picks : List ℕ) (left : List ℕ) → IsSorted idle → other_list idle moves picks ≡ Some left → count_by p left ≤ count_by p (newest_list idle moves)
+pub at_least_left : (p : ℕ → Bool) → IsForOld p → (idle : List Duration) (moves : List Move) (picks : List ℕ) (left : List ℕ) → IsSorted idle
+    → other_list idle moves picks ≡ Some left → count_by p left ≤ count_by p (newest_list idle moves)
 at_least_left p old idle moves picks left order e =
     at_least p old moves (first_seen (moments_of idle)) (moments_of idle) (picked (moments_of idle) picks) left
     (record { order = non_decreasing-moments idle order; last = first_is_seen (moments_of idle); same = refl; few = omega arith }) e
 
-pub at_most_left : (p : ℕ → Bool) → IsForOld p → (idle : List Duration) (moves : List Move) (picks : List ℕ) (left : List ℕ) → IsSorted idle → other_list idle moves picks ≡ Some left → count_by p (oldest_list idle moves) ≤ count_by p left
+pub at_most_left : (p : ℕ → Bool) → IsForOld p → (idle : List Duration) (moves : List Move) (picks : List ℕ) (left : List ℕ) → IsSorted idle
+    → other_list idle moves picks ≡ Some left → count_by p (oldest_list idle moves) ≤ count_by p left
 at_most_left p old idle moves picks left order e =
     at_most p old moves (first_seen (moments_of idle)) (moments_of idle) (picked (moments_of idle) picks) left
     (record { order = non_decreasing-moments idle order; last = first_is_seen (moments_of idle); same = refl; few = omega arith }) e
@@ -274,7 +291,11 @@ if_some : {X : Type 0} (P : X → Type 0) (o : Option X) → ((x : X) → o ≡ 
 if_some P None h = tt
 if_some P (Some x) h = h x refl
 
-pub between : (idle : List Duration) (moves : List Move) (picks : List ℕ) → IsSorted idle → IfSome (other_list idle moves picks) (IsBetween (oldest_list idle moves) (newest_list idle moves))
+pub between : (idle : List Duration) (moves : List Move) (picks : List ℕ) → IsSorted idle
+    → IfSome (other_list idle moves picks) (IsBetween (oldest_list idle moves) (newest_list idle moves))
 between idle moves picks order =
     if_some (IsBetween (oldest_list idle moves) (newest_list idle moves)) (other_list idle moves picks)
-    (λ left e. (λ x. at_most_left _ (not_after_is_for_old x) idle moves picks left order e, λ x. at_least_left _ (not_after_is_for_old x) idle moves picks left order e))
+    (λ left e. (
+      λ x. at_most_left _ (not_after_is_for_old x) idle moves picks left order e,
+      λ x. at_least_left _ (not_after_is_for_old x) idle moves picks left order e,
+    ))

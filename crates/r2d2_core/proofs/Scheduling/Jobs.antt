@@ -9,12 +9,14 @@ use Rattle.r2d2_core.specs.Schedule.{is_due_before}
 use Rattle.r2d2_core.specs.Jobs.{Wait, Open, Reap, first_job, open_or_wait, reap_or_wait}
 
 -- the opening is the entry
-pub opening_first : (now : ℕ) (xs rest : List SeenOpening) (x : SeenOpening) (reap : Option Duration) → xs ≡ x ∷ rest → is_due_before reap x.due ≡ false → first_job now xs (option_map as_nanos reap) ≡ open_or_wait now x
+pub opening_first : (now : ℕ) (xs rest : List SeenOpening) (x : SeenOpening) (reap : Option Duration) → xs ≡ x ∷ rest → is_due_before reap x.due ≡ false
+    → first_job now xs (option_map as_nanos reap) ≡ open_or_wait now x
 opening_first now xs rest x None e h = rw e refl
 opening_first now xs rest x (Some r) e h = rw e (cond-true _ _ _ (le-leb x.due (as_nanos r) (ltb-false (as_nanos r) x.due h)))
 
 -- the reap is the entry
-pub reap_first : (now : ℕ) (xs rest : List SeenOpening) (x : SeenOpening) (r : ℕ) → xs ≡ x ∷ rest → nat_lt r x.due ≡ true → first_job now xs (Some r) ≡ reap_or_wait now r
+pub reap_first : (now : ℕ) (xs rest : List SeenOpening) (x : SeenOpening) (r : ℕ) → xs ≡ x ∷ rest → nat_lt r x.due ≡ true
+    → first_job now xs (Some r) ≡ reap_or_wait now r
 reap_first now xs rest x r e h = rw e (cond-false _ _ _ (lt-leb x.due r (ltb-true r x.due h)))
 
 -- what the entry says at the moment
@@ -43,7 +45,8 @@ opens_or_reap k now reap true x e = opens_this k (nat_le x.due now) x e
 opens_or_reap k now reap false x e = absurd (opens_no_reap k reap (nat_le reap now) e)
 
 -- an opening that is handed out is the first one
-pub opens_first : (k now : ℕ) (xs : List SeenOpening) (reap : Option ℕ) → Open k ≡ first_job now xs reap → (x : SeenOpening) × (rest : List SeenOpening) × (xs ≡ x ∷ rest) × (x.tries ≡ k)
+pub opens_first : (k now : ℕ) (xs : List SeenOpening) (reap : Option ℕ) → Open k ≡ first_job now xs reap → (x : SeenOpening) × (rest : List SeenOpening)
+    × (xs ≡ x ∷ rest) × (x.tries ≡ k)
 opens_first k now [] None e = absurd cc
 opens_first k now [] (Some r) e = absurd (opens_no_reap k r (nat_le r now) e)
 opens_first k now (x ∷ xs) None e = (x, xs, refl, opens_this k (nat_le x.due now) x e)

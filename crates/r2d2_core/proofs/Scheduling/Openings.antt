@@ -39,7 +39,8 @@ with_here : (x y : SeenOpening) (ys : List SeenOpening) → is_before y x ≡ fa
 with_here x y ys p = cond-false (is_before y x) (y ∷ with_opening x ys) (x ∷ y ∷ ys) p
 
 -- two that both go to the front
-front_comm : (a b : SeenOpening) (t : List SeenOpening) → with_opening a t ≡ a ∷ t → with_opening b t ≡ b ∷ t → with_opening a (with_opening b t) ≡ with_opening b (with_opening a t)
+front_comm : (a b : SeenOpening) (t : List SeenOpening) → with_opening a t ≡ a ∷ t → with_opening b t ≡ b ∷ t
+    → with_opening a (with_opening b t) ≡ with_opening b (with_opening a t)
 front_comm a b t p q =
     elim (cases_Bool (is_before b a)) [
       | inl before ↦ let past = with_past a b t before in let here = with_here b a t (not_both_before b a before) in cc
@@ -85,7 +86,8 @@ sorted-push [] x = refl
 sorted-push (y ∷ ys) x = ap (with_opening y) (sorted-push ys x) ∙ with_comm y x (sorted ys)
 
 -- one opening in another's place
-sorted-set : (xs : List SeenOpening) (i : ℕ) (x d : SeenOpening) → i < length xs → with_opening (get_or xs i d) (sorted (set xs i x)) ≡ with_opening x (sorted xs)
+sorted-set : (xs : List SeenOpening) (i : ℕ) (x d : SeenOpening) → i < length xs
+    → with_opening (get_or xs i d) (sorted (set xs i x)) ≡ with_opening x (sorted xs)
 sorted-set [] i x d h = absurd (omega arith)
 sorted-set (y ∷ ys) zero x d h = with_comm y x (sorted ys)
 sorted-set (y ∷ ys) (suc i) x d h =
@@ -102,7 +104,8 @@ unfolding without
 without-with x [] = cond-false (is_before x x) (x ∷ []) [] (not_before_itself x)
 without-with x (y ∷ ys) =
     elim (cases_Bool (is_before y x)) [
-      | inl p ↦ ap (without x) (with_past x y ys p) ∙ cond-true (is_before y x) (y ∷ without x (with_opening x ys)) (with_opening x ys) p ∙ ap (λ (l : List SeenOpening). y ∷ l) (without-with x ys)
+      | inl p ↦ ap (without x) (with_past x y ys p) ∙ cond-true (is_before y x) (y ∷ without x (with_opening x ys)) (with_opening x ys) p
+          ∙ ap (λ (l : List SeenOpening). y ∷ l) (without-with x ys)
       | inr p ↦ ap (without x) (with_here x y ys p) ∙ cond-false (is_before x x) (x ∷ without x (y ∷ ys)) (y ∷ ys) (not_before_itself x)
     ]
 
@@ -112,13 +115,15 @@ with_cancel x u v e = sym (without-with x u) ∙ ap (without x) e ∙ without-wi
 get_or-set_there : (l : List SeenOpening) (i j : ℕ) (b d : SeenOpening) → i < length l → j ≡ i → get_or (set l i b) j d ≡ b
 get_or-set_there l i j b d p e = rw e (get_or-set_same l i b d p)
 
-sorted-swapped : (l : List SeenOpening) (i j : ℕ) (d : SeenOpening) → i < length l → j < length l → sorted (set (set l i (get_or l j d)) j (get_or l i d)) ≡ sorted l
+sorted-swapped : (l : List SeenOpening) (i j : ℕ) (d : SeenOpening) → i < length l → j < length l
+    → sorted (set (set l i (get_or l j d)) j (get_or l i d)) ≡ sorted l
 sorted-swapped l i j d p q =
     let a = get_or l i d in
     let b = get_or l j d in
     let first : with_opening a (sorted (set l i b)) ≡ with_opening b (sorted l) = sorted-set l i b d p in
     let fits : j < length (set l i b) = omega (arith, length-set l i b) in
-    let second : with_opening (get_or (set l i b) j d) (sorted (set (set l i b) j a)) ≡ with_opening a (sorted (set l i b)) = sorted-set (set l i b) j a d fits in
+    let second : with_opening (get_or (set l i b) j d) (sorted (set (set l i b) j a)) ≡ with_opening a (sorted (set l i b)) = sorted-set
+    (set l i b) j a d fits in
     let there : get_or (set l i b) j d ≡ b = elim (cases_eq j i) [
       | inl e ↦ get_or-set_there l i j b d p e
       | inr ne ↦ get_or-set_other l i j b d ne

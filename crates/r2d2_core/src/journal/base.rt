@@ -14,8 +14,9 @@ use std::alloc::{AllocError, Allocator, Global};
 use std::marker::Model;
 use std::time::Duration;
 
-/// What stood before the oldest record of a report: what all earlier records come to. Before the first record it is what stood at
-/// the making, where what is wanted is pending and all else is empty.
+/// What stood before the oldest record of a report: what all earlier records come to. Before the
+/// first record it is what stood at the making, where what is wanted is pending and all else is
+/// empty.
 #[derive(Drop)]
 pub struct Base<A: Allocator = Global> {
     /// The moment of the newest record that it stands for; where there is none, that of the making.
@@ -56,7 +57,8 @@ impl<A: Allocator> Base<A> {
     }
 }
 
-/// The idle connections of a base: the id of each, the moment of its admission, and the moment since which it is idle.
+/// The idle connections of a base: the id of each, the moment of its admission, and the moment
+/// since which it is idle.
 #[derive(Drop)]
 pub struct IdleConnections<A: Allocator = Global> {
     list: Vec<(u64, Duration, Duration), A>,

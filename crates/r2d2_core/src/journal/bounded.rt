@@ -17,14 +17,15 @@ use std::time::Duration;
 /// What stood before the oldest of the records.
 #[derive(Drop)]
 pub(crate) enum Before<A: Allocator = Global> {
-    /// Without room for a record: what the machine shows now. The moment is that of the latest record, or of the making.
+    /// Without room for a record: what the machine shows now. The moment is that of the latest
+    /// record, or of the making.
     Shown(Duration),
     /// What the records come to that were kept once.
     Folded(RunningBase<A>),
 }
 
-/// The moment of the making, as many records as it has room for, what stood before the oldest of them, how many were folded into that, and how many takes
-/// were noted.
+/// The moment of the making, as many records as it has room for, what stood before the oldest of
+/// them, how many were folded into that, and how many takes were noted.
 #[derive(Drop)]
 pub(crate) struct Journal<A: Allocator = Global> {
     limits: Limits,
@@ -47,8 +48,8 @@ impl<A: Allocator> Model for Journal<A> {
 }
 
 impl<A: Allocator> Journal<A> {
-    /// The journal of a pool made at the moment `now`, with room for so many records, and for a base of up to `max_size`
-    /// connections.
+    /// The journal of a pool made at the moment `now`, with room for so many records, and for a
+    /// base of up to `max_size` connections.
     pub(crate) fn new(
         alloc: A,
         limits: Limits,
@@ -57,7 +58,8 @@ impl<A: Allocator> Journal<A> {
     ) -> Result<Journal<A>, AllocError>
     where
         A: Copy,
-        ensures { IfOk result (λ journal. journal ≡ first_journal (seen_limits limits) (as_nanos now) room) }
+        ensures { IfOk result
+            (λ journal. journal ≡ first_journal (seen_limits limits) (as_nanos now) room) }
     {
         let most = limits.max_size() as usize;
         let both = Rooms {
@@ -95,8 +97,8 @@ impl<A: Allocator> Journal<A> {
         self.takes
     }
 
-    /// Notes the record that a step made, if it made one. Where there is no room left the oldest is folded into the base; without any room the moment
-    /// alone is kept.
+    /// Notes the record that a step made, if it made one. Where there is no room left the oldest is
+    /// folded into the base; without any room the moment alone is kept.
     #[inline(always)]
     pub(crate) fn note(&mut self, made: Option<Record>)
         requires { 0 < self.old.room → MayNote (option_map seen_record made) self.old }

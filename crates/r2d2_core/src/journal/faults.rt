@@ -16,21 +16,24 @@ use std::alloc::{AllocError, Allocator, Global};
 pub enum Fault<A: Allocator = Global> {
     /// The base is none that a pool with the report's limits may come to.
     Base,
-    /// The record at `place`, counted from 0, may not follow `before`, to which the records before it come.
+    /// The record at `place`, counted from 0, may not follow `before`, to which the records before
+    /// it come.
     Record { place: usize, before: Base<A> },
-    /// Each record may follow those before it, but what they come to, `end`, is not what the report shows.
+    /// Each record may follow those before it, but what they come to, `end`, is not what the report
+    /// shows.
     Counts { end: Base<A> },
 }
 
 impl<A: Allocator> Report<A> {
     /// What is wrong first in the report, and what stood there. None exactly where it replays.
     ///
-    /// It takes the time and the memory of `replays`, or a few times as much where something is wrong. The error comes only where
-    /// memory is refused.
+    /// It takes the time and the memory of `replays`, or a few times as much where something is
+    /// wrong. The error comes only where memory is refused.
     pub fn first_fault(&self) -> Result<Option<Fault<A>>, AllocError>
     where
         A: Copy,
-        ensures { IfOk result (λ found. MatchOption found (DoesReplay self.now) (λ fault. IsFault fault self.now)) }
+        ensures { IfOk result
+            (λ found. MatchOption found (DoesReplay self.now) (λ fault. IsFault fault self.now)) }
     {
         let Some(wrong) = self.first_wrong()? else {
             return Ok(None);
@@ -54,8 +57,12 @@ impl<A: Allocator> Report<A> {
         A: Copy,
         requires within { count ≤ length self.now.records }
         requires base { IsLegalBase (seen_limits self.now.limits) (seen_base self.now.base) }
-        requires legal { AreLegalFrom (seen_limits self.now.limits) (seen_base self.now.base) (take count self.now.records) }
-        ensures { IfOk result (λ base. seen_base base ≡ replay (seen_limits self.now.limits) (take count self.now.records) (seen_base self.now.base)) }
+        requires legal { AreLegalFrom (seen_limits self.now.limits) (seen_base self.now.base)
+            (take count self.now.records) }
+        ensures { IfOk result
+            (λ base. seen_base base
+            ≡ replay (seen_limits self.now.limits) (take count self.now.records)
+            (seen_base self.now.base)) }
     {
         let records = &self.records.as_slice()[..count];
         let Some(mut running_base) = self.start(records)? else {

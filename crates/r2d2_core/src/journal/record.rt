@@ -7,7 +7,8 @@ use std::time::Duration;
 
 /// A step that changed what is idle, lent, connected or pending, or that closed the pool.
 ///
-/// `at` is the moment of the step, or the latest one before it where that is later. `ordered` is how many openings the step ordered.
+/// `at` is the moment of the step, or the latest one before it where that is later. `ordered` is
+/// how many openings the step ordered.
 #[derive(Clone, Copy, PartialEq, Eq, Debug)]
 pub enum Record {
     /// An idle connection was lent.
@@ -31,7 +32,9 @@ impl Record {
     ghost use Rattle.r2d2_core.specs.Records.{seen_record};
     ghost use Rattle.r2d2_core.specs.Folding.{moment_in, admitted_by};
     ghost use Rattle.r2d2_core.specs.RunningBase.{made_idle_by, made_lent_by};
-    ghost use Rattle.r2d2_core.specs.Recorded.{record_of_take, record_of_admission, record_of_return, record_of_check, record_of_reap, record_of_close};
+    ghost use Rattle.r2d2_core.specs.Recorded.{record_of_take, record_of_admission};
+    ghost use Rattle.r2d2_core.specs.Recorded.{record_of_return, record_of_check, record_of_reap};
+    ghost use Rattle.r2d2_core.specs.Recorded.{record_of_close};
 
     /// The moment of the record: that of its step, or the latest one before it where that is later.
     pub fn at(&self) -> Duration
@@ -83,7 +86,8 @@ impl Record {
 
     /// The record of a take, by its answer.
     pub(crate) fn of_take<T>(at: Duration, taken: &Take<T>) -> Option<Record>
-        ensures { option_map seen_record result ≡ record_of_take (as_nanos at) (seen_take taken.now) }
+        ensures { option_map seen_record result
+            ≡ record_of_take (as_nanos at) (seen_take taken.now) }
     {
         match taken {
             Take::Found { id, ordered, .. } => Some(Record::Taken {
@@ -123,7 +127,8 @@ impl Record {
         id: u64,
         answer: &Result<Returned<T>, (Refusal, T)>,
     ) -> Option<Record>
-        ensures { option_map seen_record result ≡ record_of_return (as_nanos at) id (map_ok seen_returned answer.now) }
+        ensures { option_map seen_record result
+            ≡ record_of_return (as_nanos at) id (map_ok seen_returned answer.now) }
     {
         match answer {
             Ok(Returned::Kept) => Some(Record::Kept { at, id }),
@@ -138,7 +143,8 @@ impl Record {
 
     /// The record of a failed check of the id.
     pub(crate) fn of_check(at: Duration, id: u64, answer: &Result<Gone, Refusal>) -> Option<Record>
-        ensures { option_map seen_record result ≡ record_of_check (as_nanos at) id (map_ok seen_gone answer.now) }
+        ensures { option_map seen_record result
+            ≡ record_of_check (as_nanos at) id (map_ok seen_gone answer.now) }
     {
         match answer {
             Ok(gone) => Some(Record::Closed {

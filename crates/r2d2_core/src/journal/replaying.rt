@@ -1,5 +1,6 @@
 // Whether a report's records replay to its counts, by the definitions alone.
-ghost use Rattle.std.specs.Prelude.{◌≡◌, ◌≤◌, ◌↔◌, ◌++◌, ℕ, map, length, IsTrue, OnOk, IfOk, MatchOption};
+ghost use Rattle.std.specs.Prelude.{◌≡◌, ◌≤◌, ◌↔◌, ◌++◌, ℕ, map, length, IsTrue, OnOk, IfOk};
+ghost use Rattle.std.specs.Prelude.{MatchOption};
 ghost use Rattle.r2d2_core.specs.Limits.{seen_limits};
 ghost use Rattle.r2d2_core.specs.Ids.{copies_of};
 ghost use Rattle.r2d2_core.specs.Connections.{id_of_idle, id_of_lent};
@@ -31,12 +32,15 @@ pub(crate) enum Wrong {
 }
 
 impl<A: Allocator> Report<A> {
-    /// Whether the report is in itself as each report of a book is: its base is one that a pool with its limits may come to, each of
-    /// its records may follow what those before it come to, and what they come to in the end are its ids and counts.
+    /// Whether the report is in itself as each report of a book is: its base is one that a pool
+    /// with its limits may come to, each of its records may follow what those before it come to,
+    /// and what they come to in the end are its ids and counts.
     ///
-    /// A report that a book made always replays; this finds out whether one is still as it was made. It takes the time of a sort of
-    /// the ids, and beyond that in proportion to its length, with a search among the lent ones for each return; and never more memory
-    /// at a time than the lists of the report take. The error comes only where that is refused. `first_fault` says what is wrong.
+    /// A report that a book made always replays; this finds out whether one is still as it was
+    /// made. It takes the time of a sort of the ids, and beyond that in proportion to its length,
+    /// with a search among the lent ones for each return; and never more memory at a time than the
+    /// lists of the report take. The error comes only where that is refused. `first_fault` says
+    /// what is wrong.
     pub fn replays(&self) -> Result<bool, AllocError>
     where
         A: Copy,
@@ -49,7 +53,8 @@ impl<A: Allocator> Report<A> {
     pub(crate) fn first_wrong(&self) -> Result<Option<Wrong>, AllocError>
     where
         A: Copy,
-        ensures { IfOk result (λ found. MatchOption found (DoesReplay self.now) (λ wrong. IsWrong wrong self.now)) }
+        ensures { IfOk result
+            (λ found. MatchOption found (DoesReplay self.now) (λ wrong. IsWrong wrong self.now)) }
     {
         let records = self.records.as_slice();
         let Some(apart) = self.count_apart()? else {
@@ -72,7 +77,9 @@ impl<A: Allocator> Report<A> {
     fn count_apart(&self) -> Result<Option<usize>, AllocError>
     where
         A: Copy,
-        ensures { IfOk result (λ found. MatchOption found (HasWrongBase self.now) (λ count. AreApartUpTo self.now count)) }
+        ensures { IfOk result
+            (λ found. MatchOption found (HasWrongBase self.now)
+            (λ count. AreApartUpTo self.now count)) }
     {
         let records = self.records.as_slice();
         if self.are_apart(records)? {
@@ -98,18 +105,26 @@ impl<A: Allocator> Report<A> {
     fn are_apart(&self, records: &[Record]) -> Result<bool, AllocError>
     where
         A: Copy,
-        ensures { IfOk result (λ answer. IsTrue answer ↔ ((i : ℕ) → copies_of i (known_in (seen_base self.now.base) (map seen_record records.now)) ≤ 1)) }
+        ensures { IfOk result
+            (λ answer. IsTrue answer
+            ↔ ((i : ℕ) → copies_of i (known_in (seen_base self.now.base)
+            (map seen_record records.now)) ≤ 1)) }
     {
         let mut ids = known_ids(*self.records.allocator(), &self.base, records)?;
         Ok(are_apart(&mut ids))
     }
 
-    /// What stands at the base, with room for what the records bring. None where the base is not legal.
+    /// What stands at the base, with room for what the records bring. None where the base is not
+    /// legal.
     pub(crate) fn start(&self, records: &[Record]) -> Result<Option<RunningBase<A>>, AllocError>
     where
         A: Copy,
         requires apart { (i : ℕ) → copies_of i (ids_of (seen_base self.now.base)) ≤ 1 }
-        ensures { IfOk result (λ made. MatchOption made (HasWrongBase self.now) (λ there. IsLegalBase (seen_limits self.now.limits) (seen_base self.now.base) × (there ≡ running_base (seen_base self.now.base) (rooms_for (seen_base self.now.base) (map seen_record records.now))))) }
+        ensures { IfOk result
+            (λ made. MatchOption made (HasWrongBase self.now)
+            (λ there. IsLegalBase (seen_limits self.now.limits) (seen_base self.now.base)
+            × (there ≡ running_base (seen_base self.now.base)
+            (rooms_for (seen_base self.now.base) (map seen_record records.now))))) }
     {
         if !has_fitting_counts(&self.base, &self.limits) {
             return Ok(None);
@@ -145,7 +160,8 @@ fn known_ids<A: Allocator + Copy>(
     base: &Base<A>,
     records: &[Record],
 ) -> Result<Vec<u64, A>, AllocError>
-    ensures { IfOk result (λ ids. ids.items ≡ known_in (seen_base base.now) (map seen_record records.now)) }
+    ensures { IfOk result
+        (λ ids. ids.items ≡ known_in (seen_base base.now) (map seen_record records.now)) }
 {
     let mut ids = Vec::with_capacity(alloc, most_ids(base, records))?;
     add_idle(&mut ids, base.idle.as_slice())?;
@@ -172,7 +188,8 @@ fn add_idle<A: Allocator>(
     ids: &mut Vec<u64, A>,
     idle: &[(u64, Duration, Duration)],
 ) -> Result<(), AllocError>
-    ensures { OnOk result (ids.new.items ≡ ids.old.items ++ map id_of_idle (map seen_bare idle.now)) }
+    ensures { OnOk result (ids.new.items
+        ≡ ids.old.items ++ map id_of_idle (map seen_bare idle.now)) }
 {
     for entry in idle {
         ids.push(entry.0)?;
@@ -181,7 +198,8 @@ fn add_idle<A: Allocator>(
 }
 
 fn add_lent<A: Allocator>(ids: &mut Vec<u64, A>, lent: &[(u64, Duration)]) -> Result<(), AllocError>
-    ensures { OnOk result (ids.new.items ≡ ids.old.items ++ map id_of_lent (map seen_lent lent.now)) }
+    ensures { OnOk result (ids.new.items
+        ≡ ids.old.items ++ map id_of_lent (map seen_lent lent.now)) }
 {
     for entry in lent {
         ids.push(entry.0)?;
@@ -190,7 +208,8 @@ fn add_lent<A: Allocator>(ids: &mut Vec<u64, A>, lent: &[(u64, Duration)]) -> Re
 }
 
 fn add_admitted<A: Allocator>(ids: &mut Vec<u64, A>, records: &[Record]) -> Result<(), AllocError>
-    ensures { OnOk result (ids.new.items ≡ ids.old.items ++ admitted_in (map seen_record records.now)) }
+    ensures { OnOk result (ids.new.items
+        ≡ ids.old.items ++ admitted_in (map seen_record records.now)) }
 {
     for record in records {
         if let Some(id) = record.admitted() {

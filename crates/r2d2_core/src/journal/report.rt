@@ -10,9 +10,11 @@ use crate::schedule::Limits;
 use std::alloc::{AllocError, Allocator, Global};
 use std::marker::Model;
 
-/// What a book shows at one moment, the newest records of what led to it, and what stood before them.
+/// What a book shows at one moment, the newest records of what led to it, and what stood before
+/// them.
 ///
-/// From the base the records replay to the ids and counts that stand beside them, however long the book was in use.
+/// From the base the records replay to the ids and counts that stand beside them, however long the
+/// book was in use.
 #[derive(Drop)]
 pub struct Report<A: Allocator = Global> {
     /// The limits that the book was made with.
@@ -21,10 +23,11 @@ pub struct Report<A: Allocator = Global> {
     pub base: Base<A>,
     /// The newest records, as many as there was room for, the oldest of them first.
     pub records: RecordList<A>,
-    /// How many records were folded into the base, since there was no room for them; it stops at `u64::MAX`.
+    /// How many records were folded into the base, since there was no room for them; it stops at
+    /// `u64::MAX`.
     pub lost: u64,
-    /// How many takes found a connection since the making; it stops at `u64::MAX`. Where `lost` is 0 it is the number of
-    /// `Taken` records.
+    /// How many takes found a connection since the making; it stops at `u64::MAX`. Where `lost` is
+    /// 0 it is the number of `Taken` records.
     pub takes: u64,
     /// The ids of the idle connections, in the order in which they came to be idle.
     pub idle: IdList<A>,

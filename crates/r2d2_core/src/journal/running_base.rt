@@ -1,15 +1,20 @@
 // What stood before the oldest of the records that are kept.
-ghost use Rattle.std.specs.Prelude.{◌≡◌, ℕ, ◌+◌, ◌-◌, ◌^◌, ◌==◌, ◌<◌, ◌≤◌, ◌&&◌, not, nat_lt, is_some, length, map, IsTrue, IfOk};
+ghost use Rattle.std.specs.Prelude.{◌≡◌, ℕ, ◌+◌, ◌-◌, ◌^◌, ◌==◌, ◌<◌, ◌≤◌, ◌&&◌, not, nat_lt};
+ghost use Rattle.std.specs.Prelude.{is_some, length, map, IsTrue, IfOk};
 ghost use Rattle.std.specs.Duration.{as_nanos};
 ghost use Rattle.std.specs.List.Sorted.{IsNonDecreasingBy};
 ghost use Rattle.r2d2_core.specs.Limits.{seen_limits, top_up, has_reached};
 ghost use Rattle.r2d2_core.specs.Ids.{copies_of};
-ghost use Rattle.r2d2_core.specs.Connections.{idle_connection, birth_in, id_of_idle, id_of_lent, since_of};
+ghost use Rattle.r2d2_core.specs.Connections.{idle_connection, birth_in, id_of_idle, id_of_lent};
+ghost use Rattle.r2d2_core.specs.Connections.{since_of};
 ghost use Rattle.r2d2_core.specs.Records.{seen_record};
 ghost use Rattle.r2d2_core.specs.Bases.{seen_bare, seen_lent, IsLegalBase};
 ghost use Rattle.r2d2_core.specs.Folding.{birth_of_lent, is_next, expired_in, may_follow, folded};
 ghost use Rattle.r2d2_core.specs.Reports.{seen_base};
-ghost use Rattle.r2d2_core.specs.RunningBase.{running_base, rooms_for, made_idle_by, made_lent_by, empty_base, with_more, lent_out, admitted_to, kept_in, with_one_idle, parted_from, swept_of, closed_in};
+ghost use Rattle.r2d2_core.specs.RunningBase.{running_base, rooms_for, made_idle_by, made_lent_by};
+ghost use Rattle.r2d2_core.specs.RunningBase.{empty_base, with_more, lent_out, admitted_to};
+ghost use Rattle.r2d2_core.specs.RunningBase.{kept_in, with_one_idle, parted_from, swept_of};
+ghost use Rattle.r2d2_core.specs.RunningBase.{closed_in};
 
 use super::base::{Base, IdleConnections, LentConnections};
 use super::record::Record;
@@ -74,7 +79,8 @@ impl<A: Allocator> RunningBase<A> {
     ) -> Result<RunningBase<A>, AllocError>
     where
         A: Copy,
-        ensures { IfOk result (λ made. made ≡ running_base (empty_base (as_nanos at) pending) room) }
+        ensures { IfOk result
+            (λ made. made ≡ running_base (empty_base (as_nanos at) pending) room) }
     {
         let idle = Idle::new(alloc, room.idle)?;
         let lent = Roster::new(alloc, room.lent)?;
@@ -87,13 +93,19 @@ impl<A: Allocator> RunningBase<A> {
         })
     }
 
-    /// Whether the record may follow what stands; then it is folded in. Where it may not, what stands is of no use any more.
+    /// Whether the record may follow what stands; then it is folded in. Where it may not, what
+    /// stands is of no use any more.
     pub(crate) fn follow(&mut self, limits: &Limits, made: &Record) -> bool
         requires legal { IsLegalBase (seen_limits limits.now) self.old.base }
-        requires idle_room { length self.old.base.idle + made_idle_by (seen_record made.now) ≤ self.old.room.idle }
-        requires lent_room { length self.old.base.lent + made_lent_by (seen_record made.now) ≤ self.old.room.lent }
-        ensures may { result ≡ may_follow (seen_limits limits.now) (seen_record made.now) self.old.base }
-        ensures folded { IsTrue result → self.new ≡ running_base (folded (seen_limits limits.now) (seen_record made.now) self.old.base) self.old.room }
+        requires idle_room { length self.old.base.idle + made_idle_by (seen_record made.now)
+            ≤ self.old.room.idle }
+        requires lent_room { length self.old.base.lent + made_lent_by (seen_record made.now)
+            ≤ self.old.room.lent }
+        ensures may { result
+            ≡ may_follow (seen_limits limits.now) (seen_record made.now) self.old.base }
+        ensures folded { IsTrue result
+            → self.new ≡ running_base (folded (seen_limits limits.now)
+            (seen_record made.now) self.old.base) self.old.room }
     {
         let at = made.at();
         if is_before(at, self.at) {
@@ -137,9 +149,13 @@ impl<A: Allocator> RunningBase<A> {
 
     // Orders so many, where that is what is wanted beside the idle ones, as far as there is room.
     fn order(&mut self, limits: &Limits, ordered: u32) -> bool
-        requires fits { self.old.base.connections + self.old.base.pending ≤ (seen_limits limits.now).max_size }
-        ensures is { result ≡ (ordered == top_up (seen_limits limits.now) self.old.base.closed (length self.old.base.idle) self.old.base.connections self.old.base.pending) }
-        ensures more { IsTrue result → self.new ≡ running_base (with_more ordered self.old.base) self.old.room }
+        requires fits { self.old.base.connections + self.old.base.pending
+            ≤ (seen_limits limits.now).max_size }
+        ensures is { result
+            ≡ (ordered == top_up (seen_limits limits.now) self.old.base.closed
+            (length self.old.base.idle) self.old.base.connections self.old.base.pending) }
+        ensures more { IsTrue result
+            → self.new ≡ running_base (with_more ordered self.old.base) self.old.room }
     {
         let connections = (self.idle.len() + self.lent.len()) as u32;
         let room = limits.max_size() - connections - self.pending;
@@ -154,9 +170,16 @@ impl<A: Allocator> RunningBase<A> {
 
     // Orders one, where none is idle and there is room.
     fn miss(&mut self, limits: &Limits, ordered: u32) -> bool
-        requires fits { self.old.base.connections + self.old.base.pending ≤ (seen_limits limits.now).max_size }
-        ensures is { result ≡ ((length self.old.base.idle == 0) && ((ordered == 1) && (not self.old.base.closed && nat_lt (self.old.base.connections + self.old.base.pending) (seen_limits limits.now).max_size))) }
-        ensures more { IsTrue result → self.new ≡ running_base (with_more ordered self.old.base) self.old.room }
+        requires fits { self.old.base.connections + self.old.base.pending
+            ≤ (seen_limits limits.now).max_size }
+        ensures is { result
+            ≡ ((length self.old.base.idle == 0)
+            && ((ordered == 1)
+            && (not self.old.base.closed
+            && nat_lt (self.old.base.connections
+            + self.old.base.pending) (seen_limits limits.now).max_size))) }
+        ensures more { IsTrue result
+            → self.new ≡ running_base (with_more ordered self.old.base) self.old.room }
     {
         let connections = (self.idle.len() + self.lent.len()) as u32;
         let is_missed = self.idle.len() == 0 && !self.closed;
@@ -173,7 +196,8 @@ impl<A: Allocator> RunningBase<A> {
         requires room { length self.old.base.lent < self.old.room.lent }
         ensures is { result ≡ is_next (seen_limits limits.now) id self.old.base }
         ensures less { IsTrue result → length self.new.base.idle ≡ length self.old.base.idle - 1 }
-        ensures lent { IsTrue result → self.new ≡ running_base (lent_out id self.old.base) self.old.room }
+        ensures lent { IsTrue result
+            → self.new ≡ running_base (lent_out id self.old.base) self.old.room }
     {
         match self.idle.take(limits.order()) {
             Some(entry) => {
@@ -191,7 +215,8 @@ impl<A: Allocator> RunningBase<A> {
     fn admit(&mut self, id: u64) -> bool
         requires room { length self.old.base.idle < self.old.room.idle }
         ensures is { result ≡ nat_lt 0 self.old.base.pending }
-        ensures admitted { IsTrue result → self.new ≡ running_base (admitted_to id self.old.base) self.old.room }
+        ensures admitted { IsTrue result
+            → self.new ≡ running_base (admitted_to id self.old.base) self.old.room }
     {
         if self.pending == 0 {
             return false;
@@ -205,8 +230,13 @@ impl<A: Allocator> RunningBase<A> {
     fn keep(&mut self, limits: &Limits, id: u64) -> bool
         requires apart { copies_of id (map id_of_lent self.old.base.lent) ≤ 1 }
         requires room { length self.old.base.idle < self.old.room.idle }
-        ensures is { result ≡ (is_some (birth_in id self.old.base.lent) && (not self.old.base.closed && not (has_reached (seen_limits limits.now).max_lifetime (self.old.base.at - birth_of_lent id self.old.base.lent)))) }
-        ensures kept { IsTrue result → self.new ≡ running_base (kept_in id self.old.base) self.old.room }
+        ensures is { result
+            ≡ (is_some (birth_in id self.old.base.lent)
+            && (not self.old.base.closed
+            && not (has_reached (seen_limits limits.now).max_lifetime (self.old.base.at
+            - birth_of_lent id self.old.base.lent)))) }
+        ensures kept { IsTrue result
+            → self.new ≡ running_base (kept_in id self.old.base) self.old.room }
     {
         match self.lent.remove(id) {
             Some(loan) => {
@@ -225,7 +255,9 @@ impl<A: Allocator> RunningBase<A> {
     // Adds the newest idle one.
     fn rest(&mut self, id: u64, birth: Duration)
         requires room { length self.old.base.idle < self.old.room.idle }
-        ensures { self.new ≡ running_base (with_one_idle (idle_connection id (as_nanos birth) self.old.base.at tt) self.old.base) self.old.room }
+        ensures { self.new
+            ≡ running_base (with_one_idle (idle_connection id
+            (as_nanos birth) self.old.base.at tt) self.old.base) self.old.room }
     {
         self.idle.add(IdleConnection::new(id, birth, self.at, ()));
     }
@@ -234,7 +266,8 @@ impl<A: Allocator> RunningBase<A> {
     fn part(&mut self, id: u64) -> bool
         requires { copies_of id (map id_of_lent self.old.base.lent) ≤ 1 }
         ensures is { result ≡ is_some (birth_in id self.old.base.lent) }
-        ensures gone { IsTrue result → self.new ≡ running_base (parted_from id self.old.base) self.old.room }
+        ensures gone { IsTrue result
+            → self.new ≡ running_base (parted_from id self.old.base) self.old.room }
     {
         self.lent.remove(id).is_some()
     }
@@ -242,8 +275,10 @@ impl<A: Allocator> RunningBase<A> {
     // The expired ones are gone; answers how many they were.
     fn sweep(&mut self, limits: &Limits) -> usize
         requires in_order { IsNonDecreasingBy since_of self.old.base.idle }
-        ensures closed { result ≡ expired_in (seen_limits limits.now) self.old.base.at self.old.base }
-        ensures swept { self.new ≡ running_base (swept_of (seen_limits limits.now) self.old.base) self.old.room }
+        ensures closed { result
+            ≡ expired_in (seen_limits limits.now) self.old.base.at self.old.base }
+        ensures swept { self.new
+            ≡ running_base (swept_of (seen_limits limits.now) self.old.base) self.old.room }
     {
         let before = self.idle.len();
         self.idle.shed(limits, self.at);
@@ -253,7 +288,8 @@ impl<A: Allocator> RunningBase<A> {
     // Nothing is idle or pending any more, where it was not closed before.
     fn close(&mut self) -> bool
         ensures is { result ≡ not self.old.base.closed }
-        ensures closed { IsTrue result → self.new ≡ running_base (closed_in self.old.base) self.old.room }
+        ensures closed { IsTrue result
+            → self.new ≡ running_base (closed_in self.old.base) self.old.room }
     {
         if self.closed {
             return false;

@@ -1,11 +1,14 @@
 // The connections that are idle.
-ghost use Rattle.std.specs.Prelude.{◌≡◌, ◌+◌, ◌*◌, ◌≤◌, ◌<◌, ◌++◌, ◌∷◌, [], None, length, map, filter, IfOk, IfNone, vec_capacity, vec_len, option_map, option_copied, slice_get};
+ghost use Rattle.std.specs.Prelude.{◌≡◌, ◌+◌, ◌*◌, ◌≤◌, ◌<◌, ◌++◌, ◌∷◌, [], None, length, map};
+ghost use Rattle.std.specs.Prelude.{filter, IfOk, IfNone, vec_capacity, vec_len, option_map};
+ghost use Rattle.std.specs.Prelude.{option_copied, slice_get};
 ghost use Rattle.std.specs.Duration.{as_nanos};
 ghost use Rattle.std.specs.List.Sorted.{IsNonDecreasingBy};
 ghost use Rattle.circular_buffer.specs.Buffer.{buffer};
 ghost use Rattle.r2d2_core.specs.Limits.{seen_limits, has_reached};
 ghost use Rattle.r2d2_core.specs.Lending.{lent_next, still_idle};
-ghost use Rattle.r2d2_core.specs.Connections.{id_of_idle, since_of, is_expired, is_kept, closed_of, pair_of};
+ghost use Rattle.r2d2_core.specs.Connections.{id_of_idle, since_of, is_expired, is_kept, closed_of};
+ghost use Rattle.r2d2_core.specs.Connections.{pair_of};
 ghost use Rattle.r2d2_core.specs.Roster.{roster};
 ghost use Rattle.r2d2_core.specs.Seen.{seen_released};
 
@@ -103,8 +106,9 @@ impl<T, A: Allocator> Idle<T, A> {
         }
     }
 
-    /// Moves the expired ones into a list, oldest first. Looks and moves are counted: where the idle time alone is limited, it stops
-    /// at the first that is kept; where neither is, it looks at none.
+    /// Moves the expired ones into a list, oldest first. Looks and moves are counted: where the
+    /// idle time alone is limited, it stops at the first that is kept; where neither is, it looks
+    /// at none.
     pub(crate) fn reap<L: Ledger>(
         &mut self,
         limits: &Limits,
@@ -115,13 +119,20 @@ impl<T, A: Allocator> Idle<T, A> {
         requires in_order { IsNonDecreasingBy since_of self.old.items }
         requires empty { vec_len out.old ≡ 0 }
         requires room { length self.old.items ≤ vec_capacity out.old }
-        ensures released { map seen_released out.new.items ≡ closed_of (seen_limits limits.now) (as_nanos now) self.old.items }
-        ensures kept { self.new ≡ roster (filter (is_kept (seen_limits limits.now) (as_nanos now)) self.old.items) self.old.room }
-        ensures count { length self.new.items + length (filter (is_expired (seen_limits limits.now) (as_nanos now)) self.old.items) ≡ length self.old.items }
+        ensures released { map seen_released out.new.items
+            ≡ closed_of (seen_limits limits.now) (as_nanos now) self.old.items }
+        ensures kept { self.new
+            ≡ roster (filter (is_kept (seen_limits limits.now)
+            (as_nanos now)) self.old.items) self.old.room }
+        ensures count { length self.new.items
+            + length (filter (is_expired (seen_limits limits.now) (as_nanos now)) self.old.items)
+            ≡ length self.old.items }
         ensures capacity { vec_capacity out.new ≡ vec_capacity out.old }
-        ensures few { (seen_limits limits.now).max_lifetime ≡ None → steps.new ≤ steps.old + (2 * vec_len out.new + 1) }
+        ensures few { (seen_limits limits.now).max_lifetime ≡ None
+            → steps.new ≤ steps.old + (2 * vec_len out.new + 1) }
         ensures each { steps.new ≤ steps.old + 2 * length self.old.items }
-        ensures none { (seen_limits limits.now).max_lifetime ≡ None → (seen_limits limits.now).idle_timeout ≡ None → steps.new ≡ steps.old }
+        ensures none { (seen_limits limits.now).max_lifetime ≡ None
+            → (seen_limits limits.now).idle_timeout ≡ None → steps.new ≡ steps.old }
     {
         if let Some(ring) = &mut self.ring {
             if limits.max_lifetime().is_some() {
@@ -132,14 +143,18 @@ impl<T, A: Allocator> Idle<T, A> {
         }
     }
 
-    /// Lets the expired ones go. Where the idle time alone is limited, it stops at the first that is kept; where neither is, it
-    /// looks at none.
+    /// Lets the expired ones go. Where the idle time alone is limited, it stops at the first that
+    /// is kept; where neither is, it looks at none.
     pub(crate) fn shed(&mut self, limits: &Limits, now: Duration)
     where
         T: Drop,
         requires in_order { IsNonDecreasingBy since_of self.old.items }
-        ensures kept { self.new ≡ roster (filter (is_kept (seen_limits limits.now) (as_nanos now)) self.old.items) self.old.room }
-        ensures count { length self.new.items + length (filter (is_expired (seen_limits limits.now) (as_nanos now)) self.old.items) ≡ length self.old.items }
+        ensures kept { self.new
+            ≡ roster (filter (is_kept (seen_limits limits.now)
+            (as_nanos now)) self.old.items) self.old.room }
+        ensures count { length self.new.items
+            + length (filter (is_expired (seen_limits limits.now) (as_nanos now)) self.old.items)
+            ≡ length self.old.items }
     {
         if let Some(ring) = &mut self.ring {
             if limits.max_lifetime().is_some() {

@@ -10,8 +10,8 @@ use circular_buffer::HeapCircularBuffer;
 use std::alloc::{Allocator, Global};
 use std::marker::Model;
 
-/// The idle values that a close hands out, oldest first, each with its id. It takes no memory: it is the ring that held them, and
-/// each costs one move out of it.
+/// The idle values that a close hands out, oldest first, each with its id. It takes no memory: it
+/// is the ring that held them, and each costs one move out of it.
 #[derive(Drop)]
 pub struct Leftover<T, A: Allocator = Global> {
     rest: Option<HeapCircularBuffer<IdleConnection<T>, A>>,

@@ -53,7 +53,9 @@ impl<A: Allocator> OnOrder<A> {
     ) -> Result<OnOrder<A>, AllocError>
     where
         A: Copy,
-        ensures { IfOk result (λ openings. openings ≡ on_order.first_on_order (seen_limits limits) (as_nanos now) first_id) }
+        ensures { IfOk result
+            (λ openings. openings
+            ≡ on_order.first_on_order (seen_limits limits) (as_nanos now) first_id) }
     {
         let numbered = Roster::new(alloc, limits.max_size() as usize)?;
         let mut schedule = Schedule::new(alloc, limits, now)?;
@@ -95,7 +97,8 @@ impl<A: Allocator> OnOrder<A> {
         self.next_id
     }
 
-    /// Orders what is wanted beside so many idle connections, as far as there is room beside them and the lent ones.
+    /// Orders what is wanted beside so many idle connections, as far as there is room beside them
+    /// and the lent ones.
     #[inline(always)]
     pub(crate) fn top_up(&mut self, idle: usize, lent: usize, due: Duration) -> u32
         requires { idle + lent + self.old.pending ≤ self.old.limits.max_size }
@@ -162,7 +165,8 @@ impl<A: Allocator> OnOrder<A> {
 
     /// Gives an id to an opening in work.
     pub(crate) fn number(&mut self, tries: u32) -> Result<u64, Refusal>
-        ensures answer { result ≡ ok_unless (on_order.number_refusal tries self.old) self.old.next_id }
+        ensures answer { result
+            ≡ ok_unless (on_order.number_refusal tries self.old) self.old.next_id }
         ensures after { self.new ≡ on_order.after_numbering tries self.old }
     {
         if self.closed {
@@ -185,7 +189,9 @@ impl<A: Allocator> OnOrder<A> {
     pub(crate) fn admit(&mut self, id: u64) -> Result<(), Refusal>
         requires { copies_of id self.old.numbered ≤ 1 }
         ensures answer { result ≡ ok_unless (on_order.admit_refusal id self.old) tt }
-        ensures after { self.new ≡ unless_refused (on_order.admit_refusal id self.old) (on_order.admitted_one id self.old) self.old }
+        ensures after { self.new
+            ≡ unless_refused (on_order.admit_refusal id self.old)
+            (on_order.admitted_one id self.old) self.old }
         ensures less { OnOk result (self.new.pending + 1 ≡ self.old.pending) }
     {
         if self.closed {
@@ -202,8 +208,12 @@ impl<A: Allocator> OnOrder<A> {
 
     /// Puts off an opening in work that failed at the moment `now`, and says when it is due again.
     pub(crate) fn fail(&mut self, now: Duration, tries: u32) -> Result<Duration, Refusal>
-        ensures answer { map_ok as_nanos result ≡ ok_unless (on_order.fail_refusal tries self.old) (on_order.due_again (as_nanos now) tries self.old) }
-        ensures after { self.new ≡ unless_refused (on_order.fail_refusal tries self.old) (on_order.failed_one (as_nanos now) tries self.old) self.old }
+        ensures answer { map_ok as_nanos result
+            ≡ ok_unless (on_order.fail_refusal tries self.old)
+            (on_order.due_again (as_nanos now) tries self.old) }
+        ensures after { self.new
+            ≡ unless_refused (on_order.fail_refusal tries self.old)
+            (on_order.failed_one (as_nanos now) tries self.old) self.old }
     {
         if self.closed {
             return Err(Refusal::Closed);

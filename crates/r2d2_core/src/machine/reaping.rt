@@ -1,10 +1,12 @@
 // What a reap does with the ring of idle connections.
-ghost use Rattle.std.specs.Prelude.{◌≡◌, ◌+◌, ◌*◌, ◌≤◌, None, length, map, filter, vec_len, vec_capacity};
+ghost use Rattle.std.specs.Prelude.{◌≡◌, ◌+◌, ◌*◌, ◌≤◌, None, length, map, filter, vec_len};
+ghost use Rattle.std.specs.Prelude.{vec_capacity};
 ghost use Rattle.std.specs.Duration.{as_nanos};
 ghost use Rattle.std.specs.List.Sorted.{IsNonDecreasingBy};
 ghost use Rattle.circular_buffer.specs.Buffer.{buffer};
 ghost use Rattle.r2d2_core.specs.Limits.{seen_limits};
-ghost use Rattle.r2d2_core.specs.Connections.{is_expired, is_kept, since_of, released_at, closed_of};
+ghost use Rattle.r2d2_core.specs.Connections.{is_expired, is_kept, since_of, released_at};
+ghost use Rattle.r2d2_core.specs.Connections.{closed_of};
 ghost use Rattle.r2d2_core.specs.Seen.{seen_released};
 
 use super::answers::Released;
@@ -15,8 +17,9 @@ use std::alloc::Allocator;
 use std::sync::ledger::Ledger;
 use std::time::Duration;
 
-/// Takes connections from the front as long as they are expired. Those behind the first that is not came to be idle no earlier,
-/// so none of them is, where births don't matter. Where the idle time doesn't either, it looks at none.
+/// Takes connections from the front as long as they are expired. Those behind the first that is not
+/// came to be idle no earlier, so none of them is, where births don't matter. Where the idle time
+/// doesn't either, it looks at none.
 pub(super) fn reap_front<T, A: Allocator, L: Ledger>(
     ring: &mut Ring<T, A>,
     limits: &Limits,
@@ -28,8 +31,11 @@ pub(super) fn reap_front<T, A: Allocator, L: Ledger>(
     requires in_order { IsNonDecreasingBy since_of ring.old.items }
     requires empty { vec_len out.old ≡ 0 }
     requires room { length ring.old.items ≤ vec_capacity out.old }
-    ensures released { map seen_released out.new.items ≡ closed_of (seen_limits limits.now) (as_nanos now) ring.old.items }
-    ensures kept { ring.new ≡ buffer (filter (is_kept (seen_limits limits.now) (as_nanos now)) ring.old.items) ring.old.capacity }
+    ensures released { map seen_released out.new.items
+        ≡ closed_of (seen_limits limits.now) (as_nanos now) ring.old.items }
+    ensures kept { ring.new
+        ≡ buffer (filter (is_kept (seen_limits limits.now) (as_nanos now)) ring.old.items)
+        ring.old.capacity }
     ensures capacity { vec_capacity out.new ≡ vec_capacity out.old }
     ensures few { steps.new ≤ steps.old + (2 * vec_len out.new + 1) }
     ensures each { steps.new ≤ steps.old + 2 * length ring.old.items }
@@ -61,8 +67,11 @@ pub(super) fn reap_each<T, A: Allocator, L: Ledger>(
 )
     requires empty { vec_len out.old ≡ 0 }
     requires room { length ring.old.items ≤ vec_capacity out.old }
-    ensures released { map seen_released out.new.items ≡ closed_of (seen_limits limits.now) (as_nanos now) ring.old.items }
-    ensures kept { ring.new ≡ buffer (filter (is_kept (seen_limits limits.now) (as_nanos now)) ring.old.items) ring.old.capacity }
+    ensures released { map seen_released out.new.items
+        ≡ closed_of (seen_limits limits.now) (as_nanos now) ring.old.items }
+    ensures kept { ring.new
+        ≡ buffer (filter (is_kept (seen_limits limits.now) (as_nanos now)) ring.old.items)
+        ring.old.capacity }
     ensures capacity { vec_capacity out.new ≡ vec_capacity out.old }
     ensures each { steps.new ≤ steps.old + 2 * length ring.old.items }
 {

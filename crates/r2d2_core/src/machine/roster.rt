@@ -1,6 +1,9 @@
-// A list of things with ids, which has its room from the start. One that leaves is found by a hint and leaves a hole, so no other is
-// moved, and holes are taken out many at a time. Nothing is promised of hints: a wrong one is seen, and costs a search.
-ghost use Rattle.std.specs.Prelude.{◌≡◌, ◌↔◌, ℕ, ◌+◌, ◌<◌, ◌≤◌, ◌++◌, ◌∷◌, [], length, map, IfOk, IfNone, IsSome, IsTrue, MatchOption, Option, None, slice_set, slice_index_or, vec_capacity, vec_len};
+// A list of things with ids, which has its room from the start. One that leaves is found by a hint
+// and leaves a hole, so no other is moved, and holes are taken out many at a time. Nothing is
+// promised of hints: a wrong one is seen, and costs a search.
+ghost use Rattle.std.specs.Prelude.{◌≡◌, ◌↔◌, ℕ, ◌+◌, ◌<◌, ◌≤◌, ◌++◌, ◌∷◌, [], length, map, IfOk};
+ghost use Rattle.std.specs.Prelude.{IfNone, IsSome, IsTrue, MatchOption, Option, None, slice_set};
+ghost use Rattle.std.specs.Prelude.{slice_index_or, vec_capacity, vec_len};
 ghost use Rattle.std.specs.Iterator.{item_count, YieldsFirstRef};
 ghost use Rattle.r2d2_core.specs.Ids.{found, without, copies_of};
 ghost use Rattle.r2d2_core.specs.Roster.{roster};
@@ -48,7 +51,8 @@ impl<X, A: Allocator> Model for Roster<X, A> {
 
     ghost view = { λ a. roster (held a.slots.items) a.room };
 
-    ghost invariant = { λ a. (a.count ≡ length (held a.slots.items)) × (a.room ≤ vec_capacity a.slots) };
+    ghost invariant = { λ a. (a.count ≡ length (held a.slots.items))
+        × (a.room ≤ vec_capacity a.slots) };
 }
 
 impl<X: HasId, A: Allocator> Roster<X, A> {
@@ -72,7 +76,8 @@ impl<X: HasId, A: Allocator> Roster<X, A> {
         })
     }
 
-    /// The same, with no memory but for the room itself: there are no hints, so each removal searches.
+    /// The same, with no memory but for the room itself: there are no hints, so each removal
+    /// searches.
     pub(crate) fn tight(alloc: A, room: usize) -> Result<Roster<X, A>, AllocError>
     where
         A: Copy,
@@ -140,7 +145,8 @@ impl<X: HasId, A: Allocator> Roster<X, A> {
         self.count += 1;
     }
 
-    /// The one with the id, which leaves the list; None where there is none. The others keep their order.
+    /// The one with the id, which leaves the list; None where there is none. The others keep their
+    /// order.
     #[inline(always)]
     pub(crate) fn remove(&mut self, id: u64) -> Option<X>
         requires { copies_of id (map X.id_of self.old.items) ≤ 1 }
@@ -192,8 +198,9 @@ impl<'a, X> Iterator for Items<'a, X> {
     }
 }
 
-// Makes room for one more: where the slots are full or mostly holes, takes the holes out and sets the hints anew. There are more slots
-// than the room by a quarter, so many left the list since the last time, and each of them pays for a few moves.
+// Makes room for one more: where the slots are full or mostly holes, takes the holes out and sets
+// the hints anew. There are more slots than the room by a quarter, so many left the list since the
+// last time, and each of them pays for a few moves.
 fn make_room<X: HasId, A: Allocator>(slots: &mut Vec<Option<X>, A>, hints: &mut [u32], count: usize)
     requires counted { count ≡ length (held slots.old.items) }
     requires fits { count < vec_capacity slots.old }
@@ -248,9 +255,11 @@ fn has_id<X: HasId>(slot: &Option<X>, id: u64) -> bool
     }
 }
 
-// The slot that holds the one with an id, which is looked for first where the hint says, and then from the end.
+// The slot that holds the one with an id, which is looked for first where the hint says, and then
+// from the end.
 fn place_of<X: HasId>(slots: &[Option<X>], hint: usize, id: u64) -> Option<usize>
-    ensures { MatchOption result (NoneHeldFrom X.id_of id slots.now 0) (λ p. HeldAt X.id_of id slots.now p) }
+    ensures { MatchOption result (NoneHeldFrom X.id_of id slots.now 0)
+        (λ p. HeldAt X.id_of id slots.now p) }
 {
     if hint < slots.len() && has_id(&slots[hint], id) {
         return Some(hint);

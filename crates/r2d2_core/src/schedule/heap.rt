@@ -1,6 +1,7 @@
-// Openings as a binary heap at the front of a slice: the children of the one at `k` stand at `2k + 1` and `2k + 2`, and none comes before the
-// one that it is a child of.
-ghost use Rattle.std.specs.Prelude.{◌≡◌, ℕ, ◌+◌, ◌-◌, ◌*◌, ◌<◌, ◌≤◌, false, length, take, drop, slice_index_or, IsPermutation};
+// Openings as a binary heap at the front of a slice: the children of the one at `k` stand at `2k +
+// 1` and `2k + 2`, and none comes before the one that it is a child of.
+ghost use Rattle.std.specs.Prelude.{◌≡◌, ℕ, ◌+◌, ◌-◌, ◌*◌, ◌<◌, ◌≤◌, false, length, take, drop};
+ghost use Rattle.std.specs.Prelude.{slice_index_or, IsPermutation};
 ghost use Rattle.r2d2_core.specs.Openings.{is_before, sorted, with_opening};
 ghost use Rattle.r2d2_core.specs.Heap.{binary_digits, IsHeap, IsHeapButTheLast, IsHeapButTheFirst};
 
@@ -18,7 +19,8 @@ pub(crate) fn add<L: Ledger>(
     requires room { held < length entries.old }
     requires heap { IsHeap (take held entries.old) }
     ensures heap { IsHeap (take (held + 1) entries.new) }
-    ensures openings { sorted (take (held + 1) entries.new) ≡ with_opening opening (sorted (take held entries.old)) }
+    ensures openings { sorted (take (held + 1) entries.new)
+        ≡ with_opening opening (sorted (take held entries.old)) }
     ensures cost { steps.new ≤ steps.old + binary_digits (held + 1) }
 {
     entries[held] = opening;
@@ -31,7 +33,8 @@ pub(crate) fn remove_least<L: Ledger>(entries: &mut [Opening], held: usize, step
     requires room { held ≤ length entries.old }
     requires heap { IsHeap (take held entries.old) }
     ensures heap { IsHeap (take (held - 1) entries.new) }
-    ensures openings { sorted (take (held - 1) entries.new) ≡ drop 1 (sorted (take held entries.old)) }
+    ensures openings { sorted (take (held - 1) entries.new)
+        ≡ drop 1 (sorted (take held entries.old)) }
     ensures cost { steps.new ≤ steps.old + 2 * binary_digits held }
 {
     let last = held - 1;
@@ -82,7 +85,8 @@ fn first_child<L: Ledger>(entries: &[Opening], at: usize, steps: &mut Steps<L>) 
     ensures from { 2 * at + 1 ≤ result }
     ensures to { result ≤ 2 * at + 2 }
     ensures within { result < length entries.now }
-    ensures least { (k : ℕ) (d : _) → 2 * at + 1 ≤ k → k ≤ 2 * at + 2 → k < length entries.now → is_before (slice_index_or entries.now k d) (slice_index_or entries.now result d) ≡ false }
+    ensures least { (k : ℕ) (d : _) → 2 * at + 1 ≤ k → k ≤ 2 * at + 2 → k < length entries.now
+        → is_before (slice_index_or entries.now k d) (slice_index_or entries.now result d) ≡ false }
     ensures cost { steps.new ≤ steps.old + 1 }
 {
     let left = 2 * at + 1;

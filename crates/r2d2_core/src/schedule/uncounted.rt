@@ -24,7 +24,8 @@ impl<A: Allocator> Schedule<A> {
     /// Adds so many openings that never failed.
     pub(crate) fn order_many(&mut self, count: u32, due: Duration)
         requires { length self.old.openings + count ≤ self.old.max_size }
-        ensures { self.new ≡ with_openings (with_many count (opening (as_nanos due) 0) self.old.openings) self.old }
+        ensures { self.new
+            ≡ with_openings (with_many count (opening (as_nanos due) 0) self.old.openings) self.old }
     {
         for _ in 0..count {
             self.order_uncounted(due, 0);
@@ -33,7 +34,8 @@ impl<A: Allocator> Schedule<A> {
 
     /// `next`, for a caller that counts no steps.
     pub fn next_uncounted(&mut self, now: Duration) -> Job
-        ensures answer { seen_job result ≡ first_job (as_nanos now) self.old.openings self.old.next_reap }
+        ensures answer { seen_job result
+            ≡ first_job (as_nanos now) self.old.openings self.old.next_reap }
         ensures after { self.new ≡ after_job (seen_job result) self.old }
     {
         self.next_from::<Brand>(now, Blank::new(1))
@@ -56,7 +58,8 @@ impl<A: Allocator> Schedule<A> {
         requires name { blank.name ≡ L.name }
         requires parts { blank.parts ≡ L.parts }
         requires some { 0 < L.parts }
-        ensures answer { seen_job result ≡ first_job (as_nanos now) self.old.openings self.old.next_reap }
+        ensures answer { seen_job result
+            ≡ first_job (as_nanos now) self.old.openings self.old.next_reap }
         ensures after { self.new ≡ after_job (seen_job result) self.old }
     {
         let mut steps: Steps<L> = Steps::new(blank);

@@ -9,5 +9,6 @@ use Rattle.pool_pictures.proofs.bins.binned.Given as goal
 abbrev pub invariant-loop-place : goal.invariant-loop-place
 invariant-loop-place l = record {
   len : length l.bins.items ≡ l.scale.width + 1;
-  shows : (k : ℕ) (c : Counts) (d : Most) → k < l.place → IsWithin (most_of (get_or l.counts k c)) (get_or l.bins.items (place_at l.scale (as_nanos (get_or l.counts k c).at)) d);
+  shows : (k : ℕ) (c : Counts) (d : Most) → k < l.place → IsWithin (most_of (get_or l.counts k c))
+      (get_or l.bins.items (place_at l.scale (as_nanos (get_or l.counts k c).at)) d);
 }

@@ -15,6 +15,7 @@ loop-column-preserved c =
     let is = c.raise_at.new.bins in
     record {
       len = search rules;
-      shows = shows_more c.args.least was is c.args.from c.loop-column.column c.raise_at.ensures.len c.loop-column.invariant.shows c.raise_at.ensures.kept c.raise_at.ensures.shows;
+      shows = shows_more c.args.least was is c.args.from c.loop-column.column c.raise_at.ensures.len c.loop-column.invariant.shows c.raise_at.ensures.kept
+          c.raise_at.ensures.shows;
       kept = each_within_both c.args.bins.now was is c.loop-column.invariant.len c.loop-column.invariant.kept c.raise_at.ensures.kept;
     }

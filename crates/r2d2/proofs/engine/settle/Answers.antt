@@ -2,7 +2,8 @@ use Rattle.std.proofs.Common.{sym, subst}
 use Rattle.r2d2_core.specs.Book.{SeenBook}
 use Rattle.r2d2_core.specs.Picture.{IsSound}
 use Rattle.r2d2.proofs.engine.settle.Goals as goal
-use Rattle.r2d2.proofs.engine.settle.Goals.{in-Opened+in-Ok, in-Opened+in-Err, in-Failed+in-Ok-fail, in-Failed+in-Err-fail, in-Unsound+in-Ok-fail_check, in-Unsound+in-Err-fail_check}
+use Rattle.r2d2.proofs.engine.settle.Goals.{in-Opened+in-Ok, in-Opened+in-Err, in-Failed+in-Ok-fail, in-Failed+in-Err-fail, in-Unsound+in-Ok-fail_check}
+use Rattle.r2d2.proofs.engine.settle.Goals.{in-Unsound+in-Err-fail_check}
 
 pub returns-clause-sound : goal.returns-clause-sound
 returns-clause-sound g c =

@@ -9,8 +9,11 @@ loop-moment-init c = record {
 }
 
 pub returns-then-as_nanos : goal.returns-then-as_nanos
-returns-then-as_nanos c =
-    (λ h. cc, λ h. absurd (sorted_falls c.loop-moment.seen c.args.idle.now c.loop-moment.moment-index (omega arith) (omega arith) (c.loop-moment.invariant.onward h)))
+returns-then-as_nanos c = (
+  λ h. cc,
+  λ h. absurd (sorted_falls c.loop-moment.seen c.args.idle.now c.loop-moment.moment-index (omega arith) (omega arith)
+      (c.loop-moment.invariant.onward h)),
+)
 
 pub loop-moment-preserved : goal.loop-moment-preserved
 loop-moment-preserved c = record {

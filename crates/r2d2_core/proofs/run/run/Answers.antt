@@ -23,20 +23,26 @@ loop-step-init g c =
 
 pub loop-step-preserved : goal.loop-step-preserved
 loop-step-preserved g c =
-    run_more (Made (seen_limits c.args.limits) (as_nanos c.args.now) 0) c.loop-step.yielded c.loop-step.answers.items c.push.new.self.items c.loop-step.core c.answer.new.self c.in-Some.step c.in_ok-answer.answer
+    run_more (Made (seen_limits c.args.limits) (as_nanos c.args.now) 0) c.loop-step.yielded c.loop-step.answers.items c.push.new.self.items c.loop-step.core
+    c.answer.new.self c.in-Some.step c.in_ok-answer.answer
     c.loop-step.invariant c.in_ok-push.ensures.items c.in_ok-answer.ensures.answer c.in_ok-answer.ensures.after
 
 pub returns-clause-answers : goal.returns-clause-answers
 returns-clause-answers g c =
     let e = c.into_iter-step-iterator.ensures.into_iter_gives in
-    let whole = YieldsList-end (YieldsList-from_vec c.args.steps.items e.0 (e.1 ∙ c.args.steps.ok.0)) c.loop-step.yielded c.loop-step.step-iterator c.loop-step.yielded_by c.next.result c.next.new.self c.in-None.is c.next.ensures.steps in
+    let whole = YieldsList-end (YieldsList-from_vec c.args.steps.items e.0 (e.1
+    ∙ c.args.steps.ok.0)) c.loop-step.yielded c.loop-step.step-iterator c.loop-step.yielded_by c.next.result c.next.new.self c.in-None.is
+    c.next.ensures.steps in
     c.loop-step.invariant.answers_are ∙ ap (answers_of (Made (seen_limits c.args.limits) (as_nanos c.args.now) 0)) (sym (map-id c.loop-step.yielded) ∙ whole.0)
 
 pub returns-clause-picture : goal.returns-clause-picture
 returns-clause-picture g c =
     let e = c.into_iter-step-iterator.ensures.into_iter_gives in
-    let whole = YieldsList-end (YieldsList-from_vec c.args.steps.items e.0 (e.1 ∙ c.args.steps.ok.0)) c.loop-step.yielded c.loop-step.step-iterator c.loop-step.yielded_by c.next.result c.next.new.self c.in-None.is c.next.ensures.steps in
-    c.loop-step.invariant.picture_is ∙ ap (λ l. picture_of (after_all (Made (seen_limits c.args.limits) (as_nanos c.args.now) 0) l)) (sym (map-id c.loop-step.yielded) ∙ whole.0)
+    let whole = YieldsList-end (YieldsList-from_vec c.args.steps.items e.0 (e.1
+    ∙ c.args.steps.ok.0)) c.loop-step.yielded c.loop-step.step-iterator c.loop-step.yielded_by c.next.result c.next.new.self c.in-None.is
+    c.next.ensures.steps in
+    c.loop-step.invariant.picture_is ∙ ap (λ l. picture_of (after_all (Made (seen_limits c.args.limits) (as_nanos c.args.now) 0) l))
+    (sym (map-id c.loop-step.yielded) ∙ whole.0)
 
 pub returns-clause-sound : goal.returns-clause-sound
 returns-clause-sound g c = subst IsSound (sym c.loop-step.invariant.picture_is) c.loop-step.invariant.kept.sound

@@ -14,10 +14,12 @@ from_nanos_u128-doubled-requires c = omega (arith, doubled-mod c.args.k (omega a
 
 pub returns-then-as_nanos : goal.returns-then-as_nanos
 returns-then-as_nanos c =
-    let doubled : as_nanos c.from_nanos_u128-doubled.result ≡ 200_000_000 * 2 ^ c.args.k = c.from_nanos_u128-doubled.ensures ∙ doubled-mod c.args.k (omega arith) in
+    let doubled : as_nanos c.from_nanos_u128-doubled.result ≡ 200_000_000 * 2 ^ c.args.k = c.from_nanos_u128-doubled.ensures
+    ∙ doubled-mod c.args.k (omega arith) in
     omega arith
 
 pub returns-else-as_nanos : goal.returns-else-as_nanos
 returns-else-as_nanos c =
-    let doubled : as_nanos c.from_nanos_u128-doubled.result ≡ 200_000_000 * 2 ^ c.args.k = c.from_nanos_u128-doubled.ensures ∙ doubled-mod c.args.k (omega arith) in
+    let doubled : as_nanos c.from_nanos_u128-doubled.result ≡ 200_000_000 * 2 ^ c.args.k = c.from_nanos_u128-doubled.ensures
+    ∙ doubled-mod c.args.k (omega arith) in
     omega arith

@@ -1,5 +1,7 @@
-// An audit of a report: its base is put in place, follows the records, and is compared with the counts.
-ghost use Rattle.std.specs.Prelude.{◌≡◌, ◌↔◌, ◌+◌, ◌<◌, ◌≤◌, ◌&&◌, nat_le, ℕ, [], true, false, map, length, take, IsTrue, IfOk, MatchOption};
+// An audit of a report: its base is put in place, follows the records, and is compared with the
+// counts.
+ghost use Rattle.std.specs.Prelude.{◌≡◌, ◌↔◌, ◌+◌, ◌<◌, ◌≤◌, ◌&&◌, nat_le, ℕ, [], true, false, map};
+ghost use Rattle.std.specs.Prelude.{length, take, IsTrue, IfOk, MatchOption};
 ghost use Rattle.std.specs.Duration.{as_nanos};
 ghost use Rattle.r2d2_core.specs.Limits.{seen_limits};
 ghost use Rattle.r2d2_core.specs.Ids.{copies_of};
@@ -8,7 +10,8 @@ ghost use Rattle.r2d2_core.specs.Records.{seen_record};
 ghost use Rattle.r2d2_core.specs.Bases.{seen_bare, seen_lent, IsLegalBase};
 ghost use Rattle.r2d2_core.specs.Folding.{replay, all_follow, known_in};
 ghost use Rattle.r2d2_core.specs.Reports.{seen_base};
-ghost use Rattle.r2d2_core.specs.RunningBase.{running_base, rooms_for, empty_base, with_idle, with_lent};
+ghost use Rattle.r2d2_core.specs.RunningBase.{running_base, rooms_for, empty_base, with_idle};
+ghost use Rattle.r2d2_core.specs.RunningBase.{with_lent};
 ghost use Rattle.r2d2_core.specs.Auditing.{are_in_order, are_born};
 
 use super::{Rooms, RunningBase};
@@ -23,7 +26,9 @@ use std::time::Duration;
 
 // Whether neither of the first two moments is after the third, nor that after the last.
 fn are_in_a_row(birth: Duration, last: Duration, since: Duration, at: Duration) -> bool
-    ensures { result ≡ (nat_le (as_nanos birth) (as_nanos since) && (nat_le (as_nanos last) (as_nanos since) && nat_le (as_nanos since) (as_nanos at))) }
+    ensures { result
+        ≡ (nat_le (as_nanos birth) (as_nanos since)
+        && (nat_le (as_nanos last) (as_nanos since) && nat_le (as_nanos since) (as_nanos at))) }
 {
     birth.as_nanos() <= since.as_nanos()
         && last.as_nanos() <= since.as_nanos()
@@ -31,7 +36,8 @@ fn are_in_a_row(birth: Duration, last: Duration, since: Duration, at: Duration) 
 }
 
 impl<A: Allocator> RunningBase<A> {
-    /// What a base says, with room for so many. None where the moments of its connections are in no order.
+    /// What a base says, with room for so many. None where the moments of its connections are in no
+    /// order.
     pub(crate) fn of(
         alloc: A,
         base: &Base<A>,
@@ -43,8 +49,11 @@ impl<A: Allocator> RunningBase<A> {
         requires idle_room { length base.now.idle ≤ room.idle }
         requires lent_room { length base.now.lent ≤ room.lent }
         ensures { IfOk result (λ made. MatchOption made
-            ((are_in_order (as_nanos base.now.at) 0 base.now.idle && are_born (as_nanos base.now.at) base.now.lent) ≡ false)
-            (λ there. ((are_in_order (as_nanos base.now.at) 0 base.now.idle && are_born (as_nanos base.now.at) base.now.lent) ≡ true) × (there ≡ running_base (seen_base base.now) room))) }
+            ((are_in_order (as_nanos base.now.at) 0 base.now.idle
+            && are_born (as_nanos base.now.at) base.now.lent) ≡ false)
+            (λ there. ((are_in_order (as_nanos base.now.at) 0 base.now.idle
+            && are_born (as_nanos base.now.at) base.now.lent) ≡ true)
+            × (there ≡ running_base (seen_base base.now) room))) }
     {
         let mut running_base = RunningBase::tight(alloc, base.at, base.pending, room)?;
         if !running_base.put_idle(base.idle.as_slice())
@@ -65,7 +74,8 @@ impl<A: Allocator> RunningBase<A> {
     ) -> Result<RunningBase<A>, AllocError>
     where
         A: Copy,
-        ensures { IfOk result (λ made. made ≡ running_base (empty_base (as_nanos at) pending) room) }
+        ensures { IfOk result
+            (λ made. made ≡ running_base (empty_base (as_nanos at) pending) room) }
     {
         let idle = Idle::new(alloc, room.idle)?;
         let lent = Roster::tight(alloc, room.lent)?;
@@ -83,7 +93,9 @@ impl<A: Allocator> RunningBase<A> {
         requires empty { self.old.base.idle ≡ [] }
         requires room { length idle.now ≤ self.old.room.idle }
         ensures is { result ≡ are_in_order self.old.base.at 0 (map seen_bare idle.now) }
-        ensures put { IsTrue result → self.new ≡ running_base (with_idle (map seen_bare idle.now) self.old.base) self.old.room }
+        ensures put { IsTrue result
+            → self.new ≡ running_base (with_idle (map seen_bare idle.now) self.old.base)
+            self.old.room }
     {
         let mut last = Duration::ZERO;
         for entry in idle {
@@ -102,7 +114,9 @@ impl<A: Allocator> RunningBase<A> {
         requires empty { self.old.base.lent ≡ [] }
         requires room { length lent.now ≤ self.old.room.lent }
         ensures is { result ≡ are_born self.old.base.at (map seen_lent lent.now) }
-        ensures put { IsTrue result → self.new ≡ running_base (with_lent (map seen_lent lent.now) self.old.base) self.old.room }
+        ensures put { IsTrue result
+            → self.new ≡ running_base (with_lent (map seen_lent lent.now) self.old.base)
+            self.old.room }
     {
         for entry in lent {
             let (id, birth) = *entry;
@@ -114,15 +128,22 @@ impl<A: Allocator> RunningBase<A> {
         true
     }
 
-    /// How many records follow one another from what stands; where that is all of them, they are folded in.
+    /// How many records follow one another from what stands; where that is all of them, they are
+    /// folded in.
     pub(crate) fn follow_all(&mut self, limits: &Limits, records: &[Record]) -> usize
         requires legal { IsLegalBase (seen_limits limits.now) self.old.base }
-        requires apart { (i : ℕ) → copies_of i (known_in self.old.base (map seen_record records.now)) ≤ 1 }
+        requires apart { (i : ℕ)
+            → copies_of i (known_in self.old.base (map seen_record records.now)) ≤ 1 }
         requires room { self.old.room ≡ rooms_for self.old.base (map seen_record records.now) }
         ensures within { result ≤ length records.now }
-        ensures may { all_follow (seen_limits limits.now) (take result (map seen_record records.now)) self.old.base ≡ true }
-        ensures stops { result < length records.now → all_follow (seen_limits limits.now) (take (result + 1) (map seen_record records.now)) self.old.base ≡ false }
-        ensures folded { result ≡ length records.now → self.new ≡ running_base (replay (seen_limits limits.now) (map seen_record records.now) self.old.base) self.old.room }
+        ensures may { all_follow (seen_limits limits.now)
+            (take result (map seen_record records.now)) self.old.base ≡ true }
+        ensures stops { result < length records.now
+            → all_follow (seen_limits limits.now)
+            (take (result + 1) (map seen_record records.now)) self.old.base ≡ false }
+        ensures folded { result ≡ length records.now
+            → self.new ≡ running_base (replay (seen_limits limits.now)
+            (map seen_record records.now) self.old.base) self.old.room }
     {
         let mut followed = 0;
         for made in records {
@@ -136,7 +157,9 @@ impl<A: Allocator> RunningBase<A> {
 
     /// Whether the idle ones and the lent ones have these ids, in their order.
     pub(crate) fn has_ids(&self, idle: &[u64], lent: &[u64]) -> bool
-        ensures { IsTrue result ↔ ((map id_of_idle self.now.base.idle ≡ idle.now) × (map id_of_lent self.now.base.lent ≡ lent.now)) }
+        ensures { IsTrue result
+            ↔ ((map id_of_idle self.now.base.idle ≡ idle.now)
+            × (map id_of_lent self.now.base.lent ≡ lent.now)) }
     {
         self.has_idle(idle) && self.lent.has_ids(lent)
     }
@@ -159,7 +182,9 @@ impl<A: Allocator> RunningBase<A> {
 
     /// Whether these are its counts.
     pub(crate) fn has_counts(&self, connections: u32, pending: u32, closed: bool) -> bool
-        ensures { IsTrue result ↔ ((self.now.base.connections ≡ connections) × ((self.now.base.pending ≡ pending) × (self.now.base.closed ≡ closed))) }
+        ensures { IsTrue result
+            ↔ ((self.now.base.connections ≡ connections)
+            × ((self.now.base.pending ≡ pending) × (self.now.base.closed ≡ closed))) }
     {
         let idle = self.idle.len();
         idle <= connections as usize

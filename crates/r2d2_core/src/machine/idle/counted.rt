@@ -1,5 +1,7 @@
-// Idle connections and their ring. Who reaps can look at one, or move it, by calls that are counted, and by no others.
-ghost use Rattle.std.specs.Prelude.{◌≡◌, ◌+◌, ◌<◌, ◌++◌, ◌∷◌, [], ◌≤◌, length, drop, slice_get, option_copied, map, IfOk, IfNone};
+// Idle connections and their ring. Who reaps can look at one, or move it, by calls that are
+// counted, and by no others.
+ghost use Rattle.std.specs.Prelude.{◌≡◌, ◌+◌, ◌<◌, ◌++◌, ◌∷◌, [], ◌≤◌, length, drop, slice_get};
+ghost use Rattle.std.specs.Prelude.{option_copied, map, IfOk, IfNone};
 ghost use Rattle.std.specs.Duration.{as_nanos};
 ghost use Rattle.circular_buffer.specs.Buffer.{buffer};
 ghost use Rattle.r2d2_core.specs.Limits.{seen_limits};

@@ -11,8 +11,9 @@ use crate::schedule::Limits;
 use std::alloc::Allocator;
 use std::time::Duration;
 
-/// Lets connections at the front go as long as they are expired. Those behind the first that is not came to be idle no earlier, so
-/// none of them is, where births don't matter. Where the idle time doesn't either, it looks at none.
+/// Lets connections at the front go as long as they are expired. Those behind the first that is not
+/// came to be idle no earlier, so none of them is, where births don't matter. Where the idle time
+/// doesn't either, it looks at none.
 pub(super) fn shed_front<T: Drop, A: Allocator>(
     ring: &mut Ring<T, A>,
     limits: &Limits,
@@ -20,7 +21,9 @@ pub(super) fn shed_front<T: Drop, A: Allocator>(
 )
     requires births_alike { (seen_limits limits.now).max_lifetime ≡ None }
     requires in_order { IsNonDecreasingBy since_of ring.old.items }
-    ensures { ring.new ≡ buffer (filter (is_kept (seen_limits limits.now) (as_nanos now)) ring.old.items) ring.old.capacity }
+    ensures { ring.new
+        ≡ buffer (filter (is_kept (seen_limits limits.now) (as_nanos now)) ring.old.items)
+        ring.old.capacity }
 {
     if limits.idle_timeout().is_none() {
         return;
@@ -42,7 +45,9 @@ pub(super) fn shed_each<T: Drop, A: Allocator>(
     limits: &Limits,
     now: Duration,
 )
-    ensures { ring.new ≡ buffer (filter (is_kept (seen_limits limits.now) (as_nanos now)) ring.old.items) ring.old.capacity }
+    ensures { ring.new
+        ≡ buffer (filter (is_kept (seen_limits limits.now) (as_nanos now)) ring.old.items)
+        ring.old.capacity }
 {
     let all = ring.len();
     for _ in 0..all {

@@ -1,5 +1,6 @@
 // The openings that workers have in hand.
-ghost use Rattle.std.specs.Prelude.{◌≡◌, ◌+◌, ◌<◌, ◌^◌, nat_lt, slice_index, replicate, true, false};
+ghost use Rattle.std.specs.Prelude.{◌≡◌, ◌+◌, ◌<◌, ◌^◌, nat_lt, slice_index, replicate, true};
+ghost use Rattle.std.specs.Prelude.{false};
 ghost use Rattle.r2d2_core.specs.Openings.{one_more, one_less};
 
 use std::marker::Model;

@@ -9,5 +9,7 @@ use Rattle.pool_metrics.proofs.roll.Roll.longer_than.Goals as goal
 
 pub returns-clause-longest_first : goal.returns-clause-longest_first
 returns-clause-longest_first c =
-    let in_order = longest_first c.max-now.result _ (IsNonDecreasingBy-filter (λ (e : Entry). e.since) (λ (e : Entry). nat_lt c.args.nanos (c.max-now.result - e.since)) _ c.args.self.now.in_order) in
-    IfOk-weaker c.in_order_of_lending.result (λ v. v.items ≡ longer_than c.args.nanos c.max-now.result c.args.self.now.entries.items) (λ v. IsLongestFirst v.items) (λ v is. subst (λ (xs : List Overdue). IsLongestFirst xs) (sym is) in_order) c.in_order_of_lending.ensures
+    let in_order = longest_first c.max-now.result _ (IsNonDecreasingBy-filter (λ (e : Entry). e.since)
+    (λ (e : Entry). nat_lt c.args.nanos (c.max-now.result - e.since)) _ c.args.self.now.in_order) in
+    IfOk-weaker c.in_order_of_lending.result (λ v. v.items ≡ longer_than c.args.nanos c.max-now.result c.args.self.now.entries.items)
+    (λ v. IsLongestFirst v.items) (λ v is. subst (λ (xs : List Overdue). IsLongestFirst xs) (sym is) in_order) c.in_order_of_lending.ensures

@@ -16,12 +16,27 @@ use Rattle.r2d2_core.specs.contracts.machine.answers.Released as released
 pub spawn-requires-static-F : goal.spawn-requires-static-F
 spawn-requires-static-F g c κs within =
     let t = c.type_bounds in
-    let p = payload.the_row (param 4 g.row.M-Connection) (param 6 g.row.M-Extension) (param 7 g.row.M-Extension-Kind) g.M.Extension.Extension g.M.Extension.Kind.PartialEq in
+    let p = payload.the_row (param 4 g.row.M-Connection) (param 6 g.row.M-Extension) (param 7 g.row.M-Extension-Kind) g.M.Extension.Extension
+    g.M.Extension.Kind.PartialEq in
     let b = tied.the_row p (param 0 g.row.C) g.C.Ties in
     let s = shared.the_row b (param 1 g.row.M) (param 2 g.row.K) (copied 3 g.row.R) in
     let a = arc.the_row s global.the_row global_impl.ghosts in
     let v = vec.the_row (released.the_row p) global.the_row global_impl.ghosts in
     simp in_twice
     (⊑_meet [] a.lives _
-    (simp (in_twice, in_meet, in_static, both_so, in_told, t.static-C, t.static-M, t.static-M-Connection, t.static-M-Extension, t.static-M-Extension-Kind, t.static-K, t.static-R) tt)
-    (⊑_meet [] v.lives [] (simp (in_twice, in_meet, in_static, both_so, in_told, t.static-M-Connection, t.static-M-Extension, t.static-M-Extension-Kind) tt) (λ a m. m)))
+    (simp (
+      in_twice,
+      in_meet,
+      in_static,
+      both_so,
+      in_told,
+      t.static-C,
+      t.static-M,
+      t.static-M-Connection,
+      t.static-M-Extension,
+      t.static-M-Extension-Kind,
+      t.static-K,
+      t.static-R,
+    ) tt)
+    (⊑_meet [] v.lives [] (simp (in_twice, in_meet, in_static, both_so, in_told, t.static-M-Connection, t.static-M-Extension, t.static-M-Extension-Kind) tt)
+    (λ a m. m)))

@@ -18,25 +18,30 @@ pub note-requires : goal.note-requires
 note-requires g c =
     let old = c.self.inside.machine in
     let l = c.self.inside.journal in
-    let made : option_map seen_record c.of_admission.result ≡ record_of_admission (max old.latest (as_nanos c.args.now)) c.args.id (admit_answer c.args.id c.args.value old) =
+    let made : option_map seen_record c.of_admission.result ≡ record_of_admission (max old.latest (as_nanos c.args.now)) c.args.id
+    (admit_answer c.args.id c.args.value old) =
     c.of_admission.ensures
     ∙ (ap (λ at. record_of_admission at c.args.id c.admit-answer.result) (c.latest-at.ensures.value ∙ ap latest_in c.admit-answer.ensures.after)
     ∙ (ap (record_of_admission _ c.args.id) c.admit-answer.ensures.answer
     ∙ admission_at (as_nanos c.args.now) c.args.id c.args.value old)) in
-    let keeps = keeps_as (beside old l) _ _ _ c.admit-answer.new.self made c.admit-answer.ensures.after (keeps_admit (as_nanos c.args.now) c.args.id c.args.value (book_in old l) c.self.invariant.sound c.self.invariant.recorded) in
+    let keeps = keeps_as (beside old l) _ _ _ c.admit-answer.new.self made c.admit-answer.ensures.after
+    (keeps_admit (as_nanos c.args.now) c.args.id c.args.value (book_in old l) c.self.invariant.sound c.self.invariant.recorded) in
     may_note l _ old c.admit-answer.new.self keeps
 
 pub returns-clause-noted : goal.returns-clause-noted
 returns-clause-noted g c =
     let old = c.self.inside.machine in
     let l = c.self.inside.journal in
-    let made : option_map seen_record c.of_admission.result ≡ record_of_admission (max old.latest (as_nanos c.args.now)) c.args.id (admit_answer c.args.id c.args.value old) =
+    let made : option_map seen_record c.of_admission.result ≡ record_of_admission (max old.latest (as_nanos c.args.now)) c.args.id
+    (admit_answer c.args.id c.args.value old) =
     c.of_admission.ensures
     ∙ (ap (λ at. record_of_admission at c.args.id c.admit-answer.result) (c.latest-at.ensures.value ∙ ap latest_in c.admit-answer.ensures.after)
     ∙ (ap (record_of_admission _ c.args.id) c.admit-answer.ensures.answer
     ∙ admission_at (as_nanos c.args.now) c.args.id c.args.value old)) in
-    let keeps = keeps_as (beside old l) _ _ _ c.admit-answer.new.self made c.admit-answer.ensures.after (keeps_admit (as_nanos c.args.now) c.args.id c.args.value (book_in old l) c.self.invariant.sound c.self.invariant.recorded) in
-    subst (λ (b : SeenBook _). beside c.admit-answer.new.self c.note.new.self ≡ noted_admission (as_nanos c.args.now) c.args.id c.admit-answer.result b) c.self.view_is
+    let keeps = keeps_as (beside old l) _ _ _ c.admit-answer.new.self made c.admit-answer.ensures.after
+    (keeps_admit (as_nanos c.args.now) c.args.id c.args.value (book_in old l) c.self.invariant.sound c.self.invariant.recorded) in
+    subst (λ (b : SeenBook _). beside c.admit-answer.new.self c.note.new.self ≡ noted_admission
+    (as_nanos c.args.now) c.args.id c.admit-answer.result b) c.self.view_is
     (noted_beside l c.note.new.self _ old c.admit-answer.new.self c.self.invariant keeps c.note.ensures
     ∙ ap (λ made. with_noted made (beside old l))
     (made ∙ sym (ap (record_of_admission _ c.args.id) c.admit-answer.ensures.answer)))
@@ -45,10 +50,12 @@ pub invariant_of-self : goal.invariant_of-self
 invariant_of-self g c =
     let old = c.self.inside.machine in
     let l = c.self.inside.journal in
-    let made : option_map seen_record c.of_admission.result ≡ record_of_admission (max old.latest (as_nanos c.args.now)) c.args.id (admit_answer c.args.id c.args.value old) =
+    let made : option_map seen_record c.of_admission.result ≡ record_of_admission (max old.latest (as_nanos c.args.now)) c.args.id
+    (admit_answer c.args.id c.args.value old) =
     c.of_admission.ensures
     ∙ (ap (λ at. record_of_admission at c.args.id c.admit-answer.result) (c.latest-at.ensures.value ∙ ap latest_in c.admit-answer.ensures.after)
     ∙ (ap (record_of_admission _ c.args.id) c.admit-answer.ensures.answer
     ∙ admission_at (as_nanos c.args.now) c.args.id c.args.value old)) in
-    let keeps = keeps_as (beside old l) _ _ _ c.admit-answer.new.self made c.admit-answer.ensures.after (keeps_admit (as_nanos c.args.now) c.args.id c.args.value (book_in old l) c.self.invariant.sound c.self.invariant.recorded) in
+    let keeps = keeps_as (beside old l) _ _ _ c.admit-answer.new.self made c.admit-answer.ensures.after
+    (keeps_admit (as_nanos c.args.now) c.args.id c.args.value (book_in old l) c.self.invariant.sound c.self.invariant.recorded) in
     faithful l c.note.new.self _ old c.admit-answer.new.self c.self.invariant c.admit-answer.ensures.sound keeps c.note.ensures

@@ -10,5 +10,13 @@ pub copied-requires : goal.copied-requires
 copied-requires g c =
     let l = c.self.inside.journal in
     let folded = subst (λ (b : Before _). IsBefore l b) c.in-Folded.is c.before-2.ensures in
-    let legal : IsLegalBase l.limits l.base = subst (IsLegalBase l.limits) (sym (before_folded c.self.inside.machine l folded.0)) c.self.invariant.recorded.replays.base in
-    omega (arith, legal.fits, ap (λ (b : SeenBase). b.connections) folded.1, ap (λ (limits : SeenLimits). limits.max_size) c.self.invariant.recorded.same, ap (λ (limits : SeenLimits). limits.max_size) c.limits.ensures.value, c.max_size-max_size.ensures)
+    let legal : IsLegalBase l.limits l.base = subst (IsLegalBase l.limits) (sym (before_folded c.self.inside.machine l folded.0))
+    c.self.invariant.recorded.replays.base in
+    omega (
+      arith,
+      legal.fits,
+      ap (λ (b : SeenBase). b.connections) folded.1,
+      ap (λ (limits : SeenLimits). limits.max_size) c.self.invariant.recorded.same,
+      ap (λ (limits : SeenLimits). limits.max_size) c.limits.ensures.value,
+      c.max_size-max_size.ensures,
+    )

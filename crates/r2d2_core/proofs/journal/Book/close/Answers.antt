@@ -17,7 +17,8 @@ note-requires g c =
     let old = c.self.inside.machine in
     let l = c.self.inside.journal in
     let made : option_map seen_record c.of_close-made.result ≡ record_of_close old.latest old.on_order.closed =
-    c.of_close-made.ensures ∙ (ap (λ at. record_of_close at c.is_closed.result) c.latest.ensures.value ∙ ap (record_of_close old.latest) c.is_closed.ensures.value) in
+    c.of_close-made.ensures ∙ (ap (λ at. record_of_close at c.is_closed.result) c.latest.ensures.value
+    ∙ ap (record_of_close old.latest) c.is_closed.ensures.value) in
     let keeps = keeps_as (beside old l) _ _ _ (after_close old) made refl (keeps_close (book_in old l) c.self.invariant.sound c.self.invariant.recorded) in
     may_note l _ old (after_close old) keeps
 
@@ -26,8 +27,10 @@ returns-clause-noted g c =
     let old = c.self.inside.machine in
     let l = c.self.inside.journal in
     let made : option_map seen_record c.of_close-made.result ≡ record_of_close old.latest old.on_order.closed =
-    c.of_close-made.ensures ∙ (ap (λ at. record_of_close at c.is_closed.result) c.latest.ensures.value ∙ ap (record_of_close old.latest) c.is_closed.ensures.value) in
-    let keeps = keeps_as (beside old l) _ _ _ c.close.new.self made c.close.ensures.after (keeps_close (book_in old l) c.self.invariant.sound c.self.invariant.recorded) in
+    c.of_close-made.ensures ∙ (ap (λ at. record_of_close at c.is_closed.result) c.latest.ensures.value
+    ∙ ap (record_of_close old.latest) c.is_closed.ensures.value) in
+    let keeps = keeps_as (beside old l) _ _ _ c.close.new.self made c.close.ensures.after (keeps_close
+    (book_in old l) c.self.invariant.sound c.self.invariant.recorded) in
     subst (λ (b : SeenBook _). beside c.close.new.self c.note.new.self ≡ noted_close b) c.self.view_is
     (noted_beside l c.note.new.self _ old c.close.new.self c.self.invariant keeps c.note.ensures ∙ ap (λ made. with_noted made (beside old l)) made)
 
@@ -36,6 +39,8 @@ invariant_of-self g c =
     let old = c.self.inside.machine in
     let l = c.self.inside.journal in
     let made : option_map seen_record c.of_close-made.result ≡ record_of_close old.latest old.on_order.closed =
-    c.of_close-made.ensures ∙ (ap (λ at. record_of_close at c.is_closed.result) c.latest.ensures.value ∙ ap (record_of_close old.latest) c.is_closed.ensures.value) in
-    let keeps = keeps_as (beside old l) _ _ _ c.close.new.self made c.close.ensures.after (keeps_close (book_in old l) c.self.invariant.sound c.self.invariant.recorded) in
+    c.of_close-made.ensures ∙ (ap (λ at. record_of_close at c.is_closed.result) c.latest.ensures.value
+    ∙ ap (record_of_close old.latest) c.is_closed.ensures.value) in
+    let keeps = keeps_as (beside old l) _ _ _ c.close.new.self made c.close.ensures.after (keeps_close
+    (book_in old l) c.self.invariant.sound c.self.invariant.recorded) in
     faithful l c.note.new.self _ old c.close.new.self c.self.invariant c.close.ensures.sound keeps c.note.ensures

@@ -21,12 +21,16 @@ note-requires g c =
     let old = c.self.inside.machine in
     let l = c.self.inside.journal in
     let closed : c.len.result ≡ length (reap_closed (as_nanos c.args.now) old) =
-    c.len.ensures ∙ c.reap_uncounted-ordered.new.out.ok.0 ∙ (sym (length-map c.reap_uncounted-ordered.new.out.items seen_released) ∙ ap length c.reap_uncounted-ordered.ensures.released) in
-    let made : option_map seen_record c.of_reap.result ≡ record_of_reap (max old.latest (as_nanos c.args.now)) c.len.result (reap_orders (as_nanos c.args.now) old) =
+    c.len.ensures ∙ c.reap_uncounted-ordered.new.out.ok.0 ∙ (sym (length-map c.reap_uncounted-ordered.new.out.items seen_released)
+    ∙ ap length c.reap_uncounted-ordered.ensures.released) in
+    let made : option_map seen_record c.of_reap.result ≡ record_of_reap (max old.latest (as_nanos c.args.now)) c.len.result
+    (reap_orders (as_nanos c.args.now) old) =
     c.of_reap.ensures
-    ∙ (ap (λ at. record_of_reap at c.len.result c.reap_uncounted-ordered.result) (c.latest-at.ensures.value ∙ ap latest_in c.reap_uncounted-ordered.ensures.after)
+    ∙ (ap (λ at. record_of_reap at c.len.result c.reap_uncounted-ordered.result) (c.latest-at.ensures.value
+    ∙ ap latest_in c.reap_uncounted-ordered.ensures.after)
     ∙ ap (record_of_reap (max old.latest (as_nanos c.args.now)) c.len.result) c.reap_uncounted-ordered.ensures.answer) in
-    let keeps = keeps_as (beside old l) _ _ _ c.reap_uncounted-ordered.new.self made c.reap_uncounted-ordered.ensures.after (keeps_reap (as_nanos c.args.now) (book_in old l) c.len.result closed c.self.invariant.sound c.self.invariant.recorded) in
+    let keeps = keeps_as (beside old l) _ _ _ c.reap_uncounted-ordered.new.self made c.reap_uncounted-ordered.ensures.after
+    (keeps_reap (as_nanos c.args.now) (book_in old l) c.len.result closed c.self.invariant.sound c.self.invariant.recorded) in
     may_note l _ old c.reap_uncounted-ordered.new.self keeps
 
 pub returns-clause-noted : goal.returns-clause-noted
@@ -34,28 +38,39 @@ returns-clause-noted g c =
     let old = c.self.inside.machine in
     let l = c.self.inside.journal in
     let closed : c.len.result ≡ length (reap_closed (as_nanos c.args.now) old) =
-    c.len.ensures ∙ c.reap_uncounted-ordered.new.out.ok.0 ∙ (sym (length-map c.reap_uncounted-ordered.new.out.items seen_released) ∙ ap length c.reap_uncounted-ordered.ensures.released) in
-    let made : option_map seen_record c.of_reap.result ≡ record_of_reap (max old.latest (as_nanos c.args.now)) c.len.result (reap_orders (as_nanos c.args.now) old) =
+    c.len.ensures ∙ c.reap_uncounted-ordered.new.out.ok.0 ∙ (sym (length-map c.reap_uncounted-ordered.new.out.items seen_released)
+    ∙ ap length c.reap_uncounted-ordered.ensures.released) in
+    let made : option_map seen_record c.of_reap.result ≡ record_of_reap (max old.latest (as_nanos c.args.now)) c.len.result
+    (reap_orders (as_nanos c.args.now) old) =
     c.of_reap.ensures
-    ∙ (ap (λ at. record_of_reap at c.len.result c.reap_uncounted-ordered.result) (c.latest-at.ensures.value ∙ ap latest_in c.reap_uncounted-ordered.ensures.after)
+    ∙ (ap (λ at. record_of_reap at c.len.result c.reap_uncounted-ordered.result) (c.latest-at.ensures.value
+    ∙ ap latest_in c.reap_uncounted-ordered.ensures.after)
     ∙ ap (record_of_reap (max old.latest (as_nanos c.args.now)) c.len.result) c.reap_uncounted-ordered.ensures.answer) in
-    let keeps = keeps_as (beside old l) _ _ _ c.reap_uncounted-ordered.new.self made c.reap_uncounted-ordered.ensures.after (keeps_reap (as_nanos c.args.now) (book_in old l) c.len.result closed c.self.invariant.sound c.self.invariant.recorded) in
-    subst (λ (b : SeenBook _). beside c.reap_uncounted-ordered.new.self c.note.new.self ≡ noted_reap (as_nanos c.args.now) (length c.reap_uncounted-ordered.new.out.items) c.reap_uncounted-ordered.result b) c.self.view_is
+    let keeps = keeps_as (beside old l) _ _ _ c.reap_uncounted-ordered.new.self made c.reap_uncounted-ordered.ensures.after
+    (keeps_reap (as_nanos c.args.now) (book_in old l) c.len.result closed c.self.invariant.sound c.self.invariant.recorded) in
+    subst (λ (b : SeenBook _). beside c.reap_uncounted-ordered.new.self c.note.new.self ≡ noted_reap (as_nanos c.args.now)
+    (length c.reap_uncounted-ordered.new.out.items) c.reap_uncounted-ordered.result b) c.self.view_is
     (noted_beside l c.note.new.self _ old c.reap_uncounted-ordered.new.self c.self.invariant keeps c.note.ensures
     ∙ ap (λ made. with_noted made (beside old l))
     (c.of_reap.ensures
-    ∙ (ap (λ at. record_of_reap at c.len.result c.reap_uncounted-ordered.result) (c.latest-at.ensures.value ∙ ap latest_in c.reap_uncounted-ordered.ensures.after)
-    ∙ ap (λ n. record_of_reap (max old.latest (as_nanos c.args.now)) n c.reap_uncounted-ordered.result) (c.len.ensures ∙ c.reap_uncounted-ordered.new.out.ok.0))))
+    ∙ (ap (λ at. record_of_reap at c.len.result c.reap_uncounted-ordered.result) (c.latest-at.ensures.value
+    ∙ ap latest_in c.reap_uncounted-ordered.ensures.after)
+    ∙ ap (λ n. record_of_reap (max old.latest (as_nanos c.args.now)) n c.reap_uncounted-ordered.result)
+    (c.len.ensures ∙ c.reap_uncounted-ordered.new.out.ok.0))))
 
 pub invariant_of-self : goal.invariant_of-self
 invariant_of-self g c =
     let old = c.self.inside.machine in
     let l = c.self.inside.journal in
     let closed : c.len.result ≡ length (reap_closed (as_nanos c.args.now) old) =
-    c.len.ensures ∙ c.reap_uncounted-ordered.new.out.ok.0 ∙ (sym (length-map c.reap_uncounted-ordered.new.out.items seen_released) ∙ ap length c.reap_uncounted-ordered.ensures.released) in
-    let made : option_map seen_record c.of_reap.result ≡ record_of_reap (max old.latest (as_nanos c.args.now)) c.len.result (reap_orders (as_nanos c.args.now) old) =
+    c.len.ensures ∙ c.reap_uncounted-ordered.new.out.ok.0 ∙ (sym (length-map c.reap_uncounted-ordered.new.out.items seen_released)
+    ∙ ap length c.reap_uncounted-ordered.ensures.released) in
+    let made : option_map seen_record c.of_reap.result ≡ record_of_reap (max old.latest (as_nanos c.args.now)) c.len.result
+    (reap_orders (as_nanos c.args.now) old) =
     c.of_reap.ensures
-    ∙ (ap (λ at. record_of_reap at c.len.result c.reap_uncounted-ordered.result) (c.latest-at.ensures.value ∙ ap latest_in c.reap_uncounted-ordered.ensures.after)
+    ∙ (ap (λ at. record_of_reap at c.len.result c.reap_uncounted-ordered.result) (c.latest-at.ensures.value
+    ∙ ap latest_in c.reap_uncounted-ordered.ensures.after)
     ∙ ap (record_of_reap (max old.latest (as_nanos c.args.now)) c.len.result) c.reap_uncounted-ordered.ensures.answer) in
-    let keeps = keeps_as (beside old l) _ _ _ c.reap_uncounted-ordered.new.self made c.reap_uncounted-ordered.ensures.after (keeps_reap (as_nanos c.args.now) (book_in old l) c.len.result closed c.self.invariant.sound c.self.invariant.recorded) in
+    let keeps = keeps_as (beside old l) _ _ _ c.reap_uncounted-ordered.new.self made c.reap_uncounted-ordered.ensures.after
+    (keeps_reap (as_nanos c.args.now) (book_in old l) c.len.result closed c.self.invariant.sound c.self.invariant.recorded) in
     faithful l c.note.new.self _ old c.reap_uncounted-ordered.new.self c.self.invariant c.reap_uncounted-ordered.ensures.sound keeps c.note.ensures

@@ -21,9 +21,11 @@ note-requires g c =
     let l = c.self.inside.journal in
     let made : option_map seen_record c.of_take.result ≡ record_of_take (max old.latest (as_nanos c.args.now)) (take_answer c.args.or_order old) =
     c.of_take.ensures
-    ∙ (ap (λ at. record_of_take at (seen_take c.take-taken.result)) (c.latest-at.ensures.value ∙ (ap latest_in c.take-taken.ensures.after ∙ latest-take (as_nanos c.args.now) c.args.or_order old))
+    ∙ (ap (λ at. record_of_take at (seen_take c.take-taken.result)) (c.latest-at.ensures.value
+    ∙ (ap latest_in c.take-taken.ensures.after ∙ latest-take (as_nanos c.args.now) c.args.or_order old))
     ∙ ap (record_of_take (max old.latest (as_nanos c.args.now))) c.take-taken.ensures.answer) in
-    let keeps = keeps_as (beside old l) _ _ _ c.take-taken.new.self made c.take-taken.ensures.after (keeps_take (as_nanos c.args.now) c.args.or_order (book_in old l) c.self.invariant.sound c.self.invariant.recorded) in
+    let keeps = keeps_as (beside old l) _ _ _ c.take-taken.new.self made c.take-taken.ensures.after
+    (keeps_take (as_nanos c.args.now) c.args.or_order (book_in old l) c.self.invariant.sound c.self.invariant.recorded) in
     may_note l _ old c.take-taken.new.self keeps
 
 pub returns-clause-noted : goal.returns-clause-noted
@@ -32,14 +34,17 @@ returns-clause-noted g c =
     let l = c.self.inside.journal in
     let made : option_map seen_record c.of_take.result ≡ record_of_take (max old.latest (as_nanos c.args.now)) (take_answer c.args.or_order old) =
     c.of_take.ensures
-    ∙ (ap (λ at. record_of_take at (seen_take c.take-taken.result)) (c.latest-at.ensures.value ∙ (ap latest_in c.take-taken.ensures.after ∙ latest-take (as_nanos c.args.now) c.args.or_order old))
+    ∙ (ap (λ at. record_of_take at (seen_take c.take-taken.result)) (c.latest-at.ensures.value
+    ∙ (ap latest_in c.take-taken.ensures.after ∙ latest-take (as_nanos c.args.now) c.args.or_order old))
     ∙ ap (record_of_take (max old.latest (as_nanos c.args.now))) c.take-taken.ensures.answer) in
-    let keeps = keeps_as (beside old l) _ _ _ c.take-taken.new.self made c.take-taken.ensures.after (keeps_take (as_nanos c.args.now) c.args.or_order (book_in old l) c.self.invariant.sound c.self.invariant.recorded) in
+    let keeps = keeps_as (beside old l) _ _ _ c.take-taken.new.self made c.take-taken.ensures.after
+    (keeps_take (as_nanos c.args.now) c.args.or_order (book_in old l) c.self.invariant.sound c.self.invariant.recorded) in
     subst (λ (b : SeenBook _). beside c.take-taken.new.self c.note.new.self ≡ noted_take (as_nanos c.args.now) (seen_take c.take-taken.result) b) c.self.view_is
     (noted_beside l c.note.new.self _ old c.take-taken.new.self c.self.invariant keeps c.note.ensures
     ∙ ap (λ made. with_noted made (beside old l))
     (c.of_take.ensures
-    ∙ ap (λ at. record_of_take at (seen_take c.take-taken.result)) (c.latest-at.ensures.value ∙ (ap latest_in c.take-taken.ensures.after ∙ latest-take (as_nanos c.args.now) c.args.or_order old))))
+    ∙ ap (λ at. record_of_take at (seen_take c.take-taken.result)) (c.latest-at.ensures.value
+    ∙ (ap latest_in c.take-taken.ensures.after ∙ latest-take (as_nanos c.args.now) c.args.or_order old))))
 
 pub invariant_of-self : goal.invariant_of-self
 invariant_of-self g c =
@@ -47,7 +52,9 @@ invariant_of-self g c =
     let l = c.self.inside.journal in
     let made : option_map seen_record c.of_take.result ≡ record_of_take (max old.latest (as_nanos c.args.now)) (take_answer c.args.or_order old) =
     c.of_take.ensures
-    ∙ (ap (λ at. record_of_take at (seen_take c.take-taken.result)) (c.latest-at.ensures.value ∙ (ap latest_in c.take-taken.ensures.after ∙ latest-take (as_nanos c.args.now) c.args.or_order old))
+    ∙ (ap (λ at. record_of_take at (seen_take c.take-taken.result)) (c.latest-at.ensures.value
+    ∙ (ap latest_in c.take-taken.ensures.after ∙ latest-take (as_nanos c.args.now) c.args.or_order old))
     ∙ ap (record_of_take (max old.latest (as_nanos c.args.now))) c.take-taken.ensures.answer) in
-    let keeps = keeps_as (beside old l) _ _ _ c.take-taken.new.self made c.take-taken.ensures.after (keeps_take (as_nanos c.args.now) c.args.or_order (book_in old l) c.self.invariant.sound c.self.invariant.recorded) in
+    let keeps = keeps_as (beside old l) _ _ _ c.take-taken.new.self made c.take-taken.ensures.after
+    (keeps_take (as_nanos c.args.now) c.args.or_order (book_in old l) c.self.invariant.sound c.self.invariant.recorded) in
     faithful l c.note.new.self _ old c.take-taken.new.self c.self.invariant c.take-taken.ensures.sound keeps c.note.ensures

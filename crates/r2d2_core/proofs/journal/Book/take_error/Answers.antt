@@ -9,12 +9,15 @@ pub returns-clause-noted : goal.returns-clause-noted
 returns-clause-noted g c =
     let old = c.self.inside.machine in
     let l = c.self.inside.journal in
-    let keeps = keeps_as (beside old l) None None _ c.take_error.new.self refl c.take_error.ensures.after (keeps_take_error (book_in old l) c.self.invariant.recorded) in
-    subst (λ (b : SeenBook _). beside c.take_error.new.self l ≡ b.journal) c.self.view_is (noted_beside l l None old c.take_error.new.self c.self.invariant keeps (none_alone l))
+    let keeps = keeps_as (beside old l) None None _ c.take_error.new.self refl c.take_error.ensures.after
+    (keeps_take_error (book_in old l) c.self.invariant.recorded) in
+    subst (λ (b : SeenBook _). beside c.take_error.new.self l ≡ b.journal) c.self.view_is (noted_beside l l None old c.take_error.new.self c.self.invariant
+    keeps (none_alone l))
 
 pub invariant_of-self : goal.invariant_of-self
 invariant_of-self g c =
     let old = c.self.inside.machine in
     let l = c.self.inside.journal in
-    let keeps = keeps_as (beside old l) None None _ c.take_error.new.self refl c.take_error.ensures.after (keeps_take_error (book_in old l) c.self.invariant.recorded) in
+    let keeps = keeps_as (beside old l) None None _ c.take_error.new.self refl c.take_error.ensures.after
+    (keeps_take_error (book_in old l) c.self.invariant.recorded) in
     faithful l l None old c.take_error.new.self c.self.invariant c.take_error.ensures.sound keeps (none_alone l)

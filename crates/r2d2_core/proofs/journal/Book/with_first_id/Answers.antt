@@ -16,10 +16,12 @@ invariant_of-result g c =
     let first = first_picture (seen_limits c.args.limits) (as_nanos c.args.now) c.args.first_id in
     subst (λ (p : Picture _). IsFaithful (book_in p c.in_ok-journal.journal)) (sym c.in_ok-machine.ensures)
     (subst (λ (l : SeenJournal). IsFaithful (book_in first l)) (sym c.in_ok-journal.ensures)
-    (faithful_first _ (seen_limits c.args.limits) (as_nanos c.args.now) c.args.first_id c.args.room le (sound_first (seen_limits c.args.limits) (as_nanos c.args.now) c.args.first_id le)))
+    (faithful_first _ (seen_limits c.args.limits) (as_nanos c.args.now) c.args.first_id c.args.room le
+    (sound_first (seen_limits c.args.limits) (as_nanos c.args.now) c.args.first_id le)))
 
 pub returns : goal.returns
 returns g c =
     let first = first_picture (seen_limits c.args.limits) (as_nanos c.args.now) c.args.first_id in
     ap (λ (p : Picture _). book_in p c.in_ok-journal.journal) c.in_ok-machine.ensures
-    ∙ (ap (λ (l : SeenJournal). book_in first l) c.in_ok-journal.ensures ∙ ap (seen_book first) (beside_first g.row.T.Denot (seen_limits c.args.limits) (as_nanos c.args.now) c.args.first_id c.args.room))
+    ∙ (ap (λ (l : SeenJournal). book_in first l) c.in_ok-journal.ensures ∙ ap (seen_book first)
+    (beside_first g.row.T.Denot (seen_limits c.args.limits) (as_nanos c.args.now) c.args.first_id c.args.room))

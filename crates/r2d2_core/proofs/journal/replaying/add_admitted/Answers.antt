@@ -21,6 +21,7 @@ loop-record-preserved g c =
             (admitted_next seen_record all k some_record (w.in-Some.id ∷ []) (omega arith) by))
         | in_default w ↦
             let by : admitted_by (seen_record (get_or all k some_record)) ≡ [] = w.in_default.ensures.none in
-            rw w.ids-is (c.loop-record.invariant.added ∙ ap (λ l. old ++ l) (sym (admitted_next seen_record all k some_record [] (omega arith) by ∙ append-nil before)))
+            rw w.ids-is (c.loop-record.invariant.added ∙ ap (λ l. old ++ l) (sym (admitted_next seen_record all k some_record [] (omega arith) by
+            ∙ append-nil before)))
       ];
     }

@@ -11,6 +11,7 @@ loop-entry-preserved g c =
     let k = c.loop-entry.entry-index in
     let none : ℕ × Duration = (0, record { secs = 0; nanos = 0 }) in
     record {
-      added = added_more c.args.ids.now.items c.push.new.self.items c.loop-entry.ids.items (take k (map id_of_lent (map seen_lent all))) _ _ c.in_ok-push.ensures.items c.loop-entry.invariant.added
+      added = added_more c.args.ids.now.items c.push.new.self.items c.loop-entry.ids.items (take k
+          (map id_of_lent (map seen_lent all))) _ _ c.in_ok-push.ensures.items c.loop-entry.invariant.added
           (taken_next id_of_lent seen_lent all k none (omega arith));
     }

@@ -11,7 +11,8 @@ returns-then-index-clause-apart g c =
     let within : suc k < length ys = omega (arith, c.loop-place-test.true, c.len-place-end.ensures, c.sort_unstable.new.self.ok.0, c.loop-place.auto.place) in
     let there : c.loop-place.place ≡ suc k = omega (arith, c.loop-place.auto.place) in
     let first : get_or ys k 0 ≡ c.index.result.now = sym (c.index.ensures ∙ get_or_default ys k c.index.result.now 0 (omega (arith, within))) in
-    let second : c.index-in-loop-place.result.now ≡ get_or ys (suc k) 0 = c.index-in-loop-place.ensures ∙ (get_or_default ys c.loop-place.place c.index-in-loop-place.result.now 0 (omega (arith, within, there)) ∙ ap (λ n. get_or ys n 0) there) in
+    let second : c.index-in-loop-place.result.now ≡ get_or ys (suc k) 0 = c.index-in-loop-place.ensures
+    ∙ (get_or_default ys c.loop-place.place c.index-in-loop-place.result.now 0 (omega (arith, within, there)) ∙ ap (λ n. get_or ys n 0) there) in
     (λ h. absurd cc, λ apart. absurd (twice_in xs ys k c.sort_unstable.ensures.permutation within (first ∙ (c.if-index.true ∙ second)) apart))
 
 pub returns-clause-apart : goal.returns-clause-apart

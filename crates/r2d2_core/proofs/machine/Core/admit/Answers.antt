@@ -12,22 +12,26 @@ use Rattle.r2d2_core.proofs.machine.Core.admit.Goals as goal
 pub invariant_of-self : goal.invariant_of-self
 invariant_of-self g c =
     let s : IsSound c.args.self.now = subst IsSound c.self.view_is c.self.invariant.sound in
-    whole (after_admit (as_nanos c.args.now) c.args.id c.args.value c.args.self.now) (grind (arith, common_steps)) (sound_admit (as_nanos c.args.now) c.args.id c.args.value s) (search rules)
+    whole (after_admit (as_nanos c.args.now) c.args.id c.args.value c.args.self.now) (grind (arith, common_steps))
+    (sound_admit (as_nanos c.args.now) c.args.id c.args.value s) (search rules)
 
 pub invariant_of-self-in-Err : goal.invariant_of-self-in-Err
 invariant_of-self-in-Err g c =
     let s : IsSound c.args.self.now = subst IsSound c.self.view_is c.self.invariant.sound in
-    whole (after_admit (as_nanos c.args.now) c.args.id c.args.value c.args.self.now) (grind (arith, common_steps)) (sound_admit (as_nanos c.args.now) c.args.id c.args.value s) (search rules)
+    whole (after_admit (as_nanos c.args.now) c.args.id c.args.value c.args.self.now) (grind (arith, common_steps))
+    (sound_admit (as_nanos c.args.now) c.args.id c.args.value s) (search rules)
 
 pub returns-in-Ok-clause-sound : goal.returns-in-Ok-clause-sound
 returns-in-Ok-clause-sound g c =
     let s : IsSound c.args.self.now = subst IsSound c.self.view_is c.self.invariant.sound in
-    sound_as (after_admit (as_nanos c.args.now) c.args.id c.args.value c.args.self.now) (grind (arith, common_steps)) (sound_admit (as_nanos c.args.now) c.args.id c.args.value s)
+    sound_as (after_admit (as_nanos c.args.now) c.args.id c.args.value c.args.self.now) (grind (arith, common_steps))
+    (sound_admit (as_nanos c.args.now) c.args.id c.args.value s)
 
 pub returns-in-Err-clause-sound : goal.returns-in-Err-clause-sound
 returns-in-Err-clause-sound g c =
     let s : IsSound c.args.self.now = subst IsSound c.self.view_is c.self.invariant.sound in
-    sound_as (after_admit (as_nanos c.args.now) c.args.id c.args.value c.args.self.now) (grind (arith, common_steps)) (sound_admit (as_nanos c.args.now) c.args.id c.args.value s)
+    sound_as (after_admit (as_nanos c.args.now) c.args.id c.args.value c.args.self.now) (grind (arith, common_steps))
+    (sound_admit (as_nanos c.args.now) c.args.id c.args.value s)
 
 pub admit-requires : goal.admit-requires
 admit-requires g c =

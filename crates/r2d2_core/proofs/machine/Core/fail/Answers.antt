@@ -10,24 +10,29 @@ use Rattle.r2d2_core.proofs.machine.Core.fail.Goals as goal
 pub invariant_of-self : goal.invariant_of-self
 invariant_of-self g c =
     let s : IsSound c.args.self.now = subst IsSound c.self.view_is c.self.invariant.sound in
-    whole (after_fail (as_nanos c.args.now) c.args.tries c.args.text c.args.self.now) (grind (arith, common_steps)) (sound_fail (as_nanos c.args.now) c.args.tries c.args.text s) (search rules)
+    whole (after_fail (as_nanos c.args.now) c.args.tries c.args.text c.args.self.now) (grind (arith, common_steps))
+    (sound_fail (as_nanos c.args.now) c.args.tries c.args.text s) (search rules)
 
 pub invariant_of-self-in-Err : goal.invariant_of-self-in-Err
 invariant_of-self-in-Err g c =
     let s : IsSound c.args.self.now = subst IsSound c.self.view_is c.self.invariant.sound in
-    whole (after_fail (as_nanos c.args.now) c.args.tries c.args.text c.args.self.now) (grind (arith, common_steps)) (sound_fail (as_nanos c.args.now) c.args.tries c.args.text s) (search rules)
+    whole (after_fail (as_nanos c.args.now) c.args.tries c.args.text c.args.self.now) (grind (arith, common_steps))
+    (sound_fail (as_nanos c.args.now) c.args.tries c.args.text s) (search rules)
 
 pub invariant_of-self-in-Err-2 : goal.invariant_of-self-in-Err-2
 invariant_of-self-in-Err-2 g c =
     let s : IsSound c.args.self.now = subst IsSound c.self.view_is c.self.invariant.sound in
-    whole (after_fail (as_nanos c.args.now) c.args.tries c.args.text c.args.self.now) (grind (arith, common_steps)) (sound_fail (as_nanos c.args.now) c.args.tries c.args.text s) (search rules)
+    whole (after_fail (as_nanos c.args.now) c.args.tries c.args.text c.args.self.now) (grind (arith, common_steps))
+    (sound_fail (as_nanos c.args.now) c.args.tries c.args.text s) (search rules)
 
 pub returns-in-Ok-clause-sound : goal.returns-in-Ok-clause-sound
 returns-in-Ok-clause-sound g c =
     let s : IsSound c.args.self.now = subst IsSound c.self.view_is c.self.invariant.sound in
-    sound_as (after_fail (as_nanos c.args.now) c.args.tries c.args.text c.args.self.now) (grind (arith, common_steps)) (sound_fail (as_nanos c.args.now) c.args.tries c.args.text s)
+    sound_as (after_fail (as_nanos c.args.now) c.args.tries c.args.text c.args.self.now) (grind (arith, common_steps))
+    (sound_fail (as_nanos c.args.now) c.args.tries c.args.text s)
 
 pub returns-in-Err-clause-sound : goal.returns-in-Err-clause-sound
 returns-in-Err-clause-sound g c =
     let s : IsSound c.args.self.now = subst IsSound c.self.view_is c.self.invariant.sound in
-    sound_as (after_fail (as_nanos c.args.now) c.args.tries c.args.text c.args.self.now) (grind (arith, common_steps)) (sound_fail (as_nanos c.args.now) c.args.tries c.args.text s)
+    sound_as (after_fail (as_nanos c.args.now) c.args.tries c.args.text c.args.self.now) (grind (arith, common_steps))
+    (sound_fail (as_nanos c.args.now) c.args.tries c.args.text s)

@@ -13,12 +13,14 @@ use Rattle.r2d2_core.proofs.machine.Core.fail_check.Goals as goal
 pub invariant_of-self : goal.invariant_of-self
 invariant_of-self g c =
     let s : IsSound c.args.self.now = subst IsSound c.self.view_is c.self.invariant.sound in
-    whole (after_check (as_nanos c.args.now) c.args.id c.args.text c.args.self.now) (grind (arith, common_steps)) (sound_check (as_nanos c.args.now) c.args.id c.args.text s) (search rules)
+    whole (after_check (as_nanos c.args.now) c.args.id c.args.text c.args.self.now) (grind (arith, common_steps))
+    (sound_check (as_nanos c.args.now) c.args.id c.args.text s) (search rules)
 
 pub returns-in-Some-clause-sound : goal.returns-in-Some-clause-sound
 returns-in-Some-clause-sound g c =
     let s : IsSound c.args.self.now = subst IsSound c.self.view_is c.self.invariant.sound in
-    sound_as (after_check (as_nanos c.args.now) c.args.id c.args.text c.args.self.now) (grind (arith, common_steps)) (sound_check (as_nanos c.args.now) c.args.id c.args.text s)
+    sound_as (after_check (as_nanos c.args.now) c.args.id c.args.text c.args.self.now) (grind (arith, common_steps))
+    (sound_check (as_nanos c.args.now) c.args.id c.args.text s)
 
 pub remove-requires : goal.remove-requires
 remove-requires g c =

@@ -13,22 +13,26 @@ use Rattle.r2d2_core.proofs.machine.Core.put_back.Goals as goal
 pub invariant_of-self : goal.invariant_of-self
 invariant_of-self g c =
     let s : IsSound c.args.self.now = subst IsSound c.self.view_is c.self.invariant.sound in
-    whole (after_return (as_nanos c.args.now) c.args.id c.args.value c.args.broken c.args.self.now) (grind (arith, common_steps)) (sound_return (as_nanos c.args.now) c.args.id c.args.value c.args.broken s) (search rules)
+    whole (after_return (as_nanos c.args.now) c.args.id c.args.value c.args.broken c.args.self.now) (grind (arith, common_steps))
+    (sound_return (as_nanos c.args.now) c.args.id c.args.value c.args.broken s) (search rules)
 
 pub invariant_of-self-else-is_closed : goal.invariant_of-self-else-is_closed
 invariant_of-self-else-is_closed g c =
     let s : IsSound c.args.self.now = subst IsSound c.self.view_is c.self.invariant.sound in
-    whole (after_return (as_nanos c.args.now) c.args.id c.args.value c.args.broken c.args.self.now) (grind (arith, common_steps)) (sound_return (as_nanos c.args.now) c.args.id c.args.value c.args.broken s) (search rules)
+    whole (after_return (as_nanos c.args.now) c.args.id c.args.value c.args.broken c.args.self.now) (grind (arith, common_steps))
+    (sound_return (as_nanos c.args.now) c.args.id c.args.value c.args.broken s) (search rules)
 
 pub returns-then-is_closed-clause-sound : goal.returns-then-is_closed-clause-sound
 returns-then-is_closed-clause-sound g c =
     let s : IsSound c.args.self.now = subst IsSound c.self.view_is c.self.invariant.sound in
-    sound_as (after_return (as_nanos c.args.now) c.args.id c.args.value c.args.broken c.args.self.now) (grind (arith, common_steps)) (sound_return (as_nanos c.args.now) c.args.id c.args.value c.args.broken s)
+    sound_as (after_return (as_nanos c.args.now) c.args.id c.args.value c.args.broken c.args.self.now) (grind (arith, common_steps))
+    (sound_return (as_nanos c.args.now) c.args.id c.args.value c.args.broken s)
 
 pub returns-else-is_closed-clause-sound : goal.returns-else-is_closed-clause-sound
 returns-else-is_closed-clause-sound g c =
     let s : IsSound c.args.self.now = subst IsSound c.self.view_is c.self.invariant.sound in
-    sound_as (after_return (as_nanos c.args.now) c.args.id c.args.value c.args.broken c.args.self.now) (grind (arith, common_steps)) (sound_return (as_nanos c.args.now) c.args.id c.args.value c.args.broken s)
+    sound_as (after_return (as_nanos c.args.now) c.args.id c.args.value c.args.broken c.args.self.now) (grind (arith, common_steps))
+    (sound_return (as_nanos c.args.now) c.args.id c.args.value c.args.broken s)
 
 pub remove-requires : goal.remove-requires
 remove-requires g c =

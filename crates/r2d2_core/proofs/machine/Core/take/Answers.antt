@@ -10,19 +10,23 @@ use Rattle.r2d2_core.proofs.machine.Core.take.Goals as goal
 pub invariant_of-self : goal.invariant_of-self
 invariant_of-self g c =
     let s : IsSound c.args.self.now = subst IsSound c.self.view_is c.self.invariant.sound in
-    whole (after_take (as_nanos c.args.now) c.args.or_order c.args.self.now) (grind (arith, common_steps)) (sound_take (as_nanos c.args.now) c.args.or_order s) (search rules)
+    whole (after_take (as_nanos c.args.now) c.args.or_order c.args.self.now) (grind (arith, common_steps)) (sound_take (as_nanos c.args.now) c.args.or_order s)
+    (search rules)
 
 pub invariant_of-self-in-None : goal.invariant_of-self-in-None
 invariant_of-self-in-None g c =
     let s : IsSound c.args.self.now = subst IsSound c.self.view_is c.self.invariant.sound in
-    whole (after_take (as_nanos c.args.now) c.args.or_order c.args.self.now) (grind (arith, common_steps)) (sound_take (as_nanos c.args.now) c.args.or_order s) (search rules)
+    whole (after_take (as_nanos c.args.now) c.args.or_order c.args.self.now) (grind (arith, common_steps)) (sound_take (as_nanos c.args.now) c.args.or_order s)
+    (search rules)
 
 pub returns-in-Some-clause-sound : goal.returns-in-Some-clause-sound
 returns-in-Some-clause-sound g c =
     let s : IsSound c.args.self.now = subst IsSound c.self.view_is c.self.invariant.sound in
-    sound_as (after_take (as_nanos c.args.now) c.args.or_order c.args.self.now) (grind (arith, common_steps)) (sound_take (as_nanos c.args.now) c.args.or_order s)
+    sound_as (after_take (as_nanos c.args.now) c.args.or_order c.args.self.now) (grind (arith, common_steps))
+    (sound_take (as_nanos c.args.now) c.args.or_order s)
 
 pub returns-in-None-clause-sound : goal.returns-in-None-clause-sound
 returns-in-None-clause-sound g c =
     let s : IsSound c.args.self.now = subst IsSound c.self.view_is c.self.invariant.sound in
-    sound_as (after_take (as_nanos c.args.now) c.args.or_order c.args.self.now) (grind (arith, common_steps)) (sound_take (as_nanos c.args.now) c.args.or_order s)
+    sound_as (after_take (as_nanos c.args.now) c.args.or_order c.args.self.now) (grind (arith, common_steps))
+    (sound_take (as_nanos c.args.now) c.args.or_order s)

@@ -36,7 +36,13 @@ loop-preserved g c = record {
         let first : slice_get c.loop.ring.items 0 ≡ None = cc in
         absurd (turned_there c.loop.invariant.turned (omega arith) first)
   ];
-  fixed = elim c.match-move_out.branch [ in-Some+then-is_expired w ↦ rw (w.ring-is, c.move_out.ensures.rest) c.loop.invariant.fixed | in-Some+else-is_expired w ↦ rw (w.ring-is, w.move_in.ensures.items, c.move_out.ensures.rest) c.loop.invariant.fixed | in_default w ↦ rw (w.ring-is, c.move_out.ensures.rest) c.loop.invariant.fixed ];
+  fixed = elim c.match-move_out.branch [
+    | in-Some+then-is_expired w ↦ rw (w.ring-is, c.move_out.ensures.rest) c.loop.invariant.fixed
+    | in-Some+else-is_expired w
+        ↦ rw (w.ring-is, w.move_in.ensures.items, c.move_out.ensures.rest) c.loop.invariant.fixed
+    | in_default w
+        ↦ rw (w.ring-is, c.move_out.ensures.rest) c.loop.invariant.fixed
+  ];
   fits = c.loop.invariant.fits;
   room = elim c.match-move_out.branch [ in-Some+then-is_expired w ↦ cc | in-Some+else-is_expired w ↦ cc | in_default w ↦ cc ];
   over = c.loop.invariant.over;

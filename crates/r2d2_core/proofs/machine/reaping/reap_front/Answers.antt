@@ -12,7 +12,8 @@ use Rattle.r2d2_core.proofs.machine.reaping.reap_front.Goals.{in-Some-move_out, 
 
 pub returns-then-not-is_expired-clause-released : goal.returns-then-not-is_expired-clause-released
 returns-then-not-is_expired-clause-released g c =
-    let end = fronted_stop since_of (expires_earlier (seen_limits c.args.limits.now) (as_nanos c.args.now) c.requires.births_alike) c.requires.in_order c.loop.invariant.fronted
+    let end = fronted_stop since_of (expires_earlier (seen_limits c.args.limits.now) (as_nanos c.args.now) c.requires.births_alike) c.requires.in_order
+    c.loop.invariant.fronted
     (λ d lt. let at : slice_get c.loop.ring.items 0 ≡ Some c.in-Some.oldest.now = sym c.in-Some.ensures.value in
     let is : get_or c.loop.ring.items 0 d ≡ c.in-Some.oldest.now = get_or_from_slice_get c.loop.ring.items 0 c.in-Some.oldest.now d at in
     rw is cc) in
@@ -21,7 +22,8 @@ returns-then-not-is_expired-clause-released g c =
 pub returns-then-not-is_expired-clause-kept : goal.returns-then-not-is_expired-clause-kept
 unfolding is_kept is_expired
 returns-then-not-is_expired-clause-kept g c =
-    let end = fronted_stop since_of (expires_earlier (seen_limits c.args.limits.now) (as_nanos c.args.now) c.requires.births_alike) c.requires.in_order c.loop.invariant.fronted
+    let end = fronted_stop since_of (expires_earlier (seen_limits c.args.limits.now) (as_nanos c.args.now) c.requires.births_alike) c.requires.in_order
+    c.loop.invariant.fronted
     (λ d lt. let at : slice_get c.loop.ring.items 0 ≡ Some c.in-Some.oldest.now = sym c.in-Some.ensures.value in
     let is : get_or c.loop.ring.items 0 d ≡ c.in-Some.oldest.now = get_or_from_slice_get c.loop.ring.items 0 c.in-Some.oldest.now d at in
     rw is cc) in
@@ -64,12 +66,14 @@ pub returns-then-is_none-clause-released : goal.returns-then-is_none-clause-rele
 returns-then-is_none-clause-released g c =
     let idle : (seen_limits c.args.limits.now).idle_timeout ≡ None = search rules in
     let none : c.args.out.now.items ≡ [] = nil_from_length c.args.out.now.items (omega (arith, c.requires.empty, c.args.out.now.ok.0)) in
-    let all = none_passes (is_expired (seen_limits c.args.limits.now) (as_nanos c.args.now)) (never_expires (seen_limits c.args.limits.now) (as_nanos c.args.now) c.requires.births_alike idle) c.args.ring.now.items in
+    let all = none_passes (is_expired (seen_limits c.args.limits.now) (as_nanos c.args.now))
+    (never_expires (seen_limits c.args.limits.now) (as_nanos c.args.now) c.requires.births_alike idle) c.args.ring.now.items in
     rw (none, all.0) refl
 
 pub returns-then-is_none-clause-kept : goal.returns-then-is_none-clause-kept
 unfolding is_kept is_expired
 returns-then-is_none-clause-kept g c =
     let idle : (seen_limits c.args.limits.now).idle_timeout ≡ None = search rules in
-    let all = none_passes (is_expired (seen_limits c.args.limits.now) (as_nanos c.args.now)) (never_expires (seen_limits c.args.limits.now) (as_nanos c.args.now) c.requires.births_alike idle) c.args.ring.now.items in
+    let all = none_passes (is_expired (seen_limits c.args.limits.now) (as_nanos c.args.now))
+    (never_expires (seen_limits c.args.limits.now) (as_nanos c.args.now) c.requires.births_alike idle) c.args.ring.now.items in
     rw all.1 refl

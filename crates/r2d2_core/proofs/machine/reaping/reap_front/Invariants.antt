@@ -8,7 +8,8 @@ use Rattle.r2d2_core.proofs.machine.reaping.reap_front.Given as goal
 
 abbrev pub invariant-loop : goal.invariant-loop
 invariant-loop g l = record {
-  fronted : Fronted (is_expired (seen_limits l.limits) (as_nanos l.now)) (released_at (as_nanos l.now)) seen_released l.fn.ring.items l.counter l.ring.items l.out.items;
+  fronted : Fronted (is_expired (seen_limits l.limits) (as_nanos l.now)) (released_at (as_nanos l.now)) seen_released l.fn.ring.items l.counter l.ring.items
+      l.out.items;
   fixed : l.ring.capacity ≡ l.fn.ring.capacity;
   room : vec_capacity l.out ≡ vec_capacity l.fn.out;
   over : l.end ≡ length l.fn.ring.items;

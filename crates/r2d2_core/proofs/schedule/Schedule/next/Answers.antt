@@ -20,7 +20,8 @@ returns-then-as_nanos-clause-answer g c =
     let within : s.held ≤ length s.entries.items = omega (arith, s.entries.ok.0, c.self.invariant.filled, c.self.invariant.within) in
     let first = first_held s.entries.items s.held x c.self.invariant.heap c.if-self-gt0.true within c.index.ensures in
     let no_reap : is_due_before s.next_reap x.due ≡ false = search rules in
-    rw (← c.self.view_is) (ap Wait c.due-due.ensures ∙ sym (opening_first now (sorted (take s.held s.entries.items)) _ x s.next_reap first no_reap ∙ opening_waits now x (omega arith)))
+    rw (← c.self.view_is) (ap Wait c.due-due.ensures ∙ sym (opening_first now (sorted (take s.held s.entries.items)) _ x s.next_reap first no_reap
+    ∙ opening_waits now x (omega arith)))
 
 pub returns-then-not-is_reap_before-clause-answer : goal.returns-then-not-is_reap_before-clause-answer
 returns-then-not-is_reap_before-clause-answer g c =
@@ -33,16 +34,20 @@ returns-then-not-is_reap_before-clause-answer g c =
     let same : y ≡ x = get_or_read s.entries.items 0 y (omega arith) c.index-then-not-is_reap_before.ensures x ∙ sym c.index.ensures in
     let tries : c.tries-tries.result ≡ x.tries = c.tries-tries.ensures ∙ ap (λ (o : SeenOpening). o.tries) same in
     let no_reap : is_due_before s.next_reap x.due ≡ false = search rules in
-    rw (← c.self.view_is) (ap Open tries ∙ sym (opening_first now (sorted (take s.held s.entries.items)) _ x s.next_reap first no_reap ∙ opening_opens now x (omega arith)))
+    rw (← c.self.view_is) (ap Open tries ∙ sym (opening_first now (sorted (take s.held s.entries.items)) _ x s.next_reap first no_reap
+    ∙ opening_opens now x (omega arith)))
 
 pub returns-then-not-is_reap_before-clause-cost : goal.returns-then-not-is_reap_before-clause-cost
 returns-then-not-is_reap_before-clause-cost g c =
     let s = c.self.inside in
-    let held : length c.args.self.now.openings ≡ s.held = ap (λ (p : SeenSchedule). length p.openings) (sym c.self.view_is) ∙ length-held s.entries.items s.held (omega (arith, s.entries.ok.0, c.self.invariant.filled, c.self.invariant.within)) in
+    let held : length c.args.self.now.openings ≡ s.held = ap (λ (p : SeenSchedule). length p.openings) (sym c.self.view_is)
+    ∙ length-held s.entries.items s.held (omega (arith, s.entries.ok.0, c.self.invariant.filled, c.self.invariant.within)) in
     subst (λ (n : ℕ). c.remove_least.new.steps ≤ c.args.steps.now + 2 * binary_digits n) (sym held) c.remove_least.ensures.cost
 
 -- the reap comes first: no opening is held, or the least one is due later
-reap_job_is : (now : ℕ) (xs : List SeenOpening) (next_reap : Option Duration) (reap : Duration) → next_reap ≡ Some reap → first_job now xs (Some (as_nanos reap)) ≡ reap_or_wait now (as_nanos reap) → first_job now xs (option_map as_nanos next_reap) ≡ reap_or_wait now (as_nanos reap)
+reap_job_is : (now : ℕ) (xs : List SeenOpening) (next_reap : Option Duration) (reap : Duration) → next_reap ≡ Some reap
+    → first_job now xs (Some (as_nanos reap)) ≡ reap_or_wait now (as_nanos reap)
+    → first_job now xs (option_map as_nanos next_reap) ≡ reap_or_wait now (as_nanos reap)
 reap_job_is now xs next_reap reap e h = rw e h
 
 alone : (now : ℕ) (items : List SeenOpening) (held r : ℕ) → held ≡ 0 → first_job now (sorted (take held items)) (Some r) ≡ reap_or_wait now r

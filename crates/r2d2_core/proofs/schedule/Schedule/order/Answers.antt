@@ -10,23 +10,27 @@ use Rattle.r2d2_core.proofs.schedule.Schedule.order.Goals as goal
 pub add-requires-clause-room : goal.add-requires-clause-room
 add-requires-clause-room g c =
     let s = c.self.inside in
-    let held : length c.args.self.now.openings ≡ s.held = ap (λ (p : SeenSchedule). length p.openings) (sym c.self.view_is) ∙ length-held s.entries.items s.held (omega (arith, s.entries.ok.0, c.self.invariant.filled, c.self.invariant.within)) in
+    let held : length c.args.self.now.openings ≡ s.held = ap (λ (p : SeenSchedule). length p.openings) (sym c.self.view_is)
+    ∙ length-held s.entries.items s.held (omega (arith, s.entries.ok.0, c.self.invariant.filled, c.self.invariant.within)) in
     let size : c.args.self.now.max_size ≡ s.max_size = ap (λ (p : SeenSchedule). p.max_size) (sym c.self.view_is) in
     omega (arith, c.requires, c.deref_mut.ensures.len, c.self.invariant.filled)
 
 pub overflow_add-self : goal.overflow_add-self
 overflow_add-self g c =
     let s = c.self.inside in
-    let held : length c.args.self.now.openings ≡ s.held = ap (λ (p : SeenSchedule). length p.openings) (sym c.self.view_is) ∙ length-held s.entries.items s.held (omega (arith, s.entries.ok.0, c.self.invariant.filled, c.self.invariant.within)) in
+    let held : length c.args.self.now.openings ≡ s.held = ap (λ (p : SeenSchedule). length p.openings) (sym c.self.view_is)
+    ∙ length-held s.entries.items s.held (omega (arith, s.entries.ok.0, c.self.invariant.filled, c.self.invariant.within)) in
     let size : c.args.self.now.max_size ≡ s.max_size = ap (λ (p : SeenSchedule). p.max_size) (sym c.self.view_is) in
     omega (arith, c.requires, c.self.invariant.small)
 
 pub invariant_of-self : goal.invariant_of-self
 invariant_of-self g c =
     let s = c.self.inside in
-    let held : length c.args.self.now.openings ≡ s.held = ap (λ (p : SeenSchedule). length p.openings) (sym c.self.view_is) ∙ length-held s.entries.items s.held (omega (arith, s.entries.ok.0, c.self.invariant.filled, c.self.invariant.within)) in
+    let held : length c.args.self.now.openings ≡ s.held = ap (λ (p : SeenSchedule). length p.openings) (sym c.self.view_is)
+    ∙ length-held s.entries.items s.held (omega (arith, s.entries.ok.0, c.self.invariant.filled, c.self.invariant.within)) in
     let size : c.args.self.now.max_size ≡ s.max_size = ap (λ (p : SeenSchedule). p.max_size) (sym c.self.view_is) in
-    let items : (with_items s.entries c.add.new.entries).items ≡ c.add.new.entries = with_items_is s.entries c.add.new.entries (omega (arith, c.add.auto.entries, c.deref_mut.ensures.len)) in
+    let items : (with_items s.entries c.add.new.entries).items ≡ c.add.new.entries = with_items_is s.entries c.add.new.entries
+    (omega (arith, c.add.auto.entries, c.deref_mut.ensures.len)) in
     record {
       filled = c.self.invariant.filled;
       within = omega (arith, c.requires);
@@ -37,7 +41,8 @@ invariant_of-self g c =
 pub returns-clause-cost : goal.returns-clause-cost
 returns-clause-cost g c =
     let s = c.self.inside in
-    let held : length c.args.self.now.openings ≡ s.held = ap (λ (p : SeenSchedule). length p.openings) (sym c.self.view_is) ∙ length-held s.entries.items s.held (omega (arith, s.entries.ok.0, c.self.invariant.filled, c.self.invariant.within)) in
+    let held : length c.args.self.now.openings ≡ s.held = ap (λ (p : SeenSchedule). length p.openings) (sym c.self.view_is)
+    ∙ length-held s.entries.items s.held (omega (arith, s.entries.ok.0, c.self.invariant.filled, c.self.invariant.within)) in
     let size : c.args.self.now.max_size ≡ s.max_size = ap (λ (p : SeenSchedule). p.max_size) (sym c.self.view_is) in
     let same : length c.add.new.entries ≡ s.entries.len = omega (arith, c.add.auto.entries, c.deref_mut.ensures.len) in
     let items : (with_items s.entries c.add.new.entries).items ≡ c.add.new.entries = with_items_is s.entries c.add.new.entries same in

@@ -1,4 +1,4 @@
-use Rattle.std.proofs.Common.{◌≡◌, ◌+◌, [], ◌∷◌, ◌++◌, map, length, refl, sym, ◌∙◌, subst, arith}
+use Rattle.std.proofs.Common.{◌≡◌, [], ◌∷◌, map, refl, ◌∙◌, subst, arith}
 use Rattle.std.specs.Duration.{as_nanos}
 use Rattle.std.proofs.lemmas.List.{nil_from_length, map-append, length-map, length_push}
 use Rattle.r2d2_core.specs.Seen.{seen_released}
@@ -20,7 +20,8 @@ loop-released-init g c =
 pub push_reserved-requires : goal.push_reserved-requires
 push_reserved-requires g c =
     let t = as_nanos c.args.now in
-    let more = has_more t c.args.self.now.book.picture c.loop-released.self.book.picture (map seen_released c.loop-released.out.items) (seen_released c.in-Some.released) c.in-Some.ensures.released c.loop-released.invariant.evicting c.loop-released.invariant.sound in
+    let more = has_more t c.args.self.now.book.picture c.loop-released.self.book.picture (map seen_released c.loop-released.out.items)
+    (seen_released c.in-Some.released) c.in-Some.ensures.released c.loop-released.invariant.evicting c.loop-released.invariant.sound in
     omega (arith, more, length-map c.loop-released.out.items seen_released, c.requires.room, c.loop-released.invariant.room, c.loop-released.out.ok.0)
 
 pub loop-released-preserved : goal.loop-released-preserved
@@ -30,26 +31,42 @@ loop-released-preserved g c =
     let q = c.loop-released.self.book.picture in
     let s = c.evict_next.new.self.book.picture in
     let pushed = c.push_reserved.ensures.items in
-    let x : EvictsNext t q s = record { idle = c.evict_next.ensures.idle; lent = c.evict_next.ensures.lent; latest = c.evict_next.ensures.latest; limits = c.evict_next.ensures.limits; next_id = c.evict_next.ensures.next_id } in
-    let v = goes_on t p q s (map seen_released c.loop-released.out.items) (seen_released c.in-Some.released) c.in-Some.ensures.released c.loop-released.invariant.evicting x in
+    let x : EvictsNext t q s = record {
+      idle = c.evict_next.ensures.idle;
+      lent = c.evict_next.ensures.lent;
+      latest = c.evict_next.ensures.latest;
+      limits = c.evict_next.ensures.limits;
+      next_id = c.evict_next.ensures.next_id;
+    } in
+    let v = goes_on t p q s (map seen_released c.loop-released.out.items) (seen_released c.in-Some.released) c.in-Some.ensures.released
+    c.loop-released.invariant.evicting x in
     record {
       evicting = rw (pushed, map-append seen_released c.loop-released.out.items (c.in-Some.released ∷ [])) v;
       sound = c.loop-released.invariant.sound;
       room = c.push_reserved.ensures.capacity ∙ c.loop-released.invariant.room;
       parts = c.evict_next.ensures.parts ∙ c.loop-released.invariant.parts;
-      amount = rw (pushed, length_push c.loop-released.out.items c.in-Some.released) (one_more_counted _ _ _ _ _ c.loop-released.invariant.amount c.in-Some.ensures.amount);
+      amount = rw (pushed, length_push c.loop-released.out.items c.in-Some.released) (one_more_counted _ _ _ _ _ c.loop-released.invariant.amount
+          c.in-Some.ensures.amount);
     }
 
 pub returns-clause-released : goal.returns-clause-released
 returns-clause-released g c =
     let t = as_nanos c.args.now in
     let q = c.loop-released.self.book.picture in
-    all_handed t c.args.self.now.book.picture q (map seen_released c.loop-released.out.items) (none_left t q c.in_default.ensures.released) c.loop-released.invariant.evicting
+    all_handed t c.args.self.now.book.picture q (map seen_released c.loop-released.out.items)
+    (none_left t q c.in_default.ensures.released) c.loop-released.invariant.evicting
 
 pub returns-clause-after : goal.returns-clause-after
 returns-clause-after g c =
     let t = as_nanos c.args.now in
     let q = c.loop-released.self.book.picture in
     let s = c.evict_next.new.self.book.picture in
-    let x : EvictsNext t q s = record { idle = c.evict_next.ensures.idle; lent = c.evict_next.ensures.lent; latest = c.evict_next.ensures.latest; limits = c.evict_next.ensures.limits; next_id = c.evict_next.ensures.next_id } in
-    evicted t c.args.self.now.book.picture q s (map seen_released c.loop-released.out.items) (none_left t q c.in_default.ensures.released) c.loop-released.invariant.evicting x
+    let x : EvictsNext t q s = record {
+      idle = c.evict_next.ensures.idle;
+      lent = c.evict_next.ensures.lent;
+      latest = c.evict_next.ensures.latest;
+      limits = c.evict_next.ensures.limits;
+      next_id = c.evict_next.ensures.next_id;
+    } in
+    evicted t c.args.self.now.book.picture q s (map seen_released c.loop-released.out.items)
+    (none_left t q c.in_default.ensures.released) c.loop-released.invariant.evicting x

@@ -1,4 +1,4 @@
-use Rattle.std.proofs.Common.{◌≡◌, ℕ, ◌+◌, ◌*◌, map, length}
+use Rattle.std.proofs.Common.{◌≡◌, ◌+◌, ◌*◌, map, length}
 use Rattle.std.specs.Prelude.{vec_capacity}
 use Rattle.std.specs.Duration.{as_nanos}
 use Rattle.r2d2_core.specs.Seen.{seen_released}

@@ -35,7 +35,8 @@ returns-clause-released g c =
     let birth = as_nanos c.in-Found.birth in
     let age = same_age back c.in-Found.value c.in-Ok-Closed.value (as_nanos c.in-Ok-Closed.age) (max q.latest t - birth) _ _ is was in
     let value = same_value back c.in-Found.value c.in-Ok-Closed.value (as_nanos c.in-Ok-Closed.age) (max q.latest t - birth) _ _ is was in
-    released_next t c.in-Found.id birth (as_nanos c.in-Ok-Closed.age) c.in-Found.value c.in-Ok-Closed.value p n (age ∙ ap (λ m. m - birth) (latest_after t p q c.lend-taken.ensures.after)) value
+    released_next t c.in-Found.id birth (as_nanos c.in-Ok-Closed.age) c.in-Found.value c.in-Ok-Closed.value p n
+    (age ∙ ap (λ m. m - birth) (latest_after t p q c.lend-taken.ensures.after)) value
 
 pub returns-clause-lent : goal.returns-clause-lent
 returns-clause-lent g c =
@@ -44,4 +45,5 @@ returns-clause-lent g c =
     let q = c.lend-taken.new.self.book.picture in
     let n = next _ _ c.in-Found.id (as_nanos c.in-Found.birth) _ c.in-Found.value (sym (ap seen_take c.in-Found.is) ∙ c.lend-taken.ensures.answer) in
     let lent = lent_after t c.in-Found.id (as_nanos c.in-Found.birth) c.in-Found.value p q n c.lend-taken.ensures.after in
-    lent_then t c.in-Found.id (as_nanos c.in-Found.birth) c.in-Found.value q c.give_back-answer.new.self.book.picture p.lent c.lend-taken.ensures.sound lent c.give_back-answer.ensures.after
+    lent_then t c.in-Found.id (as_nanos c.in-Found.birth) c.in-Found.value q c.give_back-answer.new.self.book.picture p.lent c.lend-taken.ensures.sound lent
+    c.give_back-answer.ensures.after

@@ -19,7 +19,8 @@ loop-place-preserved g c =
           let told : seen_bare p ≡ bare w.in-Some.entry.now = rw (w.id.ensures, w.birth.ensures, w.since.ensures) refl in
           rw (w.list-is, w.push_reserved.ensures.items, w.push_reserved.ensures.capacity)
           (record {
-            listed = copied_more seen_bare bare all c.loop-place.place c.loop-place.list.items p (ap (option_map bare) there ∙ ap Some (sym told)) c.loop-place.invariant.listed;
+            listed = copied_more seen_bare bare all c.loop-place.place c.loop-place.list.items p
+                (ap (option_map bare) there ∙ ap Some (sym told)) c.loop-place.invariant.listed;
             len = omega (arith, length_push c.loop-place.list.items p, c.loop-place.invariant.len);
             room = c.loop-place.invariant.room;
           })

@@ -24,8 +24,10 @@ invariant_of-self-in-Some-push_back g c =
     let legal : IsLegalBase limits base = subst (λ (b : Before _). IsLegalBase limits (base_before limits b)) c.in-Folded.is may.legal in
     let are : AreLegalFrom limits base (map seen_record s.records.items ++ seen_record made ∷ []) =
     subst (λ m. AreLegalFrom limits base (added (option_map seen_record m) (map seen_record s.records.items))) c.in-Some.is
-    (subst (λ (b : Before _). AreLegalFrom limits (base_before limits b) (added (option_map seen_record c.args.made) (map seen_record s.records.items))) c.in-Folded.is may.follow) in
-    let up = gives_up limits base s.records.items made c.in-Some-push_back.oldest s.records.capacity c.push_back.result legal are c.push_back.ensures.value c.in-Some-push_back.is in
+    (subst (λ (b : Before _). AreLegalFrom limits (base_before limits b) (added (option_map seen_record c.args.made)
+    (map seen_record s.records.items))) c.in-Folded.is may.follow) in
+    let up = gives_up limits base s.records.items made c.in-Some-push_back.oldest s.records.capacity c.push_back.result legal are c.push_back.ensures.value
+    c.in-Some-push_back.is in
     let fits = kept_within s.records.items made c.push_back.new.self s.records.capacity c.push_back.ensures.items in
     record {
       within = fits.0;
@@ -45,10 +47,13 @@ returns-in-Some-push_back g c =
     let legal : IsLegalBase limits base = subst (λ (b : Before _). IsLegalBase limits (base_before limits b)) c.in-Folded.is may.legal in
     let are : AreLegalFrom limits base (map seen_record s.records.items ++ seen_record made ∷ []) =
     subst (λ m. AreLegalFrom limits base (added (option_map seen_record m) (map seen_record s.records.items))) c.in-Some.is
-    (subst (λ (b : Before _). AreLegalFrom limits (base_before limits b) (added (option_map seen_record c.args.made) (map seen_record s.records.items))) c.in-Folded.is may.follow) in
-    let up = gives_up limits base s.records.items made c.in-Some-push_back.oldest s.records.capacity c.push_back.result legal are c.push_back.ensures.value c.in-Some-push_back.is in
+    (subst (λ (b : Before _). AreLegalFrom limits (base_before limits b) (added (option_map seen_record c.args.made)
+    (map seen_record s.records.items))) c.in-Folded.is may.follow) in
+    let up = gives_up limits base s.records.items made c.in-Some-push_back.oldest s.records.capacity c.push_back.result legal are c.push_back.ensures.value
+    c.in-Some-push_back.is in
     let folded = ap (λ (n : SeenRunningBase). n.base) (c.follow.ensures.folded (c.follow.ensures.may ∙ up.may)) ∙ up.base in
-    full_noted limits base c.follow.new.self.base s.records.items c.push_back.new.self made (as_nanos s.made) s.records.capacity s.lost c.saturating_add-self-inside-in-Some-push_back.result s.takes c.with_take-self-inside.result
+    full_noted limits base c.follow.new.self.base s.records.items c.push_back.new.self made
+    (as_nanos s.made) s.records.capacity s.lost c.saturating_add-self-inside-in-Some-push_back.result s.takes c.with_take-self-inside.result
     c.self.invariant.within up.full c.push_back.ensures.items folded c.saturating_add-self-inside-in-Some-push_back.ensures c.with_take-self-inside.ensures
     ∙ (ap (λ (b : Before _). with_record (seen_record made) (record (journal_in s) { base = base_before limits b })) (sym c.in-Folded.is)
     ∙ (ap (λ m. with_noted (option_map seen_record m) (journal_in s)) (sym c.in-Some.is)

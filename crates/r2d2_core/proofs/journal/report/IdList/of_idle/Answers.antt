@@ -12,7 +12,8 @@ loop-place-preserved g c =
       | in-Some w ↦
           rw (w.list-is, w.push_reserved.ensures.items, w.push_reserved.ensures.capacity)
           (record {
-            listed = listed_more id_of_idle c.args.machine.now.idle c.loop-place.place w.in-Some.id c.loop-place.list.items (sym c.idle_id.ensures ∙ w.in-Some.is) c.loop-place.invariant.listed;
+            listed = listed_more id_of_idle c.args.machine.now.idle c.loop-place.place w.in-Some.id c.loop-place.list.items
+                (sym c.idle_id.ensures ∙ w.in-Some.is) c.loop-place.invariant.listed;
             len = omega (arith, length_push c.loop-place.list.items w.in-Some.id, c.loop-place.invariant.len);
             room = c.loop-place.invariant.room;
           })

@@ -19,7 +19,8 @@ follow_all-requires-clause-apart g c =
     let rs = map seen_record (take c.args.count c.as_slice.result.now) in
     let same : take c.args.count r.records ≡ rs = ap (take c.args.count) (sym c.as_slice.ensures) ∙ take-map seen_record c.args.count c.as_slice.result.now in
     let there = start_there limits base (rooms_for base rs) c.in_ok-running_base.field-0 c.in-Some.running_base c.in-Some.is c.in_ok-running_base.ensures in
-    subst (λ (s : SeenRunningBase). (i : ℕ) → copies_of i (known_in s.base rs) ≤ 1) (sym there.1) (apart_same base (take c.args.count r.records) rs same c.requires.legal.apart)
+    subst (λ (s : SeenRunningBase). (i : ℕ) → copies_of i (known_in s.base rs) ≤ 1) (sym there.1)
+    (apart_same base (take c.args.count r.records) rs same c.requires.legal.apart)
 
 pub copied-requires : goal.copied-requires
 copied-requires g c =
@@ -31,8 +32,11 @@ copied-requires g c =
     let same : take c.args.count r.records ≡ rs = ap (take c.args.count) (sym c.as_slice.ensures) ∙ take-map seen_record c.args.count c.as_slice.result.now in
     let there = start_there limits base (rooms_for base rs) c.in_ok-running_base.field-0 c.in-Some.running_base c.in-Some.is c.in_ok-running_base.ensures in
     let start : c.in-Some.running_base.base ≡ base = ap (λ (s : SeenRunningBase). s.base) there.1 in
-    let all : all_follow limits rs c.in-Some.running_base.base ≡ true = ap (all_follow limits rs) start ∙ (ap (λ (l : List SeenRecord). all_follow limits l base) (sym same) ∙ c.requires.legal.follow) in
-    let whole = follows_all limits rs c.in-Some.running_base.base c.follow_all.result (omega (arith, c.follow_all.ensures.within, length-map front seen_record)) all (λ lt. c.follow_all.ensures.stops (omega (arith, lt, length-map front seen_record))) in
+    let all : all_follow limits rs c.in-Some.running_base.base ≡ true = ap (all_follow limits rs) start
+    ∙ (ap (λ (l : List SeenRecord). all_follow limits l base) (sym same) ∙ c.requires.legal.follow) in
+    let whole = follows_all limits rs c.in-Some.running_base.base c.follow_all.result (omega
+    (arith, c.follow_all.ensures.within, length-map front seen_record)) all (λ lt. c.follow_all.ensures.stops
+    (omega (arith, lt, length-map front seen_record))) in
     let is : c.follow_all.new.self.base ≡ replay limits (take c.args.count r.records) base =
     ap (λ (s : SeenRunningBase). s.base) (c.follow_all.ensures.folded (omega (arith, whole, length-map front seen_record)))
     ∙ (ap (replay limits rs) start ∙ ap (λ (l : List SeenRecord). replay limits l base) (sym same)) in
@@ -49,9 +53,13 @@ returns g c =
     let same : take c.args.count r.records ≡ rs = ap (take c.args.count) (sym c.as_slice.ensures) ∙ take-map seen_record c.args.count c.as_slice.result.now in
     let there = start_there limits base (rooms_for base rs) c.in_ok-running_base.field-0 c.in-Some.running_base c.in-Some.is c.in_ok-running_base.ensures in
     let start : c.in-Some.running_base.base ≡ base = ap (λ (s : SeenRunningBase). s.base) there.1 in
-    let all : all_follow limits rs c.in-Some.running_base.base ≡ true = ap (all_follow limits rs) start ∙ (ap (λ (l : List SeenRecord). all_follow limits l base) (sym same) ∙ c.requires.legal.follow) in
-    let whole = follows_all limits rs c.in-Some.running_base.base c.follow_all.result (omega (arith, c.follow_all.ensures.within, length-map front seen_record)) all (λ lt. c.follow_all.ensures.stops (omega (arith, lt, length-map front seen_record))) in
+    let all : all_follow limits rs c.in-Some.running_base.base ≡ true = ap (all_follow limits rs) start
+    ∙ (ap (λ (l : List SeenRecord). all_follow limits l base) (sym same) ∙ c.requires.legal.follow) in
+    let whole = follows_all limits rs c.in-Some.running_base.base c.follow_all.result (omega
+    (arith, c.follow_all.ensures.within, length-map front seen_record)) all (λ lt. c.follow_all.ensures.stops
+    (omega (arith, lt, length-map front seen_record))) in
     let is : c.follow_all.new.self.base ≡ replay limits (take c.args.count r.records) base =
     ap (λ (s : SeenRunningBase). s.base) (c.follow_all.ensures.folded (omega (arith, whole, length-map front seen_record)))
     ∙ (ap (replay limits rs) start ∙ ap (λ (l : List SeenRecord). replay limits l base) (sym same)) in
-    if_ok (λ made. seen_base made ≡ c.follow_all.new.self.base) (λ made. seen_base made ≡ replay limits (take c.args.count r.records) base) c.copied.result (λ made e. e ∙ is) c.copied.ensures
+    if_ok (λ made. seen_base made ≡ c.follow_all.new.self.base) (λ made. seen_base made ≡ replay limits (take c.args.count r.records) base) c.copied.result
+    (λ made e. e ∙ is) c.copied.ensures

@@ -41,5 +41,8 @@ halving-preserved g c =
       order = omega (arith, c.halving-test.true);
       within = omega (arith, c.halving.invariant.order, c.halving.invariant.within);
       apart = c.halving.invariant.apart;
-      twice = λ h. cc (c.in_ok-are_apart-3.ensures.1 (apart_same base _ (map seen_record (take middle rs)) (take-map seen_record middle rs) h), c.if-branch-2.false);
+      twice = λ h. cc (
+        c.in_ok-are_apart-3.ensures.1 (apart_same base _ (map seen_record (take middle rs)) (take-map seen_record middle rs) h),
+        c.if-branch-2.false,
+      );
     }

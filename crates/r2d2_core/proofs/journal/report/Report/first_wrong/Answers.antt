@@ -29,7 +29,8 @@ follow_all-followed-requires-clause-apart g c =
     let same : rs ≡ take apart r.records = sym (take-map seen_record apart all) ∙ ap (take apart) c.as_slice-records.ensures in
     let upto = some_in (HasWrongBase r) (λ n. AreApartUpTo r n) c.in_ok-apart.field-0 apart c.in-Some.is c.in_ok-apart.ensures in
     let there = start_there limits base (rooms_for base rs) c.in_ok-running_base.field-0 c.in-Some-2.running_base c.in-Some-2.is c.in_ok-running_base.ensures in
-    subst (λ (s : SeenRunningBase). (i : ℕ) → copies_of i (known_in s.base rs) ≤ 1) (sym there.1) (apart_same base (take apart r.records) rs (sym same) upto.apart)
+    subst (λ (s : SeenRunningBase). (i : ℕ) → copies_of i (known_in s.base rs) ≤ 1) (sym there.1)
+    (apart_same base (take apart r.records) rs (sym same) upto.apart)
 
 pub returns-then-followed-records : goal.returns-then-followed-records
 returns-then-followed-records g c =
@@ -47,10 +48,12 @@ returns-then-followed-records g c =
     let many : length all ≡ length r.records = sym (length-map all seen_record) ∙ ap (λ (l : List SeenRecord). length l) c.as_slice-records.ensures in
     let some : length (take apart all) ≡ apart = length-take-le apart all (omega (arith, upto.within, many)) in
     let may : all_follow limits (take followed (take apart r.records)) base ≡ true =
-    ap (λ (l : List SeenRecord). all_follow limits (take followed l) base) (sym same) ∙ (ap (all_follow limits (take followed rs)) (sym start) ∙ c.follow_all-followed.ensures.may) in
+    ap (λ (l : List SeenRecord). all_follow limits (take followed l) base) (sym same)
+    ∙ (ap (all_follow limits (take followed rs)) (sym start) ∙ c.follow_all-followed.ensures.may) in
     let within : followed ≤ apart = omega (arith, c.follow_all-followed.ensures.within, some) in
     let stops : followed < apart → all_follow limits (take (followed + 1) (take apart r.records)) base ≡ false =
-    λ lt. ap (λ (l : List SeenRecord). all_follow limits (take (followed + 1) l) base) (sym same) ∙ (ap (all_follow limits (take (followed + 1) rs)) (sym start) ∙ c.follow_all-followed.ensures.stops (omega (arith, lt, some))) in
+    λ lt. ap (λ (l : List SeenRecord). all_follow limits (take (followed + 1) l) base) (sym same)
+    ∙ (ap (all_follow limits (take (followed + 1) rs)) (sym start) ∙ c.follow_all-followed.ensures.stops (omega (arith, lt, some))) in
     first_wrong_at r apart followed there.0 upto within (omega (arith, many, c.if-followed-records.true)) may stops
 
 pub returns-then-not-shows : goal.returns-then-not-shows
@@ -69,7 +72,8 @@ returns-then-not-shows g c =
     let many : length all ≡ length r.records = sym (length-map all seen_record) ∙ ap (λ (l : List SeenRecord). length l) c.as_slice-records.ensures in
     let some : length (take apart all) ≡ apart = length-take-le apart all (omega (arith, upto.within, many)) in
     let may : all_follow limits (take followed (take apart r.records)) base ≡ true =
-    ap (λ (l : List SeenRecord). all_follow limits (take followed l) base) (sym same) ∙ (ap (all_follow limits (take followed rs)) (sym start) ∙ c.follow_all-followed.ensures.may) in
+    ap (λ (l : List SeenRecord). all_follow limits (take followed l) base) (sym same)
+    ∙ (ap (all_follow limits (take followed rs)) (sym start) ∙ c.follow_all-followed.ensures.may) in
     let within : followed ≤ apart = omega (arith, c.follow_all-followed.ensures.within, some) in
     let past : length r.records ≤ followed = omega (arith, many, c.if-followed-records.false) in
     let legal = all_legal r apart followed upto within past may in
@@ -99,7 +103,8 @@ returns g c =
     let many : length all ≡ length r.records = sym (length-map all seen_record) ∙ ap (λ (l : List SeenRecord). length l) c.as_slice-records.ensures in
     let some : length (take apart all) ≡ apart = length-take-le apart all (omega (arith, upto.within, many)) in
     let may : all_follow limits (take followed (take apart r.records)) base ≡ true =
-    ap (λ (l : List SeenRecord). all_follow limits (take followed l) base) (sym same) ∙ (ap (all_follow limits (take followed rs)) (sym start) ∙ c.follow_all-followed.ensures.may) in
+    ap (λ (l : List SeenRecord). all_follow limits (take followed l) base) (sym same)
+    ∙ (ap (all_follow limits (take followed rs)) (sym start) ∙ c.follow_all-followed.ensures.may) in
     let within : followed ≤ apart = omega (arith, c.follow_all-followed.ensures.within, some) in
     let past : length r.records ≤ followed = omega (arith, many, c.if-followed-records.false) in
     let legal = all_legal r apart followed upto within past may in

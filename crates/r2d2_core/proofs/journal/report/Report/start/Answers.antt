@@ -14,4 +14,5 @@ returns g c =
     let base = seen_base r.base in
     let room = rooms_for base (map seen_record c.args.records.now) in
     let counts : counts_fit limits base ≡ true = cc in
-    if_ok (IsPut base c.of-room.result) (IsStart limits base room) c.of.result (λ made put. starts limits base room made counts c.requires.apart (subst (λ n. IsPut base n made) c.of-room.ensures put)) c.of.ensures
+    if_ok (IsPut base c.of-room.result) (IsStart limits base room) c.of.result (λ made put. starts limits base room made counts c.requires.apart
+    (subst (λ n. IsPut base n made) c.of-room.ensures put)) c.of.ensures

@@ -7,6 +7,7 @@ use Rattle.r2d2_core.proofs.journal.running_base.RunningBase.copied.Goals as goa
 pub returns : goal.returns
 returns g c =
     let s = c.self.inside in
-    same_base (as_nanos s.at) s.pending s.closed c.in_ok-idle.idle s.idle.items c.in_ok-lent.lent s.lent.items (c.len.result + c.len-2.result) (length s.idle.items + length s.lent.items)
+    same_base (as_nanos s.at) s.pending s.closed c.in_ok-idle.idle s.idle.items c.in_ok-lent.lent s.lent.items (c.len.result + c.len-2.result)
+    (length s.idle.items + length s.lent.items)
     (c.in_ok-idle.ensures ∙ bare_same s.idle.items) c.in_ok-lent.ensures (omega (arith, c.len.ensures, c.len-2.ensures))
     ∙ ap (λ (n : SeenRunningBase). n.base) c.self.view_is

@@ -21,6 +21,8 @@ returns-else-id-clause-lent g c =
     let next : lent_next c.order.result s.idle.items ≡ Some c.in-Some.entry = cc in
     let birth : as_nanos c.birth.result ≡ birth_of c.in-Some.entry = c.birth.ensures in
     let is : c.in-Some.entry.id ≡ c.args.id = cc in
-    let apart : (i : ℕ) → copies_of i (map id_of_idle s.idle.items) ≤ 1 = subst (λ (v : SeenRunningBase). (i : ℕ) → copies_of i (map id_of_idle v.base.idle) ≤ 1) (sym c.self.view_is) c.requires.apart in
+    let apart : (i : ℕ) → copies_of i (map id_of_idle s.idle.items) ≤ 1 = subst (λ (v : SeenRunningBase). (i : ℕ)
+    → copies_of i (map id_of_idle v.base.idle) ≤ 1) (sym c.self.view_is) c.requires.apart in
     rw (← c.self.view_is, c.take.ensures.others, c.add.ensures, c.new.ensures)
-    (lends c.order.result (as_nanos s.at) s.pending s.closed s.idle.items s.lent.items (rooms s.idle.room s.lent.room) c.args.id (as_nanos c.birth.result) c.in-Some.entry apart next is birth)
+    (lends c.order.result (as_nanos s.at) s.pending s.closed s.idle.items s.lent.items (rooms s.idle.room s.lent.room) c.args.id
+    (as_nanos c.birth.result) c.in-Some.entry apart next is birth)

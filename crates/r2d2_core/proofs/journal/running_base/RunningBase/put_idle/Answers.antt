@@ -16,7 +16,8 @@ returns-then-not-are_in_a_row-clause-is g c =
     let e = seen_bare (get_or all k none) in
     let at = as_nanos c.loop-entry.self-inside.at in
     let fits : (nat_le e.birth e.since && (nat_le (as_nanos c.loop-entry.last) e.since && nat_le e.since at)) ≡ false = cc in
-    order_stops at (as_nanos c.loop-entry.last) k (map seen_bare all) e (are_in_order at 0 (map seen_bare all)) (seen_next seen_bare all k none (omega arith)) fits c.loop-entry.invariant.order
+    order_stops at (as_nanos c.loop-entry.last) k (map seen_bare all) e (are_in_order at 0 (map seen_bare all))
+    (seen_next seen_bare all k none (omega arith)) fits c.loop-entry.invariant.order
     ∙ ap (λ n. are_in_order n 0 (map seen_bare all)) c.loop-entry.invariant.at
 
 pub loop-entry-preserved : goal.loop-entry-preserved
@@ -29,8 +30,10 @@ loop-entry-preserved g c =
     let fits : (nat_le e.birth e.since && (nat_le (as_nanos c.loop-entry.last) e.since && nat_le e.since at)) ≡ true = cc in
     let made : c.new.result ≡ e = c.new.ensures in
     record {
-      order = order_more at (as_nanos c.loop-entry.last) k (map seen_bare all) e (are_in_order at 0 (map seen_bare all)) (seen_next seen_bare all k none (omega arith)) fits c.loop-entry.invariant.order;
-      put = ap (λ (r : SeenRoster BareConnection). r.items) c.add.ensures ∙ rw made (ap (λ l. l ++ e ∷ []) c.loop-entry.invariant.put ∙ sym (seen_taken seen_bare all k none (omega arith)));
+      order = order_more at (as_nanos c.loop-entry.last) k (map seen_bare all) e (are_in_order at 0 (map seen_bare all))
+          (seen_next seen_bare all k none (omega arith)) fits c.loop-entry.invariant.order;
+      put = ap (λ (r : SeenRoster BareConnection). r.items) c.add.ensures ∙ rw made (ap (λ l. l ++ e ∷ []) c.loop-entry.invariant.put
+          ∙ sym (seen_taken seen_bare all k none (omega arith)));
       room = ap (λ (r : SeenRoster BareConnection). r.room) c.add.ensures ∙ c.loop-entry.invariant.room;
       lent_room = c.loop-entry.invariant.lent_room;
       at = c.loop-entry.invariant.at;

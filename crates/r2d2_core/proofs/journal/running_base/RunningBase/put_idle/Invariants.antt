@@ -6,7 +6,8 @@ use Rattle.r2d2_core.proofs.journal.running_base.RunningBase.put_idle.Given as g
 
 abbrev pub invariant-loop-entry : goal.invariant-loop-entry
 invariant-loop-entry g l = record {
-  order : are_in_order (as_nanos l.self-inside.at) 0 (map seen_bare l.idle) ≡ are_in_order (as_nanos l.self-inside.at) (as_nanos l.last) (drop l.entry-index (map seen_bare l.idle));
+  order : are_in_order (as_nanos l.self-inside.at) 0 (map seen_bare l.idle) ≡ are_in_order (as_nanos l.self-inside.at) (as_nanos l.last)
+      (drop l.entry-index (map seen_bare l.idle));
   put : l.self-inside.idle.items ≡ take l.entry-index (map seen_bare l.idle);
   room : l.self-inside.idle.room ≡ l.fn.self.room.idle;
   lent_room : l.self-inside.lent.room ≡ l.fn.self.room.lent;

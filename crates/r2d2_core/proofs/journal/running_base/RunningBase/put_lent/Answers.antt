@@ -20,8 +20,11 @@ loop-entry-preserved g c =
     let fits : nat_le e.birth at ≡ true = grind (arith, nat_tests) in
     let same : c.new.result ≡ e = c.new.ensures in
     record {
-      order = born_more at k (map seen_lent all) e (are_born at (map seen_lent all)) (seen_next seen_lent all k none (omega arith)) fits c.loop-entry.invariant.order;
-      put = ap (λ (r : SeenRoster SeenLentConnection). r.items) c.add.ensures ∙ (ap (λ l. l ++ c.new.result ∷ []) c.loop-entry.invariant.put ∙ (ap (λ x. take k (map seen_lent all) ++ x ∷ []) same ∙ sym (seen_taken seen_lent all k none (omega arith))));
+      order = born_more at k (map seen_lent all) e (are_born at (map seen_lent all)) (seen_next seen_lent all k none
+          (omega arith)) fits c.loop-entry.invariant.order;
+      put = ap (λ (r : SeenRoster SeenLentConnection). r.items) c.add.ensures
+          ∙ (ap (λ l. l ++ c.new.result ∷ []) c.loop-entry.invariant.put ∙ (ap (λ x. take k (map seen_lent all) ++ x ∷ []) same
+          ∙ sym (seen_taken seen_lent all k none (omega arith))));
       room = c.loop-entry.invariant.room;
       lent_room = ap (λ (r : SeenRoster SeenLentConnection). r.room) c.add.ensures ∙ c.loop-entry.invariant.lent_room;
       at = c.loop-entry.invariant.at;

@@ -9,5 +9,10 @@ use Rattle.r2d2_core.proofs.machine.idle.Idle.shed.Goals as goal
 pub returns-clause-count : goal.returns-clause-count
 unfolding is_kept is_expired
 returns-clause-count g c =
-    let kept : roster_of c.match-self.self-inside.ring ≡ roster (filter (is_kept (seen_limits c.args.limits.now) (as_nanos c.args.now)) c.args.self.now.items) c.args.self.now.room = search rules in
-    rw kept (omega (arith, length-filter_both (is_expired (seen_limits c.args.limits.now) (as_nanos c.args.now)) (is_kept (seen_limits c.args.limits.now) (as_nanos c.args.now)) (λ e. refl) c.args.self.now.items))
+    let kept : roster_of c.match-self.self-inside.ring ≡ roster (filter (is_kept (seen_limits c.args.limits.now)
+    (as_nanos c.args.now)) c.args.self.now.items) c.args.self.now.room = search rules in
+    rw kept (omega (
+      arith,
+      length-filter_both (is_expired (seen_limits c.args.limits.now) (as_nanos c.args.now))
+          (is_kept (seen_limits c.args.limits.now) (as_nanos c.args.now)) (λ e. refl) c.args.self.now.items,
+    ))

@@ -36,10 +36,24 @@ loop-preserved g c =
             let first : slice_get c.loop.ring.items 0 ≡ None = cc in
             absurd (sifted_there goes c.args.ring.now.items c.loop.counter c.loop.ring.items c.loop.invariant.sifted (omega arith) first)
       ];
-      fixed = elim c.match-pop_front.branch [ in-Some+then-not-is_expired w ↦ rw (w.ring-is, w.push_back.ensures, c.pop_front.ensures.items) c.loop.invariant.fixed | in-Some+else-not-is_expired w ↦ rw (w.ring-is, c.pop_front.ensures.items) c.loop.invariant.fixed | in_default w ↦ rw (w.ring-is, c.pop_front.ensures.items) c.loop.invariant.fixed ];
+      fixed = elim c.match-pop_front.branch [
+        | in-Some+then-not-is_expired w ↦ rw (
+          w.ring-is,
+          w.push_back.ensures,
+          c.pop_front.ensures.items,
+        ) c.loop.invariant.fixed
+        | in-Some+else-not-is_expired w
+            ↦ rw (w.ring-is, c.pop_front.ensures.items) c.loop.invariant.fixed
+        | in_default w
+            ↦ rw (w.ring-is, c.pop_front.ensures.items) c.loop.invariant.fixed
+      ];
       over = c.loop.invariant.over;
     }
 
 pub returns : goal.returns
 unfolding is_kept is_expired
-returns g c = rw (← sifted_all (is_expired (seen_limits c.args.limits.now) (as_nanos c.args.now)) c.args.ring.now.items c.loop.counter c.loop.ring.items c.loop.invariant.sifted (omega (arith, c.loop.invariant.over)), ← c.loop.invariant.fixed) refl
+returns g c = rw (
+  ← sifted_all (is_expired (seen_limits c.args.limits.now) (as_nanos c.args.now)) c.args.ring.now.items c.loop.counter c.loop.ring.items
+      c.loop.invariant.sifted (omega (arith, c.loop.invariant.over)),
+  ← c.loop.invariant.fixed,
+) refl

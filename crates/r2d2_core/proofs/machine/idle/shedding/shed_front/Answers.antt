@@ -13,13 +13,15 @@ pub returns-then-is_none : goal.returns-then-is_none
 unfolding is_kept is_expired
 returns-then-is_none g c =
     let idle : (seen_limits c.args.limits.now).idle_timeout ≡ None = search rules in
-    let all = none_passes (is_expired (seen_limits c.args.limits.now) (as_nanos c.args.now)) (never_expires (seen_limits c.args.limits.now) (as_nanos c.args.now) c.requires.births_alike idle) c.args.ring.now.items in
+    let all = none_passes (is_expired (seen_limits c.args.limits.now) (as_nanos c.args.now))
+    (never_expires (seen_limits c.args.limits.now) (as_nanos c.args.now) c.requires.births_alike idle) c.args.ring.now.items in
     rw all.1 refl
 
 pub returns-then-not-is_expired : goal.returns-then-not-is_expired
 unfolding is_kept is_expired
 returns-then-not-is_expired g c =
-    let end = fronted_stop since_of (expires_earlier (seen_limits c.args.limits.now) (as_nanos c.args.now) c.requires.births_alike) c.requires.in_order c.loop.invariant.fronted
+    let end = fronted_stop since_of (expires_earlier (seen_limits c.args.limits.now) (as_nanos c.args.now) c.requires.births_alike) c.requires.in_order
+    c.loop.invariant.fronted
     (λ d lt. let at : slice_get c.loop.ring.items 0 ≡ Some c.in-Some.oldest.now = sym c.in-Some.ensures in
     let is : get_or c.loop.ring.items 0 d ≡ c.in-Some.oldest.now = get_or_from_slice_get c.loop.ring.items 0 c.in-Some.oldest.now d at in
     rw is cc) in
@@ -29,7 +31,8 @@ pub loop-preserved : goal.loop-preserved
 loop-preserved g c =
     let at : slice_get c.loop.ring.items 0 ≡ Some c.in-Some.oldest.now = sym c.in-Some.ensures in
     record {
-      fronted = rw c.pop_front.ensures.items (fronted_gone (is_expired (seen_limits c.args.limits.now) (as_nanos c.args.now)) c.args.ring.now.items c.loop.counter c.loop.ring.items c.in-Some.oldest.now c.loop.invariant.fronted (omega arith) at cc);
+      fronted = rw c.pop_front.ensures.items (fronted_gone (is_expired (seen_limits c.args.limits.now)
+          (as_nanos c.args.now)) c.args.ring.now.items c.loop.counter c.loop.ring.items c.in-Some.oldest.now c.loop.invariant.fronted (omega arith) at cc);
       fixed = rw c.pop_front.ensures.items c.loop.invariant.fixed;
       over = c.loop.invariant.over;
     }

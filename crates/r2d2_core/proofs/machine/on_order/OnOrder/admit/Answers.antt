@@ -11,7 +11,8 @@ use Rattle.r2d2_core.proofs.machine.on_order.OnOrder.admit.Goals as goal
 pub invariant_of-self : goal.invariant_of-self
 invariant_of-self g c =
     let a : IsAccounted c.args.self.now = subst IsAccounted c.self.view_is c.self.invariant.accounted in
-    keeping (unless_refused (admit_refusal c.args.id c.args.self.now) (admitted_one c.args.id c.args.self.now) c.args.self.now) (grind (arith, common_steps)) (accounted_admitted c.args.id c.args.self.now a) (search rules)
+    keeping (unless_refused (admit_refusal c.args.id c.args.self.now) (admitted_one c.args.id c.args.self.now) c.args.self.now) (grind (arith, common_steps))
+    (accounted_admitted c.args.id c.args.self.now a) (search rules)
 
 pub remove-requires : goal.remove-requires
 remove-requires g c =

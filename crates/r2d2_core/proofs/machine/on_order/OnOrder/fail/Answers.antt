@@ -10,4 +10,5 @@ use Rattle.r2d2_core.proofs.machine.on_order.OnOrder.fail.Goals as goal
 pub invariant_of-self-2 : goal.invariant_of-self-2
 invariant_of-self-2 g c =
     let a : IsAccounted c.args.self.now = subst IsAccounted c.self.view_is c.self.invariant.accounted in
-    keeping (unless_refused (fail_refusal c.args.tries c.args.self.now) (failed_one (as_nanos c.args.now) c.args.tries c.args.self.now) c.args.self.now) (grind (arith, common_steps)) (accounted_failed (as_nanos c.args.now) c.args.tries c.args.self.now a) (search rules)
+    keeping (unless_refused (fail_refusal c.args.tries c.args.self.now) (failed_one (as_nanos c.args.now) c.args.tries c.args.self.now) c.args.self.now)
+    (grind (arith, common_steps)) (accounted_failed (as_nanos c.args.now) c.args.tries c.args.self.now a) (search rules)

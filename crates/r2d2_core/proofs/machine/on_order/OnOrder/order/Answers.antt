@@ -9,4 +9,5 @@ use Rattle.r2d2_core.proofs.machine.on_order.OnOrder.order.Goals as goal
 pub invariant_of-self : goal.invariant_of-self
 invariant_of-self g c =
     let a : IsAccounted c.args.self.now = subst IsAccounted c.self.view_is c.self.invariant.accounted in
-    keeping (with_orders c.args.count (as_nanos c.args.due) c.args.self.now) (grind (arith, common_steps)) (accounted_orders c.args.count (as_nanos c.args.due) c.args.self.now c.requires.room c.requires.still_open a) (search rules)
+    keeping (with_orders c.args.count (as_nanos c.args.due) c.args.self.now) (grind (arith, common_steps))
+    (accounted_orders c.args.count (as_nanos c.args.due) c.args.self.now c.requires.room c.requires.still_open a) (search rules)

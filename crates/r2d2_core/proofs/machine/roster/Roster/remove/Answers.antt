@@ -27,15 +27,18 @@ returns-in-Some-clause-gone g c =
     let id_of = g.X.HasId.id_of in
     let xs = c.self.inside.slots.items in
     let there : HeldAt id_of c.args.id xs c.in-Some.place = rw c.deref.ensures.value at c.in-Some.ensures in
-    let apart : copies_of c.args.id (map id_of (held xs)) ≤ 1 = subst (λ (r : SeenRoster _). copies_of c.args.id (map id_of r.items) ≤ 1) (sym c.self.view_is) c.requires in
-    rw (← c.self.view_is) (c.take_at-gone.ensures.gone c.take_at-gone.result ∙ sym (found-held id_of c.args.id xs c.in-Some.place c.take_at-gone.result apart there.within there.here))
+    let apart : copies_of c.args.id (map id_of (held xs)) ≤ 1 = subst (λ (r : SeenRoster _). copies_of c.args.id (map id_of r.items) ≤ 1)
+    (sym c.self.view_is) c.requires in
+    rw (← c.self.view_is) (c.take_at-gone.ensures.gone c.take_at-gone.result
+    ∙ sym (found-held id_of c.args.id xs c.in-Some.place c.take_at-gone.result apart there.within there.here))
 
 pub returns-in-Some-clause-rest : goal.returns-in-Some-clause-rest
 returns-in-Some-clause-rest g c =
     let id_of = g.X.HasId.id_of in
     let xs = c.self.inside.slots.items in
     let there : HeldAt id_of c.args.id xs c.in-Some.place = rw c.deref.ensures.value at c.in-Some.ensures in
-    let apart : copies_of c.args.id (map id_of (held xs)) ≤ 1 = subst (λ (r : SeenRoster _). copies_of c.args.id (map id_of r.items) ≤ 1) (sym c.self.view_is) c.requires in
+    let apart : copies_of c.args.id (map id_of (held xs)) ≤ 1 = subst (λ (r : SeenRoster _). copies_of c.args.id (map id_of r.items) ≤ 1)
+    (sym c.self.view_is) c.requires in
     let rest : held c.shorten.new.slots.items ≡ held (set xs c.in-Some.place None) = c.shorten.ensures.held ∙ ap held c.take_at-gone.ensures.rest in
     rw (← c.self.view_is) (ap (λ l. roster l c.self.inside.room) (rest ∙ sym (without-held id_of c.args.id xs c.in-Some.place apart there.within there.here)))
 

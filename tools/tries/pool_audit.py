@@ -1,29 +1,19 @@
-#!/usr/bin/env python3
-"""Tries the script `pool-audit` as a person uses it. The last line is `N passed, M failed`; the status is 0 only where nothing
-failed. What the program itself says is tested in its crate."""
+"""The script `pool-audit`, as a person uses it. What the program itself says is tested in its crate."""
 import json
 import os
 import re
 import shutil
 import signal
 import subprocess
-import sys
 import tempfile
 import time
 
-TOP = os.path.dirname(os.path.dirname(os.path.abspath(__file__)))
+from tally import TOP, Tally
+
+TALLY = Tally("pool-audit")
+check = TALLY.check
 SCRIPT = os.path.join(TOP, "pool-audit")
 SAMPLE = os.path.join(TOP, "crates", "pool_audit", "stdin")
-passed = failed = 0
-
-
-def check(what, holds, seen):
-    global passed, failed
-    if holds:
-        passed += 1
-    else:
-        failed += 1
-        print(f"pool-audit, {what}: FAILED with {seen!r}")
 
 
 def runs(what, words, given, status, output, errors=""):
@@ -168,7 +158,7 @@ def try_the_document():
         check(f"the document's {command!r}", done.stdout.decode() == wanted, done.stdout.decode())
 
 
-def main():
+def tried():
     try_an_interrupt()
     # The first run builds the program, where it is missing.
     build = subprocess.run([SCRIPT], input=b"")
@@ -179,9 +169,4 @@ def main():
         try_pictures()
         try_streams()
         try_the_document()
-    print(f"{passed} passed, {failed} failed")
-    return 0 if failed == 0 else 1
-
-
-if __name__ == "__main__":
-    sys.exit(main())
+    return TALLY
