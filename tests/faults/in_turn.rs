@@ -3,7 +3,10 @@
 // again, and refuses another request each time.
 
 use crate::play::{GOOD, Manager, Others, Play, Rows, watched};
-use r2d2::{Builder, ErrorKind, Extension, Extensions, PoolRuntime};
+use r2d2::{
+    Builder, ErrorKind, Extension, Extensions, NopConnectionCustomizer, NopErrorHandler, Pool,
+    PoolRuntime,
+};
 use r2d2_core::reuse::{Move, compare, is_in_order};
 use r2d2_core::run::run;
 use r2d2_core::{LimitSettings, Record, Report, Step};
@@ -184,6 +187,19 @@ fn a_journal(rt: HostRuntime) -> Result<(), Fail> {
     Ok(())
 }
 
+// A pool of one connection, whose events are noted; None where its memory was refused.
+fn pool_of_one<R: PoolRuntime>(
+    rt: R,
+    play: &Arc<Play>,
+) -> Result<Option<Pool<Manager<R>, NopErrorHandler, Others<R>, NopConnectionCustomizer, R>>, Fail> {
+    let built = Builder::new()
+        .max_size(1)
+        .thread_pool(1)
+        .event_handler(Others::new(rt, play)?)
+        .build(rt, Manager::new(rt, play)?);
+    Ok(built.ok())
+}
+
 // What a refused call leaves: the one connection idle, and no event but that it was opened.
 fn is_untouched<R: PoolRuntime + Abort>(
     rt: &R,
@@ -201,13 +217,7 @@ fn an_eviction(rt: HostRuntime) -> Result<(), Fail> {
     let Ok(play) = Play::new(rt.alloc(), GOOD) else {
         return Ok(());
     };
-    let manager = Manager::new(rt, &play)?;
-    let built = Builder::new()
-        .max_size(1)
-        .thread_pool(1)
-        .event_handler(Others::new(rt, &play)?)
-        .build(rt, manager);
-    let Ok(pool) = built else {
+    let Some(pool) = pool_of_one(rt, &play)? else {
         return Ok(());
     };
     let evicted = match pool.evict() {
@@ -226,13 +236,7 @@ fn lending_and_cloning(rt: HostRuntime) -> Result<(), Fail> {
     let Ok(play) = Play::new(rt.alloc(), GOOD) else {
         return Ok(());
     };
-    let manager = Manager::new(rt, &play)?;
-    let built = Builder::new()
-        .max_size(1)
-        .thread_pool(1)
-        .event_handler(Others::new(rt, &play)?)
-        .build(rt, manager);
-    let Ok(pool) = built else {
+    let Some(pool) = pool_of_one(rt, &play)? else {
         return Ok(());
     };
     match pool.try_clone() {

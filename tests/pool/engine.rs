@@ -5,9 +5,25 @@ use crate::managers::{Blammo, Sevens};
 use pairs::{Call, Stage, row};
 use r2d2::engine::{Wakes, open};
 use r2d2::{CustomizeConnection, NopConnectionCustomizer};
+use r2d2_core::{LimitSettings, Limits};
 use std::test::Fail;
+use std::time::Duration;
 
 mod pairs;
+
+/// Limits of a core: no age is limited, and each other length of time is a second.
+pub(crate) fn limits_of(max_size: u32, min_idle: Option<u32>) -> Option<Limits> {
+    let second = Duration::from_secs(1);
+    let limits = LimitSettings {
+        max_size,
+        min_idle,
+        max_lifetime: None,
+        idle_timeout: Some(second),
+        connection_timeout: second,
+        reap_every: second,
+    };
+    limits.limits()
+}
 
 /// Adds two.
 #[derive(Debug, Drop)]

@@ -1,8 +1,9 @@
 // Two books of one story: each call of the engine on the one, and the book's own step on the other.
 
+use super::limits_of;
 use r2d2::engine::{Outcome, Settled, Wakes, give_back, lend, settle, sweep};
 use r2d2_core::journal::Report;
-use r2d2_core::{Book, LimitSettings};
+use r2d2_core::Book;
 use std::alloc::{AllocError, AllocGlobal, Global};
 use std::fmt;
 use std::process::Abort;
@@ -59,17 +60,7 @@ fn compared(
 
 // Room for three connections, one of them wanted idle. One that is idle for a second is expired.
 fn book_at(alloc: Global, stage: Stage) -> Result<Book<u32>, Fail> {
-    let second = Duration::from_secs(1);
-    let limits = LimitSettings {
-        max_size: 3,
-        min_idle: Some(1),
-        max_lifetime: None,
-        idle_timeout: Some(second),
-        connection_timeout: second,
-        reap_every: second,
-    }
-    .limits()
-    .ok_or("limits")?;
+    let limits = limits_of(3, Some(1)).ok_or("limits")?;
     let mut book = Book::new(alloc, limits, Duration::ZERO, 8)?;
     bring(&mut book, stage);
     Ok(book)

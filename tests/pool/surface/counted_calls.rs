@@ -3,9 +3,10 @@ ghost use Rattle.std.specs.Prelude.{◌≡◌, ◌<◌};
 
 use super::pool_uses::lend_twice_and_audit;
 use super::user_types::{Kept, Kind, Numbers, Settings, Silent};
+use crate::engine::limits_of;
 use r2d2::engine::{Counted, Outcome, Settled, lend_counted, open};
 use r2d2::journal::Book;
-use r2d2::machine::{LimitSettings, Limits, Returned, Take};
+use r2d2::machine::{Limits, Returned, Take};
 use r2d2::schedule::Job;
 use r2d2::{
     CountedConnection, CountedPool, NopConnectionCustomizer, NopErrorHandler, NopEventHandler,
@@ -72,17 +73,7 @@ fn calls_of_a_book<R: Abort + AllocGlobal, L: Ledger>(
 
 #[test]
 fn counted_books(rt: HostRuntime) -> Result<(), Fail> {
-    let second = Duration::from_secs(1);
-    let limits = LimitSettings {
-        max_size: 1,
-        min_idle: None,
-        max_lifetime: None,
-        idle_timeout: Some(second),
-        connection_timeout: second,
-        reap_every: second,
-    }
-    .limits()
-    .ok_or("limits")?;
+    let limits = limits_of(1, None).ok_or("limits")?;
     calls_of_a_book::<HostRuntime, Brand>(&rt, limits, Blank::new(1))
 }
 

@@ -1,25 +1,16 @@
 // What a pool does to its book.
 use super::user_types::{Kept, Kind, Numbers, Silent};
+use crate::engine::limits_of;
 use r2d2::engine::{Outcome, Payload, Settled, Wakes, give_back, lend, open, settle, sweep};
 use r2d2::journal::Book;
-use r2d2::machine::{LimitSettings, Returned, Take};
+use r2d2::machine::{Returned, Take};
 use r2d2::schedule::Job;
 use std::alloc::Global;
 use std::test::Fail;
 use std::time::Duration;
 
 fn book(alloc: Global) -> Result<Book<u32>, Fail> {
-    let second = Duration::from_secs(1);
-    let limits = LimitSettings {
-        max_size: 1,
-        min_idle: None,
-        max_lifetime: None,
-        idle_timeout: Some(second),
-        connection_timeout: second,
-        reap_every: second,
-    }
-    .limits()
-    .ok_or("limits")?;
+    let limits = limits_of(1, None).ok_or("limits")?;
     Ok(Book::new(alloc, limits, Duration::ZERO, 8)?)
 }
 
