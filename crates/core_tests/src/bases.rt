@@ -1,6 +1,6 @@
 // The base of a report: what stood before the oldest of its records.
 
-use crate::checks::{book_of, is_replayed, legal, listed, report_of, same, take_all};
+use crate::checks::{book_of, is_replayed, last_report, legal, listed, same, take_all};
 use crate::journal::one_kept;
 use crate::steps::{ms, sized};
 use r2d2_core::{Base, LendingOrder, Report};
@@ -13,7 +13,7 @@ fn report<R: Abort + AllocGlobal>(rt: &R, order: LendingOrder, room: usize) -> R
     let limits = legal(rt, sized(1)).with_order(order);
     let mut book = book_of(rt, limits, room);
     take_all(rt, &mut book, listed(rt, one_kept()));
-    report_of(rt, &book)
+    last_report(rt, book)
 }
 
 // Whether the report replays, as it says itself and by the second reading.

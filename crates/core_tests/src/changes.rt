@@ -1,15 +1,15 @@
 // Each field of a report's base and records, changed by itself: the report replays where a second
 // reading says that it does.
 
-use crate::checks::answered;
+use crate::checks::{book_of, last_report, legal, listed, same, same_at, take_all};
 use crate::replays::{Found, read};
 use crate::steps::{admit, begin, close, limits, number, put_back, reap, take, want};
 use r2d2_core::{
-    Base, Book, Fault, IdList, IdleConnections, LendingOrder, LentConnections, Limits, Record,
+    Base, Fault, IdList, IdleConnections, LendingOrder, LentConnections, Limits, Record,
     RecordList, Report, Step,
 };
 use std::alloc::{AllocError, Allocator, Global};
-use std::test::Fail;
+use std::process::Abort;
 use std::time::Duration;
 
 // Counts down to the change that is made.
@@ -199,10 +199,10 @@ enum Story {
 }
 
 impl Story {
-    fn steps(self, alloc: Global) -> Result<Vec<Step<u64>>, AllocError> {
+    fn steps<R: Abort + AllocGlobal>(self, rt: &R) -> Vec<Step<u64>> {
         match self {
-            Story::ReapedAndClosed => Ok(Vec::from_array(alloc, reaped_and_closed())?),
-            Story::OrderedAndLost => Ok(Vec::from_array(alloc, ordered_and_lost())?),
+            Story::ReapedAndClosed => listed(rt, reaped_and_closed()),
+            Story::OrderedAndLost => listed(rt, ordered_and_lost()),
         }
     }
 
@@ -214,13 +214,10 @@ impl Story {
     }
 
     // What a book of it reports that keeps so many records.
-    fn report(self, alloc: Global, order: LendingOrder, room: usize) -> Result<Report, Fail> {
-        let limits = self.limits().ok_or("limits")?.with_order(order);
-        let mut book = Book::<u64>::new(alloc, limits, Duration::ZERO, room)?;
-        for step in self.steps(alloc)? {
-            answered(alloc, &mut book, step)?;
-        }
-        Ok(book.report()?)
+    fn report<R: Abort + AllocGlobal>(self, rt: &R, order: LendingOrder, room: usize) -> Report {
+        let mut book = book_of(rt, legal(rt, self.limits()).with_order(order), room);
+        take_all(rt, &mut book, self.steps(rt));
+        last_report(rt, book)
     }
 }
 
@@ -258,38 +255,40 @@ struct Tally {
 }
 
 impl Tally {
-    // Makes each change of the story's report by itself, and says which is the first that is judged
+    // Makes each change of the report by itself, and says which is the first that is judged
     // otherwise by the second reading.
-    fn count(
-        &mut self,
-        alloc: Global,
-        story: Story,
-        order: LendingOrder,
-        room: usize,
-    ) -> Result<Option<usize>, Fail> {
-        let made = story.report(alloc, order, room)?;
+    fn count(&mut self, alloc: Global, made: &Report) -> Result<Option<usize>, AllocError> {
         for number in 0..1000 {
-            let Some(report) = changed(alloc, &made, number)? else {
+            let Some(report) = changed(alloc, made, number)? else {
                 return Ok(None);
             };
-            let found = read(alloc, &report)?;
-            let does_replay = found == Found::Sound;
-            if report.replays()? != does_replay || found_first(&report)? != found {
+            if !self.is_judged_alike(alloc, &report)? {
                 return Ok(Some(number));
             }
-            let count = if does_replay {
-                &mut self.replaying
-            } else {
-                &mut self.others
-            };
-            *count = count.saturating_add(1);
         }
         Ok(Some(1000))
+    }
+
+    fn is_judged_alike(&mut self, alloc: Global, report: &Report) -> Result<bool, AllocError> {
+        let found = read(alloc, report)?;
+        let does_replay = found == Found::Sound;
+        let count = if does_replay {
+            &mut self.replaying
+        } else {
+            &mut self.others
+        };
+        *count = count.saturating_add(1);
+        Ok(report.replays()? == does_replay && found_first(report)? == found)
+    }
+
+    fn count_all<R: Abort + AllocGlobal>(&mut self, rt: &R, room: usize, made: &Report) {
+        let unlike = self.count(rt.alloc(), made).expect(rt, "memory");
+        same_at(rt, room, unlike, None);
     }
 }
 
 #[test]
-fn each_change_is_judged_as_by_a_second_reading(rt: HostRuntime) -> Result<(), Fail> {
+fn each_change_is_judged_as_by_a_second_reading(rt: HostRuntime) {
     let mut tally = Tally {
         replaying: 0,
         others: 0,
@@ -297,14 +296,9 @@ fn each_change_is_judged_as_by_a_second_reading(rt: HostRuntime) -> Result<(), F
     for story in [Story::ReapedAndClosed, Story::OrderedAndLost] {
         for order in [LendingOrder::NewestFirst, LendingOrder::OldestFirst] {
             for room in [0usize, 1, 2, 4, 64] {
-                assert_eq!(rt;
-                    tally.count(rt.alloc(), story, order, room)?,
-                    None,
-                    "at {room}"
-                );
+                tally.count_all(&rt, room, &story.report(&rt, order, room));
             }
         }
     }
-    assert_eq!(rt; (tally.replaying, tally.others), (329, 295));
-    Ok(())
+    same(&rt, (tally.replaying, tally.others), (329, 295));
 }

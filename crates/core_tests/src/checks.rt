@@ -1,7 +1,9 @@
 // What the tests call. None of it has a contract, so that a test is proved without those of the
 // core; and each stops the test where it fails.
 
+use crate::makers::{book_in, core_in};
 use crate::replays::replays;
+use linked_list_allocator::LocalHeap;
 use r2d2_core::{Answer, Book, Core, Limits, Report, Step};
 use std::alloc::{AllocError, Allocator, Global};
 use std::fmt::Debug;
@@ -27,12 +29,34 @@ pub(crate) fn legal<R: Abort>(rt: &R, limits: Option<Limits>) -> Limits {
 }
 
 pub(crate) fn core_of<R: Abort + AllocGlobal>(rt: &R, limits: Limits) -> Core<u64> {
-    Core::<u64>::new(rt.alloc(), limits, Duration::ZERO).expect(rt, "a core")
+    core_in(rt.alloc(), limits).expect(rt, "a core")
 }
 
 // A book that keeps so many records.
 pub(crate) fn book_of<R: Abort + AllocGlobal>(rt: &R, limits: Limits, room: usize) -> Book<u64> {
-    Book::<u64>::new(rt.alloc(), limits, Duration::ZERO, room).expect(rt, "a book")
+    book_in(rt.alloc(), limits, Duration::ZERO, room).expect(rt, "a book")
+}
+
+pub(crate) fn heap_of<R: Abort + AllocGlobal>(rt: &R, size: usize) -> LocalHeap {
+    LocalHeap::new(rt.alloc(), size).expect(rt, "a heap")
+}
+
+pub(crate) fn is_made<T: Drop>(made: Result<T, AllocError>) -> bool {
+    made.is_ok()
+}
+
+// What is left of the heap, but for so many bytes.
+pub(crate) fn rest_of<'a, R: Abort>(
+    rt: &R,
+    heap: &'a LocalHeap,
+    spared: usize,
+) -> Vec<u8, &'a LocalHeap> {
+    Vec::with_capacity(heap, heap.free().saturating_sub(spared)).expect(rt, "the rest")
+}
+
+// What the book reports at last.
+pub(crate) fn last_report<R: Abort>(rt: &R, book: Book<u64>) -> Report {
+    report_of(rt, &book)
 }
 
 pub(crate) fn listed<R: Abort + AllocGlobal, const N: usize>(

@@ -2,26 +2,29 @@
 
 use crate::checks::{book_of, core_of, legal, same};
 use crate::steps::{ms, sized};
-use r2d2_core::{Book, Core};
+use r2d2_core::Core;
 use std::process::Abort;
 
-fn are_closed(core: &Core<u64>, book: &Book<u64>) -> (bool, bool) {
-    (core.is_closed(), book.is_closed())
+// Whether a core says before a close that it is closed, and after it.
+fn is_a_core_closed<R: Abort + AllocGlobal>(rt: &R) -> (bool, bool) {
+    let mut core = core_of(rt, legal(rt, sized(1)));
+    let before = core.is_closed();
+    core.close();
+    (before, core.is_closed())
 }
 
-fn close_both(core: &mut Core<u64>, book: &mut Book<u64>) {
-    core.close();
+// The same of a book.
+fn is_a_book_closed<R: Abort + AllocGlobal>(rt: &R) -> (bool, bool) {
+    let mut book = book_of(rt, legal(rt, sized(1)), 1);
+    let before = book.is_closed();
     book.close();
+    (before, book.is_closed())
 }
 
 #[test]
 fn says_that_it_is_closed(rt: HostRuntime) {
-    let limits = legal(&rt, sized(1));
-    let mut core = core_of(&rt, limits);
-    let mut book = book_of(&rt, limits, 1);
-    same(&rt, are_closed(&core, &book), (false, false));
-    close_both(&mut core, &mut book);
-    same(&rt, are_closed(&core, &book), (true, true));
+    same(&rt, is_a_core_closed(&rt), (false, true));
+    same(&rt, is_a_book_closed(&rt), (false, true));
 }
 
 // Opens a connection, and says its id.

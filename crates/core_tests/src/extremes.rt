@@ -3,6 +3,7 @@
 
 use crate::checks::{legal, listed, same};
 use crate::machine::{Machine, lines_of};
+use crate::makers::{book_from_id_in, core_from_id_in};
 use crate::steps::{admit, begin, fail, ms, number, put_back, sized, take};
 use pool_lines::program::line::Line;
 use r2d2_core::run::run;
@@ -35,16 +36,24 @@ fn lines(alloc: Global, steps: Vec<Step<u64>>) -> Result<Vec<Line>, AllocError> 
     Ok(lines)
 }
 
+fn told_by<R: Abort + AllocGlobal, M: Machine + Drop>(
+    rt: &R,
+    machine: M,
+    steps: Vec<Step<u64>>,
+) -> Vec<u8> {
+    let mut machine = machine;
+    let lines = lines(rt.alloc(), steps).expect(rt, "lines");
+    lines_of(rt.alloc(), &mut machine, lines).expect(rt, "answers")
+}
+
 fn by_a_core<R: Abort + AllocGlobal>(
     rt: &R,
     limits: Limits,
     first_id: u64,
     steps: Vec<Step<u64>>,
 ) -> Vec<u8> {
-    let core = Core::<u64>::with_first_id(rt.alloc(), limits, Duration::ZERO, first_id);
-    let mut core = core.expect(rt, "a core");
-    let lines = lines(rt.alloc(), steps).expect(rt, "lines");
-    lines_of(rt.alloc(), &mut core, lines).expect(rt, "answers")
+    let core = core_from_id_in(rt.alloc(), limits, first_id);
+    told_by(rt, core.expect(rt, "a core"), steps)
 }
 
 fn by_a_book<R: Abort + AllocGlobal>(
@@ -53,10 +62,8 @@ fn by_a_book<R: Abort + AllocGlobal>(
     first_id: u64,
     steps: Vec<Step<u64>>,
 ) -> Vec<u8> {
-    let book = Book::<u64>::with_first_id(rt.alloc(), limits, Duration::ZERO, first_id, 0);
-    let mut book = book.expect(rt, "a book");
-    let lines = lines(rt.alloc(), steps).expect(rt, "lines");
-    lines_of(rt.alloc(), &mut book, lines).expect(rt, "answers")
+    let book = book_from_id_in(rt.alloc(), limits, first_id, 0);
+    told_by(rt, book.expect(rt, "a book"), steps)
 }
 
 // A core and a book of those limits, whose ids begin at the first one, answer the steps so.

@@ -1,7 +1,8 @@
 // The greatest pool that a heap has room for.
 
-use crate::checks::{legal, same};
+use crate::checks::{heap_of, is_made, legal, same};
 use crate::machine::Machine;
+use crate::makers::core_in;
 use crate::steps::{ms, sized};
 use linked_list_allocator::LocalHeap;
 use r2d2_core::{Core, Take};
@@ -9,14 +10,10 @@ use std::process::Abort;
 
 const MEBIBYTE: usize = 1 << 20;
 
-fn heap<R: Abort + AllocGlobal>(rt: &R) -> LocalHeap {
-    LocalHeap::new(rt.alloc(), MEBIBYTE).expect(rt, "a heap")
-}
-
 // Whether a heap of 1 MiB has room for a core of that size.
 fn has_room<R: Abort + AllocGlobal>(rt: &R, size: u32) -> bool {
-    let heap = heap(rt);
-    Core::<u64, &LocalHeap>::new(&heap, legal(rt, sized(size)), ms(0)).is_ok()
+    let heap = heap_of(rt, MEBIBYTE);
+    is_made(core_in(&heap, legal(rt, sized(size))))
 }
 
 // The greatest `max_size` for which there is room, one binary digit after the other. A connection
@@ -64,9 +61,8 @@ fn the_greatest_pool_of_a_heap(rt: HostRuntime) {
     assert!(rt; greatest > 1000, "{greatest}");
     assert!(rt; !has_room(&rt, greatest.saturating_add(1)));
 
-    let heap = heap(&rt);
-    let core = Core::<u64, &LocalHeap>::new(&heap, legal(&rt, sized(greatest)), ms(0));
-    let mut core = core.expect(&rt, "a core");
+    let heap = heap_of(&rt, MEBIBYTE);
+    let mut core = core_in(&heap, legal(&rt, sized(greatest))).expect(&rt, "a core");
     open_all(&mut core, greatest);
     same(&rt, take_all(&mut core, greatest), greatest);
     same(&rt, core.state(), (greatest, 0, 0));

@@ -1,10 +1,14 @@
 // The journal of a book, and what it reports.
 
-use crate::checks::{book_of, is_replayed, legal, listed, report_of, same, same_at, take_all};
+use crate::checks::{
+    book_of, heap_of, is_made, is_replayed, last_report, legal, listed, rest_of, same, same_at,
+    take_all,
+};
+use crate::makers::{book_from_id_in, book_in, report_in};
 use crate::steps::{admit, begin, close, limits, ms, number, put_back, reap, sized, take, want};
 use linked_list_allocator::LocalHeap;
 use r2d2_core::{Book, IdList, Limits, Record, RecordList, Report, Step};
-use std::alloc::Global;
+use std::alloc::Allocator;
 use std::process::Abort;
 use std::time::Duration;
 
@@ -23,7 +27,7 @@ pub(crate) fn one_kept() -> [Step<u64>; 5] {
 fn report_of_one_kept<R: Abort + AllocGlobal>(rt: &R, room: usize) -> Report {
     let mut book = book_of(rt, legal(rt, sized(1)), room);
     take_all(rt, &mut book, listed(rt, one_kept()));
-    report_of(rt, &book)
+    last_report(rt, book)
 }
 
 #[test]
@@ -77,7 +81,7 @@ fn counts<R: Abort + AllocGlobal>(rt: &R, report: &Report) -> (u32, u32, bool, b
 
 #[test]
 fn reports_what_a_reap_did(rt: HostRuntime) {
-    let report = report_of(&rt, &two_reaped(&rt));
+    let report = last_report(&rt, two_reaped(&rt));
     let all = [
         Record::Admitted { at: ms(0), id: 0 },
         Record::Admitted { at: ms(0), id: 1 },
@@ -91,11 +95,15 @@ fn reports_what_a_reap_did(rt: HostRuntime) {
     same(&rt, counts(&rt, &report), (0, 2, false, true));
 }
 
+// What the book reports when it is closed, and closed again.
+fn closed_twice<R: Abort + AllocGlobal>(rt: &R, mut book: Book<u64>) -> Report {
+    take_all(rt, &mut book, listed(rt, [close(), close()]));
+    last_report(rt, book)
+}
+
 #[test]
 fn reports_what_a_close_did(rt: HostRuntime) {
-    let mut book = two_reaped(&rt);
-    take_all(&rt, &mut book, listed(&rt, [close(), close()]));
-    let report = report_of(&rt, &book);
+    let report = closed_twice(&rt, two_reaped(&rt));
     let last = Record::ClosedAll { at: ms(1001) };
     same(&rt, report.records.as_slice().len(), 4);
     same(&rt, report.records.as_slice().last(), Some(&last));
@@ -122,31 +130,26 @@ fn finds_a_report_that_does_not_replay(rt: HostRuntime) {
     assert!(rt; !is_replayed(&rt, &report));
 }
 
-fn heap<R: Abort + AllocGlobal>(rt: &R) -> LocalHeap {
-    LocalHeap::new(rt.alloc(), 8192).expect(rt, "a heap")
-}
-
 // A book with all that it left of its heap.
 fn beside_all<'a, R: Abort>(
     rt: &R,
     heap: &'a LocalHeap,
     limits: Limits,
 ) -> (Book<u64, &'a LocalHeap>, Vec<u8, &'a LocalHeap>) {
-    let book = Book::<u64, &LocalHeap>::new(heap, limits, Duration::ZERO, 16).expect(rt, "a book");
-    let rest = Vec::<u8, &LocalHeap>::with_capacity(heap, heap.free()).expect(rt, "the rest");
-    (book, rest)
+    let book = book_in(heap, limits, Duration::ZERO, 16).expect(rt, "a book");
+    (book, rest_of(rt, heap, 0))
 }
 
 // What the book reports in other memory, where it can't be in its own.
 fn report_elsewhere<R: Abort + AllocGlobal>(rt: &R, book: &Book<u64, &LocalHeap>) -> Report {
     assert!(rt; book.report().is_err());
-    book.report_in(rt.alloc()).expect(rt, "a report")
+    report_in(book, rt.alloc()).expect(rt, "a report")
 }
 
 // Where the heap has no more room, a report is refused; with other memory it is made.
 #[test]
 fn a_report_takes_memory(rt: HostRuntime) {
-    let heap = heap(&rt);
+    let heap = heap_of(&rt, 8192);
     let (mut book, _rest) = beside_all(&rt, &heap, legal(&rt, sized(1)));
     take_all(&rt, &mut book, listed(&rt, one_kept()));
     let report = report_elsewhere(&rt, &book);
@@ -154,16 +157,8 @@ fn a_report_takes_memory(rt: HostRuntime) {
     assert!(rt; is_replayed(&rt, &report));
 }
 
-fn is_refused(alloc: Global, limits: Limits, room: usize) -> bool {
-    Book::<u64>::new(alloc, limits, Duration::ZERO, room).is_err()
-}
-
-fn is_refused_on(heap: &LocalHeap, limits: Limits, room: usize) -> bool {
-    Book::<u64, &LocalHeap>::new(heap, limits, Duration::ZERO, room).is_err()
-}
-
-fn is_made_from_an_id_on(heap: &LocalHeap, limits: Limits) -> bool {
-    Book::<u64, &LocalHeap>::with_first_id(heap, limits, Duration::ZERO, 5, 0).is_ok()
+fn is_refused<A: Allocator + Copy>(alloc: A, limits: Limits, room: usize) -> bool {
+    !is_made(book_in(alloc, limits, Duration::ZERO, room))
 }
 
 #[test]
@@ -172,8 +167,8 @@ fn a_huge_room_is_refused_at_the_making(rt: HostRuntime) {
     for room in [usize::MAX, 1 << 60, 1 << 50] {
         assert!(rt; is_refused(rt.alloc(), limits, room), "at {room}");
     }
-    let heap = heap(&rt);
-    assert!(rt; is_refused_on(&heap, limits, 1000));
+    let heap = heap_of(&rt, 8192);
+    assert!(rt; is_refused(&heap, limits, 1000));
     same(&rt, heap.used(), 0);
-    assert!(rt; is_made_from_an_id_on(&heap, limits));
+    assert!(rt; is_made(book_from_id_in(&heap, limits, 5, 0)));
 }

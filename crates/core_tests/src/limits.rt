@@ -37,18 +37,19 @@ fn wants_all_idle_where_no_number_is_given(rt: HostRuntime) {
     same(&rt, longest(limits), (None, None));
 }
 
-// The limits that a core says, and a book.
-fn kept<R: Abort + AllocGlobal>(rt: &R, limits: Limits) -> [Limits; 2] {
-    [
-        core_of(rt, limits).limits(),
-        book_of(rt, limits, 1).limits(),
-    ]
+fn kept_by_a_core<R: Abort + AllocGlobal>(rt: &R, limits: Limits) -> Limits {
+    core_of(rt, limits).limits()
+}
+
+fn kept_by_a_book<R: Abort + AllocGlobal>(rt: &R, limits: Limits) -> Limits {
+    book_of(rt, limits, 1).limits()
 }
 
 #[test]
 fn a_core_and_a_book_keep_their_limits(rt: HostRuntime) {
     let limits = legal(&rt, limits(5, Some(2), None, None, 700, 30));
-    for kept in kept(&rt, limits.with_order(LendingOrder::OldestFirst)) {
+    let limits = limits.with_order(LendingOrder::OldestFirst);
+    for kept in [kept_by_a_core(&rt, limits), kept_by_a_book(&rt, limits)] {
         same(&rt, sizes(kept), (5, Some(2), 2));
         same(&rt, waits(kept), (ms(700), ms(30)));
         same(&rt, kept.order(), LendingOrder::OldestFirst);

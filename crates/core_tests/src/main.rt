@@ -23,6 +23,7 @@ mod journal;
 #[cfg(test)]
 mod limits;
 mod machine;
+mod makers;
 #[cfg(test)]
 mod memory;
 #[cfg(test)]
@@ -44,6 +45,7 @@ mod steps;
 #[cfg(test)]
 mod turning;
 
+use pool_lines::program::Fault;
 use std::alloc::{AllocError, Global};
 use std::process::ExitCode;
 use std::rt::Files;
@@ -67,13 +69,18 @@ fn main(rt: HostRuntime) -> Result<ExitCode, anyhow::Error> {
 fn names<R: Files + AllocGlobal + Clone + Drop>(rt: &R) -> io::Result<Vec<String>> {
     let mut names = Vec::new(rt.alloc());
     for entry in fs::read_dir(rt, ".")? {
-        let entry = entry?;
-        if let Some(name) = entry.file_name().strip_suffix(".steps") {
-            names.push(String::from_str(rt.alloc(), name)?)?;
-        }
+        add_row(rt.alloc(), &mut names, entry?.file_name())?;
     }
     names.sort()?;
     Ok(names)
+}
+
+// Adds the name of a row, where the file is a script.
+fn add_row(alloc: Global, names: &mut Vec<String>, file: &str) -> Result<(), AllocError> {
+    if let Some(name) = file.strip_suffix(".steps") {
+        names.push(String::from_str(alloc, name)?)?;
+    }
+    Ok(())
 }
 
 // The lines of a script, without those that are empty or begin with `#`.
@@ -90,15 +97,24 @@ fn without_comments(alloc: Global, file: &str) -> Result<String, AllocError> {
 
 // What is wrong with the row of this name, if anything is.
 fn fault_of<R: Files + AllocGlobal>(rt: &R, name: &str) -> io::Result<Option<String>> {
-    let alloc = rt.alloc();
-    let file = fs::read_to_string(rt, format!(in alloc; "{name}.steps")?)?;
-    let script = without_comments(alloc, file.as_str())?;
-    let answers = fs::read_to_string(rt, format!(in alloc; "{name}.answers")?)?;
-    Ok(
-        match rows::who_differs(alloc, script.as_str(), answers.as_str()) {
-            Ok(None) => None,
-            Ok(Some(who)) => Some(format!(in alloc; "{who} answers otherwise")?),
-            Err(fault) => Some(format!(in alloc; "{fault}")?),
-        },
-    )
+    let script = script_of(rt, name)?;
+    let answers = fs::read_to_string(rt, format!(in rt.alloc(); "{name}.answers")?)?;
+    let who = rows::who_differs(rt.alloc(), script.as_str(), answers.as_str());
+    Ok(told(rt.alloc(), who)?)
+}
+
+fn script_of<R: Files + AllocGlobal>(rt: &R, name: &str) -> io::Result<String> {
+    let file = fs::read_to_string(rt, format!(in rt.alloc(); "{name}.steps")?)?;
+    Ok(without_comments(rt.alloc(), file.as_str())?)
+}
+
+fn told(
+    alloc: Global,
+    who: Result<Option<&'static str>, Fault>,
+) -> Result<Option<String>, AllocError> {
+    Ok(match who {
+        Ok(None) => None,
+        Ok(Some(who)) => Some(format!(in alloc; "{who} answers otherwise")?),
+        Err(fault) => Some(format!(in alloc; "{fault}")?),
+    })
 }

@@ -1,41 +1,30 @@
 // Memory is taken at the making alone. That no step takes any is shown by the rows, each of which
 // is answered on a full heap too.
 
-use crate::checks::{legal, same};
+use crate::checks::{heap_of, is_made, legal, rest_of, same};
+use crate::makers::core_in;
 use crate::steps::limits;
-use linked_list_allocator::LocalHeap;
-use r2d2_core::{Core, Limits};
+use r2d2_core::Limits;
 use std::process::Abort;
-use std::time::Duration;
 
 fn small<R: Abort>(rt: &R) -> Limits {
     legal(rt, limits(2, None, None, Some(1000), 30_000, 30_000))
 }
 
-fn heap<R: Abort + AllocGlobal>(rt: &R, size: usize) -> LocalHeap {
-    LocalHeap::new(rt.alloc(), size).expect(rt, "a heap")
-}
-
-fn is_made(heap: &LocalHeap, limits: Limits) -> bool {
-    Core::<u64, &LocalHeap>::new(heap, limits, Duration::ZERO).is_ok()
-}
-
 // A core, and all that it left of the heap; so there is no room for another core.
 #[test]
 fn a_heap_can_be_full(rt: HostRuntime) {
-    let heap = heap(&rt, 4096);
-    let core = Core::<u64, &LocalHeap>::new(&heap, small(&rt), Duration::ZERO);
-    let _core = core.expect(&rt, "a core");
-    let rest = Vec::<u8, &LocalHeap>::with_capacity(&heap, heap.free());
-    let _rest = rest.expect(&rt, "the rest");
+    let heap = heap_of(&rt, 4096);
+    let _core = core_in(&heap, small(&rt)).expect(&rt, "a core");
+    let _rest = rest_of(&rt, &heap, 0);
     same(&rt, heap.free(), 0);
-    assert!(rt; !is_made(&heap, small(&rt)));
+    assert!(rt; !is_made(core_in(&heap, small(&rt))));
 }
 
 // Whether a heap of so many bytes is large enough for a core, which gives all of them back.
 fn is_made_in<R: Abort + AllocGlobal>(rt: &R, size: usize) -> bool {
-    let heap = heap(rt, size);
-    let is_made = is_made(&heap, small(rt));
+    let heap = heap_of(rt, size);
+    let is_made = is_made(core_in(&heap, small(rt)));
     same(rt, heap.used(), 0);
     is_made
 }

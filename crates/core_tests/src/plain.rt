@@ -79,8 +79,8 @@ impl Past {
 
 /// An idle connection.
 #[derive(Clone, Copy)]
-pub(crate) struct Idle {
-    pub(crate) id: u64,
+struct Idle {
+    id: u64,
     birth: Duration,
     since: Duration,
     value: u64,
@@ -160,8 +160,8 @@ impl History {
         }
     }
 
-    /// The idle ones, in the order in which they came to be idle.
-    pub(crate) fn idle(&self, alloc: Global) -> Result<Vec<Idle>, AllocError> {
+    // The idle ones, in the order in which they came to be idle.
+    fn idle(&self, alloc: Global) -> Result<Vec<Idle>, AllocError> {
         let mut list = Vec::new(alloc);
         for (place, past) in self.past.iter().enumerate() {
             let Some(id) = past.id() else {
@@ -180,6 +180,11 @@ impl History {
             }
         }
         Ok(list)
+    }
+
+    /// The ids of the idle ones, in that order.
+    pub(crate) fn idle_ids(&self, alloc: Global) -> Result<Vec<u64>, AllocError> {
+        self.idle(alloc)?.iter().map(|one| one.id).collect(alloc)
     }
 
     // The idle one that is lent next.

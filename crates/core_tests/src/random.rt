@@ -1,8 +1,9 @@
 // Steps at random, from fixed seeds: what `run` and a book answer is what the plain reading
 // answers, what a book shows is what it shows, and each report replays.
 
-use crate::checks::{answered, legal};
+use crate::checks::{answered, heap_of, legal, rest_of, same, same_at};
 use crate::drafts::{Draft, limits, next_draft};
+use crate::makers::{book_in, report_in};
 use crate::plain::History;
 use crate::replays::replays;
 use crate::said::Said;
@@ -15,7 +16,7 @@ use std::alloc::{AllocError, Allocator, Global};
 use std::process::Abort;
 use std::time::Duration;
 
-const HISTORIES: u64 = 2500;
+const HISTORIES: usize = 2500;
 
 const STEPS: usize = 40;
 
@@ -92,97 +93,127 @@ fn does_replay(alloc: Global, report: &Report) -> Result<bool, AllocError> {
     Ok(report.replays()? && replays(alloc, report)?)
 }
 
+// Whether the same ones are idle, and the same ones lent.
+fn has_ids(alloc: Global, history: &History, report: &Report) -> Result<bool, AllocError> {
+    let idle = history.idle_ids(alloc)?;
+    let lent = history.lent_ids(alloc)?;
+    Ok(report.idle.as_slice() == idle.as_slice() && report.lent.as_slice() == lent.as_slice())
+}
+
+fn has_counts(history: &History, report: &Report) -> bool {
+    report.connections as usize == history.connections()
+        && report.pending as usize == history.pending()
+        && report.closed == history.is_closed()
+}
+
 // Whether the book shows what the plain reading shows, and its report replays.
 fn shows(alloc: Global, history: &History, book: &Book<u64>) -> Result<bool, AllocError> {
-    let report = book.report()?;
-    let idle = history.idle(alloc)?;
-    let lent = history.lent_ids(alloc)?;
-    let ids = report.idle.as_slice();
-    let are_idle = ids.len() == idle.len()
-        && ids.iter().zip(idle.iter()).all(|(id, one)| *id == one.id);
+    let report = report_in(book, alloc)?;
     Ok(
-        are_idle
-            && report.lent.as_slice() == lent.as_slice()
-            && report.connections as usize == history.connections()
-            && report.pending as usize == history.pending()
-            && report.closed == history.is_closed()
+        has_ids(alloc, history, &report)?
+            && has_counts(history, &report)
             && report.lost == 0
             && does_replay(alloc, &report)?,
     )
 }
 
-fn story_of<R: Abort + AllocGlobal>(rt: &R, seed: u64, made: Duration) -> Story {
-    let mut rng = Pcg32::seed_from_u64(seed);
+// A book of the story in that memory, with room for so many records.
+fn book_of_story<R: Abort, A: Allocator + Copy>(
+    rt: &R,
+    alloc: A,
+    story: &Story,
+    room: usize,
+) -> Book<u64, A> {
+    book_in(alloc, story.limits, story.made, room).expect(rt, "a book")
+}
+
+// The story of that seed, of a pool that is made so many milliseconds after zero.
+fn story_of<R: Abort + AllocGlobal>(rt: &R, seed: usize, made: usize) -> Story {
+    let mut rng = Pcg32::seed_from_u64(seed as u64);
+    let made = Duration::from_millis(made as u64);
     let limits = legal(rt, limits(&mut rng));
     made_up(rt.alloc(), &mut rng, limits, made).expect(rt, "a story")
 }
 
 // Both answer as the plain reading, at each step.
-fn both_answer<R: Abort + AllocGlobal>(rt: &R, seed: u64, story: &Story) {
-    let unlike = first_unlike_by_run(rt.alloc(), story).expect(rt, "answers");
-    assert_eq!(rt; unlike, None, "by run, of {seed}");
-    let book = Book::<u64>::new(rt.alloc(), story.limits, story.made, STEPS);
-    let mut book = book.expect(rt, "a book");
-    let unlike = first_unlike_by_book(rt.alloc(), story, &mut book).expect(rt, "answers");
-    assert_eq!(rt; unlike, None, "by a book, of {seed}");
-    assert!(rt;
-        shows(rt.alloc(), &story.history, &book).expect(rt, "a report"),
-        "of {seed}"
-    );
+fn both_answer<R: Abort + AllocGlobal>(rt: &R, seed: usize, story: &Story) {
+    run_answers(rt, seed, story);
+    let mut book = book_of_story(rt, rt.alloc(), story, STEPS);
+    book_answers(rt, seed, story, &mut book);
+    book_shows(rt, seed, story, &book);
+}
+
+fn run_answers<R: Abort + AllocGlobal>(rt: &R, seed: usize, story: &Story) {
+    let unlike = first_unlike_by_run(rt.alloc(), story);
+    same_at(rt, seed, unlike.expect(rt, "answers"), None);
+}
+
+fn book_answers<R: Abort + AllocGlobal, A: Allocator>(
+    rt: &R,
+    seed: usize,
+    story: &Story,
+    book: &mut Book<u64, A>,
+) {
+    let unlike = first_unlike_by_book(rt.alloc(), story, book);
+    same_at(rt, seed, unlike.expect(rt, "answers"), None);
+}
+
+fn book_shows<R: Abort + AllocGlobal>(rt: &R, seed: usize, story: &Story, book: &Book<u64>) {
+    let is_shown = shows(rt.alloc(), &story.history, book);
+    same_at(rt, seed, is_shown.expect(rt, "a report"), true);
 }
 
 #[test]
 fn a_hundred_thousand_steps(rt: HostRuntime) {
     for seed in 0..HISTORIES {
-        let story = story_of(&rt, seed, Duration::from_millis(seed));
-        both_answer(&rt, seed, &story);
+        both_answer(&rt, seed, &story_of(&rt, seed, seed));
     }
 }
 
 // Takes a step by the book: whether its report replays then.
 fn replays_after(alloc: Global, book: &mut Book<u64>, draft: &Draft) -> Result<bool, AllocError> {
     answered(alloc, book, draft.step(alloc)?)?;
-    does_replay(alloc, &book.report()?)
+    does_replay(alloc, &report_in(book, alloc)?)
 }
 
-// Whether each report replays that a book with room for so many records makes, step by step.
-fn replays_at_each_step(alloc: Global, story: &Story, room: usize) -> Result<bool, AllocError> {
-    let mut book = Book::new(alloc, story.limits, story.made, room)?;
-    for draft in story.drafts.iter() {
-        if !replays_after(alloc, &mut book, draft)? {
-            return Ok(false);
-        }
+// Each report replays that the book makes, step by step.
+fn replays_at_each_step<R: Abort + AllocGlobal>(rt: &R, story: &Story, book: &mut Book<u64>) {
+    for (place, draft) in story.drafts.iter().enumerate() {
+        let does_replay = replays_after(rt.alloc(), book, draft);
+        same_at(rt, place, does_replay.expect(rt, "a report"), true);
     }
-    Ok(true)
 }
 
 #[test]
 fn each_report_replays_whatever_was_dropped(rt: HostRuntime) {
     for seed in 0..200 {
-        let story = story_of(&rt, seed, Duration::from_millis(seed));
+        let story = story_of(&rt, seed, seed);
         for room in [0usize, 1, 7, 64] {
-            let does_replay = replays_at_each_step(rt.alloc(), &story, room);
-            assert!(rt; does_replay.expect(&rt, "reports"), "{seed} at {room}");
+            replays_at_each_step(
+                &rt,
+                &story,
+                &mut book_of_story(&rt, rt.alloc(), &story, room),
+            );
         }
     }
 }
 
 // A book that has no more memory answers as the plain reading, at each step.
-fn a_full_book_answers<R: Abort + AllocGlobal>(rt: &R, seed: u64, story: &Story) {
-    let heap = LocalHeap::new(rt.alloc(), 1 << 14).expect(rt, "a heap");
-    let book = Book::<u64, &LocalHeap>::new(&heap, story.limits, story.made, STEPS);
-    let mut book = book.expect(rt, "a book");
-    let rest = Vec::<u8, &LocalHeap>::with_capacity(&heap, heap.free());
-    let _rest = rest.expect(rt, "the rest");
-    assert_eq!(rt; heap.free(), 0);
-    let unlike = first_unlike_by_book(rt.alloc(), story, &mut book).expect(rt, "answers");
-    assert_eq!(rt; unlike, None, "of {seed}");
+fn a_full_book_answers<R: Abort + AllocGlobal>(
+    rt: &R,
+    seed: usize,
+    story: &Story,
+    heap: &LocalHeap,
+) {
+    let mut book = book_of_story(rt, heap, story, STEPS);
+    let _rest = rest_of(rt, heap, 0);
+    same(rt, heap.free(), 0);
+    book_answers(rt, seed, story, &mut book);
 }
 
 #[test]
 fn a_book_needs_no_memory_after_its_making(rt: HostRuntime) {
     for seed in 0..50 {
-        let story = story_of(&rt, seed, Duration::ZERO);
-        a_full_book_answers(&rt, seed, &story);
+        a_full_book_answers(&rt, seed, &story_of(&rt, seed, 0), &heap_of(&rt, 1 << 14));
     }
 }

@@ -1,11 +1,12 @@
 // Each request for memory refused in turn: on heaps that grow, until one is large enough.
 
-use crate::checks::{book_of, legal, report_of, same, same_at};
+use crate::checks::{book_of, heap_of, is_made, legal, report_of, rest_of, same, same_at};
+use crate::makers::{book_from_id_in, book_in, core_from_id_in, core_in, report_in};
 use crate::steps::{limits, ms};
 use linked_list_allocator::LocalHeap;
 use r2d2_core::schedule::Schedule;
-use r2d2_core::{Book, Core, Limits, Report};
-use std::alloc::Allocator;
+use r2d2_core::{Book, Limits, Report};
+use std::alloc::{AllocError, Allocator};
 use std::process::Abort;
 use std::time::Duration;
 
@@ -26,34 +27,21 @@ fn small<R: Abort>(rt: &R) -> Limits {
     legal(rt, limits(2, None, None, Some(1000), 30_000, 30_000))
 }
 
-fn heap<R: Abort + AllocGlobal>(rt: &R, size: usize) -> LocalHeap {
-    LocalHeap::new(rt.alloc(), size).expect(rt, "a heap")
-}
-
-// Whether there is room to make it on the heap.
-fn is_made_on(heap: &LocalHeap, maker: Maker, limits: Limits) -> bool {
-    let now = Duration::ZERO;
+// Whether there is room to make it in the memory.
+fn has_room<A: Allocator + Copy>(alloc: A, maker: Maker, limits: Limits) -> bool {
     match maker {
-        Maker::Schedule => Schedule::new(heap, limits, now).is_ok(),
-        Maker::Core => Core::<u64, &LocalHeap>::new(heap, limits, now).is_ok(),
-        Maker::CoreFromId => Core::<u64, &LocalHeap>::with_first_id(heap, limits, now, 9).is_ok(),
-        Maker::Book => is_a_book_made_on(heap, limits),
-        Maker::BookFromId => is_a_book_made_from_an_id(heap, limits),
+        Maker::Schedule => is_made(Schedule::new(alloc, limits, Duration::ZERO)),
+        Maker::Core => is_made(core_in(alloc, limits)),
+        Maker::CoreFromId => is_made(core_from_id_in(alloc, limits, 9)),
+        Maker::Book => is_made(book_in(alloc, limits, Duration::ZERO, 8)),
+        Maker::BookFromId => is_made(book_from_id_in(alloc, limits, 9, 8)),
     }
-}
-
-fn is_a_book_made_on(heap: &LocalHeap, limits: Limits) -> bool {
-    Book::<u64, &LocalHeap>::new(heap, limits, Duration::ZERO, 8).is_ok()
-}
-
-fn is_a_book_made_from_an_id(heap: &LocalHeap, limits: Limits) -> bool {
-    Book::<u64, &LocalHeap>::with_first_id(heap, limits, Duration::ZERO, 9, 8).is_ok()
 }
 
 // Whether there was room to make it in so many bytes, and how many are in use when it is gone.
 fn made_in<R: Abort + AllocGlobal>(rt: &R, maker: Maker, size: usize) -> (bool, usize) {
-    let heap = heap(rt, size);
-    let is_made = is_made_on(&heap, maker, small(rt));
+    let heap = heap_of(rt, size);
+    let is_made = has_room(&heap, maker, small(rt));
     (is_made, heap.used())
 }
 
@@ -132,8 +120,8 @@ fn is_reported_in<R: Abort + AllocGlobal>(
     before: &Report,
     part: usize,
 ) -> bool {
-    let heap = heap(rt, part.saturating_mul(16));
-    match book.report_in(&heap) {
+    let heap = heap_of(rt, part.saturating_mul(16));
+    match report_in(book, &heap) {
         Ok(report) => {
             assert!(rt; are_the_same(&report, before), "at {part}");
             true
@@ -143,6 +131,10 @@ fn is_reported_in<R: Abort + AllocGlobal>(
             false
         }
     }
+}
+
+fn is_unchanged<R: Abort>(rt: &R, book: &Book<u64>, before: &Report) -> bool {
+    are_the_same(&report_of(rt, book), before)
 }
 
 fn lengths(report: &Report) -> (usize, usize, usize) {
@@ -164,27 +156,33 @@ fn a_report_that_is_refused_changes_nothing(rt: HostRuntime) {
             same_at(&rt, part, refused_until, part - 1);
             refused_until = part;
         }
-        assert!(rt; are_the_same(&report_of(&rt, &book), &before), "at {part}");
+        assert!(rt; is_unchanged(&rt, &book, &before), "at {part}");
     }
     is_refused_up_to(&rt, refused_until);
+}
+
+// Whether the report replays where so many bytes are left of its heap.
+fn replays_with<R: Abort>(
+    rt: &R,
+    heap: &LocalHeap,
+    report: &Report<&LocalHeap>,
+    left: usize,
+) -> Result<bool, AllocError> {
+    let _rest = rest_of(rt, heap, left);
+    report.replays()
 }
 
 // Whether a report has room to replay where so many bytes are left beside it. Then it does replay,
 // and leaves nothing.
 fn is_replayed_in<R: Abort + AllocGlobal>(rt: &R, book: &Book<u64>, part: usize) -> bool {
-    let heap = heap(rt, 8192);
-    let report = book.report_in(&heap).expect(rt, "a report");
-    let rest = Vec::<u8, &LocalHeap>::with_capacity(
-        &heap,
-        heap.free().saturating_sub(part.saturating_mul(16)),
-    );
-    let _rest = rest.expect(rt, "the rest");
+    let heap = heap_of(rt, 8192);
+    let report = report_in(book, &heap).expect(rt, "a report");
     let used = heap.used();
-    let does_replay = report.replays();
+    let does_replay = replays_with(rt, &heap, &report, part.saturating_mul(16));
     same_at(rt, part, heap.used(), used);
     match does_replay {
         Ok(does_replay) => {
-            assert!(rt; does_replay, "at {part}");
+            same_at(rt, part, does_replay, true);
             true
         }
         Err(_) => false,
@@ -222,12 +220,9 @@ fn busy<R: Abort + AllocGlobal>(rt: &R, room: usize) -> Book<u64> {
 
 // Whether a report of the book replays where no more is left than it has itself.
 fn replays_beside<R: Abort + AllocGlobal>(rt: &R, book: &Book<u64>) -> bool {
-    let heap = heap(rt, 1 << 17);
-    let report = book.report_in(&heap).expect(rt, "a report");
-    let (size, free) = (heap.used(), heap.free());
-    let rest = Vec::<u8, &LocalHeap>::with_capacity(&heap, free.saturating_sub(size));
-    let _rest = rest.expect(rt, "the rest");
-    report.replays().expect(rt, "a replay")
+    let heap = heap_of(rt, 1 << 17);
+    let report = report_in(book, &heap).expect(rt, "a report");
+    replays_with(rt, &heap, &report, heap.used()).expect(rt, "a replay")
 }
 
 #[test]

@@ -1,13 +1,14 @@
 // A row: a script, and each of those who are to answer it.
 
-use crate::machine::lines_of;
+use crate::machine::{Machine, lines_of};
+use crate::makers::{book_in, core_in, report_in};
 use crate::replays::replays;
 use linked_list_allocator::LocalHeap;
 use pool_lines::program::answer::{id_of, write_answer, write_state};
 use pool_lines::program::line::{Line, limits};
 use pool_lines::program::{Fault, serve};
 use r2d2_core::run::run;
-use r2d2_core::{Book, Core, Limits, Step};
+use r2d2_core::{Answer, Book, Limits, Step};
 use std::alloc::{AllocError, Global};
 use std::io::BufWriter;
 use std::time::Duration;
@@ -67,63 +68,120 @@ fn by_the_program(alloc: Global, script: &str) -> Result<Vec<u8>, Fault> {
 // All steps at once; where the script looks at the state, those before it.
 fn by_run(alloc: Global, script: &str) -> Result<Vec<u8>, Fault> {
     let (limits, lines) = read(alloc, script)?;
-    let mut written = Vec::new(alloc);
-    let mut steps = Vec::new(alloc);
-    let mut told = 0;
-    for line in lines {
-        match line {
-            Line::Step(step) => steps.push(step).map_err(|_| Fault::Memory)?,
-            Line::State => {
-                let core = tell(alloc, limits, &steps, told, &mut written)?;
-                write_state(
-                    &mut written,
-                    core.connections(),
-                    core.idle(),
-                    core.pending(),
-                )?;
-                told = steps.len();
-            }
-        }
-    }
-    tell(alloc, limits, &steps, told, &mut written)?;
-    Ok(written)
+    let mut at_once = AtOnce {
+        limits,
+        steps: Vec::new(alloc),
+        told: 0,
+        written: Vec::new(alloc),
+    };
+    at_once.answer(alloc, lines)?;
+    Ok(at_once.written)
 }
 
-// Runs the steps, and writes what those after the first so many are answered.
-fn tell(
+/// Steps that are run all at once. Where the script looks at the state, those before it are.
+#[derive(Drop)]
+struct AtOnce {
+    limits: Limits,
+    steps: Vec<Step<u64>>,
+    // To how many of them the answers are written.
+    told: usize,
+    written: Vec<u8>,
+}
+
+impl AtOnce {
+    fn answer(&mut self, alloc: Global, lines: Vec<Line>) -> Result<(), Fault> {
+        for line in lines {
+            match line {
+                Line::Step(step) => self.steps.push(step).map_err(|_| Fault::Memory)?,
+                Line::State => self.look(alloc)?,
+            }
+        }
+        self.tell(alloc)?;
+        Ok(())
+    }
+
+    fn look(&mut self, alloc: Global) -> Result<(), Fault> {
+        let (connections, idle, pending) = self.tell(alloc)?;
+        write_state(&mut self.written, connections, idle, pending)
+    }
+
+    // Runs the steps, and writes what those are answered that were not told. It says the state.
+    fn tell(&mut self, alloc: Global) -> Result<(u32, u32, u32), Fault> {
+        let (state, answers) = ran(alloc, self.limits, self.steps.clone()?)?;
+        for (step, answer) in self.steps.iter().zip(answers).skip(self.told) {
+            write_answer(&mut self.written, id_of(step), answer)?;
+        }
+        self.told = self.steps.len();
+        Ok(state)
+    }
+}
+
+// How many are connected, idle and pending after the steps, and what these are answered.
+fn ran(
     alloc: Global,
     limits: Limits,
-    steps: &Vec<Step<u64>>,
-    told: usize,
-    written: &mut Vec<u8>,
-) -> Result<Core<u64>, Fault> {
-    let (core, answers) = run(alloc, limits, Duration::ZERO, steps.clone()?)?;
-    for (step, answer) in steps.iter().zip(answers).skip(told) {
-        write_answer(written, id_of(step), answer)?;
-    }
-    Ok(core)
+    steps: Vec<Step<u64>>,
+) -> Result<((u32, u32, u32), Vec<Answer<u64>>), AllocError> {
+    let (core, answers) = run(alloc, limits, Duration::ZERO, steps)?;
+    Ok((core.state(), answers))
 }
 
 fn by_a_core(alloc: Global, script: &str) -> Result<Vec<u8>, Fault> {
-    let (limits, lines) = read(alloc, script)?;
     let heap = LocalHeap::new(alloc, HEAP)?;
-    let mut core: Core<u64, &LocalHeap> = Core::new(&heap, limits, Duration::ZERO)?;
-    let _rest: Vec<u8, &LocalHeap> = Vec::with_capacity(&heap, heap.free())?;
-    lines_of(alloc, &mut core, lines)
+    let (limits, lines) = read(alloc, script)?;
+    by_a_core_on(alloc, &heap, limits, lines)
+}
+
+fn by_a_core_on(
+    alloc: Global,
+    heap: &LocalHeap,
+    limits: Limits,
+    lines: Vec<Line>,
+) -> Result<Vec<u8>, Fault> {
+    let mut core = core_in(heap, limits)?;
+    on_a_full_heap(alloc, heap, &mut core, lines)
 }
 
 // Says besides whether the book's records come to what it reports.
 fn by_a_book(alloc: Global, script: &str) -> Result<(Vec<u8>, bool), Fault> {
-    let (limits, lines) = read(alloc, script)?;
     let heap = LocalHeap::new(alloc, HEAP)?;
-    let mut book: Book<u64, &LocalHeap> = Book::new(&heap, limits, Duration::ZERO, RECORDS)?;
-    let _rest: Vec<u8, &LocalHeap> = Vec::with_capacity(&heap, heap.free())?;
-    let written = lines_of(alloc, &mut book, lines)?;
-    Ok((written, is_replayed(alloc, &book)?))
+    let (limits, lines) = read(alloc, script)?;
+    by_a_book_on(alloc, &heap, limits, lines)
+}
+
+fn by_a_book_on(
+    alloc: Global,
+    heap: &LocalHeap,
+    limits: Limits,
+    lines: Vec<Line>,
+) -> Result<(Vec<u8>, bool), Fault> {
+    let mut book = book_in(heap, limits, Duration::ZERO, RECORDS)?;
+    answers_and_replays(alloc, heap, &mut book, lines)
+}
+
+fn answers_and_replays<'a>(
+    alloc: Global,
+    heap: &'a LocalHeap,
+    book: &mut Book<u64, &'a LocalHeap>,
+    lines: Vec<Line>,
+) -> Result<(Vec<u8>, bool), Fault> {
+    let written = on_a_full_heap(alloc, heap, book, lines)?;
+    Ok((written, is_replayed(alloc, book)?))
+}
+
+// What the machine answers, which lies in the heap, where nothing more is left.
+fn on_a_full_heap<M: Machine>(
+    alloc: Global,
+    heap: &LocalHeap,
+    machine: &mut M,
+    lines: Vec<Line>,
+) -> Result<Vec<u8>, Fault> {
+    let _rest: Vec<u8, &LocalHeap> = Vec::with_capacity(heap, heap.free())?;
+    lines_of(alloc, machine, lines)
 }
 
 // By itself, so that it is proved without the script.
 fn is_replayed(alloc: Global, book: &Book<u64, &LocalHeap>) -> Result<bool, AllocError> {
-    let report = book.report_in(alloc)?;
+    let report = report_in(book, alloc)?;
     replays(alloc, &report)
 }

@@ -1,0 +1,47 @@
+// Cores, books and reports in any memory. None of it has a contract, so that a caller is proved
+// without those of the core.
+
+use r2d2_core::{Book, Core, Limits, Report};
+use std::alloc::{AllocError, Allocator};
+use std::time::Duration;
+
+pub(crate) fn core_in<A: Allocator + Copy>(
+    alloc: A,
+    limits: Limits,
+) -> Result<Core<u64, A>, AllocError> {
+    Core::new(alloc, limits, Duration::ZERO)
+}
+
+pub(crate) fn core_from_id_in<A: Allocator + Copy>(
+    alloc: A,
+    limits: Limits,
+    first_id: u64,
+) -> Result<Core<u64, A>, AllocError> {
+    Core::with_first_id(alloc, limits, Duration::ZERO, first_id)
+}
+
+// A book that was made at that moment, with room for so many records.
+pub(crate) fn book_in<A: Allocator + Copy>(
+    alloc: A,
+    limits: Limits,
+    made: Duration,
+    room: usize,
+) -> Result<Book<u64, A>, AllocError> {
+    Book::new(alloc, limits, made, room)
+}
+
+pub(crate) fn book_from_id_in<A: Allocator + Copy>(
+    alloc: A,
+    limits: Limits,
+    first_id: u64,
+    room: usize,
+) -> Result<Book<u64, A>, AllocError> {
+    Book::with_first_id(alloc, limits, Duration::ZERO, first_id, room)
+}
+
+pub(crate) fn report_in<A: Allocator, B: Allocator + Copy>(
+    book: &Book<u64, A>,
+    alloc: B,
+) -> Result<Report<B>, AllocError> {
+    book.report_in(alloc)
+}
