@@ -1,8 +1,11 @@
-//! The tests of what a pool does, over a counted pool: their bodies are those of tests/pool.
+//! The tests of what a pool does, also with faults round it, over a counted pool: their bodies are
+//! those of tests/pool and tests/faults.
 #![tactic(auto)]
 
 #[cfg(test)]
 mod callers;
+#[cfg(test)]
+mod clocks;
 #[cfg(test)]
 mod closing;
 #[cfg(test)]
@@ -16,6 +19,8 @@ mod evicting;
 #[cfg(test)]
 mod extremes;
 #[cfg(test)]
+mod hands;
+#[cfg(test)]
 mod journal;
 #[cfg(test)]
 mod kind;
@@ -24,11 +29,21 @@ mod lending;
 #[cfg(test)]
 mod listening;
 #[cfg(test)]
+mod lives;
+#[cfg(test)]
 mod managers;
 #[cfg(test)]
 mod opening;
 #[cfg(test)]
 mod order;
+#[cfg(test)]
+mod passing_on;
+#[cfg(test)]
+mod patience;
+#[cfg(test)]
+mod play;
+#[cfg(test)]
+mod scripts;
 #[cfg(test)]
 mod status;
 #[cfg(test)]

@@ -164,7 +164,7 @@ def try_streams():
     given = LIMITS + "state\n" * many + "stat\n" + "state\n" * many
     runs("a long stream", [], given, 1, "state 0 0 1\n" * many, f"line {many + 2}: not a step",
          f"pool-steps: line {many + 2} reads: stat", f"pool-steps: {NO_STEP}")
-    runs("a long line of a stream", [], LIMITS + "state\ntake 5 " + "x" * 5_000_000 + "\n", 1, "state 0 0 1\n",
+    runs("a long line of a stream", [], LIMITS + "state\ntake 5 " + "x" * 100_000_000 + "\n", 1, "state 0 0 1\n",
          "line 3: not a step", "pool-steps: line 3 reads: take 5 " + "x" * 93 + " ..", "pool-steps: there is more than take T")
     talk = subprocess.Popen([SCRIPT], stdin=subprocess.PIPE, stdout=subprocess.PIPE, stderr=subprocess.PIPE, bufsize=0)
     talk.stdin.write((LIMITS + "state\n").encode())

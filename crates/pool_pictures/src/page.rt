@@ -81,29 +81,64 @@ pub fn html<A: Allocator>(
     report: &Report<A>,
     notes: &Notes,
 ) -> Result<String, AllocError> {
-    let story = Story::of(alloc, report)?;
     let mut page = String::from_str(alloc, HEAD)?;
-    known(alloc, &mut page, notes)?;
-    tell(alloc, &mut page, &story, notes)?;
+    about(alloc, &mut page, report, notes)?;
+    page.push_str(FOOT)?;
+    Ok(page)
+}
+
+// What stands between the head of a page and its foot.
+fn about<A: Allocator>(
+    alloc: Global,
+    page: &mut String,
+    report: &Report<A>,
+    notes: &Notes,
+) -> Result<(), AllocError> {
+    let story = Story::of(alloc, report)?;
+    known(alloc, page, notes)?;
+    tell(alloc, page, &story, notes)?;
+    numbers(page, report)?;
+    draw(alloc, page, report, &story, notes)?;
+    records(page, report, notes)
+}
+
+// The limits and the counts, side by side.
+fn numbers<A: Allocator>(page: &mut String, report: &Report<A>) -> Result<(), AllocError> {
     page.push_str("<div class=\"tables\">\n")?;
-    limits(&mut page, &report.limits)?;
-    counts(&mut page, report)?;
-    page.push_str("</div>\n")?;
-    let (legend, drawing) = (legend_list(alloc)?, plot(alloc, report, &story, notes)?);
+    limits(page, &report.limits)?;
+    counts(page, report)?;
+    page.push_str("</div>\n")
+}
+
+// The legend, and the drawing in its box.
+fn draw<A: Allocator>(
+    alloc: Global,
+    page: &mut String,
+    report: &Report<A>,
+    story: &Story,
+    notes: &Notes,
+) -> Result<(), AllocError> {
+    let (legend, drawing) = (legend_list(alloc)?, plot(alloc, report, story, notes)?);
     page.push_str(legend.as_str())?;
     page.push_str("<div class=\"box\">\n")?;
     page.push_str(drawing.as_str())?;
-    page.push_str("</div>\n")?;
-    let records = Listed {
+    page.push_str("</div>\n")
+}
+
+// The records round the wrong one, and the newest.
+fn records<A: Allocator>(
+    page: &mut String,
+    report: &Report<A>,
+    notes: &Notes,
+) -> Result<(), AllocError> {
+    let listed = Listed {
         records: report.records.as_slice(),
         wrong: notes.wrong_record(),
     };
     page.push_str("<div class=\"tables\">\n")?;
-    records.round_the_wrong_one(&mut page)?;
-    records.newest(&mut page)?;
-    page.push_str("</div>\n")?;
-    page.push_str(FOOT)?;
-    Ok(page)
+    listed.round_the_wrong_one(page)?;
+    listed.newest(page)?;
+    page.push_str("</div>\n")
 }
 
 // What is known by the notes.

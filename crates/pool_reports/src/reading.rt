@@ -99,31 +99,11 @@ fn read(
 
 // Other versions may have other fields, so this one comes first.
 fn read_version(report: &Object<'_, '_>) -> Result<(), FromJsonError> {
-    let version = report.field("version")?.number()?;
+    let version = report.number("version")?;
     if version != VERSION {
         return Err(FromJsonError::Version(version));
     }
     Ok(())
-}
-
-// What a report counts.
-#[derive(Clone, Copy)]
-struct Counts {
-    lost: u64,
-    takes: u64,
-    connections: u32,
-    pending: u32,
-    closed: bool,
-}
-
-fn read_counts(report: &Object<'_, '_>) -> Result<Counts, FromJsonError> {
-    Ok(Counts {
-        lost: report.field("lost")?.number()?,
-        takes: report.field("takes")?.number()?,
-        connections: report.field("connections")?.count()?,
-        pending: report.field("pending")?.count()?,
-        closed: report.field("closed")?.flag()?,
-    })
 }
 
 fn read_report(
@@ -132,21 +112,18 @@ fn read_report(
     list: Option<&str>,
 ) -> Result<Report, FromJsonError> {
     let limits = read_limits(alloc, report)?;
+    let lost = report.number("lost")?;
+    let takes = report.number("takes")?;
     let counts = read_counts(report)?;
     let base = read_base(alloc, report)?;
-    let records = report.field("records")?;
-    let records = match list {
-        Some(list) => read_records(alloc, list)?,
-        None => return Err(records.is_not(Wanted::List)),
-    };
-    let idle = read_ids(alloc, report, "idle")?;
-    let lent = read_ids(alloc, report, "lent")?;
+    let records = read_records(alloc, report, list)?;
+    let (idle, lent) = read_holders(alloc, report)?;
     Ok(Report {
         limits,
         base,
         records,
-        lost: counts.lost,
-        takes: counts.takes,
+        lost,
+        takes,
         idle,
         lent,
         connections: counts.connections,
@@ -155,27 +132,41 @@ fn read_report(
     })
 }
 
+// What a report counts, and its base.
+#[derive(Clone, Copy)]
+struct Counts {
+    connections: u32,
+    pending: u32,
+    closed: bool,
+}
+
+fn read_counts(object: &Object<'_, '_>) -> Result<Counts, FromJsonError> {
+    Ok(Counts {
+        connections: object.count("connections")?,
+        pending: object.count("pending")?,
+        closed: object.flag("closed")?,
+    })
+}
+
 fn read_limits(alloc: Global, report: &Object<'_, '_>) -> Result<Limits, FromJsonError> {
     let found = report.named("limits")?;
-    let limits = found.object_of(alloc, &LIMITS_FIELDS)?;
-    let max_size = limits.field("max_size")?.count()?;
-    let min_idle = limits.field("min_idle")?.count_or_null()?;
-    let max_lifetime = limits.field("max_lifetime")?.nanoseconds_or_null()?;
-    let idle_timeout = limits.field("idle_timeout")?.nanoseconds_or_null()?;
-    let connection_timeout = limits.field("connection_timeout")?.nanoseconds()?;
-    let reap_every = limits.field("reap_every")?.nanoseconds()?;
+    limits_of(&found.object_of(alloc, &LIMITS_FIELDS)?)
+}
+
+fn limits_of(limits: &Object<'_, '_>) -> Result<Limits, FromJsonError> {
+    let settings = LimitSettings {
+        max_size: limits.count("max_size")?,
+        min_idle: limits.count_or_null("min_idle")?,
+        max_lifetime: limits.nanoseconds_or_null("max_lifetime")?,
+        idle_timeout: limits.nanoseconds_or_null("idle_timeout")?,
+        connection_timeout: limits.nanoseconds("connection_timeout")?,
+        reap_every: limits.nanoseconds("reap_every")?,
+    };
     let order = read_order(&limits.field("order")?)?;
-    LimitSettings {
-        max_size,
-        min_idle,
-        max_lifetime,
-        idle_timeout,
-        connection_timeout,
-        reap_every,
-    }
-    .limits()
-    .map(|limits| limits.with_order(order))
-    .ok_or(FromJsonError::Limits)
+    settings
+        .limits()
+        .map(|limits| limits.with_order(order))
+        .ok_or(FromJsonError::Limits)
 }
 
 fn read_order(found: &Found<'_>) -> Result<LendingOrder, FromJsonError> {
@@ -188,17 +179,26 @@ fn read_order(found: &Found<'_>) -> Result<LendingOrder, FromJsonError> {
 
 fn read_base(alloc: Global, report: &Object<'_, '_>) -> Result<Base, FromJsonError> {
     let found = report.named("base")?;
-    let base = found.object_of(alloc, &BASE_FIELDS)?;
+    base_of(alloc, &found.object_of(alloc, &BASE_FIELDS)?)
+}
+
+fn base_of(alloc: Global, base: &Object<'_, '_>) -> Result<Base, FromJsonError> {
     let idle = read_resting(alloc, &base.field("idle")?)?;
     let lent = read_away(alloc, &base.field("lent")?)?;
+    let (at, counts) = read_rest(base)?;
     Ok(Base {
-        at: base.field("at")?.nanoseconds()?,
+        at,
         idle,
         lent,
-        connections: base.field("connections")?.count()?,
-        pending: base.field("pending")?.count()?,
-        closed: base.field("closed")?.flag()?,
+        connections: counts.connections,
+        pending: counts.pending,
+        closed: counts.closed,
     })
+}
+
+// The moment of a base, and what it counts.
+fn read_rest(base: &Object<'_, '_>) -> Result<(Duration, Counts), FromJsonError> {
+    Ok((base.nanoseconds("at")?, read_counts(base)?))
 }
 
 fn read_resting(alloc: Global, found: &Found<'_>) -> Result<IdleConnections, FromJsonError> {
@@ -231,6 +231,15 @@ fn read_lent(found: &Found<'_>) -> Result<(u64, Duration), FromJsonError> {
     Ok((id.number()?, birth.nanoseconds()?))
 }
 
+// The idle connections, and the lent ones.
+fn read_holders(
+    alloc: Global,
+    report: &Object<'_, '_>,
+) -> Result<(IdList, IdList), FromJsonError> {
+    let idle = read_ids(alloc, report, "idle")?;
+    Ok((idle, read_ids(alloc, report, "lent")?))
+}
+
 fn read_ids(
     alloc: Global,
     report: &Object<'_, '_>,
@@ -245,7 +254,19 @@ fn read_ids(
     Ok(IdList::of(list))
 }
 
-fn read_records(alloc: Global, list: &str) -> Result<RecordList, FromJsonError> {
+fn read_records(
+    alloc: Global,
+    report: &Object<'_, '_>,
+    list: Option<&str>,
+) -> Result<RecordList, FromJsonError> {
+    let found = report.field("records")?;
+    match list {
+        Some(list) => read_items(alloc, list),
+        None => Err(found.is_not(Wanted::List)),
+    }
+}
+
+fn read_items(alloc: Global, list: &str) -> Result<RecordList, FromJsonError> {
     let (mut scratch, mut spare) = (Scratch::new(alloc), Scratch::new(alloc));
     let count = count_items(list, &mut scratch)?;
     let mut records = Vec::with_capacity(alloc, count)?;
@@ -277,67 +298,76 @@ fn read_item(
 }
 
 fn read_record(alloc: Global, found: &Found<'_>) -> Result<Record, FromJsonError> {
-    let kind = found.object()?.field("kind")?;
-    match kind.text(Wanted::Kind)? {
-        "taken" => {
-            let record = found.object_of(alloc, &["kind", "at", "id", "ordered"])?;
-            Ok(Record::Taken {
-                at: record.at()?,
-                id: record.id()?,
-                ordered: record.ordered()?,
-            })
-        }
-        "ordered" => {
-            let record = found.object_of(alloc, &["kind", "at", "ordered"])?;
-            Ok(Record::Ordered {
-                at: record.at()?,
-                ordered: record.ordered()?,
-            })
-        }
-        "admitted" => {
-            let record = found.object_of(alloc, &["kind", "at", "id"])?;
-            Ok(Record::Admitted {
-                at: record.at()?,
-                id: record.id()?,
-            })
-        }
-        _ => read_ending(alloc, found, &kind),
-    }
+    let kind = Kind::of(&found.object()?.field("kind")?)?;
+    kind.read(&found.object_of(alloc, kind.fields())?)
 }
 
-// A record of a connection that came back, or of connections that are gone.
-fn read_ending(
-    alloc: Global,
-    found: &Found<'_>,
-    kind: &Found<'_>,
-) -> Result<Record, FromJsonError> {
-    match kind.text(Wanted::Kind)? {
-        "kept" => {
-            let record = found.object_of(alloc, &["kind", "at", "id"])?;
-            Ok(Record::Kept {
-                at: record.at()?,
-                id: record.id()?,
-            })
+#[derive(Clone, Copy)]
+enum Kind {
+    Taken,
+    Ordered,
+    Admitted,
+    Kept,
+    Closed,
+    Reaped,
+    ClosedAll,
+}
+
+impl Kind {
+    fn of(found: &Found<'_>) -> Result<Kind, FromJsonError> {
+        match found.text(Wanted::Kind)? {
+            "taken" => Ok(Kind::Taken),
+            "ordered" => Ok(Kind::Ordered),
+            "admitted" => Ok(Kind::Admitted),
+            "kept" => Ok(Kind::Kept),
+            "closed" => Ok(Kind::Closed),
+            "reaped" => Ok(Kind::Reaped),
+            "closed_all" => Ok(Kind::ClosedAll),
+            _ => Err(found.is_not(Wanted::Kind)),
         }
-        "closed" => {
-            let record = found.object_of(alloc, &["kind", "at", "id", "ordered"])?;
-            Ok(Record::Closed {
-                at: record.at()?,
-                id: record.id()?,
-                ordered: record.ordered()?,
-            })
+    }
+
+    // What fields a record of this kind has.
+    fn fields(self) -> &'static [&'static str] {
+        match self {
+            Kind::Taken | Kind::Closed => &["kind", "at", "id", "ordered"],
+            Kind::Ordered | Kind::Reaped => &["kind", "at", "ordered"],
+            Kind::Admitted | Kind::Kept => &["kind", "at", "id"],
+            Kind::ClosedAll => &["kind", "at"],
         }
-        "reaped" => {
-            let record = found.object_of(alloc, &["kind", "at", "ordered"])?;
-            Ok(Record::Reaped {
-                at: record.at()?,
-                ordered: record.ordered()?,
-            })
-        }
-        "closed_all" => {
-            let record = found.object_of(alloc, &["kind", "at"])?;
-            Ok(Record::ClosedAll { at: record.at()? })
-        }
-        _ => Err(kind.is_not(Wanted::Kind)),
+    }
+
+    // The record of this kind that these fields tell.
+    fn read(self, record: &Object<'_, '_>) -> Result<Record, FromJsonError> {
+        let at = record.nanoseconds("at")?;
+        Ok(match self {
+            Kind::Taken => Record::Taken {
+                at,
+                id: record.number("id")?,
+                ordered: record.count("ordered")?,
+            },
+            Kind::Ordered => Record::Ordered {
+                at,
+                ordered: record.count("ordered")?,
+            },
+            Kind::Admitted => Record::Admitted {
+                at,
+                id: record.number("id")?,
+            },
+            Kind::Kept => Record::Kept {
+                at,
+                id: record.number("id")?,
+            },
+            Kind::Closed => Record::Closed {
+                at,
+                id: record.number("id")?,
+                ordered: record.count("ordered")?,
+            },
+            Kind::Reaped => Record::Reaped {
+                at,
+                ordered: record.count("ordered")?,
+            },
+            Kind::ClosedAll => Record::ClosedAll { at },
+        })
     }
 }

@@ -184,71 +184,31 @@ impl Serialize for RecordTexts<'_> {
 }
 
 #[derive(Clone, Copy, Serialize)]
-#[serde(tag = "kind", rename_all = "snake_case")]
-enum RecordText {
-    Taken {
-        at: Nanoseconds,
-        id: u64,
-        ordered: u32,
-    },
-    Ordered {
-        at: Nanoseconds,
-        ordered: u32,
-    },
-    Admitted {
-        at: Nanoseconds,
-        id: u64,
-    },
-    Kept {
-        at: Nanoseconds,
-        id: u64,
-    },
-    Closed {
-        at: Nanoseconds,
-        id: u64,
-        ordered: u32,
-    },
-    Reaped {
-        at: Nanoseconds,
-        ordered: u32,
-    },
-    ClosedAll {
-        at: Nanoseconds,
-    },
+struct RecordText {
+    kind: &'static str,
+    at: Nanoseconds,
+    #[serde(skip_serializing_if = "Option::is_none")]
+    id: Option<u64>,
+    #[serde(skip_serializing_if = "Option::is_none")]
+    ordered: Option<u32>,
 }
 
 impl RecordText {
     fn of(record: Record) -> RecordText {
-        match record {
-            Record::Taken { at, id, ordered } => RecordText::Taken {
-                at: Nanoseconds(at),
-                id,
-                ordered,
-            },
-            Record::Ordered { at, ordered } => RecordText::Ordered {
-                at: Nanoseconds(at),
-                ordered,
-            },
-            Record::Admitted { at, id } => RecordText::Admitted {
-                at: Nanoseconds(at),
-                id,
-            },
-            Record::Kept { at, id } => RecordText::Kept {
-                at: Nanoseconds(at),
-                id,
-            },
-            Record::Closed { at, id, ordered } => RecordText::Closed {
-                at: Nanoseconds(at),
-                id,
-                ordered,
-            },
-            Record::Reaped { at, ordered } => RecordText::Reaped {
-                at: Nanoseconds(at),
-                ordered,
-            },
-            Record::ClosedAll { at } => RecordText::ClosedAll {
-                at: Nanoseconds(at),
-            },
+        let (kind, at, id, ordered) = match record {
+            Record::Taken { at, id, ordered } => ("taken", at, Some(id), Some(ordered)),
+            Record::Ordered { at, ordered } => ("ordered", at, None, Some(ordered)),
+            Record::Admitted { at, id } => ("admitted", at, Some(id), None),
+            Record::Kept { at, id } => ("kept", at, Some(id), None),
+            Record::Closed { at, id, ordered } => ("closed", at, Some(id), Some(ordered)),
+            Record::Reaped { at, ordered } => ("reaped", at, None, Some(ordered)),
+            Record::ClosedAll { at } => ("closed_all", at, None, None),
+        };
+        RecordText {
+            kind,
+            at: Nanoseconds(at),
+            id,
+            ordered,
         }
     }
 }

@@ -16,7 +16,7 @@ pub(super) struct Found<'t> {
 }
 
 /// A value that is an object.
-#[derive(Drop)]
+#[derive(Clone, Copy)]
 pub(super) struct Object<'f, 't> {
     found: &'f Found<'t>,
 }
@@ -211,17 +211,30 @@ impl<'f, 't> Object<'f, 't> {
         }
     }
 
-    // The fields of records.
-
-    pub(super) fn at(&self) -> Result<Duration, FromJsonError> {
-        self.field("at")?.nanoseconds()
+    pub(super) fn number(&self, name: &'static str) -> Result<u64, FromJsonError> {
+        self.field(name)?.number()
     }
 
-    pub(super) fn id(&self) -> Result<u64, FromJsonError> {
-        self.field("id")?.number()
+    pub(super) fn count(&self, name: &'static str) -> Result<u32, FromJsonError> {
+        self.field(name)?.count()
     }
 
-    pub(super) fn ordered(&self) -> Result<u32, FromJsonError> {
-        self.field("ordered")?.count()
+    pub(super) fn count_or_null(&self, name: &'static str) -> Result<Option<u32>, FromJsonError> {
+        self.field(name)?.count_or_null()
+    }
+
+    pub(super) fn nanoseconds(&self, name: &'static str) -> Result<Duration, FromJsonError> {
+        self.field(name)?.nanoseconds()
+    }
+
+    pub(super) fn nanoseconds_or_null(
+        &self,
+        name: &'static str,
+    ) -> Result<Option<Duration>, FromJsonError> {
+        self.field(name)?.nanoseconds_or_null()
+    }
+
+    pub(super) fn flag(&self, name: &'static str) -> Result<bool, FromJsonError> {
+        self.field(name)?.flag()
     }
 }
