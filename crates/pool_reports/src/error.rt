@@ -1,4 +1,6 @@
 // Why a text is no report.
+ghost use Rattle.std.specs.Prelude.{◌≡◌};
+ghost use Rattle.pool_reports.specs.declared.error.FromJsonError.TheVariants.{Memory};
 
 use crate::nanoseconds::MOST;
 use std::alloc::{AllocError, AllocFailed};
@@ -168,12 +170,16 @@ impl fmt::Display for FromJsonError {
 impl Error for FromJsonError {}
 
 impl From<AllocError> for FromJsonError {
+    ghost from_gives = { λ _ error. error ≡ Memory };
+
     fn from(_: AllocError) -> FromJsonError {
         FromJsonError::Memory
     }
 }
 
 impl<T: Drop> From<AllocFailed<T>> for FromJsonError {
+    ghost from_gives = { λ _ error. error ≡ Memory };
+
     fn from(_: AllocFailed<T>) -> FromJsonError {
         FromJsonError::Memory
     }

@@ -232,10 +232,7 @@ fn read_lent(found: &Found<'_>) -> Result<(u64, Duration), FromJsonError> {
 }
 
 // The idle connections, and the lent ones.
-fn read_holders(
-    alloc: Global,
-    report: &Object<'_, '_>,
-) -> Result<(IdList, IdList), FromJsonError> {
+fn read_holders(alloc: Global, report: &Object<'_, '_>) -> Result<(IdList, IdList), FromJsonError> {
     let idle = read_ids(alloc, report, "idle")?;
     Ok((idle, read_ids(alloc, report, "lent")?))
 }

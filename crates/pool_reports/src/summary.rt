@@ -1,5 +1,6 @@
 // What is asked first of a report.
 ghost use Rattle.std.specs.Prelude.{◌≡◌, ◌+◌, ◌-◌, map, IfOk};
+ghost use Rattle.std.specs.Duration.{as_nanos};
 ghost use Rattle.r2d2_core.specs.Records.{seen_record};
 ghost use Rattle.pool_reports.specs.Summaries.{opened_in, closed_in};
 
@@ -42,7 +43,9 @@ pub struct Loan {
 
 impl Summary {
     /// How long the report covers.
-    pub fn covers(&self) -> Duration {
+    pub fn covers(&self) -> Duration
+        ensures { as_nanos result ≡ as_nanos self.now.until - as_nanos self.now.from }
+    {
         self.until.saturating_sub(self.from)
     }
 }
