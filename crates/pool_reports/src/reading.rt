@@ -132,7 +132,7 @@ fn read_report(
     })
 }
 
-// What a report counts, and its base.
+// What a report and its base both count.
 #[derive(Clone, Copy)]
 struct Counts {
     connections: u32,

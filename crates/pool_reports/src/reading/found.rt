@@ -211,6 +211,8 @@ impl<'f, 't> Object<'f, 't> {
         }
     }
 
+    // What the field of this name says, where it is what is wanted there.
+
     pub(super) fn number(&self, name: &'static str) -> Result<u64, FromJsonError> {
         self.field(name)?.number()
     }
