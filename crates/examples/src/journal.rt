@@ -5,13 +5,20 @@ use std::time::Duration;
 
 pub fn printed<R: Print + AllocGlobal>(rt: &R, limits: Limits) -> Result<(), anyhow::Error> {
     let mut book = Book::new(rt.alloc(), limits, Duration::ZERO, 1024)?;
+    open_one(&mut book);
+    say(rt, &book.report()?)
+}
+
+fn open_one(book: &mut Book<&'static str>) {
     if let Job::Open { tries } = book.begin(Duration::ZERO) {
         if let Ok(id) = book.number(tries) {
             book.admit(Duration::from_millis(20), id, "a connection")
                 .ok();
         }
     }
-    let report = book.report()?;
+}
+
+fn say<R: Print>(rt: &R, report: &Report) -> Result<(), anyhow::Error> {
     for record in report.records.as_slice() {
         println!(rt; "{record:?}")?;
     }
@@ -22,7 +29,7 @@ pub fn printed<R: Print + AllocGlobal>(rt: &R, limits: Limits) -> Result<(), any
     if !report.replays()? {
         println!(rt; "this is no report as a book makes them")?;
     }
-    say_what_is_wrong(rt, &report)
+    say_what_is_wrong(rt, report)
 }
 
 fn say_what_is_wrong<R: Print>(rt: &R, report: &Report) -> Result<(), anyhow::Error> {
