@@ -69,20 +69,26 @@ fn report(alloc: Global, script: &str) -> Result<Report, Fault> {
     let Some((first, steps)) = lines.split_first() else {
         return Err(Fault::NotAStep(1));
     };
-    let mut book = Book::new(
-        alloc,
-        limits(first.as_bytes())?,
-        Duration::ZERO,
-        steps.len(),
-    )?;
-    for (number, line) in (2..u64::MAX).zip(steps) {
-        match Line::read(alloc, line.as_bytes())? {
-            Some(Line::Step(step)) => drop(book.answer(alloc, step)?),
-            Some(Line::State) => {}
-            None => return Err(Fault::NotAStep(number)),
-        }
-    }
+    let limits = limits(first.as_bytes())?;
+    let mut book = Book::new(alloc, limits, Duration::ZERO, steps.len())?;
+    take(alloc, &mut book, steps)?;
     Ok(book.report()?)
+}
+
+// Has the book take the steps that these lines of a script say, from the second one on.
+fn take(alloc: Global, book: &mut Book<u64>, lines: &[&str]) -> Result<(), Fault> {
+    for (number, line) in (2..u64::MAX).zip(lines) {
+        let line = Line::read(alloc, line.as_bytes())?;
+        take_line(alloc, book, line.ok_or(Fault::NotAStep(number))?)?;
+    }
+    Ok(())
+}
+
+fn take_line(alloc: Global, book: &mut Book<u64>, line: Line) -> Result<(), AllocError> {
+    if let Line::Step(step) = line {
+        drop(book.answer(alloc, step)?);
+    }
+    Ok(())
 }
 
 // Draws a script that is there.
