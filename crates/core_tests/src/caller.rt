@@ -13,7 +13,7 @@ use std::time::Duration;
 
 /// Hands in a value for the opening that is due, if there is one; false where there is none, or
 /// where the core refuses it. What is lent stays lent.
-pub(crate) fn open<T: Drop>(core: &mut Core<T>, lent: &u32, now: Duration, value: T) -> bool
+pub fn open<T: Drop>(core: &mut Core<T>, lent: &u32, now: Duration, value: T) -> bool
     requires { IsCounted core.old lent.now }
     ensures counted { IsCounted core.new lent.now }
     ensures after { core.new ≡ after_open (as_nanos now) value core.old }
@@ -30,7 +30,7 @@ pub(crate) fn open<T: Drop>(core: &mut Core<T>, lent: &u32, now: Duration, value
 
 /// Takes the idle connection that is lent next, and counts it among the lent ones; None where none
 /// is idle.
-pub(crate) fn lend<T>(core: &mut Core<T>, lent: &mut u32, now: Duration) -> Option<(u64, T)>
+pub fn lend<T>(core: &mut Core<T>, lent: &mut u32, now: Duration) -> Option<(u64, T)>
     requires { IsCounted core.old lent.old }
     ensures counted { IsCounted core.new lent.new }
     ensures next { result ≡ shown_found (next_of core.old) }
@@ -49,7 +49,7 @@ pub(crate) fn lend<T>(core: &mut Core<T>, lent: &mut u32, now: Duration) -> Opti
 
 /// Closes a lent connection whose check failed, which is no longer counted; false where the id is
 /// not lent.
-pub(crate) fn discard<T>(core: &mut Core<T>, lent: &mut u32, now: Duration, id: u64) -> bool
+pub fn discard<T>(core: &mut Core<T>, lent: &mut u32, now: Duration, id: u64) -> bool
     requires { IsCounted core.old lent.old }
     ensures counted { IsCounted core.new lent.new }
     ensures was_lent { result ≡ is_some (birth_in id core.old.lent) }

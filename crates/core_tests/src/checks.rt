@@ -10,56 +10,47 @@ use std::fmt::Debug;
 use std::process::Abort;
 use std::time::Duration;
 
-pub(crate) fn same<R: Abort, T: PartialEq + Debug + Drop>(rt: &R, given: T, wanted: T) {
+pub fn same<R: Abort, T: PartialEq + Debug + Drop>(rt: &R, given: T, wanted: T) {
     assert_eq!(rt; given, wanted);
 }
 
 // The same in a row of its number.
-pub(crate) fn same_at<R: Abort, T: PartialEq + Debug + Drop>(
-    rt: &R,
-    number: usize,
-    given: T,
-    wanted: T,
-) {
+pub fn same_at<R: Abort, T: PartialEq + Debug + Drop>(rt: &R, number: usize, given: T, wanted: T) {
     assert_eq!(rt; given, wanted, "at {number}");
 }
 
-pub(crate) fn legal<R: Abort>(rt: &R, limits: Option<Limits>) -> Limits {
+pub fn legal<R: Abort>(rt: &R, limits: Option<Limits>) -> Limits {
     limits.expect(rt, "limits")
 }
 
-pub(crate) fn core_of<R: Abort + AllocGlobal>(rt: &R, limits: Limits) -> Core<u64> {
+pub fn core_of<R: Abort + AllocGlobal>(rt: &R, limits: Limits) -> Core<u64> {
     core_in(rt.alloc(), limits).expect(rt, "a core")
 }
 
 // A book that keeps so many records.
-pub(crate) fn book_of<R: Abort + AllocGlobal>(rt: &R, limits: Limits, room: usize) -> Book<u64> {
+pub fn book_of<R: Abort + AllocGlobal>(rt: &R, limits: Limits, room: usize) -> Book<u64> {
     book_in(rt.alloc(), limits, Duration::ZERO, room).expect(rt, "a book")
 }
 
-pub(crate) fn heap_of<R: Abort + AllocGlobal>(rt: &R, size: usize) -> LocalHeap {
+pub fn heap_of<R: Abort + AllocGlobal>(rt: &R, size: usize) -> LocalHeap {
     LocalHeap::new(rt.alloc(), size).expect(rt, "a heap")
 }
 
-pub(crate) fn is_made<T: Drop>(made: Result<T, AllocError>) -> bool {
+pub fn is_made<T: Drop>(made: Result<T, AllocError>) -> bool {
     made.is_ok()
 }
 
 // What is left of the heap, but for so many bytes.
-pub(crate) fn rest_of<'a, R: Abort>(
-    rt: &R,
-    heap: &'a LocalHeap,
-    spared: usize,
-) -> Vec<u8, &'a LocalHeap> {
+pub fn rest_of<'a, R: Abort>(rt: &R, heap: &'a LocalHeap, spared: usize) -> Vec<u8, &'a LocalHeap> {
     Vec::with_capacity(heap, heap.free().saturating_sub(spared)).expect(rt, "the rest")
 }
 
 // What the book reports at last.
-pub(crate) fn last_report<R: Abort>(rt: &R, book: Book<u64>) -> Report {
+pub fn last_report<R: Abort>(rt: &R, book: Book<u64>) -> Report {
     report_of(rt, &book)
 }
 
-pub(crate) fn listed<R: Abort + AllocGlobal, const N: usize>(
+pub fn listed<R: Abort + AllocGlobal, const N: usize>(
     rt: &R,
     steps: [Step<u64>; N],
 ) -> Vec<Step<u64>> {
@@ -67,7 +58,7 @@ pub(crate) fn listed<R: Abort + AllocGlobal, const N: usize>(
 }
 
 // Takes a step by a book.
-pub(crate) fn answered<A: Allocator>(
+pub fn answered<A: Allocator>(
     alloc: Global,
     book: &mut Book<u64, A>,
     step: Step<u64>,
@@ -76,7 +67,7 @@ pub(crate) fn answered<A: Allocator>(
 }
 
 // Takes the steps by a book.
-pub(crate) fn take_all<R: Abort + AllocGlobal, A: Allocator>(
+pub fn take_all<R: Abort + AllocGlobal, A: Allocator>(
     rt: &R,
     book: &mut Book<u64, A>,
     steps: Vec<Step<u64>>,
@@ -86,11 +77,11 @@ pub(crate) fn take_all<R: Abort + AllocGlobal, A: Allocator>(
     }
 }
 
-pub(crate) fn report_of<R: Abort>(rt: &R, book: &Book<u64>) -> Report {
+pub fn report_of<R: Abort>(rt: &R, book: &Book<u64>) -> Report {
     book.report().expect(rt, "a report")
 }
 
 // Whether the report replays by the second reading.
-pub(crate) fn is_replayed<R: Abort + AllocGlobal>(rt: &R, report: &Report) -> bool {
+pub fn is_replayed<R: Abort + AllocGlobal>(rt: &R, report: &Report) -> bool {
     replays(rt.alloc(), report).expect(rt, "a replay")
 }

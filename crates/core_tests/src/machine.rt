@@ -6,7 +6,7 @@ use pool_lines::program::line::Line;
 use r2d2_core::{Answer, Book, Core, Step};
 use std::alloc::{AllocError, Allocator, Global};
 
-pub(crate) trait Machine {
+pub trait Machine {
     type Heap: Allocator;
 
     // What it answers to a step.
@@ -45,7 +45,7 @@ impl<A: Allocator> Machine for Book<u64, A> {
 }
 
 // The lines that it answers to lines of a script.
-pub(crate) fn lines_of<M: Machine>(
+pub fn lines_of<M: Machine>(
     alloc: Global,
     machine: &mut M,
     lines: Vec<Line>,

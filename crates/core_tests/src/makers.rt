@@ -5,14 +5,11 @@ use r2d2_core::{Book, Core, Limits, Report};
 use std::alloc::{AllocError, Allocator};
 use std::time::Duration;
 
-pub(crate) fn core_in<A: Allocator + Copy>(
-    alloc: A,
-    limits: Limits,
-) -> Result<Core<u64, A>, AllocError> {
+pub fn core_in<A: Allocator + Copy>(alloc: A, limits: Limits) -> Result<Core<u64, A>, AllocError> {
     Core::new(alloc, limits, Duration::ZERO)
 }
 
-pub(crate) fn core_from_id_in<A: Allocator + Copy>(
+pub fn core_from_id_in<A: Allocator + Copy>(
     alloc: A,
     limits: Limits,
     first_id: u64,
@@ -21,7 +18,7 @@ pub(crate) fn core_from_id_in<A: Allocator + Copy>(
 }
 
 // A book that was made at that moment, with room for so many records.
-pub(crate) fn book_in<A: Allocator + Copy>(
+pub fn book_in<A: Allocator + Copy>(
     alloc: A,
     limits: Limits,
     made: Duration,
@@ -30,7 +27,7 @@ pub(crate) fn book_in<A: Allocator + Copy>(
     Book::new(alloc, limits, made, room)
 }
 
-pub(crate) fn book_from_id_in<A: Allocator + Copy>(
+pub fn book_from_id_in<A: Allocator + Copy>(
     alloc: A,
     limits: Limits,
     first_id: u64,
@@ -39,7 +36,7 @@ pub(crate) fn book_from_id_in<A: Allocator + Copy>(
     Book::with_first_id(alloc, limits, Duration::ZERO, first_id, room)
 }
 
-pub(crate) fn report_in<A: Allocator, B: Allocator + Copy>(
+pub fn report_in<A: Allocator, B: Allocator + Copy>(
     book: &Book<u64, A>,
     alloc: B,
 ) -> Result<Report<B>, AllocError> {

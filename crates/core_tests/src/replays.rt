@@ -237,7 +237,7 @@ fn has_ids(list: &[Known], ids: &[u64]) -> bool {
 /// What a reading of a report finds first. Where records are legal up to a place, it says how many
 /// are idle, lent and pending there.
 #[derive(Clone, Copy, PartialEq, Eq, Debug)]
-pub(crate) enum Found {
+pub enum Found {
     Sound,
     Base,
     Record(usize, [usize; 3]),
@@ -246,7 +246,7 @@ pub(crate) enum Found {
 
 // Whether a report's base is one, its records may follow it, and they come to its ids and counts;
 // or what is wrong first.
-pub(crate) fn read<A: Allocator>(alloc: Global, report: &Report<A>) -> Result<Found, AllocError> {
+pub fn read<A: Allocator>(alloc: Global, report: &Report<A>) -> Result<Found, AllocError> {
     let mut now = Standing::of(alloc, report)?;
     if now.is_strange {
         return Ok(Found::Base);
@@ -271,6 +271,6 @@ pub(crate) fn read<A: Allocator>(alloc: Global, report: &Report<A>) -> Result<Fo
 }
 
 // Whether it finds nothing wrong.
-pub(crate) fn replays<A: Allocator>(alloc: Global, report: &Report<A>) -> Result<bool, AllocError> {
+pub fn replays<A: Allocator>(alloc: Global, report: &Report<A>) -> Result<bool, AllocError> {
     Ok(read(alloc, report)? == Found::Sound)
 }

@@ -3,11 +3,11 @@
 use r2d2_core::{LimitSettings, Limits, Step};
 use std::time::Duration;
 
-pub(crate) fn ms(n: u64) -> Duration {
+pub fn ms(n: u64) -> Duration {
     Duration::from_millis(n)
 }
 
-pub(crate) fn limits(
+pub fn limits(
     max_size: u32,
     min_idle: Option<u32>,
     max_lifetime: Option<u64>,
@@ -29,11 +29,11 @@ pub(crate) fn limits(
 }
 
 // A size alone, with half a minute for a connection and from reap to reap.
-pub(crate) fn sized(max_size: u32) -> Option<Limits> {
+pub fn sized(max_size: u32) -> Option<Limits> {
     limits(max_size, None, None, None, 30_000, 30_000)
 }
 
-pub(crate) fn take(now: u64) -> Step<u64> {
+pub fn take(now: u64) -> Step<u64> {
     Step::Take {
         now: ms(now),
         or_order: false,
@@ -41,22 +41,22 @@ pub(crate) fn take(now: u64) -> Step<u64> {
 }
 
 // A take that orders on a miss.
-pub(crate) fn want(now: u64) -> Step<u64> {
+pub fn want(now: u64) -> Step<u64> {
     Step::Take {
         now: ms(now),
         or_order: true,
     }
 }
 
-pub(crate) fn begin(now: u64) -> Step<u64> {
+pub fn begin(now: u64) -> Step<u64> {
     Step::Begin { now: ms(now) }
 }
 
-pub(crate) fn number(tries: u32) -> Step<u64> {
+pub fn number(tries: u32) -> Step<u64> {
     Step::Number { tries }
 }
 
-pub(crate) fn admit(now: u64, id: u64, value: u64) -> Step<u64> {
+pub fn admit(now: u64, id: u64, value: u64) -> Step<u64> {
     Step::Admit {
         now: ms(now),
         id,
@@ -64,7 +64,7 @@ pub(crate) fn admit(now: u64, id: u64, value: u64) -> Step<u64> {
     }
 }
 
-pub(crate) fn fail(now: u64, tries: u32) -> Step<u64> {
+pub fn fail(now: u64, tries: u32) -> Step<u64> {
     Step::Fail {
         now: ms(now),
         tries,
@@ -72,7 +72,7 @@ pub(crate) fn fail(now: u64, tries: u32) -> Step<u64> {
     }
 }
 
-pub(crate) fn put_back(now: u64, id: u64, value: u64) -> Step<u64> {
+pub fn put_back(now: u64, id: u64, value: u64) -> Step<u64> {
     Step::PutBack {
         now: ms(now),
         id,
@@ -81,10 +81,10 @@ pub(crate) fn put_back(now: u64, id: u64, value: u64) -> Step<u64> {
     }
 }
 
-pub(crate) fn reap(now: u64) -> Step<u64> {
+pub fn reap(now: u64) -> Step<u64> {
     Step::Reap { now: ms(now) }
 }
 
-pub(crate) fn close() -> Step<u64> {
+pub fn close() -> Step<u64> {
     Step::Close
 }

@@ -5,7 +5,11 @@ use std::time::Duration;
 
 pub fn printed<R: Print + AllocGlobal>(rt: &R, limits: Limits) -> Result<(), anyhow::Error> {
     let mut book = Book::new(rt.alloc(), limits, Duration::ZERO, 1024)?;
-    open_one(&mut book);
+    fill_and_say(rt, &mut book)
+}
+
+fn fill_and_say<R: Print>(rt: &R, book: &mut Book<&'static str>) -> Result<(), anyhow::Error> {
+    open_one(book);
     say(rt, &book.report()?)
 }
 

@@ -2,14 +2,21 @@
 
 use crate::journal;
 use anyhow::anyhow;
-use r2d2_core::{Core, Job, LimitSettings, Take};
+use r2d2_core::{Core, Job, LimitSettings, Limits, Take};
 use std::time::Duration;
 
 pub fn gone<R: Print + AllocGlobal>(rt: &R) -> Result<(), anyhow::Error> {
+    let limits = limits().ok_or_else(|| anyhow!("limits that no core can have"))?;
+    let mut core = Core::new(rt.alloc(), limits, Duration::ZERO)?;
+    go_round(rt, &mut core)?;
+    journal::printed(rt, limits)
+}
+
+// At most 10 connections, 2 of them wanted idle; closed when idle for ten minutes, or half an hour
+// old.
+fn limits() -> Option<Limits> {
     let second = Duration::from_secs(1);
-    // At most 10 connections, 2 of them wanted idle; closed when idle for ten minutes, or half an
-    // hour old.
-    let limits = LimitSettings {
+    LimitSettings {
         max_size: 10,
         min_idle: Some(2),
         max_lifetime: Some(second * 1800),
@@ -18,9 +25,10 @@ pub fn gone<R: Print + AllocGlobal>(rt: &R) -> Result<(), anyhow::Error> {
         reap_every: second * 30,
     }
     .limits()
-    .ok_or_else(|| anyhow!("limits that no core can have"))?;
-    let mut core = Core::new(rt.alloc(), limits, Duration::ZERO)?;
+}
 
+fn go_round<R: Print>(rt: &R, core: &mut Core<&'static str>) -> Result<(), anyhow::Error> {
+    let second = Duration::from_secs(1);
     // A worker asks what to do, opens a connection, and hands it in.
     if let Job::Open { tries } = core.begin(Duration::ZERO) {
         if let Ok(id) = core.number(tries) {
@@ -32,5 +40,5 @@ pub fn gone<R: Print + AllocGlobal>(rt: &R) -> Result<(), anyhow::Error> {
         Take::Found { value, ordered, .. } => println!(rt; "lent {value}, and {ordered} ordered")?,
         Take::Empty { ordered } => println!(rt; "none idle, and {ordered} ordered")?,
     }
-    journal::printed(rt, limits)
+    Ok(())
 }

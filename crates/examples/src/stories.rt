@@ -66,12 +66,18 @@ fn said(alloc: Global, script: &str) -> Result<Vec<&str>, AllocError> {
 // What a book reports that took the steps of a script, with room for each of its records.
 fn report(alloc: Global, script: &str) -> Result<Report, Fault> {
     let lines = said(alloc, script)?;
-    let Some((first, steps)) = lines.split_first() else {
-        return Err(Fault::NotAStep(1));
-    };
+    report_of(alloc, lines.as_slice())
+}
+
+fn report_of(alloc: Global, lines: &[&str]) -> Result<Report, Fault> {
+    let (first, steps) = lines.split_first().ok_or(Fault::NotAStep(1))?;
     let limits = limits(first.as_bytes())?;
     let mut book = Book::new(alloc, limits, Duration::ZERO, steps.len())?;
-    take(alloc, &mut book, steps)?;
+    report_after(alloc, &mut book, steps)
+}
+
+fn report_after(alloc: Global, book: &mut Book<u64>, steps: &[&str]) -> Result<Report, Fault> {
+    take(alloc, book, steps)?;
     Ok(book.report()?)
 }
 
@@ -108,9 +114,8 @@ pub fn drawn<R: Input + Print + Eprint + AllocGlobal>(
         return Ok(ExitCode::from(5));
     };
     let script = io::read_to_string(rt.alloc(), rt.reader())?;
-    match report(rt.alloc(), script.as_str()) {
-        Ok(report) => {
-            let drawing = kind.drawing(rt.alloc(), &report)?;
+    match drawing(rt.alloc(), kind, script.as_str()) {
+        Ok(drawing) => {
             print!(rt; "{drawing}")?;
             Ok(ExitCode::SUCCESS)
         }
@@ -119,4 +124,10 @@ pub fn drawn<R: Input + Print + Eprint + AllocGlobal>(
             Ok(ExitCode::from(fault.status()))
         }
     }
+}
+
+// What a book that took the steps of a script reports, drawn.
+fn drawing(alloc: Global, kind: Kind, script: &str) -> Result<String, Fault> {
+    let report = report(alloc, script)?;
+    Ok(kind.drawing(alloc, &report)?)
 }

@@ -6,7 +6,9 @@ ghost use Rattle.std.specs.Prelude.{◌<◌};
 use crate::Numbers;
 use anyhow::{Context, ensure};
 use pool_metrics::{Metrics, Reading, Timed, write};
-use r2d2::{Builder, NopConnectionCustomizer, NopErrorHandler, Pool, PoolRuntime};
+use r2d2::{
+    Builder, NopConnectionCustomizer, NopErrorHandler, Pool, PoolRuntime, PooledConnection,
+};
 use std::alloc::{AllocError, Global};
 use std::rt::Env;
 use std::thread::JoinHandle;
@@ -17,6 +19,14 @@ use std::{env, thread};
 const REQUESTS: u32 = 50;
 
 type Watched<R> = Pool<Timed<Numbers, R>, NopErrorHandler, Metrics<R>, NopConnectionCustomizer, R>;
+
+type Lent<R> = PooledConnection<
+    Timed<Numbers, R>,
+    NopErrorHandler,
+    Metrics<R>,
+    NopConnectionCustomizer,
+    R,
+>;
 
 /// What a thread of the service has: its own pool over the shared connections, and their metrics.
 #[derive(Drop)]
@@ -128,29 +138,65 @@ where
     let settings = Settings::of_environment(&rt)?;
     ensure!(settings.max_size > 1, "POOL_MAX_SIZE is below 2");
     let app = App::new(rt, settings.max_size)?;
+    serve(&app, settings, prints, &start)
+}
+
+fn serve<R, S>(
+    app: &App<R>,
+    settings: Settings,
+    prints: Prints,
+    start: &S,
+) -> Result<(), anyhow::Error>
+where
+    R: PoolRuntime + Print,
+    S: Fn(App<R>) -> Result<JoinHandle<u32>, anyhow::Error>,
+    requires { S.IsAlwaysCallable start.now }
+{
     let forgotten = app.pool.get()?;
     for _ in 0..settings.seconds {
-        let answered = answer_in_threads(&app, settings.threads, &start)?;
-        thread::sleep(&rt, Duration::from_secs(1));
-        if prints == Prints::Pages {
-            print!(rt; "{}", app.page(rt.alloc())?)?;
-        } else {
-            println!(rt; "{answered} requests were answered")?;
+        let answered = answer_in_threads(app, settings.threads, start)?;
+        thread::sleep(&app.rt, Duration::from_secs(1));
+        app.print(prints, answered)?;
+    }
+    match prints {
+        Prints::Pages => Ok(()),
+        Prints::Findings => app.end(forgotten),
+    }
+}
+
+impl<R: PoolRuntime + Print> App<R> {
+    // Prints what there is to say after a second.
+    fn print(&self, prints: Prints, answered: u32) -> Result<(), anyhow::Error> {
+        let rt = self.rt;
+        match prints {
+            Prints::Pages => print!(rt; "{}", self.page(rt.alloc())?)?,
+            Prints::Findings => println!(rt; "{answered} requests were answered")?,
         }
+        Ok(())
     }
-    if prints == Prints::Pages {
-        return Ok(());
+
+    // Finds the connection that somebody forgot, and closes the pool as the database moves.
+    fn end(&self, forgotten: Lent<R>) -> Result<(), anyhow::Error> {
+        self.tell_what_is_lent()?;
+        // What is lent is closed as it comes back.
+        println!(self.rt; "closed, since they were idle: {}", self.pool.evict()?)?;
+        drop(forgotten);
+        self.drain()
     }
-    let long = app.metrics.lent_longer_than(Duration::from_millis(500))?;
-    println!(rt; "lent for more than half a second: {}", long.len())?;
-    // The database has moved: what is lent is closed as it comes back.
-    println!(rt; "closed, since they were idle: {}", app.pool.evict()?)?;
-    drop(forgotten);
-    match app.pool.drain(Duration::from_secs(5)) {
-        Ok(()) => println!(rt; "all came back")?,
-        Err(status) => println!(rt; "{} did not come back", status.lent)?,
+
+    fn tell_what_is_lent(&self) -> Result<(), anyhow::Error> {
+        let long = self.metrics.lent_longer_than(Duration::from_millis(500))?;
+        println!(self.rt; "lent for more than half a second: {}", long.len())?;
+        Ok(())
     }
-    Ok(())
+
+    fn drain(&self) -> Result<(), anyhow::Error> {
+        match self.pool.drain(Duration::from_secs(5)) {
+            Ok(()) => println!(self.rt; "all came back")?,
+            Err(status) => println!(self.rt; "{} did not come back", status.lent)?,
+        }
+        Ok(())
+    }
 }
 
 // Answers requests in so many threads, and says how many in all.

@@ -1,9 +1,9 @@
 // Each field of a report's base and records, changed by itself: the report replays where a second
 // reading says that it does.
 
-use crate::checks::{book_of, last_report, legal, listed, same, same_at, take_all};
-use crate::replays::{Found, read};
-use crate::steps::{admit, begin, close, limits, number, put_back, reap, take, want};
+use core_tests::checks::{book_of, last_report, legal, listed, same, same_at, take_all};
+use core_tests::replays::{Found, read};
+use core_tests::steps::{admit, begin, close, limits, number, put_back, reap, take, want};
 use r2d2_core::{
     Base, Fault, IdList, IdleConnections, LendingOrder, LentConnections, Limits, Record,
     RecordList, Report, Step,

@@ -1,12 +1,12 @@
 // Steps at random, from fixed seeds: what `run` and a book answer is what the plain reading
 // answers, what a book shows is what it shows, and each report replays.
 
-use crate::checks::{answered, heap_of, legal, rest_of, same, same_at};
 use crate::drafts::{Draft, limits, next_draft};
-use crate::makers::{book_in, report_in};
 use crate::plain::History;
-use crate::replays::replays;
 use crate::said::Said;
+use core_tests::checks::{answered, heap_of, legal, rest_of, same, same_at};
+use core_tests::makers::{book_in, report_in};
+use core_tests::replays::replays;
 use linked_list_allocator::LocalHeap;
 use r2d2_core::run::run;
 use r2d2_core::{Answer, Book, Limits, Report};

@@ -1,49 +1,21 @@
-//! Tests of the core of a pool. The program goes through the worked rows, which lie in its folder
-//! `data`: scripts, `NAME.steps`, with the answers that were worked out by hand, `NAME.answers`.
-//! Its tests say what no contract and no row says.
+//! The core beside a second reading of its rules. The program goes through the worked rows, which
+//! lie in its folder `data`: scripts, `NAME.steps`, with the answers that were worked out by hand,
+//! `NAME.answers`. Its tests make up steps and change reports.
 #![tactic(auto)]
 
 #[cfg(test)]
-mod bases;
-mod caller;
-#[cfg(test)]
 mod changes;
 #[cfg(test)]
-mod checks;
-#[cfg(test)]
-mod closing;
-#[cfg(test)]
 mod drafts;
-#[cfg(test)]
-mod extremes;
-#[cfg(test)]
-mod greatest;
-#[cfg(test)]
-mod journal;
-#[cfg(test)]
-mod limits;
-mod machine;
-mod makers;
-#[cfg(test)]
-mod memory;
 #[cfg(test)]
 mod plain;
 #[cfg(test)]
 mod random;
 #[cfg(test)]
-mod refused;
-mod replays;
-#[cfg(test)]
 mod reuse;
 mod rows;
 #[cfg(test)]
 mod said;
-#[cfg(test)]
-mod schedule;
-#[cfg(test)]
-mod steps;
-#[cfg(test)]
-mod turning;
 
 use pool_lines::program::Fault;
 use std::alloc::{AllocError, Global};

@@ -1,7 +1,7 @@
 // Newest-first and oldest-first beside other choices. Moments are in milliseconds. No clause says
 // that `compare` answers where memory is there; each of these calls does.
 
-use crate::checks::same;
+use core_tests::checks::same;
 use r2d2_core::reuse::{Move, compare, is_in_order};
 use std::alloc::{AllocError, Global};
 use std::process::Abort;
