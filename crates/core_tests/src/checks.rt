@@ -1,73 +1,73 @@
 // What the tests call. None of it has a contract, so that a test is proved without those of the
 // core; and each stops the test where it fails.
 
-use crate::makers::{book_in, core_in};
+use crate::makers::{answered, book_in, core_in};
 use crate::replays::replays;
 use linked_list_allocator::LocalHeap;
-use r2d2_core::{Answer, Book, Core, Limits, Report, Step};
-use std::alloc::{AllocError, Allocator, Global};
+use r2d2_core::{Book, Core, Limits, Report, Step};
+use std::alloc::{AllocError, Allocator};
 use std::fmt::Debug;
 use std::process::Abort;
 use std::time::Duration;
 
-pub fn same<R: Abort, T: PartialEq + Debug + Drop>(rt: &R, given: T, wanted: T) {
+pub(crate) fn same<R: Abort, T: PartialEq + Debug + Drop>(rt: &R, given: T, wanted: T) {
     assert_eq!(rt; given, wanted);
 }
 
 // The same in a row of its number.
-pub fn same_at<R: Abort, T: PartialEq + Debug + Drop>(rt: &R, number: usize, given: T, wanted: T) {
+pub(crate) fn same_at<R: Abort, T: PartialEq + Debug + Drop>(
+    rt: &R,
+    number: usize,
+    given: T,
+    wanted: T,
+) {
     assert_eq!(rt; given, wanted, "at {number}");
 }
 
-pub fn legal<R: Abort>(rt: &R, limits: Option<Limits>) -> Limits {
+pub(crate) fn legal<R: Abort>(rt: &R, limits: Option<Limits>) -> Limits {
     limits.expect(rt, "limits")
 }
 
-pub fn core_of<R: Abort + AllocGlobal>(rt: &R, limits: Limits) -> Core<u64> {
+pub(crate) fn core_of<R: Abort + AllocGlobal>(rt: &R, limits: Limits) -> Core<u64> {
     core_in(rt.alloc(), limits).expect(rt, "a core")
 }
 
 // A book that keeps so many records.
-pub fn book_of<R: Abort + AllocGlobal>(rt: &R, limits: Limits, room: usize) -> Book<u64> {
+pub(crate) fn book_of<R: Abort + AllocGlobal>(rt: &R, limits: Limits, room: usize) -> Book<u64> {
     book_in(rt.alloc(), limits, Duration::ZERO, room).expect(rt, "a book")
 }
 
-pub fn heap_of<R: Abort + AllocGlobal>(rt: &R, size: usize) -> LocalHeap {
+pub(crate) fn heap_of<R: Abort + AllocGlobal>(rt: &R, size: usize) -> LocalHeap {
     LocalHeap::new(rt.alloc(), size).expect(rt, "a heap")
 }
 
-pub fn is_made<T: Drop>(made: Result<T, AllocError>) -> bool {
+pub(crate) fn is_made<T: Drop>(made: Result<T, AllocError>) -> bool {
     made.is_ok()
 }
 
 // What is left of the heap, but for so many bytes.
-pub fn rest_of<'a, R: Abort>(rt: &R, heap: &'a LocalHeap, spared: usize) -> Vec<u8, &'a LocalHeap> {
+pub(crate) fn rest_of<'a, R: Abort>(
+    rt: &R,
+    heap: &'a LocalHeap,
+    spared: usize,
+) -> Vec<u8, &'a LocalHeap> {
     Vec::with_capacity(heap, heap.free().saturating_sub(spared)).expect(rt, "the rest")
 }
 
 // What the book reports at last.
-pub fn last_report<R: Abort>(rt: &R, book: Book<u64>) -> Report {
+pub(crate) fn last_report<R: Abort>(rt: &R, book: Book<u64>) -> Report {
     report_of(rt, &book)
 }
 
-pub fn listed<R: Abort + AllocGlobal, const N: usize>(
+pub(crate) fn listed<R: Abort + AllocGlobal, const N: usize>(
     rt: &R,
     steps: [Step<u64>; N],
 ) -> Vec<Step<u64>> {
     Vec::from_array(rt.alloc(), steps).expect(rt, "a list")
 }
 
-// Takes a step by a book.
-pub fn answered<A: Allocator>(
-    alloc: Global,
-    book: &mut Book<u64, A>,
-    step: Step<u64>,
-) -> Result<Answer<u64, A>, AllocError> {
-    book.answer(alloc, step)
-}
-
 // Takes the steps by a book.
-pub fn take_all<R: Abort + AllocGlobal, A: Allocator>(
+pub(crate) fn take_all<R: Abort + AllocGlobal, A: Allocator>(
     rt: &R,
     book: &mut Book<u64, A>,
     steps: Vec<Step<u64>>,
@@ -77,11 +77,11 @@ pub fn take_all<R: Abort + AllocGlobal, A: Allocator>(
     }
 }
 
-pub fn report_of<R: Abort>(rt: &R, book: &Book<u64>) -> Report {
+pub(crate) fn report_of<R: Abort>(rt: &R, book: &Book<u64>) -> Report {
     book.report().expect(rt, "a report")
 }
 
 // Whether the report replays by the second reading.
-pub fn is_replayed<R: Abort + AllocGlobal>(rt: &R, report: &Report) -> bool {
+pub(crate) fn is_replayed<R: Abort + AllocGlobal>(rt: &R, report: &Report) -> bool {
     replays(rt.alloc(), report).expect(rt, "a replay")
 }

@@ -4,7 +4,8 @@
 #[cfg(test)]
 mod bases;
 pub mod caller;
-pub mod checks;
+#[cfg(test)]
+mod checks;
 #[cfg(test)]
 mod closing;
 #[cfg(test)]

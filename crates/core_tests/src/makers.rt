@@ -1,8 +1,8 @@
 // Cores, books and reports in any memory. None of it has a contract, so that a caller is proved
 // without those of the core.
 
-use r2d2_core::{Book, Core, Limits, Report};
-use std::alloc::{AllocError, Allocator};
+use r2d2_core::{Answer, Book, Core, Limits, Report, Step};
+use std::alloc::{AllocError, Allocator, Global};
 use std::time::Duration;
 
 pub fn core_in<A: Allocator + Copy>(alloc: A, limits: Limits) -> Result<Core<u64, A>, AllocError> {
@@ -41,4 +41,13 @@ pub fn report_in<A: Allocator, B: Allocator + Copy>(
     alloc: B,
 ) -> Result<Report<B>, AllocError> {
     book.report_in(alloc)
+}
+
+// Takes a step by a book.
+pub fn answered<A: Allocator>(
+    alloc: Global,
+    book: &mut Book<u64, A>,
+    step: Step<u64>,
+) -> Result<Answer<u64, A>, AllocError> {
+    book.answer(alloc, step)
 }

@@ -1,7 +1,7 @@
 // Each field of a report's base and records, changed by itself: the report replays where a second
 // reading says that it does.
 
-use core_tests::checks::{book_of, last_report, legal, listed, same, same_at, take_all};
+use core_tests::makers::{answered, book_in};
 use core_tests::replays::{Found, read};
 use core_tests::steps::{admit, begin, close, limits, number, put_back, reap, take, want};
 use r2d2_core::{
@@ -201,8 +201,12 @@ enum Story {
 impl Story {
     fn steps<R: Abort + AllocGlobal>(self, rt: &R) -> Vec<Step<u64>> {
         match self {
-            Story::ReapedAndClosed => listed(rt, reaped_and_closed()),
-            Story::OrderedAndLost => listed(rt, ordered_and_lost()),
+            Story::ReapedAndClosed => {
+                Vec::from_array(rt.alloc(), reaped_and_closed()).expect(rt, "a list")
+            }
+            Story::OrderedAndLost => {
+                Vec::from_array(rt.alloc(), ordered_and_lost()).expect(rt, "a list")
+            }
         }
     }
 
@@ -215,9 +219,12 @@ impl Story {
 
     // What a book of it reports that keeps so many records.
     fn report<R: Abort + AllocGlobal>(self, rt: &R, order: LendingOrder, room: usize) -> Report {
-        let mut book = book_of(rt, legal(rt, self.limits()).with_order(order), room);
-        take_all(rt, &mut book, self.steps(rt));
-        last_report(rt, book)
+        let limits = self.limits().expect(rt, "limits").with_order(order);
+        let mut book = book_in(rt.alloc(), limits, Duration::ZERO, room).expect(rt, "a book");
+        for step in self.steps(rt) {
+            answered(rt.alloc(), &mut book, step).expect(rt, "an answer");
+        }
+        book.report().expect(rt, "a report")
     }
 }
 
@@ -283,7 +290,7 @@ impl Tally {
 
     fn count_all<R: Abort + AllocGlobal>(&mut self, rt: &R, room: usize, made: &Report) {
         let unlike = self.count(rt.alloc(), made).expect(rt, "memory");
-        same_at(rt, room, unlike, None);
+        assert_eq!(rt; unlike, None, "at {room}");
     }
 }
 
@@ -300,5 +307,5 @@ fn each_change_is_judged_as_by_a_second_reading(rt: HostRuntime) {
             }
         }
     }
-    same(&rt, (tally.replaying, tally.others), (329, 295));
+    assert_eq!(rt; (tally.replaying, tally.others), (329, 295));
 }

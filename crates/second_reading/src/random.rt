@@ -4,8 +4,7 @@
 use crate::drafts::{Draft, limits, next_draft};
 use crate::plain::History;
 use crate::said::Said;
-use core_tests::checks::{answered, heap_of, legal, rest_of, same, same_at};
-use core_tests::makers::{book_in, report_in};
+use core_tests::makers::{answered, book_in, report_in};
 use core_tests::replays::replays;
 use linked_list_allocator::LocalHeap;
 use r2d2_core::run::run;
@@ -131,7 +130,7 @@ fn book_of_story<R: Abort, A: Allocator + Copy>(
 fn story_of<R: Abort + AllocGlobal>(rt: &R, seed: usize, made: usize) -> Story {
     let mut rng = Pcg32::seed_from_u64(seed as u64);
     let made = Duration::from_millis(made as u64);
-    let limits = legal(rt, limits(&mut rng));
+    let limits = limits(&mut rng).expect(rt, "limits");
     made_up(rt.alloc(), &mut rng, limits, made).expect(rt, "a story")
 }
 
@@ -145,7 +144,7 @@ fn both_answer<R: Abort + AllocGlobal>(rt: &R, seed: usize, story: &Story) {
 
 fn run_answers<R: Abort + AllocGlobal>(rt: &R, seed: usize, story: &Story) {
     let unlike = first_unlike_by_run(rt.alloc(), story);
-    same_at(rt, seed, unlike.expect(rt, "answers"), None);
+    assert_eq!(rt; unlike.expect(rt, "answers"), None, "at {seed}");
 }
 
 fn book_answers<R: Abort + AllocGlobal, A: Allocator>(
@@ -155,12 +154,12 @@ fn book_answers<R: Abort + AllocGlobal, A: Allocator>(
     book: &mut Book<u64, A>,
 ) {
     let unlike = first_unlike_by_book(rt.alloc(), story, book);
-    same_at(rt, seed, unlike.expect(rt, "answers"), None);
+    assert_eq!(rt; unlike.expect(rt, "answers"), None, "at {seed}");
 }
 
 fn book_shows<R: Abort + AllocGlobal>(rt: &R, seed: usize, story: &Story, book: &Book<u64>) {
     let is_shown = shows(rt.alloc(), &story.history, book);
-    same_at(rt, seed, is_shown.expect(rt, "a report"), true);
+    assert!(rt; is_shown.expect(rt, "a report"), "at {seed}");
 }
 
 #[test]
@@ -180,7 +179,7 @@ fn replays_after(alloc: Global, book: &mut Book<u64>, draft: &Draft) -> Result<b
 fn replays_at_each_step<R: Abort + AllocGlobal>(rt: &R, story: &Story, book: &mut Book<u64>) {
     for (place, draft) in story.drafts.iter().enumerate() {
         let does_replay = replays_after(rt.alloc(), book, draft);
-        same_at(rt, place, does_replay.expect(rt, "a report"), true);
+        assert!(rt; does_replay.expect(rt, "a report"), "at {place}");
     }
 }
 
@@ -198,6 +197,13 @@ fn each_report_replays_whatever_was_dropped(rt: HostRuntime) {
     }
 }
 
+// What is left of the heap.
+fn rest_of<'a, R: Abort>(rt: &R, heap: &'a LocalHeap) -> Vec<u8, &'a LocalHeap> {
+    let rest = Vec::with_capacity(heap, heap.free()).expect(rt, "the rest");
+    assert_eq!(rt; heap.free(), 0);
+    rest
+}
+
 // A book that has no more memory answers as the plain reading, at each step.
 fn a_full_book_answers<R: Abort + AllocGlobal>(
     rt: &R,
@@ -206,14 +212,14 @@ fn a_full_book_answers<R: Abort + AllocGlobal>(
     heap: &LocalHeap,
 ) {
     let mut book = book_of_story(rt, heap, story, STEPS);
-    let _rest = rest_of(rt, heap, 0);
-    same(rt, heap.free(), 0);
+    let _rest = rest_of(rt, heap);
     book_answers(rt, seed, story, &mut book);
 }
 
 #[test]
 fn a_book_needs_no_memory_after_its_making(rt: HostRuntime) {
     for seed in 0..50 {
-        a_full_book_answers(&rt, seed, &story_of(&rt, seed, 0), &heap_of(&rt, 1 << 14));
+        let heap = LocalHeap::new(rt.alloc(), 1 << 14).expect(&rt, "a heap");
+        a_full_book_answers(&rt, seed, &story_of(&rt, seed, 0), &heap);
     }
 }

@@ -1,7 +1,6 @@
 // Newest-first and oldest-first beside other choices. Moments are in milliseconds. No clause says
 // that `compare` answers where memory is there; each of these calls does.
 
-use core_tests::checks::same;
 use r2d2_core::reuse::{Move, compare, is_in_order};
 use std::alloc::{AllocError, Global};
 use std::process::Abort;
@@ -11,6 +10,8 @@ fn ms(moment: u64) -> Duration {
     Duration::from_millis(moment)
 }
 
+type Expired = Option<(usize, usize, usize)>;
+
 // What is expired where the newest is lent first, where the oldest is, and by the picks.
 fn compared<R: Abort + AllocGlobal>(
     rt: &R,
@@ -19,13 +20,17 @@ fn compared<R: Abort + AllocGlobal>(
     picks: &[usize],
     now: u64,
     limit: u64,
-) -> Option<(usize, usize, usize)> {
+) -> Expired {
     assert!(rt; is_in_order(idle));
     let answer = compare(rt.alloc(), idle, moves, picks, ms(now), ms(limit)).expect(
         rt,
         "an answer",
     );
     answer.map(|c| (c.newest_first, c.oldest_first, c.other))
+}
+
+fn same<R: Abort>(rt: &R, expired: Expired, wanted: Expired) {
+    assert_eq!(rt; expired, wanted);
 }
 
 #[test]
