@@ -13,6 +13,7 @@ import subprocess
 import sys
 import tempfile
 import threading
+import time
 
 TOP = os.path.dirname(os.path.dirname(os.path.realpath(__file__)))
 TESTS = os.path.join(TOP, "tests")
@@ -133,14 +134,16 @@ class Runs:
         self.lock = threading.Lock()
         self.is_over = False
 
-    def run(self, words, **how):
-        """How the program ended, and what it said."""
+    def run(self, words, beside=None, **how):
+        """How the program ended, and what it said. `beside` is called with it, in a thread of its own."""
         with self.lock:
             if self.is_over:
                 return 1, "stopped"
             streams = {"stdin": subprocess.DEVNULL, "stdout": subprocess.PIPE, "stderr": subprocess.STDOUT}
             process = subprocess.Popen(words, errors="replace", **streams, **how)
             self.running.add(process)
+        if beside:
+            threading.Thread(target=beside, args=[process], daemon=True).start()
         said, _ = process.communicate()
         with self.lock:
             self.running.discard(process)
@@ -177,7 +180,33 @@ class Copy:
     def run_tests(self, name, flags=(), only=None):
         """The tests of a folder, or one of them, without proof: the status, and what was said."""
         words = [RT, "try", "--test", "--seconds", SECONDS, *flags, *(["--", only] if only else [])]
-        return self.runs.run(words, cwd=self.crate(name), env={**os.environ, "TMPDIR": self.aside})
+        return self.runs.run(words, end_the_look_at_names, cwd=self.crate(name), env={**os.environ, "TMPDIR": self.aside})
+
+
+def end_the_look_at_names(process):
+    """Ends what `rt try` does beside the tests: it looks for names that a check refuses, which takes as much time as they do, and
+    says no more than a hint."""
+    while process.poll() is None:
+        for child in children(process.pid):
+            if b"no function" in command(child):
+                with contextlib.suppress(OSError):
+                    os.kill(child, signal.SIGKILL)
+                return
+        time.sleep(0.2)
+
+
+def children(number):
+    try:
+        return [int(it) for it in open(f"/proc/{number}/task/{number}/children").read().split()]
+    except OSError:
+        return []
+
+
+def command(number):
+    try:
+        return open(f"/proc/{number}/cmdline", "rb").read()
+    except OSError:
+        return b""
 
 
 def outcomes(said):

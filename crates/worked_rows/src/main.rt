@@ -1,21 +1,9 @@
-//! The core beside a second reading of its rules. The program goes through the worked rows, which
-//! lie in its folder `data`: scripts, `NAME.steps`, with the answers that were worked out by hand,
-//! `NAME.answers`. Its tests make up steps and change reports.
+//! The worked rows, which lie in the folder `data`: scripts, `NAME.steps`, with the answers that were
+//! worked out by hand, `NAME.answers`. The core, `run`, a book, and the text of `pool-steps` are each
+//! to answer them so.
 #![tactic(auto)]
 
-#[cfg(test)]
-mod changes;
-#[cfg(test)]
-mod drafts;
-#[cfg(test)]
-mod plain;
-#[cfg(test)]
-mod random;
-#[cfg(test)]
-mod reuse;
 mod rows;
-#[cfg(test)]
-mod said;
 
 use pool_lines::program::Fault;
 use std::alloc::{AllocError, Global};
