@@ -55,6 +55,19 @@ place_some test es r e = subst (λ o. IfSome o (IsPlaceOf test es)) (sym e) (by_
 pub place_none : {K X : Type 0} (test : K → Bool) (es : List (K × X)) (r : Option ℕ) → r ≡ position (λ e. test e.0) es → IfNone r (lookup test es ≡ None)
 place_none test es r e = subst (λ o. IfNone o (lookup test es ≡ None)) (sym e) (by_test_none test es (nat_lt (place test es) (length es)) refl)
 
+removed_none : {K X : Type 0} (test : K → Bool) (es : List (K × X)) → lookup test es ≡ None → remove_entry test es ≡ es
+removed_none test [] h = refl
+removed_none test (e ∷ es) h = let ih = removed_none test es in grind (arith, common_steps, ih)
+
+removes_none_if : {K X : Type 0} (test : K → Bool) (es : List (K × X)) (r : Option ℕ) → IfNone r (lookup test es ≡ None)
+    → IfNone r (remove_entry test es ≡ es)
+removes_none_if test es None none = removed_none test es none
+removes_none_if test es (Some _) none = tt
+
+pub place_removes_none : {K X : Type 0} (test : K → Bool) (es : List (K × X)) (r : Option ℕ) → r ≡ position (λ e. test e.0) es
+    → IfNone r (remove_entry test es ≡ es)
+place_removes_none test es r e = removes_none_if test es r (place_none test es r e)
+
 -- ---- that no two entries have one kind
 pub distinct_empty : {K X : Type 0} (eq : K → K → Bool) (es : List (K × X)) → es ≡ [] → IsDistinct eq (keys_of es)
 unfolding IsDistinct
@@ -87,10 +100,6 @@ distinct_grown {eq = eq} laws es grown k w pushed e none h =
       | false ↦ h
     ]
     )
-
-pub removed_none : {K X : Type 0} (test : K → Bool) (es : List (K × X)) → lookup test es ≡ None → remove_entry test es ≡ es
-removed_none test [] h = refl
-removed_none test (e ∷ es) h = let ih = removed_none test es in grind (arith, common_steps, ih)
 
 all_removed : {K X : Type 0} (P : K → Type 0) (test : K → Bool) (es : List (K × X)) → AllByRecursion P (keys_of es)
     → AllByRecursion P (keys_of (remove_entry test es))

@@ -1,5 +1,5 @@
 // What users keep beside a connection.
-ghost use Rattle.std.specs.Prelude.{◌≡◌, [], List, IfOk, IfErr, OnErr, OnOk, IfSome, IfNone};
+ghost use Rattle.std.specs.Prelude.{◌≡◌, ◌<◌, length, [], List, IfOk, IfErr, OnErr, OnOk, IfSome, IfNone};
 ghost use Rattle.std.specs.Prelude.{option_copied, position};
 ghost use Rattle.std.specs.List.{IsDistinct};
 ghost use Rattle.std.specs.Map.{lookup, remove_entry, set_value, keys_of};
@@ -69,7 +69,7 @@ impl<X: Extension> Extensions<X> {
     /// Puts the value under the kind that it names, and answers the value that was there. If memory
     /// is refused, nothing changes and the value comes back; that can happen only for a kind that
     /// had none.
-    #[tactic(auto, using(crate::proofs::Places::distinct_set, crate::proofs::Places::distinct_pushed))]
+    #[tactic(auto, using(crate::proofs::Places::distinct_set))]
     pub fn insert(&mut self, value: X) -> Result<Option<X>, X>
         ensures replaced { IfOk result
             (λ replaced. replaced ≡ lookup (X.Kind.eq (X.kind_of value)) self.old) }
@@ -118,7 +118,7 @@ impl<X: Extension> Extensions<X> {
     }
 
     /// Takes out the value under the kind, if there is one.
-    #[tactic(auto, using(crate::proofs::Places::distinct_removed, crate::proofs::Places::removed_none))]
+    #[tactic(auto, using(crate::proofs::Places::distinct_removed))]
     pub fn remove(&mut self, kind: &X::Kind) -> Option<X>
         ensures value { result ≡ lookup (X.Kind.eq kind.now) self.old }
         ensures entries { self.new ≡ remove_entry (X.Kind.eq kind.now) self.old }
@@ -147,10 +147,14 @@ fn position_of<K: Eq, X>(entries: &[(K, X)], kind: &K) -> Option<usize>
     entries.iter().position(|entry| *kind == entry.0)
 }
 
-// The same place, told in the words of maps.
+// The same place, told in the words of maps. Where it lies, and that there is nothing to remove, is
+// told by itself, since callers are proved faster by it.
 fn place_of<K: Eq, X>(entries: &[(K, X)], kind: &K) -> Option<usize>
     ensures none { IfNone result (lookup (K.eq kind.now) entries.now ≡ None) }
+    ensures nothing_to_remove { IfNone result (remove_entry (K.eq kind.now) entries.now
+        ≡ entries.now) }
     ensures some { IfSome result (IsPlaceOf (K.eq kind.now) entries.now) }
+    ensures within { IfSome result (λ place. place < length entries.now) }
 {
     position_of(entries, kind)
 }
