@@ -105,6 +105,11 @@ def pool_steps(script):
     return Program(script, "pool_steps", ["r2d2_core", "pool_lines"], b"limits 1 - - - 30000 30000\n")
 
 
+def examples(script):
+    """The program of examples, for a script of this name."""
+    return Program(script, "examples", ["r2d2_core", "r2d2", "pool_reports", "pool_pictures", "pool_lines", "pool_metrics"], b"")
+
+
 def status_of(process):
     """The status of a program that has ended, as a shell tells it."""
     return process.returncode if process.returncode >= 0 else 128 - process.returncode

@@ -1,18 +1,18 @@
 """The log of the examples, one of whose managers fails twice. The gate knows a program's standard output alone."""
-import os
 import subprocess
 
-from tally import TOP, Tally
+from programs import examples
+from tally import Tally
 
-LINE = "[ERROR r2d2] the database is starting up"
+LINE = "[ERROR r2d2] the database is starting up\n"
 
 
 def tried():
-    tally = Tally("log")
-    how = {"stdin": subprocess.DEVNULL, "stdout": subprocess.PIPE, "stderr": subprocess.STDOUT, "text": True}
-    done = subprocess.run(["rt", "try"], cwd=os.path.join(TOP, "crates", "examples"), **how)
+    tally, program = Tally("log"), examples("log")
+    if not program.is_ready():
+        tally.check("the examples are built", False)
+        return tally
+    done = subprocess.run([program.path], stdin=subprocess.DEVNULL, capture_output=True, text=True)
     tally.check("the examples run", done.returncode == 0, done.stdout[-2000:])
-    # rt adds lines of its own.
-    errors = [line for line in done.stdout.splitlines() if "ERROR" in line]
-    tally.check("one line for each failure", errors == [LINE] * 2, errors)
+    tally.check("one line for each failure", done.stderr == LINE * 2, done.stderr)
     return tally

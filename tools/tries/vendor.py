@@ -6,6 +6,7 @@ import shutil
 import subprocess
 import tempfile
 
+from copies import Runs, end_the_look_at_names
 from tally import TOP, Tally
 
 TALLY = Tally("vendor")
@@ -53,12 +54,11 @@ def runs(mine):
     os.makedirs(os.path.join(mine, "crates", "visits", "src"))
     shutil.copy(os.path.join(TOP, "crates", "first_pool", "src", "main.rt"), os.path.join(mine, "crates", "visits", "src"))
     write(read(mine, "crates.txt") + "visits: r2d2 sqlite anyhow\n", mine, "crates.txt")
-    how = {"stdin": subprocess.DEVNULL, "stdout": subprocess.PIPE, "stderr": subprocess.PIPE, "text": True}
-    done = subprocess.run(["rt", "try"], cwd=os.path.join(mine, "crates", "visits"), **how)
+    status, said = Runs().run(["rt", "try"], end_the_look_at_names, cwd=os.path.join(mine, "crates", "visits"))
     wanted = read(TOP, "crates", "first_pool", "stdout").splitlines()
     # rt adds lines of its own.
-    written = [line for line in done.stdout.splitlines() if line in wanted]
-    check("the pool runs there", done.returncode == 0 and wanted and written == wanted, (done.stdout, done.stderr[-2000:]))
+    written = [line for line in said.splitlines() if line in wanted]
+    check("the pool runs there", status == 0 and wanted and written == wanted, said[-2000:])
 
 
 def try_an_empty_folder(mine, lines):
