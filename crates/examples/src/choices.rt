@@ -21,8 +21,8 @@ pub fn compared<R: Print + AllocGlobal>(rt: &R) -> Result<(), anyhow::Error> {
         Some(c) => println!(rt;
             "newest-first {}, oldest-first {}, these picks {}",
             c.newest_first, c.oldest_first, c.other
-        )?,
-        None => println!(rt; "a take has no pick")?,
-    }
+        ),
+        None => println!(rt; "a take has no pick"),
+    }?;
     Ok(())
 }

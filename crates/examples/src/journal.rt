@@ -38,10 +38,10 @@ fn say<R: Print>(rt: &R, report: &Report) -> Result<(), anyhow::Error> {
 
 fn say_what_is_wrong<R: Print>(rt: &R, report: &Report) -> Result<(), anyhow::Error> {
     match report.first_fault()? {
-        None => println!(rt; "the report replays")?,
-        Some(Fault::Base) => println!(rt; "no pool comes to this base")?,
-        Some(Fault::Record { place, .. }) => println!(rt; "record {place} may not follow")?,
-        Some(Fault::Counts { .. }) => println!(rt; "the counts are others")?,
-    }
+        None => println!(rt; "the report replays"),
+        Some(Fault::Base) => println!(rt; "no pool comes to this base"),
+        Some(Fault::Record { place, .. }) => println!(rt; "record {place} may not follow"),
+        Some(Fault::Counts { .. }) => println!(rt; "the counts are others"),
+    }?;
     Ok(())
 }

@@ -73,21 +73,29 @@ fn main(rt: HostRuntime) -> Result<ExitCode, anyhow::Error> {
     println!(rt; "{served} threads found a connection")?;
     println!(rt; "{:?}", pool.state())?;
 
-    handlers::counted(rt)?;
-    handlers::printed(rt)?;
-    settings::tried(rt)?;
-    starting::waited_for(rt)?;
-    service::audited(rt)?;
-    kept::answered(rt)?;
+    use_pools(rt)?;
     watched_service::served(
         rt,
         Prints::Findings,
         |app| Ok(thread::spawn(&rt, move || app.answer())?),
     )?;
-    rounds::gone(&rt)?;
-    choices::compared(&rt)?;
-    stories::told(&rt)?;
+    use_the_core(&rt)?;
     Ok(ExitCode::SUCCESS)
+}
+
+fn use_pools<R: PoolRuntime + Print + Eprint>(rt: R) -> Result<(), anyhow::Error> {
+    handlers::counted(rt)?;
+    handlers::printed(rt)?;
+    settings::tried(rt)?;
+    starting::waited_for(rt)?;
+    service::audited(rt)?;
+    kept::answered(rt)
+}
+
+fn use_the_core<R: Print + AllocGlobal>(rt: &R) -> Result<(), anyhow::Error> {
+    rounds::gone(rt)?;
+    choices::compared(rt)?;
+    stories::told(rt)
 }
 
 // What a thread does with the pool. The connection goes back to the pool at the end.

@@ -63,9 +63,9 @@ pub fn waited_for<R: PoolRuntime + Print + Eprint>(rt: R) -> Result<(), anyhow::
         .build_unchecked(rt, Starting::new())?;
     // The first try fails at once. The second comes 400 ms later, and the third 800 ms after that.
     match pool.get_timeout(Duration::from_millis(600)) {
-        Ok(_) => println!(rt; "found one too soon")?,
-        Err(error) => println!(rt; "{error}")?,
-    }
+        Ok(_) => println!(rt; "found one too soon"),
+        Err(error) => println!(rt; "{error}"),
+    }?;
     println!(rt; "then found {}", *pool.get()?)?;
     Ok(())
 }
