@@ -72,6 +72,7 @@ fn main(rt: HostRuntime) -> Result<ExitCode, anyhow::Error> {
     }
     println!(rt; "{served} threads found a connection")?;
     println!(rt; "{:?}", pool.state())?;
+    drop(pool);
 
     use_pools(rt)?;
     watched_service::served(
