@@ -44,7 +44,18 @@ fn the_first_base_is_that_of_the_making(rt: HostRuntime) {
         same(&rt, counts(&report.base), (0, 1, false));
         same(&rt, report.lost, 0);
         same(&rt, does_replay(&rt, &report), (true, true));
+        drop(report);
     }
+}
+
+// The base of a report that lost so many records is that of the moment `since`.
+fn has_what_was_dropped<R: Abort + AllocGlobal>(rt: &R, report: &Report, lost: u64, since: u64) {
+    let base = &report.base;
+    same(rt, standing(base), (ms(since), 1, 0));
+    same(rt, base.idle.as_slice(), &[(0u64, ms(1), ms(since))][..]);
+    same(rt, counts(base), (1, 0, false));
+    same(rt, report.lost, lost);
+    same(rt, does_replay(rt, report), (true, true));
 }
 
 #[test]
@@ -52,16 +63,9 @@ fn the_base_has_what_was_dropped(rt: HostRuntime) {
     for order in [LendingOrder::NewestFirst, LendingOrder::OldestFirst] {
         for (room, lost, since) in [(2usize, 1, 1), (0, 3, 3)] {
             let report = report(&rt, order, room);
-            let base = &report.base;
-            same(&rt, standing(base), (ms(since), 1, 0));
-            same(&rt, base.idle.as_slice(), &[(0u64, ms(1), ms(since))][..]);
-            same(&rt, counts(base), (1, 0, false));
-            same(
-                &rt,
-                (report.records.as_slice().len(), report.lost),
-                (room, lost),
-            );
-            same(&rt, does_replay(&rt, &report), (true, true));
+            same(&rt, report.records.as_slice().len(), room);
+            has_what_was_dropped(&rt, &report, lost, since);
+            drop(report);
         }
     }
 }
@@ -71,4 +75,5 @@ fn a_base_with_a_connection_too_many_is_found_out(rt: HostRuntime) {
     let mut report = report(&rt, LendingOrder::NewestFirst, 2);
     report.base.connections = 2;
     same(&rt, does_replay(&rt, &report), (false, false));
+    drop(report);
 }

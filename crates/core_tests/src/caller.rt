@@ -89,5 +89,6 @@ mod tests {
         assert!(rt; discard(&mut core, &mut lent, ms(2), 1));
         assert!(rt; !discard(&mut core, &mut lent, ms(2), 1));
         same(&rt, lent, 1);
+        drop(core);
     }
 }

@@ -1,5 +1,6 @@
 // What the tests call. None of it has a contract, so that a test is proved without those of the
-// core; and each stops the test where it fails.
+// core; and each stops the test where it fails. Books, reports and heaps are handed to `drop`, so
+// that a test is proved without their parts too.
 
 use crate::makers::{answered, book_in, core_in};
 use crate::replays::replays;
@@ -56,7 +57,9 @@ pub(crate) fn rest_of<'a, R: Abort>(
 
 // What the book reports at last.
 pub(crate) fn last_report<R: Abort>(rt: &R, book: Book<u64>) -> Report {
-    report_of(rt, &book)
+    let report = report_of(rt, &book);
+    drop(book);
+    report
 }
 
 pub(crate) fn listed<R: Abort + AllocGlobal, const N: usize>(
@@ -73,7 +76,7 @@ pub(crate) fn take_all<R: Abort + AllocGlobal, A: Allocator>(
     steps: Vec<Step<u64>>,
 ) {
     for step in steps {
-        answered(rt.alloc(), book, step).expect(rt, "an answer");
+        drop(answered(rt.alloc(), book, step).expect(rt, "an answer"));
     }
 }
 

@@ -10,7 +10,9 @@ fn is_a_core_closed<R: Abort + AllocGlobal>(rt: &R) -> (bool, bool) {
     let mut core = core_of(rt, legal(rt, sized(1)));
     let before = core.is_closed();
     core.close();
-    (before, core.is_closed())
+    let after = core.is_closed();
+    drop(core);
+    (before, after)
 }
 
 // The same of a book.
@@ -18,7 +20,9 @@ fn is_a_book_closed<R: Abort + AllocGlobal>(rt: &R) -> (bool, bool) {
     let mut book = book_of(rt, legal(rt, sized(1)), 1);
     let before = book.is_closed();
     book.close();
-    (before, book.is_closed())
+    let after = book.is_closed();
+    drop(book);
+    (before, after)
 }
 
 #[test]
@@ -46,4 +50,5 @@ fn hands_out_what_was_idle(rt: HostRuntime) {
     same(&rt, opened(&rt, &mut core, 73), 0);
     same(&rt, left(&rt, &mut core).as_slice(), &[(0u64, 73u64)][..]);
     assert!(rt; left(&rt, &mut core).is_empty());
+    drop(core);
 }

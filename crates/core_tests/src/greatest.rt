@@ -55,6 +55,14 @@ fn is_all_lent(core: &mut Core<u64, &LocalHeap>) -> bool {
     matches!(core.take(ms(2), true), Take::Empty { ordered: 0 })
 }
 
+// A core of that size lends as many as it may have, and then no more.
+fn lends_all<R: Abort>(rt: &R, core: &mut Core<u64, &LocalHeap>, size: u32) {
+    open_all(core, size);
+    same(rt, take_all(core, size), size);
+    same(rt, core.state(), (size, 0, 0));
+    assert!(rt; is_all_lent(core));
+}
+
 #[test]
 fn the_greatest_pool_of_a_heap(rt: HostRuntime) {
     let greatest = greatest_size(&rt);
@@ -63,8 +71,7 @@ fn the_greatest_pool_of_a_heap(rt: HostRuntime) {
 
     let heap = heap_of(&rt, MEBIBYTE);
     let mut core = core_in(&heap, legal(&rt, sized(greatest))).expect(&rt, "a core");
-    open_all(&mut core, greatest);
-    same(&rt, take_all(&mut core, greatest), greatest);
-    same(&rt, core.state(), (greatest, 0, 0));
-    assert!(rt; is_all_lent(&mut core));
+    lends_all(&rt, &mut core, greatest);
+    drop(core);
+    drop(heap);
 }

@@ -15,10 +15,12 @@ fn small<R: Abort>(rt: &R) -> Limits {
 #[test]
 fn a_heap_can_be_full(rt: HostRuntime) {
     let heap = heap_of(&rt, 4096);
-    let _core = core_in(&heap, small(&rt)).expect(&rt, "a core");
-    let _rest = rest_of(&rt, &heap, 0);
+    let core = core_in(&heap, small(&rt)).expect(&rt, "a core");
+    let rest = rest_of(&rt, &heap, 0);
     same(&rt, heap.free(), 0);
     assert!(rt; !is_made(core_in(&heap, small(&rt))));
+    drop((rest, core));
+    drop(heap);
 }
 
 // Whether a heap of so many bytes is large enough for a core, which gives all of them back.

@@ -124,6 +124,7 @@ fn is_reported_in<R: Abort + AllocGlobal>(
     match report_in(book, &heap) {
         Ok(report) => {
             assert!(rt; are_the_same(&report, before), "at {part}");
+            drop(report);
             true
         }
         Err(_) => {
@@ -145,20 +146,26 @@ fn lengths(report: &Report) -> (usize, usize, usize) {
     )
 }
 
+// Reports on heaps that grow; the book stays as it is.
+fn reports_grow<R: Abort + AllocGlobal>(rt: &R, book: &Book<u64>, before: &Report) {
+    let mut refused_until = 0;
+    for part in 1..PARTS {
+        if !is_reported_in(rt, book, before, part) {
+            same_at(rt, part, refused_until, part - 1);
+            refused_until = part;
+        }
+        assert!(rt; is_unchanged(rt, book, before), "at {part}");
+    }
+    is_refused_up_to(rt, refused_until);
+}
+
 #[test]
 fn a_report_that_is_refused_changes_nothing(rt: HostRuntime) {
     let book = lived(&rt);
     let before = report_of(&rt, &book);
     same(&rt, lengths(&before), (1, 1, 8));
-    let mut refused_until = 0;
-    for part in 1..PARTS {
-        if !is_reported_in(&rt, &book, &before, part) {
-            same_at(&rt, part, refused_until, part - 1);
-            refused_until = part;
-        }
-        assert!(rt; is_unchanged(&rt, &book, &before), "at {part}");
-    }
-    is_refused_up_to(&rt, refused_until);
+    reports_grow(&rt, &book, &before);
+    drop((before, book));
 }
 
 // Whether the report replays where so many bytes are left of its heap.
@@ -180,6 +187,8 @@ fn is_replayed_in<R: Abort + AllocGlobal>(rt: &R, book: &Book<u64>, part: usize)
     let used = heap.used();
     let does_replay = replays_with(rt, &heap, &report, part.saturating_mul(16));
     same_at(rt, part, heap.used(), used);
+    drop(report);
+    drop(heap);
     match does_replay {
         Ok(does_replay) => {
             same_at(rt, part, does_replay, true);
@@ -200,6 +209,7 @@ fn a_replay_that_is_refused_changes_nothing(rt: HostRuntime) {
         }
     }
     is_refused_up_to(&rt, refused_until);
+    drop(book);
 }
 
 // A book of up to 32 connections, each of which was lent and came back, time and again, until some
@@ -222,12 +232,17 @@ fn busy<R: Abort + AllocGlobal>(rt: &R, room: usize) -> Book<u64> {
 fn replays_beside<R: Abort + AllocGlobal>(rt: &R, book: &Book<u64>) -> bool {
     let heap = heap_of(rt, 1 << 17);
     let report = report_in(book, &heap).expect(rt, "a report");
-    replays_with(rt, &heap, &report, heap.used()).expect(rt, "a replay")
+    let does_replay = replays_with(rt, &heap, &report, heap.used());
+    drop(report);
+    drop(heap);
+    does_replay.expect(rt, "a replay")
 }
 
 #[test]
 fn a_replay_needs_no_more_than_its_report(rt: HostRuntime) {
     for room in [0, 1, 7, 40, 64, 1000] {
-        assert!(rt; replays_beside(&rt, &busy(&rt, room)), "at {room}");
+        let book = busy(&rt, room);
+        assert!(rt; replays_beside(&rt, &book), "at {room}");
+        drop(book);
     }
 }

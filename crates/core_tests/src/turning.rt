@@ -72,12 +72,16 @@ fn return_a_thousand<R: Abort + AllocGlobal>(rt: &R, book: &mut Book<u64>) {
     assert_eq!(rt; left, 0);
 }
 
-fn idle_ids<R: Abort + AllocGlobal>(rt: &R, book: &Book<u64>) -> Vec<u64> {
-    report_of(rt, book)
-        .idle
-        .as_slice()
-        .to_vec(rt.alloc())
-        .expect(rt, "ids")
+// These are idle, in this order.
+fn are_idle<R: Abort>(rt: &R, book: &Book<u64>, ids: &[u64]) {
+    let report = report_of(rt, book);
+    same(rt, report.idle.as_slice(), ids);
+    drop(report);
+}
+
+// A reap closes these, in this order.
+fn are_closed<R: Abort + AllocGlobal>(rt: &R, book: &mut Book<u64>, now: u64, ids: &[u64]) {
+    same(rt, closed_by_a_reap(rt, book, now).as_slice(), ids);
 }
 
 fn idle_and_pending(book: &Book<u64>) -> (u32, u32) {
@@ -90,19 +94,12 @@ fn idle_and_pending(book: &Book<u64>) -> (u32, u32) {
 fn reaps_after_a_thousand_returns(rt: HostRuntime) {
     let mut book = three(&rt);
     return_a_thousand(&rt, &mut book);
-    same(&rt, idle_ids(&rt, &book).as_slice(), &[1u64, 0, 2][..]);
-    assert!(rt; closed_by_a_reap(&rt, &mut book, 1096).is_empty());
-    same(&rt, idle_ids(&rt, &book).as_slice(), &[1u64, 0, 2][..]);
-    same(
-        &rt,
-        closed_by_a_reap(&rt, &mut book, 1097).as_slice(),
-        &[1u64][..],
-    );
-    same(&rt, idle_ids(&rt, &book).as_slice(), &[0u64, 2][..]);
-    same(
-        &rt,
-        closed_by_a_reap(&rt, &mut book, 1100).as_slice(),
-        &[0u64, 2][..],
-    );
+    are_idle(&rt, &book, &[1, 0, 2]);
+    are_closed(&rt, &mut book, 1096, &[]);
+    are_idle(&rt, &book, &[1, 0, 2]);
+    are_closed(&rt, &mut book, 1097, &[1]);
+    are_idle(&rt, &book, &[0, 2]);
+    are_closed(&rt, &mut book, 1100, &[0, 2]);
     same(&rt, idle_and_pending(&book), (0, 3));
+    drop(book);
 }

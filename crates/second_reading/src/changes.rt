@@ -5,7 +5,7 @@ use core_tests::makers::{answered, book_in};
 use core_tests::replays::{Found, read};
 use core_tests::steps::{admit, begin, close, limits, number, put_back, reap, take, want};
 use r2d2_core::{
-    Base, Fault, IdList, IdleConnections, LendingOrder, LentConnections, Limits, Record,
+    Base, Book, Fault, IdList, IdleConnections, LendingOrder, LentConnections, Limits, Record,
     RecordList, Report, Step,
 };
 use std::alloc::{AllocError, Allocator, Global};
@@ -221,22 +221,29 @@ impl Story {
     fn report<R: Abort + AllocGlobal>(self, rt: &R, order: LendingOrder, room: usize) -> Report {
         let limits = self.limits().expect(rt, "limits").with_order(order);
         let mut book = book_in(rt.alloc(), limits, Duration::ZERO, room).expect(rt, "a book");
-        for step in self.steps(rt) {
-            answered(rt.alloc(), &mut book, step).expect(rt, "an answer");
-        }
-        book.report().expect(rt, "a report")
+        let report = report_after(rt, &mut book, self.steps(rt));
+        drop(book);
+        report
     }
+}
+
+// What the book reports after the steps.
+fn report_after<R: Abort + AllocGlobal>(
+    rt: &R,
+    book: &mut Book<u64>,
+    steps: Vec<Step<u64>>,
+) -> Report {
+    for step in steps {
+        drop(answered(rt.alloc(), book, step).expect(rt, "an answer"));
+    }
+    book.report().expect(rt, "a report")
 }
 
 // The report with that change, if there is one.
 fn changed(alloc: Global, report: &Report, number: usize) -> Result<Option<Report>, AllocError> {
     let mut countdown = Countdown { left: Some(number) };
     let report = countdown.report(alloc, report)?;
-    Ok(if countdown.left.is_none() {
-        Some(report)
-    } else {
-        None
-    })
+    Ok(countdown.left.is_none().then_some(report))
 }
 
 fn counts_of<A: Allocator>(base: &Base<A>) -> [usize; 3] {
@@ -269,7 +276,9 @@ impl Tally {
             let Some(report) = changed(alloc, made, number)? else {
                 return Ok(None);
             };
-            if !self.is_judged_alike(alloc, &report)? {
+            let is_alike = self.is_judged_alike(alloc, &report);
+            drop(report);
+            if !is_alike? {
                 return Ok(Some(number));
             }
         }
@@ -288,9 +297,18 @@ impl Tally {
         Ok(report.replays()? == does_replay && found_first(report)? == found)
     }
 
-    fn count_all<R: Abort + AllocGlobal>(&mut self, rt: &R, room: usize, made: &Report) {
-        let unlike = self.count(rt.alloc(), made).expect(rt, "memory");
-        assert_eq!(rt; unlike, None, "at {room}");
+    // The same for the story's report, with that room for records.
+    fn count_all<R: Abort + AllocGlobal>(
+        &mut self,
+        rt: &R,
+        story: Story,
+        order: LendingOrder,
+        room: usize,
+    ) {
+        let made = story.report(rt, order, room);
+        let unlike = self.count(rt.alloc(), &made);
+        drop(made);
+        assert_eq!(rt; unlike.expect(rt, "memory"), None, "at {room}");
     }
 }
 
@@ -303,7 +321,7 @@ fn each_change_is_judged_as_by_a_second_reading(rt: HostRuntime) {
     for story in [Story::ReapedAndClosed, Story::OrderedAndLost] {
         for order in [LendingOrder::NewestFirst, LendingOrder::OldestFirst] {
             for room in [0usize, 1, 2, 4, 64] {
-                tally.count_all(&rt, room, &story.report(&rt, order, room));
+                tally.count_all(&rt, story, order, room);
             }
         }
     }

@@ -2,6 +2,9 @@
 //! compare picks.
 #![tactic(auto)]
 
+// What has many parts, as a book or a report, is handed to `drop`: so the function that had it is
+// proved without them.
+
 #[cfg(test)]
 mod changes;
 #[cfg(test)]

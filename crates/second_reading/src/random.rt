@@ -57,15 +57,25 @@ fn answers_of(alloc: Global, story: &Story) -> Result<Vec<Answer<u64>>, AllocErr
     for draft in story.drafts.iter() {
         steps.push(draft.step(alloc)?)?;
     }
-    let (_core, answers) = run(alloc, story.limits, story.made, steps)?;
+    let (core, answers) = run(alloc, story.limits, story.made, steps)?;
+    drop(core);
     Ok(answers)
+}
+
+// Whether the answer says what is wanted.
+fn does_say<A: Allocator>(
+    alloc: Global,
+    answer: Answer<u64, A>,
+    wanted: &Said,
+) -> Result<bool, AllocError> {
+    Ok(Said::of(alloc, answer)? == *wanted)
 }
 
 // The place of the first step that `run` answers otherwise.
 fn first_unlike_by_run(alloc: Global, story: &Story) -> Result<Option<usize>, AllocError> {
     let answers = answers_of(alloc, story)?;
     for (place, (answer, wanted)) in answers.into_iter().zip(story.answers.iter()).enumerate() {
-        if Said::of(alloc, answer)? != *wanted {
+        if !does_say(alloc, answer, wanted)? {
             return Ok(Some(place));
         }
     }
@@ -80,7 +90,7 @@ fn first_unlike_by_book<A: Allocator>(
 ) -> Result<Option<usize>, AllocError> {
     for (place, (draft, wanted)) in story.drafts.iter().zip(story.answers.iter()).enumerate() {
         let answer = answered(alloc, book, draft.step(alloc)?)?;
-        if Said::of(alloc, answer)? != *wanted {
+        if !does_say(alloc, answer, wanted)? {
             return Ok(Some(place));
         }
     }
@@ -105,14 +115,13 @@ fn has_counts(history: &History, report: &Report) -> bool {
         && report.closed == history.is_closed()
 }
 
-// Whether the book shows what the plain reading shows, and its report replays.
-fn shows(alloc: Global, history: &History, book: &Book<u64>) -> Result<bool, AllocError> {
-    let report = report_in(book, alloc)?;
+// Whether the report shows what the plain reading shows, and replays.
+fn shows(alloc: Global, history: &History, report: &Report) -> Result<bool, AllocError> {
     Ok(
-        has_ids(alloc, history, &report)?
-            && has_counts(history, &report)
+        has_ids(alloc, history, report)?
+            && has_counts(history, report)
             && report.lost == 0
-            && does_replay(alloc, &report)?,
+            && does_replay(alloc, report)?,
     )
 }
 
@@ -140,6 +149,7 @@ fn both_answer<R: Abort + AllocGlobal>(rt: &R, seed: usize, story: &Story) {
     let mut book = book_of_story(rt, rt.alloc(), story, STEPS);
     book_answers(rt, seed, story, &mut book);
     book_shows(rt, seed, story, &book);
+    drop(book);
 }
 
 fn run_answers<R: Abort + AllocGlobal>(rt: &R, seed: usize, story: &Story) {
@@ -158,29 +168,38 @@ fn book_answers<R: Abort + AllocGlobal, A: Allocator>(
 }
 
 fn book_shows<R: Abort + AllocGlobal>(rt: &R, seed: usize, story: &Story, book: &Book<u64>) {
-    let is_shown = shows(rt.alloc(), &story.history, book);
+    let report = report_in(book, rt.alloc()).expect(rt, "a report");
+    let is_shown = shows(rt.alloc(), &story.history, &report);
+    drop(report);
     assert!(rt; is_shown.expect(rt, "a report"), "at {seed}");
 }
 
 #[test]
 fn a_hundred_thousand_steps(rt: HostRuntime) {
     for seed in 0..HISTORIES {
-        both_answer(&rt, seed, &story_of(&rt, seed, seed));
+        let story = story_of(&rt, seed, seed);
+        both_answer(&rt, seed, &story);
+        drop(story);
     }
 }
 
 // Takes a step by the book: whether its report replays then.
 fn replays_after(alloc: Global, book: &mut Book<u64>, draft: &Draft) -> Result<bool, AllocError> {
-    answered(alloc, book, draft.step(alloc)?)?;
-    does_replay(alloc, &report_in(book, alloc)?)
+    drop(answered(alloc, book, draft.step(alloc)?)?);
+    let report = report_in(book, alloc)?;
+    let does_replay = does_replay(alloc, &report);
+    drop(report);
+    does_replay
 }
 
-// Each report replays that the book makes, step by step.
-fn replays_at_each_step<R: Abort + AllocGlobal>(rt: &R, story: &Story, book: &mut Book<u64>) {
+// Each report replays that a book with that room for records makes, step by step.
+fn replays_at_each_step<R: Abort + AllocGlobal>(rt: &R, story: &Story, room: usize) {
+    let mut book = book_of_story(rt, rt.alloc(), story, room);
     for (place, draft) in story.drafts.iter().enumerate() {
-        let does_replay = replays_after(rt.alloc(), book, draft);
+        let does_replay = replays_after(rt.alloc(), &mut book, draft);
         assert!(rt; does_replay.expect(rt, "a report"), "at {place}");
     }
+    drop(book);
 }
 
 #[test]
@@ -188,12 +207,9 @@ fn each_report_replays_whatever_was_dropped(rt: HostRuntime) {
     for seed in 0..200 {
         let story = story_of(&rt, seed, seed);
         for room in [0usize, 1, 7, 64] {
-            replays_at_each_step(
-                &rt,
-                &story,
-                &mut book_of_story(&rt, rt.alloc(), &story, room),
-            );
+            replays_at_each_step(&rt, &story, room);
         }
+        drop(story);
     }
 }
 
@@ -212,14 +228,17 @@ fn a_full_book_answers<R: Abort + AllocGlobal>(
     heap: &LocalHeap,
 ) {
     let mut book = book_of_story(rt, heap, story, STEPS);
-    let _rest = rest_of(rt, heap);
+    let rest = rest_of(rt, heap);
     book_answers(rt, seed, story, &mut book);
+    drop((rest, book));
 }
 
 #[test]
 fn a_book_needs_no_memory_after_its_making(rt: HostRuntime) {
     for seed in 0..50 {
         let heap = LocalHeap::new(rt.alloc(), 1 << 14).expect(&rt, "a heap");
-        a_full_book_answers(&rt, seed, &story_of(&rt, seed, 0), &heap);
+        let story = story_of(&rt, seed, 0);
+        a_full_book_answers(&rt, seed, &story, &heap);
+        drop(story);
     }
 }

@@ -193,21 +193,32 @@ struct Tally {
 }
 
 impl Tally {
-    // Goes through the ways in which the moves of this code can pick, and through some limits.
+    // Goes through the ways in which the moves of this code can pick.
     fn count<R: Abort + AllocGlobal>(&mut self, rt: &R, size: usize, code: u32) {
         let idle = idle_of(rt.alloc(), size).expect(rt, "idle ones");
         let moves = moves_of(rt.alloc(), code).expect(rt, "moves");
         for way in 0..ways_of(size, &moves) {
             let picks = picks_of(rt.alloc(), size, &moves, way).expect(rt, "picks");
-            for limit in [10, 30, 50, 70, 90] {
-                let answer = compared(rt, &idle, &moves, &picks, 100, limit);
-                let is_between = self.add(answer.expect(rt, "each take has its pick"));
-                assert!(rt;
-                    is_between,
-                    "beyond at {size} idle, moves {code}, way {way}, limit {limit}"
-                );
+            let beyond = self.limit_beyond(rt, &idle, &moves, &picks);
+            assert_eq!(rt; beyond, None, "at {size} idle, moves {code}, way {way}");
+        }
+    }
+
+    // The first of some limits at which the picks are beyond the two, if there is one.
+    fn limit_beyond<R: Abort + AllocGlobal>(
+        &mut self,
+        rt: &R,
+        idle: &[Duration],
+        moves: &[Move],
+        picks: &[usize],
+    ) -> Option<u64> {
+        for limit in [10, 30, 50, 70, 90] {
+            let answer = compared(rt, idle, moves, picks, 100, limit);
+            if !self.add(answer.expect(rt, "each take has its pick")) {
+                return Some(limit);
             }
         }
+        None
     }
 
     // Whether the picks are not beyond the two.

@@ -1,7 +1,7 @@
 // What an answer says, as a value that can be compared. Of a text it says the number that it stands
 // for.
 
-use r2d2_core::{Answer, Gone, Job, Refusal, Released, Returned, Take};
+use r2d2_core::{Answer, Gone, Job, Leftover, Refusal, Released, Returned, Take};
 use std::alloc::{AllocError, Allocator, Global};
 use std::time::Duration;
 
@@ -56,6 +56,49 @@ fn released_of(
     Ok(list)
 }
 
+fn left_of<A: Allocator>(
+    alloc: Global,
+    left: Leftover<u64, A>,
+) -> Result<Vec<(u64, u64)>, AllocError> {
+    let mut list = Vec::new(alloc);
+    for (id, value) in left {
+        list.push((id, value))?;
+    }
+    Ok(list)
+}
+
+fn said_of_a_take(take: Take<u64>) -> Said {
+    match take {
+        Take::Found {
+            id,
+            birth,
+            value,
+            ordered,
+        } => Said::Found {
+            id,
+            birth,
+            value,
+            ordered,
+        },
+        Take::Empty { ordered } => Said::Empty { ordered },
+    }
+}
+
+fn said_of_a_return(returned: Returned<u64>) -> Said {
+    match returned {
+        Returned::Kept => Said::Kept,
+        Returned::Closed {
+            value,
+            age,
+            ordered,
+        } => Said::Closed {
+            value,
+            age,
+            ordered,
+        },
+    }
+}
+
 impl Said {
     /// What an answer says. It fails where memory is refused.
     pub(crate) fn of<A: Allocator>(
@@ -63,51 +106,19 @@ impl Said {
         answer: Answer<u64, A>,
     ) -> Result<Said, AllocError> {
         Ok(match answer {
-            Answer::Take(
-                Take::Found {
-                    id,
-                    birth,
-                    value,
-                    ordered,
-                },
-            ) => Said::Found {
-                id,
-                birth,
-                value,
-                ordered,
-            },
-            Answer::Take(Take::Empty { ordered }) => Said::Empty { ordered },
+            Answer::Take(take) => said_of_a_take(take),
             Answer::Begin(job) => Said::Job(job),
             Answer::Number(Ok(id)) => Said::Numbered(id),
             Answer::Admit(Ok(())) => Said::Admitted,
             Answer::Fail(Ok(due)) => Said::Delayed(due),
             Answer::FailCheck(Ok(Gone { age, ordered })) => Said::Gone { age, ordered },
-            Answer::PutBack(Ok(Returned::Kept)) => Said::Kept,
-            Answer::PutBack(
-                Ok(
-                    Returned::Closed {
-                        value,
-                        age,
-                        ordered,
-                    },
-                ),
-            ) => Said::Closed {
-                value,
-                age,
-                ordered,
-            },
+            Answer::PutBack(Ok(returned)) => said_of_a_return(returned),
             Answer::Reap { released, ordered } => Said::Reaped {
                 closed: released_of(alloc, released)?,
                 ordered,
             },
             Answer::TakeError(text) => Said::Told(number_of(text)),
-            Answer::Close(left) => {
-                let mut list = Vec::new(alloc);
-                for (id, value) in left {
-                    list.push((id, value))?;
-                }
-                Said::Left(list)
-            }
+            Answer::Close(left) => Said::Left(left_of(alloc, left)?),
             Answer::Number(Err(why)) => Said::Refused(why),
             Answer::Admit(Err((why, _))) => Said::Refused(why),
             Answer::Fail(Err(why)) => Said::Refused(why),

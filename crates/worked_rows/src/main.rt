@@ -28,11 +28,19 @@ fn main(rt: HostRuntime) -> Result<ExitCode, anyhow::Error> {
 // The names of the rows, in order.
 fn names<R: Files + AllocGlobal + Clone + Drop>(rt: &R) -> io::Result<Vec<String>> {
     let mut names = Vec::new(rt.alloc());
-    for entry in fs::read_dir(rt, ".")? {
-        add_row(rt.alloc(), &mut names, entry?.file_name())?;
-    }
+    add_rows(rt, &mut names)?;
     names.sort()?;
     Ok(names)
+}
+
+fn add_rows<R: Files + AllocGlobal + Clone + Drop>(
+    rt: &R,
+    names: &mut Vec<String>,
+) -> io::Result<()> {
+    for entry in fs::read_dir(rt, ".")? {
+        add_row(rt.alloc(), names, entry?.file_name())?;
+    }
+    Ok(())
 }
 
 // Adds the name of a row, where the file is a script.
@@ -58,14 +66,19 @@ fn without_comments(alloc: Global, file: &str) -> Result<String, AllocError> {
 // What is wrong with the row of this name, if anything is.
 fn fault_of<R: Files + AllocGlobal>(rt: &R, name: &str) -> io::Result<Option<String>> {
     let script = script_of(rt, name)?;
-    let answers = fs::read_to_string(rt, format!(in rt.alloc(); "{name}.answers")?)?;
+    let answers = text_of(rt, name, "answers")?;
     let who = rows::who_differs(rt.alloc(), script.as_str(), answers.as_str());
     Ok(told(rt.alloc(), who)?)
 }
 
 fn script_of<R: Files + AllocGlobal>(rt: &R, name: &str) -> io::Result<String> {
-    let file = fs::read_to_string(rt, format!(in rt.alloc(); "{name}.steps")?)?;
+    let file = text_of(rt, name, "steps")?;
     Ok(without_comments(rt.alloc(), file.as_str())?)
+}
+
+// The text of a row's file with that ending.
+fn text_of<R: Files + AllocGlobal>(rt: &R, name: &str, ending: &str) -> io::Result<String> {
+    fs::read_to_string(rt, format!(in rt.alloc(); "{name}.{ending}")?)
 }
 
 fn told(

@@ -139,7 +139,9 @@ fn by_a_core_on(
     lines: Vec<Line>,
 ) -> Result<Vec<u8>, Fault> {
     let mut core = core_in(heap, limits)?;
-    on_a_full_heap(alloc, heap, &mut core, lines)
+    let written = on_a_full_heap(alloc, heap, &mut core, lines);
+    drop(core);
+    written
 }
 
 // Says besides whether the book's records come to what it reports.
@@ -156,7 +158,9 @@ fn by_a_book_on(
     lines: Vec<Line>,
 ) -> Result<(Vec<u8>, bool), Fault> {
     let mut book = book_in(heap, limits, Duration::ZERO, RECORDS)?;
-    answers_and_replays(alloc, heap, &mut book, lines)
+    let answered = answers_and_replays(alloc, heap, &mut book, lines);
+    drop(book);
+    answered
 }
 
 fn answers_and_replays<'a>(
