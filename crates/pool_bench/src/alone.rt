@@ -4,7 +4,7 @@ ghost use Rattle.std.specs.Prelude.{◌≡◌};
 use crate::pools::{Nothings, open_all, open_pool};
 use crate::scenario::Case;
 use anyhow::ensure;
-use r2d2::{Builder, PoolRuntime};
+use r2d2::{Builder, PlainPool, PoolRuntime};
 use std::marker::Brand;
 use std::sync::ledger::{Blank, Ledger};
 use std::sync::{Arc, Mutex};
@@ -74,24 +74,27 @@ fn count_gets<R: PoolRuntime, L: Ledger + Send + Sync + 'static>(
 /// `try_get` that finds one, and the connection's return.
 pub fn try_get_hit<R: PoolRuntime>(rt: R, case: Case) -> Result<Duration, anyhow::Error> {
     let pool = open_pool(rt, case.max_size, false)?;
-    let start = Instant::now(&rt)?;
-    for _ in 0..case.operations {
-        drop(pool.try_get()?);
-    }
-    Ok(start.elapsed(&rt)?)
+    try_gets(rt, &pool, case.operations)
 }
 
 /// `try_get` while the only connection is lent.
 pub fn try_get_miss<R: PoolRuntime>(rt: R, case: Case) -> Result<Duration, anyhow::Error> {
     let pool = open_pool(rt, 1, false)?;
-    let lent = pool.get()?;
+    let _lent = pool.get()?;
+    try_gets(rt, &pool, case.operations)
+}
+
+// So many calls of `try_get`.
+fn try_gets<R: PoolRuntime>(
+    rt: R,
+    pool: &PlainPool<Nothings, R>,
+    operations: u32,
+) -> Result<Duration, anyhow::Error> {
     let start = Instant::now(&rt)?;
-    for _ in 0..case.operations {
+    for _ in 0..operations {
         drop(pool.try_get()?);
     }
-    let time = start.elapsed(&rt)?;
-    drop(lent);
-    Ok(time)
+    Ok(start.elapsed(&rt)?)
 }
 
 /// What the rules ask of a `get` and a return, with no pool: a shared pointer cloned and dropped,

@@ -51,12 +51,17 @@ where
         let theirs = pool.try_clone()?;
         callers.push(start(theirs, calls)?)?;
     }
-    let mut served = true;
-    for caller in callers {
-        served &= caller.join(&rt);
-    }
-    ensure!(served, "a call was not served");
+    ensure!(join_all(rt, callers), "a call was not served");
     Ok(begun.elapsed(&rt)?)
+}
+
+// Waits for all threads to end, and says whether each succeeded.
+fn join_all<R: PoolRuntime>(rt: R, callers: Vec<JoinHandle<bool>>) -> bool {
+    let mut went = true;
+    for caller in callers {
+        went &= caller.join(&rt);
+    }
+    went
 }
 
 /// Whether each of so many calls got a connection.
@@ -105,11 +110,7 @@ where
     for _ in 0..case.threads {
         callers.push(start(Arc::try_clone(&latest)?, case.operations / case.threads)?)?;
     }
-    let mut went = true;
-    for caller in callers {
-        went &= caller.join(&rt);
-    }
-    ensure!(went, "a round failed");
+    ensure!(join_all(rt, callers), "a round failed");
     Ok(begun.elapsed(&rt)?)
 }
 

@@ -68,16 +68,28 @@ fn batches<R: PoolRuntime>(
     let mut gets = Duration::ZERO;
     let mut drops = Duration::ZERO;
     for _ in 0..BATCHES {
-        let start = Instant::now(&rt)?;
-        take(&pool, &mut lent, BATCH)?;
-        gets = gets.saturating_add(start.elapsed(&rt)?);
-        let start = Instant::now(&rt)?;
-        give_back(&mut lent, BATCH, which);
-        drops = drops.saturating_add(start.elapsed(&rt)?);
+        let (get, drop) = batch(rt, &pool, &mut lent, which)?;
+        gets = gets.saturating_add(get);
+        drops = drops.saturating_add(drop);
     }
     // The oldest of many costs most, and `lent` itself would begin with it.
     give_back(&mut lent, max_size.saturating_sub(BATCH), Which::Newest);
     Ok((gets, drops))
+}
+
+// The time of one batch's takings, and that of its returns.
+fn batch<R: PoolRuntime>(
+    rt: R,
+    pool: &PlainPool<Nothings, R>,
+    lent: &mut Lent<R>,
+    which: Which,
+) -> Result<(Duration, Duration), anyhow::Error> {
+    let start = Instant::now(&rt)?;
+    take(pool, lent, BATCH)?;
+    let gets = start.elapsed(&rt)?;
+    let start = Instant::now(&rt)?;
+    give_back(lent, BATCH, which);
+    Ok((gets, start.elapsed(&rt)?))
 }
 
 // Takes so many connections.

@@ -42,13 +42,7 @@ pub fn svg<A: Allocator>(
 ) -> Result<String, AllocError> {
     let story = Story::of(alloc, report)?;
     let head = Head::of(alloc, &story, notes)?;
-    let top = head.height().saturating_add(legend::HEIGHT);
-    let mut canvas = Canvas::of(alloc, &story, top, notes)?;
-    canvas.open()?;
-    canvas.head(&head)?;
-    canvas.legend(head.height())?;
-    canvas.plot(&story, find_marked(&story, report, notes))?;
-    Ok(canvas.out)
+    draw(alloc, report, &story, notes, Some(&head))
 }
 
 /// The same without its head and its legend.
@@ -58,8 +52,25 @@ pub(crate) fn plot<A: Allocator>(
     story: &Story,
     notes: &Notes,
 ) -> Result<String, AllocError> {
-    let mut canvas = Canvas::of(alloc, story, 0, notes)?;
+    draw(alloc, report, story, notes, None)
+}
+
+fn draw<A: Allocator>(
+    alloc: Global,
+    report: &Report<A>,
+    story: &Story,
+    notes: &Notes,
+    head: Option<&Head>,
+) -> Result<String, AllocError> {
+    let above = match head {
+        Some(head) => head.height().saturating_add(legend::HEIGHT),
+        None => 0,
+    };
+    let mut canvas = Canvas::of(alloc, story, above, notes)?;
     canvas.open()?;
+    if let Some(head) = head {
+        canvas.head(head)?;
+    }
     canvas.plot(story, find_marked(story, report, notes))?;
     Ok(canvas.out)
 }
@@ -161,10 +172,17 @@ impl Canvas {
             self.out,
             "<text class=\"fault\" text-anchor=\"middle\" x=\"{x}\" y=\"{y}\">record {place}</text>"
         )?;
+        match wrong.id {
+            Some(id) => self.ring(story, id, x),
+            None => Ok(()),
+        }
+    }
+
+    fn ring(&mut self, story: &Story, id: u64, x: Tenths) -> Result<(), AllocError> {
+        let reach = Tenths(self.layout.pitch.mark.saturating_mul(2));
         for number in 0..self.places.len() {
-            if wrong.id.is_some() && self.life(story, number).map(|life| life.id) == wrong.id {
-                let (y, reach) = (self.layout.lane(number), self.layout.pitch.mark);
-                let (y, reach) = (Tenths(y), Tenths(reach.saturating_mul(2)));
+            if self.life(story, number).is_some_and(|life| life.id == id) {
+                let y = Tenths(self.layout.lane(number));
                 writeln!(
                     self.out,
                     "<circle class=\"wrong\" cx=\"{x}\" cy=\"{y}\" r=\"{reach}\"/>"

@@ -102,11 +102,12 @@ fn about<A: Allocator>(
     records(page, report, notes)
 }
 
-// The limits and the counts, side by side.
+// The limits, the counts and how many records there are, side by side.
 fn numbers<A: Allocator>(page: &mut String, report: &Report<A>) -> Result<(), AllocError> {
     page.push_str("<div class=\"tables\">\n")?;
     limits(page, &report.limits)?;
     counts(page, report)?;
+    recorded(page, report)?;
     page.push_str("</div>\n")
 }
 
@@ -147,11 +148,15 @@ fn known(alloc: Global, page: &mut String, notes: &Notes) -> Result<(), AllocErr
         let (class, words) = (class_of(finding), verdict(alloc, finding)?);
         writeln!(page, "<p class=\"verdict {class}\">{words}</p>")?;
     }
-    if notes.answers.is_empty() {
+    answered(page, notes.answers)
+}
+
+fn answered(page: &mut String, answers: &[String]) -> Result<(), AllocError> {
+    if answers.is_empty() {
         return Ok(());
     }
     page.push_str("<ul class=\"answers\">\n")?;
-    for answer in notes.answers {
+    for answer in answers {
         page.push_str("<li>")?;
         whole_moments(page, answer.as_str())?;
         page.push_str("</li>\n")?;
@@ -191,11 +196,17 @@ fn class_of(finding: Finding) -> &'static str {
 // What the story tells in words.
 fn tell(alloc: Global, page: &mut String, story: &Story, notes: &Notes) -> Result<(), AllocError> {
     let (told, exhausted) = (told(alloc, story)?, exhausted(alloc, story.exhaustion())?);
-    write!(page, "<p class=\"told\">{told}")?;
+    put(page, "<p class=\"told\">", told)?;
     if let Some(dated) = dated(alloc, story, notes.made_at)? {
-        write!(page, "<br>{dated}")?;
+        put(page, "<br>", dated)?;
     }
-    writeln!(page, "<br>{exhausted}</p>")
+    put(page, "<br>", exhausted)?;
+    page.push_str("</p>\n")
+}
+
+// A text, with a tag before it.
+fn put(page: &mut String, tag: &str, text: String) -> Result<(), AllocError> {
+    write!(page, "{tag}{text}")
 }
 
 // A row of a table: its name and what it says.
@@ -220,8 +231,13 @@ fn limits(page: &mut String, limits: &Limits) -> Result<(), AllocError> {
     page.push_str("</table>\n")
 }
 
-// A row of counts, at the base and at the end.
-fn pair(page: &mut String, name: &str, base: u32, end: u32) -> Result<(), AllocError> {
+// A row of what there was, at the base and at the end.
+fn pair(
+    page: &mut String,
+    name: &str,
+    base: impl fmt::Display + Drop,
+    end: impl fmt::Display + Drop,
+) -> Result<(), AllocError> {
     writeln!(
         page,
         "<tr><th>{name}</th><td>{base}</td><td>{end}</td></tr>"
@@ -233,15 +249,27 @@ fn counts<A: Allocator>(page: &mut String, report: &Report<A>) -> Result<(), All
     page.push_str(
         "<table><caption>Counts</caption>\n<tr><th></th><th>base</th><th>end</th></tr>\n",
     )?;
-    let (from, to) = (Length(base.at), Length(end.at));
-    writeln!(page, "<tr><th>at</th><td>{from}</td><td>{to}</td></tr>")?;
-    pair(page, "lent", lent(base), lent(end))?;
-    pair(page, "idle", base.idle, end.idle)?;
-    pair(page, "connections", base.connections, end.connections)?;
-    pair(page, "opening", base.opening, end.opening)?;
-    let (from, to) = (said(report.base.closed), said(report.closed));
-    writeln!(page, "<tr><th>closed</th><td>{from}</td><td>{to}</td></tr>")?;
-    page.push_str("</table>\n<table><caption>Records</caption>\n")?;
+    pair(page, "at", Length(base.at), Length(end.at))?;
+    for (name, base, end) in [
+        ("lent", lent(base), lent(end)),
+        ("idle", base.idle, end.idle),
+        ("connections", base.connections, end.connections),
+        ("opening", base.opening, end.opening),
+    ] {
+        pair(page, name, base, end)?;
+    }
+    pair(
+        page,
+        "closed",
+        said(report.base.closed),
+        said(report.closed),
+    )?;
+    page.push_str("</table>\n")
+}
+
+// How many records there are, and were before.
+fn recorded<A: Allocator>(page: &mut String, report: &Report<A>) -> Result<(), AllocError> {
+    page.push_str("<table><caption>Records</caption>\n")?;
     row(page, "in this report", report.records.as_slice().len())?;
     row(page, "folded before them", report.lost)?;
     row(page, "takes since the making", report.takes)?;
@@ -343,15 +371,18 @@ impl Listed<'_> {
             ""
         };
         write!(page, "<tr{class}><td>{place}</td><td>{at}</td>")?;
-        write!(page, "<td class=\"word\">{name}</td><td>")?;
-        if let Some(id) = id_of(record) {
-            write!(page, "{id}")?;
-        }
-        page.push_str("</td><td>")?;
-        if let Some(ordered) = ordered {
-            write!(page, "{ordered}")?;
-        }
-        page.push_str("</td></tr>\n")
+        write!(page, "<td class=\"word\">{name}</td>")?;
+        cell(page, id_of(record))?;
+        cell(page, ordered.map(u64::from))?;
+        page.push_str("</tr>\n")
+    }
+}
+
+// A cell of a row, empty where there is no number.
+fn cell(page: &mut String, number: Option<u64>) -> Result<(), AllocError> {
+    match number {
+        Some(number) => write!(page, "<td>{number}</td>"),
+        None => page.push_str("<td></td>"),
     }
 }
 

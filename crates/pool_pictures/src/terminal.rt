@@ -9,7 +9,7 @@ use crate::scale::Scale;
 use crate::story::{Counts, Life, Series, Story};
 use crate::words::{self, dated, exhausted, order, settings, since, told};
 use cells::{bars, exhausted_signs, lane, put};
-use r2d2_core::Report;
+use r2d2_core::{Limits, Report};
 use std::alloc::{AllocError, Allocator, Global};
 
 mod cells;
@@ -44,12 +44,7 @@ pub fn text<A: Allocator>(
     let places = drawn(alloc, &story, LANES)?;
     let mut sheet = Sheet::of(alloc, &story, &places);
     sheet.head(&story, notes)?;
-    sheet.band(&story)?;
-    sheet.wrong(find_marked(&story, report, notes))?;
-    sheet.lanes(&story, &places)?;
-    sheet.axis(&story)?;
-    sheet.still_lent(&story, &places)?;
-    sheet.legend(story.lives.len().saturating_sub(places.len()))?;
+    sheet.plot(&story, &places, find_marked(&story, report, notes))?;
     Ok(sheet.out)
 }
 
@@ -81,15 +76,23 @@ impl Sheet {
         }
     }
 
+    // What stands below the head.
+    fn plot(
+        &mut self,
+        story: &Story,
+        places: &[usize],
+        wrong: Option<Marked>,
+    ) -> Result<(), AllocError> {
+        self.band(story)?;
+        self.wrong(wrong)?;
+        self.lanes(story, places)?;
+        self.axis(story)?;
+        self.still_lent(story, places)?;
+        self.legend(story.lives.len().saturating_sub(places.len()))
+    }
+
     fn head(&mut self, story: &Story, notes: &Notes) -> Result<(), AllocError> {
-        let limits = &story.limits;
-        let (size, wanted, order) = (limits.max_size(), limits.wanted(), order(limits));
-        writeln!(
-            self.out,
-            "at most {size} connections, {wanted} wanted idle, the {order} lent first"
-        )?;
-        let settings = settings(self.alloc, limits)?;
-        writeln!(self.out, "{settings}")?;
+        self.limits(&story.limits)?;
         if let Some(first) = story.counts.first() {
             self.counts("base", *first)?;
         }
@@ -99,15 +102,27 @@ impl Sheet {
         self.tell(story, notes)
     }
 
+    fn limits(&mut self, limits: &Limits) -> Result<(), AllocError> {
+        let (size, wanted, order) = (limits.max_size(), limits.wanted(), order(limits));
+        writeln!(
+            self.out,
+            "at most {size} connections, {wanted} wanted idle, the {order} lent first"
+        )?;
+        self.line(settings(self.alloc, limits)?, "")
+    }
+
     fn tell(&mut self, story: &Story, notes: &Notes) -> Result<(), AllocError> {
-        let told = told(self.alloc, story)?;
         let closed = if story.closed { ", closed" } else { "" };
-        writeln!(self.out, "{told}{closed}")?;
+        self.line(told(self.alloc, story)?, closed)?;
         if let Some(dated) = dated(self.alloc, story, notes.made_at)? {
-            writeln!(self.out, "{dated}")?;
+            self.line(dated, "")?;
         }
-        let exhausted = exhausted(self.alloc, story.exhaustion())?;
-        writeln!(self.out, "{exhausted}\n")
+        self.line(exhausted(self.alloc, story.exhaustion())?, "\n")
+    }
+
+    // A line of text, and what stands at its end.
+    fn line(&mut self, text: String, end: &str) -> Result<(), AllocError> {
+        writeln!(self.out, "{text}{end}")
     }
 
     fn counts(&mut self, name: &str, counts: Counts) -> Result<(), AllocError> {
@@ -220,6 +235,11 @@ impl Sheet {
         }
         self.row("", marks.as_slice())?;
         self.row("", labels.as_slice())?;
+        self.beginning(story)
+    }
+
+    // From when the time is counted, where that is not the making of the pool.
+    fn beginning(&mut self, story: &Story) -> Result<(), AllocError> {
         if self.scale.begins_late() {
             let from = Length(story.from);
             self.space(self.names.saturating_add(2))?;
@@ -230,8 +250,7 @@ impl Sheet {
 
     fn legend(&mut self, left_out: usize) -> Result<(), AllocError> {
         if left_out > 0 {
-            let left_out = words::left_out(self.alloc, left_out)?;
-            writeln!(self.out, "{left_out}")?;
+            self.line(words::left_out(self.alloc, left_out)?, "")?;
         }
         self.out.push_str(LEGEND)
     }

@@ -18,17 +18,25 @@ pub(crate) struct Escaped<'a>(pub(crate) &'a str);
 impl fmt::Display for Escaped<'_> {
     fn fmt<W: fmt::Write>(&self, f: &mut fmt::Formatter<W>) -> fmt::Result {
         for sign in self.0.chars() {
-            match sign {
-                '&' => f.write_str("&amp;")?,
-                '<' => f.write_str("&lt;")?,
-                '>' => f.write_str("&gt;")?,
-                '"' => f.write_str("&quot;")?,
-                '\'' => f.write_str("&#39;")?,
-                '\0'..=' ' | '\u{7f}' => f.write_str(" ")?,
-                sign => write!(f, "{sign}")?,
+            match escape(sign) {
+                Some(text) => f.write_str(text)?,
+                None => write!(f, "{sign}")?,
             }
         }
         Ok(())
+    }
+}
+
+// What stands for a sign that can't stand for itself.
+fn escape(sign: char) -> Option<&'static str> {
+    match sign {
+        '&' => Some("&amp;"),
+        '<' => Some("&lt;"),
+        '>' => Some("&gt;"),
+        '"' => Some("&quot;"),
+        '\'' => Some("&#39;"),
+        '\0'..=' ' | '\u{7f}' => Some(" "),
+        _ => None,
     }
 }
 

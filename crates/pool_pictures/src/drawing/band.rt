@@ -94,9 +94,16 @@ impl Canvas {
 
     fn area(&mut self, top: u32, bins: &[Most], area: Area) -> Result<(), AllocError> {
         let class = area.class();
-        let (left, bottom) = (self.layout.left, Tenths(self.layout.band_bottom()));
-        let left = Tenths(left);
+        let (left, bottom) = (self.layout.left, self.layout.band_bottom());
+        let (left, bottom) = (Tenths(left), Tenths(bottom));
         write!(self.out, "<path class=\"{class}\" d=\"M{left} {bottom}")?;
+        self.edge(top, bins, area)?;
+        let right = Tenths(self.layout.right);
+        writeln!(self.out, "H{right}V{bottom}z\"/>")
+    }
+
+    // The upper edge of an area: a step where it rises or falls.
+    fn edge(&mut self, top: u32, bins: &[Most], area: Area) -> Result<(), AllocError> {
         let mut latest = None;
         for (number, most) in bins.iter().enumerate() {
             let edge = area.edge(most);
@@ -107,8 +114,7 @@ impl Canvas {
                 latest = Some(edge);
             }
         }
-        let right = Tenths(self.layout.right);
-        writeln!(self.out, "H{right}V{bottom}z\"/>")
+        Ok(())
     }
 
     // For what part of the time the pool was exhausted.

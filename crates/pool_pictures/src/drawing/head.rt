@@ -5,6 +5,7 @@ use super::layout::{MARGIN, Tenths, WIDTH};
 use crate::notes::Notes;
 use crate::story::Story;
 use crate::words::{Escaped, dated, exhausted, order, settings, told, verdict};
+use r2d2_core::Limits;
 use std::alloc::{AllocError, Global};
 
 /// How a line looks.
@@ -46,33 +47,54 @@ pub(super) struct Head {
 
 impl Head {
     pub(super) fn of(alloc: Global, story: &Story, notes: &Notes) -> Result<Head, AllocError> {
-        let mut lines = Vec::new(alloc);
+        let mut head = Head {
+            lines: Vec::new(alloc),
+        };
+        head.known(alloc, notes)?;
+        head.limits(alloc, &story.limits)?;
+        head.tell(alloc, story, notes)?;
+        Ok(head)
+    }
+
+    fn add(&mut self, look: Look, text: String) -> Result<(), AllocError> {
+        Ok(self.lines.push((look, text))?)
+    }
+
+    // What is known by the notes.
+    fn known(&mut self, alloc: Global, notes: &Notes) -> Result<(), AllocError> {
         if let Some(finding) = notes.finding {
             let look = if finding.is_sound {
                 Look::Sound
             } else {
                 Look::Wrong
             };
-            lines.push((look, verdict(alloc, finding)?))?;
+            self.add(look, verdict(alloc, finding)?)?;
         }
         for answer in notes.answers {
             let words = Escaped(answer.as_str());
-            lines.push((Look::Answer, format!(in alloc; "{words}")?))?;
+            self.add(Look::Answer, format!(in alloc; "{words}")?)?;
         }
-        let (size, wanted) = (story.limits.max_size(), story.limits.wanted());
+        Ok(())
+    }
+
+    fn limits(&mut self, alloc: Global, limits: &Limits) -> Result<(), AllocError> {
+        let (size, wanted) = (limits.max_size(), limits.wanted());
         let title = format!(in alloc;
             "A pool of at most {size} connections, {wanted} wanted idle"
         )?;
-        lines.push((Look::Title, title))?;
-        let (settings, order) = (settings(alloc, &story.limits)?, order(&story.limits));
+        self.add(Look::Title, title)?;
+        let (settings, order) = (settings(alloc, limits)?, order(limits));
         let settings = format!(in alloc; "{settings}, the {order} idle one is lent first")?;
-        lines.push((Look::Dim, settings))?;
-        lines.push((Look::Dim, told(alloc, story)?))?;
+        self.add(Look::Dim, settings)
+    }
+
+    // What the story tells in words.
+    fn tell(&mut self, alloc: Global, story: &Story, notes: &Notes) -> Result<(), AllocError> {
+        self.add(Look::Dim, told(alloc, story)?)?;
         if let Some(dated) = dated(alloc, story, notes.made_at)? {
-            lines.push((Look::Dim, dated))?;
+            self.add(Look::Dim, dated)?;
         }
-        lines.push((Look::Dim, exhausted(alloc, story.exhaustion())?))?;
-        Ok(Head { lines })
+        self.add(Look::Dim, exhausted(alloc, story.exhaustion())?)
     }
 
     /// How far down it reaches.
@@ -86,6 +108,7 @@ impl Head {
 }
 
 impl Canvas {
+    /// The lines, and below them the legend.
     pub(super) fn head(&mut self, head: &Head) -> Result<(), AllocError> {
         let mut y: u32 = 300;
         for (look, text) in &head.lines {
@@ -95,7 +118,7 @@ impl Canvas {
             self.say(look.class(), y, text.as_str())?;
             y = y.saturating_add(look.height());
         }
-        Ok(())
+        self.legend(head.height())
     }
 
     // The coloured ground of a verdict.

@@ -63,13 +63,7 @@ impl Canvas {
     fn story_of(&mut self, life: &Life) -> Result<(), AllocError> {
         let (id, birth) = (life.id, Length(life.birth));
         write!(self.out, "<title>connection {id}: admitted at {birth}")?;
-        let (times, length) = lent(life);
-        let (often, length) = (Times(times), Length(length));
-        if times == 0 {
-            write!(self.out, ", {often} lent")?;
-        } else {
-            write!(self.out, ", lent {often}, {length} in all")?;
-        }
+        self.uses(life)?;
         if let Some(since) = since(self.alloc, life)? {
             write!(self.out, ", lent {since} and not given back")?;
         }
@@ -78,6 +72,16 @@ impl Canvas {
             write!(self.out, ", {why} at {at}")?;
         }
         self.out.push_str("</title>\n")
+    }
+
+    fn uses(&mut self, life: &Life) -> Result<(), AllocError> {
+        let (times, length) = lent(life);
+        let (often, length) = (Times(times), Length(length));
+        if times == 0 {
+            write!(self.out, ", {often} lent")
+        } else {
+            write!(self.out, ", lent {often}, {length} in all")
+        }
     }
 
     // The thin line of the whole life.

@@ -29,14 +29,17 @@ pub(super) fn box_of(out: &mut String, class: &str, x: u32, y: u32) -> Result<()
     )
 }
 
+// The beginning of a line that starts at a place.
+fn begin(out: &mut String, class: &str, x: u32, y: u32) -> Result<(), AllocError> {
+    let (x, y) = (Tenths(x), Tenths(y));
+    write!(out, "<path class=\"{class}\" d=\"M{x} {y}")
+}
+
 /// The point of a bar that goes on, to the right of a place.
 pub(super) fn point(out: &mut String, x: u32, y: u32, reach: u32) -> Result<(), AllocError> {
-    let (x, top) = (Tenths(x), Tenths(y.saturating_sub(reach)));
+    begin(out, "point", x, y.saturating_sub(reach))?;
     let half = Tenths(reach);
-    writeln!(
-        out,
-        "<path class=\"point\" d=\"M{x} {top}l{half} {half}l-{half} {half}z\"/>"
-    )
+    writeln!(out, "l{half} {half}l-{half} {half}z\"/>")
 }
 
 /// The mark of a connection's coming, around a place, that reaches so far.
@@ -47,20 +50,20 @@ pub(super) fn came(
     y: u32,
     reach: u32,
 ) -> Result<(), AllocError> {
-    let (left, top) = (
-        Tenths(x.saturating_sub(reach)),
-        Tenths(y.saturating_sub(reach)),
-    );
-    let (x, y, reach) = (Tenths(x), Tenths(y), Tenths(reach));
+    let (left, top) = (x.saturating_sub(reach), y.saturating_sub(reach));
     match coming {
-        Coming::Admitted => writeln!(
-            out,
-            "<circle class=\"hollow\" cx=\"{x}\" cy=\"{y}\" r=\"{reach}\"/>"
-        ),
-        Coming::Resting | Coming::Away => writeln!(
-            out,
-            "<path class=\"mark\" d=\"M{x} {top}L{left} {y}l{reach} {reach}\"/>"
-        ),
+        Coming::Admitted => {
+            let (x, y, reach) = (Tenths(x), Tenths(y), Tenths(reach));
+            writeln!(
+                out,
+                "<circle class=\"hollow\" cx=\"{x}\" cy=\"{y}\" r=\"{reach}\"/>"
+            )
+        }
+        Coming::Resting | Coming::Away => {
+            begin(out, "mark", x, top)?;
+            let (left, y, reach) = (Tenths(left), Tenths(y), Tenths(reach));
+            writeln!(out, "L{left} {y}l{reach} {reach}\"/>")
+        }
     }
 }
 
@@ -72,34 +75,31 @@ pub(super) fn went(
     y: u32,
     reach: u32,
 ) -> Result<(), AllocError> {
-    let (left, top) = (
-        Tenths(x.saturating_sub(reach)),
-        Tenths(y.saturating_sub(reach)),
-    );
+    let (left, top) = (x.saturating_sub(reach), y.saturating_sub(reach));
     let (half, whole) = (Tenths(reach), Tenths(reach.saturating_mul(2)));
     match cause {
         Cause::Closed => {
             cross(out, "halo", left, top, whole)?;
             cross(out, "mark", left, top, whole)
         }
-        Cause::Reaped => writeln!(
-            out,
-            "<path class=\"solid\" d=\"M{left} {top}h{whole}l-{half} {whole}z\"/>"
-        ),
-        Cause::ClosedAll => writeln!(
-            out,
-            "<path class=\"solid\" d=\"M{left} {top}h{whole}v{whole}h-{whole}z\"/>"
-        ),
+        Cause::Reaped => {
+            begin(out, "solid", left, top)?;
+            writeln!(out, "h{whole}l-{half} {whole}z\"/>")
+        }
+        Cause::ClosedAll => {
+            begin(out, "solid", left, top)?;
+            writeln!(out, "h{whole}v{whole}h-{whole}z\"/>")
+        }
     }
 }
 
 fn cross(
     out: &mut String,
     class: &str,
-    left: Tenths,
-    top: Tenths,
+    left: u32,
+    top: u32,
     whole: Tenths,
 ) -> Result<(), AllocError> {
-    write!(out, "<path class=\"{class}\" d=\"M{left} {top}")?;
+    begin(out, class, left, top)?;
     writeln!(out, "l{whole} {whole}m0 -{whole}l-{whole} {whole}\"/>")
 }
