@@ -2,7 +2,7 @@
 
 use crate::VERSION;
 use crate::error::{FromJsonError, Place, Wanted};
-use found::{Found, Object};
+use found::{Found, Object, Read};
 use json::{MAX_LEN, Scratch, Tape};
 use parts::{Items, Parts, count_items};
 use place::not_json;
@@ -82,24 +82,38 @@ fn read(
     list: Option<&str>,
     scratch: &mut Scratch,
 ) -> Result<(Report, Option<SystemTime>), FromJsonError> {
-    let tape = match Tape::parse(rest, scratch, Vec::new(alloc)) {
-        Ok(tape) => tape,
-        Err(json::Error::Invalid) => return Err(not_json(alloc, text)),
-        Err(_) => return Err(FromJsonError::Memory),
-    };
-    let found = Found::new(tape.root(), Place::report());
+    let tape = tape_of(alloc, rest, text, scratch)?;
+    read_root(alloc, &Found::new(tape.root(), Place::report()), list)
+}
+
+// The tape of a part of a text. Where it is no JSON, the error says where in the whole.
+fn tape_of<'t>(
+    alloc: Global,
+    part: &'t str,
+    whole: &str,
+    scratch: &'t mut Scratch,
+) -> Result<Tape<'t>, FromJsonError> {
+    match Tape::parse(part, scratch, Vec::new(alloc)) {
+        Ok(tape) => Ok(tape),
+        Err(json::Error::Invalid) => Err(not_json(alloc, whole)),
+        Err(_) => Err(FromJsonError::Memory),
+    }
+}
+
+fn read_root(
+    alloc: Global,
+    found: &Found<'_>,
+    list: Option<&str>,
+) -> Result<(Report, Option<SystemTime>), FromJsonError> {
     read_version(&found.object()?)?;
-    let object = found.object_of(alloc, &REPORT_FIELDS)?;
-    let made_at = match object.optional("made_at") {
-        Some(moment) => Some(moment.wall_clock()?),
-        None => None,
-    };
-    Ok((read_report(alloc, &object, list)?, made_at))
+    let report = found.object_of(alloc, &REPORT_FIELDS)?;
+    let made_at = report.optional("made_at")?;
+    Ok((read_report(alloc, &report, list)?, made_at))
 }
 
 // Other versions may have other fields, so this one comes first.
 fn read_version(report: &Object<'_, '_>) -> Result<(), FromJsonError> {
-    let version = report.number("version")?;
+    let version: u64 = report.read("version")?;
     if version != VERSION {
         return Err(FromJsonError::Version(version));
     }
@@ -112,12 +126,10 @@ fn read_report(
     list: Option<&str>,
 ) -> Result<Report, FromJsonError> {
     let limits = read_limits(alloc, report)?;
-    let lost = report.number("lost")?;
-    let takes = report.number("takes")?;
+    let lost = report.read("lost")?;
+    let takes = report.read("takes")?;
     let counts = read_counts(report)?;
-    let base = read_base(alloc, report)?;
-    let records = read_records(alloc, report, list)?;
-    let (idle, lent) = read_holders(alloc, report)?;
+    let (base, records, (idle, lent)) = read_lists(alloc, report, list)?;
     Ok(Report {
         limits,
         base,
@@ -132,6 +144,17 @@ fn read_report(
     })
 }
 
+// The base, the records, and the ids of the idle and of the lent connections.
+fn read_lists(
+    alloc: Global,
+    report: &Object<'_, '_>,
+    list: Option<&str>,
+) -> Result<(Base, RecordList, (IdList, IdList)), FromJsonError> {
+    let base = read_base(alloc, report)?;
+    let records = read_records(alloc, report, list)?;
+    Ok((base, records, read_holders(alloc, report)?))
+}
+
 // What a report and its base both count.
 #[derive(Clone, Copy)]
 struct Counts {
@@ -142,9 +165,9 @@ struct Counts {
 
 fn read_counts(object: &Object<'_, '_>) -> Result<Counts, FromJsonError> {
     Ok(Counts {
-        connections: object.count("connections")?,
-        pending: object.count("pending")?,
-        closed: object.flag("closed")?,
+        connections: object.read("connections")?,
+        pending: object.read("pending")?,
+        closed: object.read("closed")?,
     })
 }
 
@@ -155,25 +178,27 @@ fn read_limits(alloc: Global, report: &Object<'_, '_>) -> Result<Limits, FromJso
 
 fn limits_of(limits: &Object<'_, '_>) -> Result<Limits, FromJsonError> {
     let settings = LimitSettings {
-        max_size: limits.count("max_size")?,
-        min_idle: limits.count_or_null("min_idle")?,
-        max_lifetime: limits.nanoseconds_or_null("max_lifetime")?,
-        idle_timeout: limits.nanoseconds_or_null("idle_timeout")?,
-        connection_timeout: limits.nanoseconds("connection_timeout")?,
-        reap_every: limits.nanoseconds("reap_every")?,
+        max_size: limits.read("max_size")?,
+        min_idle: limits.read("min_idle")?,
+        max_lifetime: limits.read("max_lifetime")?,
+        idle_timeout: limits.read("idle_timeout")?,
+        connection_timeout: limits.read("connection_timeout")?,
+        reap_every: limits.read("reap_every")?,
     };
-    let order = read_order(&limits.field("order")?)?;
+    let order = limits.read("order")?;
     settings
         .limits()
         .map(|limits| limits.with_order(order))
         .ok_or(FromJsonError::Limits)
 }
 
-fn read_order(found: &Found<'_>) -> Result<LendingOrder, FromJsonError> {
-    match found.text(Wanted::Order)? {
-        "newest_first" => Ok(LendingOrder::NewestFirst),
-        "oldest_first" => Ok(LendingOrder::OldestFirst),
-        _ => Err(found.is_not(Wanted::Order)),
+impl Read for LendingOrder {
+    fn read_from(found: &Found<'_>) -> Result<LendingOrder, FromJsonError> {
+        match found.text(Wanted::Order)? {
+            "newest_first" => Ok(LendingOrder::NewestFirst),
+            "oldest_first" => Ok(LendingOrder::OldestFirst),
+            _ => Err(found.is_not(Wanted::Order)),
+        }
     }
 }
 
@@ -183,8 +208,7 @@ fn read_base(alloc: Global, report: &Object<'_, '_>) -> Result<Base, FromJsonErr
 }
 
 fn base_of(alloc: Global, base: &Object<'_, '_>) -> Result<Base, FromJsonError> {
-    let idle = read_resting(alloc, &base.field("idle")?)?;
-    let lent = read_away(alloc, &base.field("lent")?)?;
+    let (idle, lent) = read_connections(alloc, base)?;
     let (at, counts) = read_rest(base)?;
     Ok(Base {
         at,
@@ -196,59 +220,65 @@ fn base_of(alloc: Global, base: &Object<'_, '_>) -> Result<Base, FromJsonError> 
     })
 }
 
-// The moment of a base, and what it counts.
-fn read_rest(base: &Object<'_, '_>) -> Result<(Duration, Counts), FromJsonError> {
-    Ok((base.nanoseconds("at")?, read_counts(base)?))
+// The idle connections of a base, and the lent ones.
+fn read_connections(
+    alloc: Global,
+    base: &Object<'_, '_>,
+) -> Result<(IdleConnections, LentConnections), FromJsonError> {
+    let idle = read_list(alloc, base, "idle", "base.idle")?;
+    let lent = read_list(alloc, base, "lent", "base.lent")?;
+    Ok((IdleConnections::of(idle), LentConnections::of(lent)))
 }
 
-fn read_resting(alloc: Global, found: &Found<'_>) -> Result<IdleConnections, FromJsonError> {
-    let mut list = Vec::with_capacity(alloc, found.count_items()?)?;
-    let mut items = found.list("base.idle")?;
-    while let Some(item) = items.next() {
-        list.push(read_idle(&item)?)?;
-    }
-    Ok(IdleConnections::of(list))
+// The moment of a base, and what it counts.
+fn read_rest(base: &Object<'_, '_>) -> Result<(Duration, Counts), FromJsonError> {
+    Ok((base.read("at")?, read_counts(base)?))
 }
 
 // An idle connection: id, birth, and since when it is idle.
-fn read_idle(found: &Found<'_>) -> Result<(u64, Duration, Duration), FromJsonError> {
-    let (id, birth, since) = found.triple()?;
-    Ok((id.number()?, birth.nanoseconds()?, since.nanoseconds()?))
-}
-
-fn read_away(alloc: Global, found: &Found<'_>) -> Result<LentConnections, FromJsonError> {
-    let mut list = Vec::with_capacity(alloc, found.count_items()?)?;
-    let mut items = found.list("base.lent")?;
-    while let Some(item) = items.next() {
-        list.push(read_lent(&item)?)?;
+impl Read for (u64, Duration, Duration) {
+    fn read_from(found: &Found<'_>) -> Result<(u64, Duration, Duration), FromJsonError> {
+        found.has_items(3)?;
+        Ok((found.item(0)?, found.item(1)?, found.item(2)?))
     }
-    Ok(LentConnections::of(list))
 }
 
 // A lent connection: id and birth.
-fn read_lent(found: &Found<'_>) -> Result<(u64, Duration), FromJsonError> {
-    let (id, birth) = found.pair()?;
-    Ok((id.number()?, birth.nanoseconds()?))
+impl Read for (u64, Duration) {
+    fn read_from(found: &Found<'_>) -> Result<(u64, Duration), FromJsonError> {
+        found.has_items(2)?;
+        Ok((found.item(0)?, found.item(1)?))
+    }
 }
 
 // The idle connections, and the lent ones.
 fn read_holders(alloc: Global, report: &Object<'_, '_>) -> Result<(IdList, IdList), FromJsonError> {
-    let idle = read_ids(alloc, report, "idle")?;
-    Ok((idle, read_ids(alloc, report, "lent")?))
+    let idle = read_list(alloc, report, "idle", "idle")?;
+    let lent = read_list(alloc, report, "lent", "lent")?;
+    Ok((IdList::of(idle), IdList::of(lent)))
 }
 
-fn read_ids(
+// The list in a field. Errors call it by the name.
+fn read_list<T: Read>(
     alloc: Global,
-    report: &Object<'_, '_>,
+    object: &Object<'_, '_>,
+    field: &'static str,
     name: &'static str,
-) -> Result<IdList, FromJsonError> {
-    let found = report.field(name)?;
+) -> Result<Vec<T>, FromJsonError> {
+    list_of(alloc, &object.field(field)?, name)
+}
+
+fn list_of<T: Read>(
+    alloc: Global,
+    found: &Found<'_>,
+    name: &'static str,
+) -> Result<Vec<T>, FromJsonError> {
     let mut list = Vec::with_capacity(alloc, found.count_items()?)?;
     let mut items = found.list(name)?;
     while let Some(item) = items.next() {
-        list.push(item.number()?)?;
+        list.push(T::read_from(&item)?)?;
     }
-    Ok(IdList::of(list))
+    Ok(list)
 }
 
 fn read_records(
@@ -284,18 +314,13 @@ fn read_item(
     text: &str,
     scratch: &mut Scratch,
 ) -> Result<Record, FromJsonError> {
-    match Tape::parse(text, scratch, Vec::new(alloc)) {
-        Ok(tape) => {
-            let place = Place::item_of("records", number);
-            read_record(alloc, &Found::new(tape.root(), place))
-        }
-        Err(json::Error::Invalid) => Err(not_json(alloc, text)),
-        Err(_) => Err(FromJsonError::Memory),
-    }
+    let tape = tape_of(alloc, text, text, scratch)?;
+    let place = Place::item_of("records", number);
+    read_record(alloc, &Found::new(tape.root(), place))
 }
 
 fn read_record(alloc: Global, found: &Found<'_>) -> Result<Record, FromJsonError> {
-    let kind = Kind::of(&found.object()?.field("kind")?)?;
+    let kind: Kind = found.object()?.read("kind")?;
     kind.read(&found.object_of(alloc, kind.fields())?)
 }
 
@@ -310,8 +335,8 @@ enum Kind {
     ClosedAll,
 }
 
-impl Kind {
-    fn of(found: &Found<'_>) -> Result<Kind, FromJsonError> {
+impl Read for Kind {
+    fn read_from(found: &Found<'_>) -> Result<Kind, FromJsonError> {
         match found.text(Wanted::Kind)? {
             "taken" => Ok(Kind::Taken),
             "ordered" => Ok(Kind::Ordered),
@@ -323,7 +348,9 @@ impl Kind {
             _ => Err(found.is_not(Wanted::Kind)),
         }
     }
+}
 
+impl Kind {
     // What fields a record of this kind has.
     fn fields(self) -> &'static [&'static str] {
         match self {
@@ -334,36 +361,30 @@ impl Kind {
         }
     }
 
+    // What the field says, or nothing where records of this kind do not have it.
+    fn read_field<T: Read + Default>(
+        self,
+        record: &Object<'_, '_>,
+        name: &'static str,
+    ) -> Result<T, FromJsonError> {
+        if !self.fields().contains(&name) {
+            return Ok(T::default());
+        }
+        record.read(name)
+    }
+
     // The record of this kind that these fields tell.
     fn read(self, record: &Object<'_, '_>) -> Result<Record, FromJsonError> {
-        let at = record.nanoseconds("at")?;
+        let at = record.read("at")?;
+        let id = self.read_field(record, "id")?;
+        let ordered = self.read_field(record, "ordered")?;
         Ok(match self {
-            Kind::Taken => Record::Taken {
-                at,
-                id: record.number("id")?,
-                ordered: record.count("ordered")?,
-            },
-            Kind::Ordered => Record::Ordered {
-                at,
-                ordered: record.count("ordered")?,
-            },
-            Kind::Admitted => Record::Admitted {
-                at,
-                id: record.number("id")?,
-            },
-            Kind::Kept => Record::Kept {
-                at,
-                id: record.number("id")?,
-            },
-            Kind::Closed => Record::Closed {
-                at,
-                id: record.number("id")?,
-                ordered: record.count("ordered")?,
-            },
-            Kind::Reaped => Record::Reaped {
-                at,
-                ordered: record.count("ordered")?,
-            },
+            Kind::Taken => Record::Taken { at, id, ordered },
+            Kind::Ordered => Record::Ordered { at, ordered },
+            Kind::Admitted => Record::Admitted { at, id },
+            Kind::Kept => Record::Kept { at, id },
+            Kind::Closed => Record::Closed { at, id, ordered },
+            Kind::Reaped => Record::Reaped { at, ordered },
             Kind::ClosedAll => Record::ClosedAll { at },
         })
     }

@@ -92,86 +92,89 @@ impl<'t> Found<'t> {
         Ok(count)
     }
 
-    // An item of this list, with its number.
-    fn item(&self, number: usize, value: Element<'t, 't>) -> Found<'t> {
-        Found::new(value, self.place.item(number))
+    /// The error that this is not a list of so many, if it is not.
+    pub(super) fn has_items(&self, count: usize) -> Result<(), FromJsonError> {
+        if self.count_items()? != count {
+            return Err(self.is_not(Wanted::ListOf(count)));
+        }
+        Ok(())
     }
 
-    /// The items of a list of two.
-    pub(super) fn pair(&self) -> Result<(Found<'t>, Found<'t>), FromJsonError> {
-        let mut items = self.items()?;
-        match (items.next(), items.next(), items.next()) {
-            (Some(first), Some(second), None) => Ok((self.item(0, first), self.item(1, second))),
-            _ => Err(self.is_not(Wanted::ListOf(2))),
-        }
-    }
-
-    /// The items of a list of three.
-    pub(super) fn triple(&self) -> Result<(Found<'t>, Found<'t>, Found<'t>), FromJsonError> {
-        let mut items = self.items()?;
-        match (items.next(), items.next(), items.next(), items.next()) {
-            (Some(first), Some(second), Some(third), None) => Ok((
-                self.item(0, first),
-                self.item(1, second),
-                self.item(2, third),
-            )),
-            _ => Err(self.is_not(Wanted::ListOf(3))),
-        }
+    /// What the item of this number says.
+    pub(super) fn item<T: Read>(&self, number: usize) -> Result<T, FromJsonError> {
+        let Some(value) = self.value.at(number) else {
+            return Err(self.is_not(Wanted::List));
+        };
+        T::read_from(&Found::new(value, self.place.item(number)))
     }
 
     pub(super) fn text(&self, wanted: Wanted) -> Result<&'t str, FromJsonError> {
         self.value.as_str().ok_or(self.is_not(wanted))
     }
+}
 
-    pub(super) fn number(&self) -> Result<u64, FromJsonError> {
-        self.value
+/// What a value is read as, where it is what is wanted there.
+pub(super) trait Read: Sized + Drop {
+    fn read_from(found: &Found<'_>) -> Result<Self, FromJsonError>;
+}
+
+impl Read for u64 {
+    fn read_from(found: &Found<'_>) -> Result<u64, FromJsonError> {
+        found
+            .value
             .as_u64()
-            .ok_or(self.is_not(Wanted::UpTo(u64::MAX)))
+            .ok_or(found.is_not(Wanted::UpTo(u64::MAX)))
     }
+}
 
-    pub(super) fn count(&self) -> Result<u32, FromJsonError> {
-        self.value
+impl Read for u32 {
+    fn read_from(found: &Found<'_>) -> Result<u32, FromJsonError> {
+        found
+            .value
             .as_u64()
             .and_then(|number| u32::try_from(number).ok())
-            .ok_or(self.is_not(Wanted::UpTo(u32::MAX as u64)))
+            .ok_or(found.is_not(Wanted::UpTo(u32::MAX as u64)))
     }
+}
 
-    pub(super) fn count_or_null(&self) -> Result<Option<u32>, FromJsonError> {
-        if self.value.is_null() {
-            return Ok(None);
-        }
-        Ok(Some(self.count()?))
-    }
-
-    pub(super) fn nanoseconds(&self) -> Result<Duration, FromJsonError> {
-        let length = match self.value.as_str() {
+/// Whole nanoseconds.
+impl Read for Duration {
+    fn read_from(found: &Found<'_>) -> Result<Duration, FromJsonError> {
+        let length = match found.value.as_str() {
             Some(text) => nanoseconds::of_digits(text),
-            None => self
+            None => found
                 .value
                 .as_u64()
                 .map(|number| Duration::from_nanos(number)),
         };
-        length.ok_or(self.is_not(Wanted::Nanoseconds))
+        length.ok_or(found.is_not(Wanted::Nanoseconds))
     }
+}
 
-    pub(super) fn nanoseconds_or_null(&self) -> Result<Option<Duration>, FromJsonError> {
-        if self.value.is_null() {
-            return Ok(None);
-        }
-        Ok(Some(self.nanoseconds()?))
+impl Read for bool {
+    fn read_from(found: &Found<'_>) -> Result<bool, FromJsonError> {
+        found.value.as_bool().ok_or(found.is_not(Wanted::Flag))
     }
+}
 
-    pub(super) fn flag(&self) -> Result<bool, FromJsonError> {
-        self.value.as_bool().ok_or(self.is_not(Wanted::Flag))
-    }
-
-    /// A moment of the wall clock, from 1970 on.
-    pub(super) fn wall_clock(&self) -> Result<SystemTime, FromJsonError> {
-        let text = self.text(Wanted::WallClock)?;
+/// A moment of the wall clock, from 1970 on.
+impl Read for SystemTime {
+    fn read_from(found: &Found<'_>) -> Result<SystemTime, FromJsonError> {
+        let text = found.text(Wanted::WallClock)?;
         text.parse::<Timestamp>()
             .ok()
             .and_then(|moment| SystemTime::try_from(moment).ok())
-            .ok_or(self.is_not(Wanted::WallClock))
+            .ok_or(found.is_not(Wanted::WallClock))
+    }
+}
+
+/// None where there is a null.
+impl<T: Read> Read for Option<T> {
+    fn read_from(found: &Found<'_>) -> Result<Option<T>, FromJsonError> {
+        if found.value.is_null() {
+            return Ok(None);
+        }
+        Ok(Some(T::read_from(found)?))
     }
 }
 
@@ -193,12 +196,6 @@ impl<'f, 't> Object<'f, 't> {
         self.field_at(name, self.found.place.field(name))
     }
 
-    /// The field of this name, if it is there.
-    pub(super) fn optional(&self, name: &'static str) -> Option<Found<'t>> {
-        let value = self.found.value.get(name)?;
-        Some(Found::new(value, self.found.place.field(name)))
-    }
-
     /// The object of this name in the report itself, whose fields stand under it.
     pub(super) fn named(&self, name: &'static str) -> Result<Found<'t>, FromJsonError> {
         self.field_at(name, Place::named(name))
@@ -211,32 +208,16 @@ impl<'f, 't> Object<'f, 't> {
         }
     }
 
-    // What the field of this name says, where it is what is wanted there.
-
-    pub(super) fn number(&self, name: &'static str) -> Result<u64, FromJsonError> {
-        self.field(name)?.number()
+    /// What the field of this name says.
+    pub(super) fn read<T: Read>(&self, name: &'static str) -> Result<T, FromJsonError> {
+        T::read_from(&self.field(name)?)
     }
 
-    pub(super) fn count(&self, name: &'static str) -> Result<u32, FromJsonError> {
-        self.field(name)?.count()
-    }
-
-    pub(super) fn count_or_null(&self, name: &'static str) -> Result<Option<u32>, FromJsonError> {
-        self.field(name)?.count_or_null()
-    }
-
-    pub(super) fn nanoseconds(&self, name: &'static str) -> Result<Duration, FromJsonError> {
-        self.field(name)?.nanoseconds()
-    }
-
-    pub(super) fn nanoseconds_or_null(
-        &self,
-        name: &'static str,
-    ) -> Result<Option<Duration>, FromJsonError> {
-        self.field(name)?.nanoseconds_or_null()
-    }
-
-    pub(super) fn flag(&self, name: &'static str) -> Result<bool, FromJsonError> {
-        self.field(name)?.flag()
+    /// The same, if it is there.
+    pub(super) fn optional<T: Read>(&self, name: &'static str) -> Result<Option<T>, FromJsonError> {
+        if self.found.value.get(name).is_none() {
+            return Ok(None);
+        }
+        Ok(Some(self.read(name)?))
     }
 }
