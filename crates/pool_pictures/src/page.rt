@@ -148,15 +148,11 @@ fn known(alloc: Global, page: &mut String, notes: &Notes) -> Result<(), AllocErr
         let (class, words) = (class_of(finding), verdict(alloc, finding)?);
         writeln!(page, "<p class=\"verdict {class}\">{words}</p>")?;
     }
-    answered(page, notes.answers)
-}
-
-fn answered(page: &mut String, answers: &[String]) -> Result<(), AllocError> {
-    if answers.is_empty() {
+    if notes.answers.is_empty() {
         return Ok(());
     }
     page.push_str("<ul class=\"answers\">\n")?;
-    for answer in answers {
+    for answer in notes.answers {
         page.push_str("<li>")?;
         whole_moments(page, answer.as_str())?;
         page.push_str("</li>\n")?;

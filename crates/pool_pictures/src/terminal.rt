@@ -235,11 +235,6 @@ impl Sheet {
         }
         self.row("", marks.as_slice())?;
         self.row("", labels.as_slice())?;
-        self.beginning(story)
-    }
-
-    // From when the time is counted, where that is not the making of the pool.
-    fn beginning(&mut self, story: &Story) -> Result<(), AllocError> {
         if self.scale.begins_late() {
             let from = Length(story.from);
             self.space(self.names.saturating_add(2))?;
