@@ -14,14 +14,9 @@ pub fn audited<R: PoolRuntime + Print>(rt: R) -> Result<(), anyhow::Error> {
     // Somebody has changed the first id of the log.
     if let Some((front, back)) = log.as_str().split_once(r#""id":0"#) {
         let changed = format!(in rt.alloc(); r#"{front}"id":5{back}"#)?;
-        say_of_the_first(&rt, changed.as_str())?;
+        let first = changed.as_str().lines().next().unwrap_or("");
+        println!(rt; "{}", judge(rt.alloc(), first)?)?;
     }
-    Ok(())
-}
-
-fn say_of_the_first<R: AllocGlobal + Print>(rt: &R, log: &str) -> Result<(), anyhow::Error> {
-    let line = log.lines().next().unwrap_or("");
-    println!(rt; "{}", judge(rt.alloc(), line)?)?;
     Ok(())
 }
 

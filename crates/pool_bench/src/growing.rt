@@ -68,9 +68,9 @@ fn batches<R: PoolRuntime>(
     let mut gets = Duration::ZERO;
     let mut drops = Duration::ZERO;
     for _ in 0..BATCHES {
-        let (get, drop) = batch(rt, &pool, &mut lent, which)?;
-        gets = gets.saturating_add(get);
-        drops = drops.saturating_add(drop);
+        let (taking, returning) = batch(rt, &pool, &mut lent, which)?;
+        gets = gets.saturating_add(taking);
+        drops = drops.saturating_add(returning);
     }
     // The oldest of many costs most, and `lent` itself would begin with it.
     give_back(&mut lent, max_size.saturating_sub(BATCH), Which::Newest);
