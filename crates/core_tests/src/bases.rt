@@ -2,7 +2,7 @@
 
 use crate::checks::{book_of, is_replayed, last_report, legal, listed, same, take_all};
 use crate::journal::one_kept;
-use crate::steps::{ms, sized};
+use core_uses::steps::{ms, sized};
 use r2d2_core::{Base, LendingOrder, Report};
 use std::process::Abort;
 use std::time::Duration;

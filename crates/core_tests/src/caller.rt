@@ -1,94 +1,24 @@
-// A user's own code over the core: it keeps a count of the lent connections, and rests on the
-// core's contracts.
+// The caller of `core_uses` over a core.
 
-ghost use Rattle.std.specs.Prelude.{◌≡◌, ◌+◌, if◌then◌else◌, true, is_some};
-ghost use Rattle.std.specs.Duration.{as_nanos};
-ghost use Rattle.r2d2_core.specs.Connections.{birth_in};
-ghost use Rattle.r2d2_core.specs.Table.{next_of, after_take};
-ghost use Rattle.core_tests.specs.Counted.{IsCounted, shown_found};
-ghost use Rattle.core_tests.specs.Calls.{after_open, after_discard};
+use crate::checks::{legal, same};
+use core_uses::caller::{discard, lend, open};
+use core_uses::steps::{ms, sized};
+use r2d2_core::Core;
 
-use r2d2_core::{Core, Job, Take};
-use std::time::Duration;
-
-/// Hands in a value for the opening that is due, if there is one; false where there is none, or
-/// where the core refuses it. What is lent stays lent.
-pub fn open<T: Drop>(core: &mut Core<T>, lent: &u32, now: Duration, value: T) -> bool
-    requires { IsCounted core.old lent.now }
-    ensures counted { IsCounted core.new lent.now }
-    ensures after { core.new ≡ after_open (as_nanos now) value core.old }
-    ensures grown { core.new.connections ≡ core.old.connections + (if result then 1 else 0) }
-{
-    let Job::Open { tries } = core.begin(now) else {
-        return false;
-    };
-    match core.number(tries) {
-        Ok(id) => core.admit(now, id, value).is_ok(),
-        Err(_) => false,
-    }
-}
-
-/// Takes the idle connection that is lent next, and counts it among the lent ones; None where none
-/// is idle.
-pub fn lend<T>(core: &mut Core<T>, lent: &mut u32, now: Duration) -> Option<(u64, T)>
-    requires { IsCounted core.old lent.old }
-    ensures counted { IsCounted core.new lent.new }
-    ensures next { result ≡ shown_found (next_of core.old) }
-    ensures after { core.new ≡ after_take (as_nanos now) true core.old }
-{
-    // This reading tells that no more are lent than there may be, so the count can't overflow.
-    let _connections = core.connections();
-    match core.take(now, true) {
-        Take::Found { id, value, .. } => {
-            *lent += 1;
-            Some((id, value))
-        }
-        Take::Empty { .. } => None,
-    }
-}
-
-/// Closes a lent connection whose check failed, which is no longer counted; false where the id is
-/// not lent.
-pub fn discard<T>(core: &mut Core<T>, lent: &mut u32, now: Duration, id: u64) -> bool
-    requires { IsCounted core.old lent.old }
-    ensures counted { IsCounted core.new lent.new }
-    ensures was_lent { result ≡ is_some (birth_in id core.old.lent) }
-    ensures after { core.new ≡ after_discard (as_nanos now) id core.old }
-{
-    // Connections are the idle ones and the lent ones, before and after: so one less is lent.
-    let _before = core.connections();
-    match core.fail_check(now, id, None) {
-        Ok(_) => {
-            let _after = core.connections();
-            *lent -= 1;
-            true
-        }
-        Err(_) => false,
-    }
-}
-
-#[cfg(test)]
-mod tests {
-    use super::{discard, lend, open};
-    use crate::checks::{legal, same};
-    use crate::steps::{ms, sized};
-    use r2d2_core::Core;
-
-    #[test]
-    fn a_caller_counts_what_is_lent(rt: HostRuntime) {
-        let core = Core::new(rt.alloc(), legal(&rt, sized(2)), ms(0));
-        let mut core: Core<u64> = core.expect(&rt, "a core");
-        let mut lent = 0;
-        assert!(rt; open(&mut core, &lent, ms(0), 70));
-        assert!(rt; open(&mut core, &lent, ms(0), 71));
-        assert!(rt; !open(&mut core, &lent, ms(0), 72));
-        same(&rt, lend(&mut core, &mut lent, ms(1)), Some((1, 71)));
-        same(&rt, lend(&mut core, &mut lent, ms(1)), Some((0, 70)));
-        same(&rt, lend(&mut core, &mut lent, ms(1)), None);
-        same(&rt, lent, 2);
-        assert!(rt; discard(&mut core, &mut lent, ms(2), 1));
-        assert!(rt; !discard(&mut core, &mut lent, ms(2), 1));
-        same(&rt, lent, 1);
-        drop(core);
-    }
+#[test]
+fn a_caller_counts_what_is_lent(rt: HostRuntime) {
+    let core = Core::new(rt.alloc(), legal(&rt, sized(2)), ms(0));
+    let mut core: Core<u64> = core.expect(&rt, "a core");
+    let mut lent = 0;
+    assert!(rt; open(&mut core, &lent, ms(0), 70));
+    assert!(rt; open(&mut core, &lent, ms(0), 71));
+    assert!(rt; !open(&mut core, &lent, ms(0), 72));
+    same(&rt, lend(&mut core, &mut lent, ms(1)), Some((1, 71)));
+    same(&rt, lend(&mut core, &mut lent, ms(1)), Some((0, 70)));
+    same(&rt, lend(&mut core, &mut lent, ms(1)), None);
+    same(&rt, lent, 2);
+    assert!(rt; discard(&mut core, &mut lent, ms(2), 1));
+    assert!(rt; !discard(&mut core, &mut lent, ms(2), 1));
+    same(&rt, lent, 1);
+    drop(core);
 }

@@ -2,8 +2,8 @@
 // core; and each stops the test where it fails. Books, reports and heaps are handed to `drop`, so
 // that a test is proved without their parts too.
 
-use crate::makers::{answered, book_in, core_in};
-use crate::replays::replays;
+use core_uses::makers::{answered, book_in, core_in};
+use core_uses::replays::replays;
 use linked_list_allocator::LocalHeap;
 use r2d2_core::{Book, Core, Limits, Report, Step};
 use std::alloc::{AllocError, Allocator};

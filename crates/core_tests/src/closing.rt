@@ -1,7 +1,7 @@
 // What a close leaves.
 
 use crate::checks::{book_of, core_of, legal, same};
-use crate::steps::{ms, sized};
+use core_uses::steps::{ms, sized};
 use r2d2_core::Core;
 use std::process::Abort;
 

@@ -2,9 +2,9 @@
 // and the last ids.
 
 use crate::checks::{legal, listed, same};
-use crate::machine::{Machine, lines_of};
-use crate::makers::{book_from_id_in, core_from_id_in};
-use crate::steps::{admit, begin, fail, ms, number, put_back, sized, take};
+use core_uses::machine::{Machine, lines_of};
+use core_uses::makers::{book_from_id_in, core_from_id_in};
+use core_uses::steps::{admit, begin, fail, ms, number, put_back, sized, take};
 use pool_lines::program::line::Line;
 use r2d2_core::run::run;
 use r2d2_core::schedule::delay;

@@ -1,9 +1,9 @@
 // The greatest pool that a heap has room for.
 
 use crate::checks::{heap_of, is_made, legal, same};
-use crate::machine::Machine;
-use crate::makers::core_in;
-use crate::steps::{ms, sized};
+use core_uses::machine::Machine;
+use core_uses::makers::core_in;
+use core_uses::steps::{ms, sized};
 use linked_list_allocator::LocalHeap;
 use r2d2_core::{Core, Take};
 use std::process::Abort;

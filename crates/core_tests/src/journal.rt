@@ -4,8 +4,10 @@ use crate::checks::{
     book_of, heap_of, is_made, is_replayed, last_report, legal, listed, rest_of, same, same_at,
     take_all,
 };
-use crate::makers::{book_from_id_in, book_in, report_in};
-use crate::steps::{admit, begin, close, limits, ms, number, put_back, reap, sized, take, want};
+use core_uses::makers::{book_from_id_in, book_in, report_in};
+use core_uses::steps::{
+    admit, begin, close, limits, ms, number, put_back, reap, sized, take, want,
+};
 use linked_list_allocator::LocalHeap;
 use r2d2_core::{Book, IdList, Limits, Record, RecordList, Report, Step};
 use std::alloc::Allocator;

@@ -1,13 +1,22 @@
-//! Tests of the core of a pool: what no contract says. What they call is here for others too.
+//! Tests of the core of a pool: what no contract says, and the core beside a second reading of its
+//! rules.
 #![tactic(auto)]
+
+// What has many parts, as a book or a report, is handed to `drop`: so the function that had it is
+// proved without them.
 
 #[cfg(test)]
 mod bases;
-pub mod caller;
+#[cfg(test)]
+mod caller;
+#[cfg(test)]
+mod changes;
 #[cfg(test)]
 mod checks;
 #[cfg(test)]
 mod closing;
+#[cfg(test)]
+mod drafts;
 #[cfg(test)]
 mod extremes;
 #[cfg(test)]
@@ -16,15 +25,19 @@ mod greatest;
 mod journal;
 #[cfg(test)]
 mod limits;
-pub mod machine;
-pub mod makers;
 #[cfg(test)]
 mod memory;
 #[cfg(test)]
+mod plain;
+#[cfg(test)]
+mod random;
+#[cfg(test)]
 mod refused;
-pub mod replays;
+#[cfg(test)]
+mod reuse;
+#[cfg(test)]
+mod said;
 #[cfg(test)]
 mod schedule;
-pub mod steps;
 #[cfg(test)]
 mod turning;

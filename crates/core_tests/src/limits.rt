@@ -1,7 +1,7 @@
 // What limits say of themselves.
 
 use crate::checks::{book_of, core_of, legal, same};
-use crate::steps::{limits, ms, sized};
+use core_uses::steps::{limits, ms, sized};
 use r2d2_core::{LendingOrder, Limits};
 use std::process::Abort;
 use std::time::Duration;

@@ -2,8 +2,8 @@
 // is answered on a full heap too.
 
 use crate::checks::{heap_of, is_made, legal, rest_of, same};
-use crate::makers::core_in;
-use crate::steps::limits;
+use core_uses::makers::core_in;
+use core_uses::steps::limits;
 use r2d2_core::Limits;
 use std::process::Abort;
 

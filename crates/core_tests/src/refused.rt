@@ -1,8 +1,8 @@
 // Each request for memory refused in turn: on heaps that grow, until one is large enough.
 
 use crate::checks::{book_of, heap_of, is_made, legal, report_of, rest_of, same, same_at};
-use crate::makers::{book_from_id_in, book_in, core_from_id_in, core_in, report_in};
-use crate::steps::{limits, ms};
+use core_uses::makers::{book_from_id_in, book_in, core_from_id_in, core_in, report_in};
+use core_uses::steps::{limits, ms};
 use linked_list_allocator::LocalHeap;
 use r2d2_core::schedule::Schedule;
 use r2d2_core::{Book, Limits, Report};

@@ -1,7 +1,7 @@
 // A schedule by itself.
 
 use crate::checks::{legal, same};
-use crate::steps::ms;
+use core_uses::steps::ms;
 use r2d2_core::{Job, LimitSettings, Limits, Schedule};
 use std::process::Abort;
 

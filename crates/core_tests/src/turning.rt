@@ -1,7 +1,7 @@
 // Reaps after the idle connections have turned round and round.
 
 use crate::checks::{book_of, legal, listed, report_of, same, take_all};
-use crate::steps::{admit, begin, limits, ms, number};
+use core_uses::steps::{admit, begin, limits, ms, number};
 use r2d2_core::{Book, Released, Take};
 use std::alloc::{AllocError, Global};
 use std::process::Abort;

@@ -19,8 +19,8 @@ where
     S: Fn(PlainPool<Nothings, R>, u32) -> Result<JoinHandle<bool>, anyhow::Error> + Drop,
     requires { S.IsAlwaysCallable start }
 {
-    for threads in [1, 2, 4, 8] {
-        for max_size in [1, 10] {
+    for &threads in &[1, 2, 4, 8] {
+        for &max_size in &[1, 10] {
             let case = Case {
                 threads,
                 max_size,
@@ -82,7 +82,7 @@ where
     S: Fn(Arc<Mutex<Duration>>, u32) -> Result<JoinHandle<bool>, anyhow::Error> + Drop,
     requires { S.IsAlwaysCallable start }
 {
-    for threads in [1, 2, 4, 8] {
+    for &threads in &[1, 2, 4, 8] {
         let case = Case {
             threads,
             max_size: 1,

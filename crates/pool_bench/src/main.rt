@@ -68,10 +68,10 @@ fn measure_alone<R: PoolRuntime + Print>(rt: R, only: Option<&str>) -> Result<()
 }
 
 fn measure_growing<R: PoolRuntime + Print>(rt: R, only: Option<&str>) -> Result<(), anyhow::Error> {
-    for max_size in [10, 100, 1000, 10_000] {
+    for &max_size in &[10, 100, 1000, 10_000] {
         Scenario::Build.measure(rt, only, one_thread(max_size, 1))?;
     }
-    for lent in [10, 100, 1000, 10_000] {
+    for &lent in &[10, 100, 1000, 10_000] {
         let case = one_thread(lent + BATCH, BATCH * BATCHES);
         Scenario::LentGet.measure(rt, only, case)?;
         Scenario::LentDrop.measure(rt, only, case)?;

@@ -23,10 +23,10 @@ pub struct Reading<'a> {
 /// version=0.0.4`. The error is that of `out`, which has then got a part of the text.
 pub fn write<W: fmt::Write>(readings: &[Reading<'_>], out: &mut W) -> fmt::Result {
     write_counts(readings, out)?;
-    for number in NUMBERS {
+    for number in &NUMBERS {
         number.write(readings, out)?;
     }
-    for timing in TIMINGS {
+    for timing in &TIMINGS {
         timing.write(readings, out)?;
     }
     Ok(())
@@ -56,14 +56,24 @@ fn write_counts<W: fmt::Write>(readings: &[Reading<'_>], out: &mut W) -> fmt::Re
         help: "Connections that are idle, and that are used.",
     };
     family.write(out)?;
-    let name = family.name;
     for reading in readings {
-        let pool = Escaped(reading.pool);
-        let (idle, used) = (reading.status.idle, reading.status.lent);
-        writeln!(out, "{name}{{pool=\"{pool}\",state=\"idle\"}} {idle}")?;
-        writeln!(out, "{name}{{pool=\"{pool}\",state=\"used\"}} {used}")?;
+        reading.write_count(family.name, "idle", reading.status.idle, out)?;
+        reading.write_count(family.name, "used", reading.status.lent, out)?;
     }
     Ok(())
+}
+
+impl<'a> Reading<'a> {
+    fn write_count<W: fmt::Write>(
+        &self,
+        name: &str,
+        state: &str,
+        count: u32,
+        out: &mut W,
+    ) -> fmt::Result {
+        let pool = Escaped(self.pool);
+        writeln!(out, "{name}{{pool=\"{pool}\",state=\"{state}\"}} {count}")
+    }
 }
 
 /// A metric that is one number.
@@ -223,7 +233,7 @@ fn write_histogram<W: fmt::Write>(
     out: &mut W,
 ) -> fmt::Result {
     let pool = Escaped(pool);
-    for bucket in distribution.buckets() {
+    for bucket in &distribution.buckets() {
         let (up_to, count) = (bucket.up_to, bucket.count);
         writeln!(
             out,
@@ -234,6 +244,19 @@ fn write_histogram<W: fmt::Write>(
     writeln!(out, "{name}_sum{{pool=\"{pool}\"}} {sum}")?;
     writeln!(out, "{name}_count{{pool=\"{pool}\"}} {count}")
 }
+
+// What a digit counts behind the point, in nanoseconds.
+const PLACES: [u64; 9] = [
+    100_000_000,
+    10_000_000,
+    1_000_000,
+    100_000,
+    10_000,
+    1000,
+    100,
+    10,
+    1,
+];
 
 /// A length in seconds, as a decimal number without zeros at its end.
 #[derive(Clone, Copy)]
@@ -247,17 +270,7 @@ impl fmt::Display for Seconds {
         if rest > 0 {
             f.write_str(".")?;
         }
-        for place in [
-            100_000_000u64,
-            10_000_000,
-            1_000_000,
-            100_000,
-            10_000,
-            1000,
-            100,
-            10,
-            1,
-        ] {
+        for place in &PLACES {
             if rest == 0 {
                 break;
             }

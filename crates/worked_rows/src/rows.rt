@@ -1,8 +1,8 @@
 // A row: a script, and each of those who are to answer it.
 
-use core_tests::machine::{Machine, lines_of};
-use core_tests::makers::{book_in, core_in, report_in};
-use core_tests::replays::replays;
+use core_uses::machine::{Machine, lines_of};
+use core_uses::makers::{book_in, core_in, report_in};
+use core_uses::replays::replays;
 use linked_list_allocator::LocalHeap;
 use pool_lines::program::answer::{id_of, write_answer, write_state};
 use pool_lines::program::line::{Line, limits};

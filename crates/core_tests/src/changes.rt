@@ -1,9 +1,9 @@
 // Each field of a report's base and records, changed by itself: the report replays where a second
 // reading says that it does.
 
-use core_tests::makers::{answered, book_in};
-use core_tests::replays::{Found, read};
-use core_tests::steps::{admit, begin, close, limits, number, put_back, reap, take, want};
+use core_uses::makers::{answered, book_in};
+use core_uses::replays::{Found, read};
+use core_uses::steps::{admit, begin, close, limits, number, put_back, reap, take, want};
 use r2d2_core::{
     Base, Book, Fault, IdList, IdleConnections, LendingOrder, LentConnections, Limits, Record,
     RecordList, Report, Step,

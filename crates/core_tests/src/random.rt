@@ -4,8 +4,8 @@
 use crate::drafts::{Draft, limits, next_draft};
 use crate::plain::History;
 use crate::said::Said;
-use core_tests::makers::{answered, book_in, report_in};
-use core_tests::replays::replays;
+use core_uses::makers::{answered, book_in, report_in};
+use core_uses::replays::replays;
 use linked_list_allocator::LocalHeap;
 use r2d2_core::run::run;
 use r2d2_core::{Answer, Book, Limits, Report};
