@@ -19,25 +19,39 @@ pub(crate) fn in_words(
     summary: &Summary,
 ) -> Result<String, AllocError> {
     let from = Moment::of(summary.from, made_at);
-    let (covers, all) = (Seconds(summary.covers()), limits.max_size());
+    let covers = Seconds(summary.covers());
     let mut text = format!(in alloc; "  covers {covers}, from {from} on")?;
+    add_counts(alloc, &mut text, limits, summary)?;
+    add_lent(alloc, &mut text, made_at, summary)?;
+    Ok(text)
+}
+
+/// Adds a text to another one, if there was the memory to write it.
+pub(crate) fn add(text: &mut String, more: Result<String, AllocError>) -> Result<(), AllocError> {
+    text.push_str(more?.as_str())
+}
+
+fn add_counts(
+    alloc: Global,
+    text: &mut String,
+    limits: &Limits,
+    summary: &Summary,
+) -> Result<(), AllocError> {
     let (opened, closed, reaped) = (summary.opened, summary.closed, summary.reaped);
     let counts = format!(in alloc;
         ": {opened} opened, {closed} closed at return, {reaped} closed while idle\n"
-    )?;
-    text.push_str(counts.as_str())?;
-    let (most, exhausted) = (summary.most_lent, Seconds(summary.exhausted));
+    );
+    add(text, counts)?;
+    let (most, all) = (summary.most_lent, limits.max_size());
+    let exhausted = Seconds(summary.exhausted);
     let most = format!(in alloc;
         "  at most {most} of {all} lent at once; all of them lent or opening for {exhausted}"
-    )?;
-    text.push_str(most.as_str())?;
+    );
+    add(text, most)?;
     if let Some(part) = percent(summary.exhausted, summary.covers()) {
-        let part = format!(in alloc; ", {part} % of the time")?;
-        text.push_str(part.as_str())?;
+        add(text, format!(in alloc; ", {part} % of the time"))?;
     }
-    text.push('\n')?;
-    add_lent(alloc, &mut text, made_at, summary)?;
-    Ok(text)
+    text.push('\n')
 }
 
 fn add_lent(
@@ -48,15 +62,13 @@ fn add_lent(
 ) -> Result<(), AllocError> {
     let lent = summary.lent.as_slice();
     for loan in lent.iter().take(MOST_NAMED) {
-        let line = lent_since(alloc, made_at, summary.until, loan)?;
-        text.push_str(line.as_str())?;
+        add(text, lent_since(alloc, made_at, summary.until, loan))?;
     }
     let more = lent.len().saturating_sub(MOST_NAMED);
-    if more > 0 {
-        let line = format!(in alloc; "  lent at the end: {more} more\n")?;
-        text.push_str(line.as_str())?;
+    if more == 0 {
+        return Ok(());
     }
-    Ok(())
+    add(text, format!(in alloc; "  lent at the end: {more} more\n"))
 }
 
 fn lent_since(

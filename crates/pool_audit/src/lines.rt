@@ -79,16 +79,19 @@ impl Fault {
 
 impl fmt::Display for Fault {
     fn fmt<W: fmt::Write>(&self, f: &mut fmt::Formatter<W>) -> fmt::Result {
-        match self {
-            Fault::NoReport { line, why } => write!(
-                f,
-                "line {line}: {why} (--find looks for reports within the lines of a log)"
-            ),
-            Fault::NotUtf8(line) => write!(f, "line {line}: not UTF-8"),
-            Fault::Memory => write!(f, "out of memory"),
-            Fault::Read => write!(f, "read failed"),
-            Fault::Write => write!(f, "write failed"),
-        }
+        let text = match self {
+            Fault::NoReport { line, why } => {
+                return write!(
+                    f,
+                    "line {line}: {why} (--find looks for reports within the lines of a log)"
+                );
+            }
+            Fault::NotUtf8(line) => return write!(f, "line {line}: not UTF-8"),
+            Fault::Memory => "out of memory",
+            Fault::Read => "read failed",
+            Fault::Write => "write failed",
+        };
+        f.write_str(text)
     }
 }
 
@@ -120,126 +123,124 @@ pub fn serve<R: Read + Drop, W: Write + Drop>(
     output: &mut BufWriter<W>,
 ) -> Result<bool, Fault> {
     let mut input = BufReader::new(alloc, input).map_err(|_| Fault::Memory)?;
-    let outcome = audit_lines(alloc, form, lines, &mut input, output);
-    flush(output)?;
-    outcome
+    let mut line = Vec::new(alloc);
+    let mut task = Task {
+        alloc,
+        form,
+        lines,
+        all_sound: true,
+        passed_over: 0,
+    };
+    let outcome = audit_lines(&mut task, &mut input, &mut line, output);
+    flush(output).and(outcome)
 }
 
-// What was found so far.
+// What is asked for, and what was found so far.
 #[derive(Clone, Copy)]
-struct Found {
+struct Task {
+    alloc: Global,
+    form: Form,
+    lines: Lines,
     all_sound: bool,
     passed_over: u64,
 }
 
 fn audit_lines<R: Read + Drop, W: Write + Drop>(
-    alloc: Global,
-    form: Form,
-    lines: Lines,
+    task: &mut Task,
     input: &mut BufReader<R>,
+    line: &mut Vec<u8>,
     output: &mut BufWriter<W>,
 ) -> Result<bool, Fault> {
-    // A loop has a bound. No input has so many lines; std's readers give up so too.
-    let too_many_lines = Fault::Read;
-    let mut found = Found {
-        all_sound: true,
-        passed_over: 0,
-    };
-    let mut line = Vec::new(alloc);
     for number in 1..u64::MAX {
         send_before_waiting(input, output)?;
-        if !next_line(input, &mut line)? {
-            end(alloc, form, lines, found, output)?;
-            return Ok(found.all_sound);
+        if !next_line(input, line)? {
+            return end(task, output);
         }
-        if !line.as_slice().trim_ascii().is_empty() {
-            match lines {
-                Lines::Reports => {
-                    found.all_sound &= audit_line(alloc, form, number, line.as_slice(), output)?;
-                }
-                Lines::Log => search_line(
-                    alloc,
-                    form,
-                    number,
-                    line.as_slice(),
-                    &mut found,
-                    output,
-                )?,
-            }
-        }
+        audit_line(task, number, line.as_slice(), output)?;
     }
-    Err(too_many_lines)
+    // A loop has a bound. No input has so many lines; std's readers give up so too.
+    Err(Fault::Read)
 }
 
-// Says of a log how many of its lines were passed over.
-fn end<W: Write + Drop>(
-    alloc: Global,
-    form: Form,
-    lines: Lines,
-    found: Found,
-    output: &mut BufWriter<W>,
-) -> Result<(), Fault> {
-    if lines == Lines::Reports {
-        return Ok(());
+// Writes of a log how many of its lines were passed over. Says whether all reports are sound.
+fn end<W: Write + Drop>(task: &Task, output: &mut BufWriter<W>) -> Result<bool, Fault> {
+    if task.lines == Lines::Log {
+        let told = told::of_the_rest(task.alloc, task.form, task.passed_over)?;
+        write(output, told)?;
     }
-    write(output, told::of_the_rest(alloc, form, found.passed_over)?)
+    Ok(task.all_sound)
 }
 
-// Writes what there is to say of the report on a line, and says whether it is sound.
+// Writes what there is to say of a line.
 fn audit_line<W: Write + Drop>(
-    alloc: Global,
-    form: Form,
+    task: &mut Task,
     number: u64,
     line: &[u8],
     output: &mut BufWriter<W>,
-) -> Result<bool, Fault> {
-    let (report, made_at) = report_on(alloc, number, line)?;
-    tell(alloc, form, number, &report, made_at, output)
+) -> Result<(), Fault> {
+    if line.trim_ascii().is_empty() {
+        return Ok(());
+    }
+    if task.lines == Lines::Log {
+        return search_line(task, number, line, output);
+    }
+    let report = report_on(task.alloc, number, line)?;
+    tell(task, number, report, output)
 }
 
 // The same of each report in a line of a log.
 fn search_line<W: Write + Drop>(
-    alloc: Global,
-    form: Form,
+    task: &mut Task,
     number: u64,
     line: &[u8],
-    found: &mut Found,
     output: &mut BufWriter<W>,
 ) -> Result<(), Fault> {
     // Bytes that are no text are no report.
     let mut reports = Reports::of(str::from_utf8(line).unwrap_or(""));
     let mut has_none = true;
     for _ in 0..line.len() {
-        let next = reports.next(alloc).map_err(|_| Fault::Memory)?;
-        let Some((report, made_at)) = next else {
+        let next = reports.next(task.alloc).map_err(|_| Fault::Memory)?;
+        let Some(report) = next else {
             break;
         };
-        found.all_sound &= tell(alloc, form, number, &report, made_at, output)?;
+        tell(task, number, report, output)?;
         has_none = false;
     }
     if has_none {
-        found.passed_over = found.passed_over.saturating_add(1);
+        task.passed_over = task.passed_over.saturating_add(1);
     }
     Ok(())
 }
 
+// Tells of a report, and notes whether it is sound.
 fn tell<W: Write + Drop>(
-    alloc: Global,
-    form: Form,
+    task: &mut Task,
+    number: u64,
+    (report, made_at): (Report, Option<SystemTime>),
+    output: &mut BufWriter<W>,
+) -> Result<(), Fault> {
+    let verdict = tell_of(task, number, &report, made_at, output);
+    drop(report);
+    task.all_sound &= verdict? == Verdict::Sound;
+    Ok(())
+}
+
+fn tell_of<W: Write + Drop>(
+    task: &Task,
     line: u64,
     report: &Report,
     made_at: Option<SystemTime>,
     output: &mut BufWriter<W>,
-) -> Result<bool, Fault> {
-    let verdict = audit(alloc, report)?;
+) -> Result<Verdict, Fault> {
+    let verdict = audit(task.alloc, report)?;
     let judged = Judged {
         line,
         report,
         made_at,
         verdict,
     };
-    write(output, told::of(alloc, form, &judged)?)?;
-    Ok(verdict == Verdict::Sound)
+    write(output, told::of(task.alloc, task.form, &judged)?)?;
+    Ok(verdict)
 }
 
 fn write<W: Write + Drop>(output: &mut BufWriter<W>, told: String) -> Result<(), Fault> {

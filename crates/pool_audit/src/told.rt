@@ -10,7 +10,7 @@ use std::alloc::{AllocError, Global};
 use std::time::{Duration, SystemTime, UNIX_EPOCH};
 
 /// A report on a line, and what was found.
-#[derive(Drop)]
+#[derive(Clone, Copy)]
 pub(crate) struct Judged<'a> {
     pub(crate) line: u64,
     pub(crate) report: &'a Report,
@@ -80,7 +80,7 @@ impl Known {
 fn with_timeline(alloc: Global, judged: &Judged<'_>) -> Result<String, AllocError> {
     let mut told = in_words(alloc, judged)?;
     let known = Known::of(alloc, judged)?;
-    told.push_str(text(alloc, judged.report, &known.notes())?.as_str())?;
+    answers::add(&mut told, text(alloc, judged.report, &known.notes()))?;
     Ok(told)
 }
 
@@ -88,7 +88,7 @@ fn with_timeline(alloc: Global, judged: &Judged<'_>) -> Result<String, AllocErro
 fn in_words(alloc: Global, judged: &Judged<'_>) -> Result<String, AllocError> {
     let (line, verdict) = (judged.line, judged.verdict);
     let mut told = format!(in alloc; "line {line}: {verdict}\n")?;
-    told.push_str(answers_in_words(alloc, judged)?.as_str())?;
+    answers::add(&mut told, answers_in_words(alloc, judged))?;
     Ok(told)
 }
 
@@ -118,8 +118,10 @@ fn in_json(alloc: Global, judged: &Judged<'_>) -> Result<String, AllocError> {
         why: why(alloc, judged.verdict)?,
         summary: answers_of(alloc, judged)?,
     };
+    let text = serde_json::to_string(alloc, &told);
+    drop(told);
     // Nothing else fails: each part has a text.
-    let mut text = serde_json::to_string(alloc, &told).map_err(|_| AllocError)?;
+    let mut text = text.map_err(|_| AllocError)?;
     text.push('\n')?;
     Ok(text)
 }

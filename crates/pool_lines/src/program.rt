@@ -52,13 +52,14 @@ impl fmt::Display for Fault {
     ghost output = { λ fault. Some (text_of fault) };
 
     fn fmt<W: fmt::Write>(&self, f: &mut fmt::Formatter<W>) -> fmt::Result {
-        match self {
-            Fault::NotAStep(number) => write!(f, "line {number}: not a step"),
-            Fault::LimitsRefused => write!(f, "line 1: limits refused"),
-            Fault::Memory => write!(f, "out of memory"),
-            Fault::Read => write!(f, "read failed"),
-            Fault::Write => write!(f, "write failed"),
-        }
+        let text = match self {
+            Fault::NotAStep(number) => return write!(f, "line {number}: not a step"),
+            Fault::LimitsRefused => "line 1: limits refused",
+            Fault::Memory => "out of memory",
+            Fault::Read => "read failed",
+            Fault::Write => "write failed",
+        };
+        f.write_str(text)
     }
 }
 

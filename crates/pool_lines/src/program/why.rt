@@ -61,31 +61,35 @@ pub enum Wrong {
 
 impl fmt::Display for Wrong {
     fn fmt<W: fmt::Write>(&self, f: &mut fmt::Formatter<W>) -> fmt::Result {
-        match *self {
-            Wrong::NotText(whole) => write!(f, "after {whole} bytes it is not UTF-8"),
-            Wrong::NotLimits => write!(f, "the first line has to be {LIMITS}"),
-            Wrong::NoStep => {
-                write!(f, "no step begins like this; there are")?;
-                for form in STEPS {
-                    write!(f, " '{form}'")?;
-                }
-                Ok(())
-            }
-            Wrong::Missing { field, form } => write!(f, "{field} is missing: {form}"),
-            Wrong::Empty { field, form } => write!(
-                f,
-                "{field} is empty; fields have one space between them: {form}"
+        let (field, what, form) = match *self {
+            Wrong::NotText(whole) => return write!(f, "after {whole} bytes it is not UTF-8"),
+            Wrong::NoStep => return write_steps(f),
+            Wrong::Unfit { field, form } => return write_unfit(f, field, form),
+            Wrong::NotLimits => ("", "the first line has to be ", LIMITS),
+            Wrong::Missing { field, form } => (field, " is missing: ", form),
+            Wrong::Empty { field, form } => (
+                field,
+                " is empty; fields have one space between them: ",
+                form,
             ),
-            Wrong::Unfit { field, form } => write!(
-                f,
-                "{field} has to be {}: {form}",
-                wanted(field)
-            ),
-            Wrong::More(form) => write!(f, "there is more than {form}"),
-            Wrong::Zero(field) => write!(f, "{field} is 0"),
-            Wrong::MinAboveMax => write!(f, "MIN is above MAX"),
-        }
+            Wrong::More(form) => ("", "there is more than ", form),
+            Wrong::Zero(field) => (field, " is 0", ""),
+            Wrong::MinAboveMax => ("", "MIN is above MAX", ""),
+        };
+        write!(f, "{field}{what}{form}")
     }
+}
+
+fn write_steps<W: fmt::Write>(f: &mut fmt::Formatter<W>) -> fmt::Result {
+    f.write_str("no step begins like this; there are")?;
+    for form in &STEPS {
+        write!(f, " '{form}'")?;
+    }
+    Ok(())
+}
+
+fn write_unfit<W: fmt::Write>(f: &mut fmt::Formatter<W>, field: &str, form: &str) -> fmt::Result {
+    write!(f, "{field} has to be {}: {form}", wanted(field))
 }
 
 // What a field has to be.
