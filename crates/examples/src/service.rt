@@ -48,8 +48,8 @@ fn write_journal<R: PoolRuntime>(
     pool: &PlainPool<Numbers, R>,
     log: &mut String,
 ) -> Result<(), anyhow::Error> {
-    let line = to_json_of_pool(alloc, &pool.journal()?, pool.made_at());
-    log.push_str(line?.as_str())?;
+    let report = pool.journal()?;
+    log.push_str(to_json_of_pool(alloc, &report, pool.made_at())?.as_str())?;
     log.push('\n')?;
     Ok(())
 }

@@ -62,11 +62,10 @@ pub fn waited_for<R: PoolRuntime + Print + Eprint>(rt: R) -> Result<(), anyhow::
         .error_handler(LoggingErrorHandler::new(log))
         .build_unchecked(rt, Starting::new())?;
     // The first try fails at once. The second comes 400 ms later, and the third 800 ms after that.
-    match pool.get_timeout(Duration::from_millis(600)).err() {
-        None => println!(rt; "found one too soon"),
-        Some(error) => println!(rt; "{error}"),
+    match pool.get_timeout(Duration::from_millis(600)) {
+        Ok(_) => println!(rt; "found one too soon"),
+        Err(error) => println!(rt; "{error}"),
     }?;
-    let found = *pool.get()?;
-    println!(rt; "then found {found}")?;
+    println!(rt; "then found {}", *pool.get()?)?;
     Ok(())
 }

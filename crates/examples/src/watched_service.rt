@@ -154,7 +154,9 @@ where
 {
     let forgotten = app.pool.get()?;
     for _ in 0..settings.seconds {
-        serve_a_second(app, settings.threads, prints, start)?;
+        let answered = answer_in_threads(app, settings.threads, start)?;
+        thread::sleep(&app.rt, Duration::from_secs(1));
+        app.print(prints, answered)?;
     }
     match prints {
         Prints::Pages => Ok(()),
@@ -175,20 +177,16 @@ impl<R: PoolRuntime + Print> App<R> {
 
     // Finds the connection that somebody forgot, and closes the pool as the database moves.
     fn end(&self, forgotten: Lent<R>) -> Result<(), anyhow::Error> {
-        let told = self.tell_what_is_lent();
+        self.tell_what_is_lent()?;
+        // What is lent is closed as it comes back.
+        println!(self.rt; "closed, since they were idle: {}", self.pool.evict()?)?;
         drop(forgotten);
-        told?;
         self.drain()
     }
 
     fn tell_what_is_lent(&self) -> Result<(), anyhow::Error> {
-        let long = self
-            .metrics
-            .lent_longer_than(Duration::from_millis(500))?
-            .len();
-        println!(self.rt; "lent for more than half a second: {long}")?;
-        // What is lent is closed as it comes back.
-        println!(self.rt; "closed, since they were idle: {}", self.pool.evict()?)?;
+        let long = self.metrics.lent_longer_than(Duration::from_millis(500))?;
+        println!(self.rt; "lent for more than half a second: {}", long.len())?;
         Ok(())
     }
 
@@ -201,15 +199,10 @@ impl<R: PoolRuntime + Print> App<R> {
     }
 }
 
-// Answers requests in so many threads, and prints what there is to say a second later.
-fn serve_a_second<R, S>(
-    app: &App<R>,
-    threads: u32,
-    prints: Prints,
-    start: &S,
-) -> Result<(), anyhow::Error>
+// Answers requests in so many threads, and says how many in all.
+fn answer_in_threads<R, S>(app: &App<R>, threads: u32, start: &S) -> Result<u32, anyhow::Error>
 where
-    R: PoolRuntime + Print,
+    R: PoolRuntime,
     S: Fn(App<R>) -> Result<JoinHandle<u32>, anyhow::Error>,
     requires { S.IsAlwaysCallable start.now }
 {
@@ -221,6 +214,5 @@ where
     for caller in callers {
         answered = answered.saturating_add(caller.join(&app.rt));
     }
-    thread::sleep(&app.rt, Duration::from_secs(1));
-    app.print(prints, answered)
+    Ok(answered)
 }
