@@ -96,13 +96,13 @@ impl fmt::Display for Place {
     fn fmt<W: fmt::Write>(&self, f: &mut fmt::Formatter<W>) -> fmt::Result {
         match self.holder {
             Holder::Report => {}
-            Holder::Named(name) => write!(f, "{name}")?,
+            Holder::Named(name) => f.write_str(name)?,
             Holder::Item(list, number) => write!(f, "{list}[{number}]")?,
         }
         match self.part {
-            Part::Whole if self.holder == Holder::Report => write!(f, "the report"),
+            Part::Whole if self.holder == Holder::Report => f.write_str("the report"),
             Part::Whole => Ok(()),
-            Part::Field(name) if self.holder == Holder::Report => write!(f, "{name}"),
+            Part::Field(name) if self.holder == Holder::Report => f.write_str(name),
             Part::Field(name) => write!(f, ".{name}"),
             Part::Item(number) => write!(f, "[{number}]"),
         }
@@ -134,24 +134,25 @@ pub enum Wanted {
 
 impl fmt::Display for Wanted {
     fn fmt<W: fmt::Write>(&self, f: &mut fmt::Formatter<W>) -> fmt::Result {
-        match self {
-            Wanted::Object => write!(f, "not an object"),
-            Wanted::List => write!(f, "not a list"),
-            Wanted::ListOf(count) => write!(f, "not a list of {count}"),
-            Wanted::UpTo(most) => write!(f, "not a whole number up to {most}"),
-            Wanted::Nanoseconds => write!(f, "not whole nanoseconds up to {MOST}"),
-            Wanted::Flag => write!(f, "neither true nor false"),
-            Wanted::Order => write!(f, "neither newest_first nor oldest_first"),
-            Wanted::Kind => write!(f, "not the name of a kind of record"),
-            Wanted::WallClock => write!(f, "not a moment like 2026-01-31T06:00:00Z"),
-        }
+        let text = match self {
+            Wanted::ListOf(count) => return write!(f, "not a list of {count}"),
+            Wanted::UpTo(most) => return write!(f, "not a whole number up to {most}"),
+            Wanted::Nanoseconds => return write!(f, "not whole nanoseconds up to {MOST}"),
+            Wanted::Object => "not an object",
+            Wanted::List => "not a list",
+            Wanted::Flag => "neither true nor false",
+            Wanted::Order => "neither newest_first nor oldest_first",
+            Wanted::Kind => "not the name of a kind of record",
+            Wanted::WallClock => "not a moment like 2026-01-31T06:00:00Z",
+        };
+        f.write_str(text)
     }
 }
 
 impl fmt::Display for FromJsonError {
     fn fmt<W: fmt::Write>(&self, f: &mut fmt::Formatter<W>) -> fmt::Result {
         match self {
-            FromJsonError::Memory => write!(f, "out of memory"),
+            FromJsonError::Memory => f.write_str("out of memory"),
             FromJsonError::NotJson { line: 1, column } => write!(f, "not JSON at column {column}"),
             FromJsonError::NotJson { line, column } => {
                 write!(f, "not JSON at line {line}, column {column}")
@@ -162,7 +163,7 @@ impl fmt::Display for FromJsonError {
             FromJsonError::Wrong { place, wanted } => write!(f, "{place}: {wanted}"),
             FromJsonError::Missing(place) => write!(f, "{place}: missing"),
             FromJsonError::Unknown { place, name } => write!(f, "{place}: unknown field {name:?}"),
-            FromJsonError::Limits => write!(f, "limits: no pool may have them"),
+            FromJsonError::Limits => f.write_str("limits: no pool may have them"),
         }
     }
 }

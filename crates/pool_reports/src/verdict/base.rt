@@ -30,41 +30,31 @@ pub enum BaseReason {
 
 impl fmt::Display for BaseReason {
     fn fmt<W: fmt::Write>(&self, f: &mut fmt::Formatter<W>) -> fmt::Result {
-        match self {
+        let (id, what) = match *self {
             BaseReason::Connections { shown, listed } => {
-                write!(f, "connections is {shown}, but {listed} are listed")
+                return write!(f, "connections is {shown}, but {listed} are listed");
             }
-            BaseReason::TooMany { all, max_size } => write!(
-                f,
-                "connections and pending are {all} together, but max_size is {max_size}"
-            ),
+            BaseReason::TooMany { all, max_size } => {
+                return write!(
+                    f,
+                    "connections and pending are {all} together, but max_size is {max_size}"
+                );
+            }
             BaseReason::IdleThoughClosed(count) => {
-                write!(f, "it is closed, but idle has {count}")
+                return write!(f, "it is closed, but idle has {count}");
             }
             BaseReason::PendingThoughClosed(count) => {
-                write!(f, "it is closed, but pending is {count}")
+                return write!(f, "it is closed, but pending is {count}");
             }
-            BaseReason::Twice(id) => write!(f, "connection {id} stands twice"),
-            BaseReason::OutOfOrder(id) => write!(
-                f,
-                "connection {id} was idle earlier than the one that stands before it"
-            ),
-            BaseReason::IdleAfterBase(id) => {
-                write!(
-                    f,
-                    "connection {id} is idle since after the moment of the base"
-                )
+            BaseReason::Twice(id) => (id, "stands twice"),
+            BaseReason::OutOfOrder(id) => {
+                (id, "was idle earlier than the one that stands before it")
             }
-            BaseReason::BornAfterIdle(id) => {
-                write!(f, "connection {id} was admitted after it came to be idle")
-            }
-            BaseReason::BornAfterBase(id) => {
-                write!(
-                    f,
-                    "connection {id} was admitted after the moment of the base"
-                )
-            }
-        }
+            BaseReason::IdleAfterBase(id) => (id, "is idle since after the moment of the base"),
+            BaseReason::BornAfterIdle(id) => (id, "was admitted after it came to be idle"),
+            BaseReason::BornAfterBase(id) => (id, "was admitted after the moment of the base"),
+        };
+        write!(f, "connection {id} {what}")
     }
 }
 

@@ -27,47 +27,37 @@ pub enum CountsReason {
 
 impl fmt::Display for CountsReason {
     fn fmt<W: fmt::Write>(&self, f: &mut fmt::Formatter<W>) -> fmt::Result {
-        match self {
-            CountsReason::Idle { shown, due } => {
-                write!(
-                    f,
-                    "{} idle, but the records come to {due}",
-                    Are(*shown as u64)
-                )
+        let (shown, what, due) = match *self {
+            CountsReason::IdleId { place, shown, due } => {
+                return write_id(f, "idle", place, shown, due);
             }
-            CountsReason::IdleId { place, shown, due } => write!(
-                f,
-                "idle[{place}] is connection {shown}, but the records come to connection {due}"
+            CountsReason::LentId { place, shown, due } => {
+                return write_id(f, "lent", place, shown, due);
+            }
+            CountsReason::Closed => return f.write_str(
+                "it is closed, but by the records it is open",
             ),
-            CountsReason::Lent { shown, due } => {
-                write!(
-                    f,
-                    "{} lent, but the records come to {due}",
-                    Are(*shown as u64)
-                )
-            }
-            CountsReason::LentId { place, shown, due } => write!(
-                f,
-                "lent[{place}] is connection {shown}, but the records come to connection {due}"
-            ),
-            CountsReason::Connections { shown, due } => {
-                write!(
-                    f,
-                    "{} connected, but the records come to {due}",
-                    Are(*shown as u64)
-                )
-            }
-            CountsReason::Pending { shown, due } => {
-                write!(
-                    f,
-                    "{} pending, but the records come to {due}",
-                    Are(*shown as u64)
-                )
-            }
-            CountsReason::Closed => write!(f, "it is closed, but by the records it is open"),
-            CountsReason::Open => write!(f, "it is open, but by the records it is closed"),
-        }
+            CountsReason::Open => return f.write_str("it is open, but by the records it is closed"),
+            CountsReason::Idle { shown, due } => (shown as u64, "idle", due as u64),
+            CountsReason::Lent { shown, due } => (shown as u64, "lent", due as u64),
+            CountsReason::Connections { shown, due } => (shown as u64, "connected", due as u64),
+            CountsReason::Pending { shown, due } => (shown as u64, "pending", due as u64),
+        };
+        write!(f, "{} {what}, but the records come to {due}", Are(shown))
     }
+}
+
+fn write_id<W: fmt::Write>(
+    f: &mut fmt::Formatter<W>,
+    list: &str,
+    place: usize,
+    shown: u64,
+    due: u64,
+) -> fmt::Result {
+    write!(
+        f,
+        "{list}[{place}] is connection {shown}, but the records come to connection {due}"
+    )
 }
 
 // A number of connections or openings, with its verb.

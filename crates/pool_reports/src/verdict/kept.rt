@@ -27,15 +27,16 @@ pub enum MakingReason {
 
 impl fmt::Display for MakingReason {
     fn fmt<W: fmt::Write>(&self, f: &mut fmt::Formatter<W>) -> fmt::Result {
-        write!(f, "lost is 0, so it is that of the making, but ")?;
-        match self {
-            MakingReason::Idle(count) => write!(f, "idle has {count}"),
-            MakingReason::Lent(count) => write!(f, "lent has {count}"),
+        f.write_str("lost is 0, so it is that of the making, but ")?;
+        let (list, count) = match *self {
+            MakingReason::Idle(count) => ("idle", count),
+            MakingReason::Lent(count) => ("lent", count),
             MakingReason::Pending { shown, due } => {
-                write!(f, "pending is {shown} where {due} are wanted")
+                return write!(f, "pending is {shown} where {due} are wanted");
             }
-            MakingReason::Closed => write!(f, "it is closed"),
-        }
+            MakingReason::Closed => return f.write_str("it is closed"),
+        };
+        write!(f, "{list} has {count}")
     }
 }
 

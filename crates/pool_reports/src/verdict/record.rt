@@ -47,62 +47,52 @@ pub enum RecordReason {
 
 impl fmt::Display for RecordReason {
     fn fmt<W: fmt::Write>(&self, f: &mut fmt::Formatter<W>) -> fmt::Result {
-        match self {
-            RecordReason::BeforeBase => write!(f, "its moment is before that of the base"),
-            RecordReason::BeforeLast => {
-                write!(f, "its moment is before that of the record before it")
-            }
-            RecordReason::NoneIdle(id) => {
-                write!(f, "connection {id} is taken, but none is idle")
+        let (id, what) = match *self {
+            RecordReason::Ordered { ordered, due } => {
+                return write!(f, "{} ordered where {} due", Were(ordered), Were(due));
             }
             RecordReason::NotNext { id, next } => {
-                write!(
+                return write!(
                     f,
                     "connection {id} is taken, but connection {next} is lent next"
-                )
-            }
-            RecordReason::Ordered { ordered, due } => {
-                write!(f, "{} ordered where {} due", Were(*ordered), Were(*due))
+                );
             }
             RecordReason::OrderedThoughIdle(id) => {
-                write!(f, "one is ordered alone, but connection {id} is idle")
+                return write!(f, "one is ordered alone, but connection {id} is idle");
             }
-            RecordReason::OrderedThoughClosed => {
-                write!(f, "one is ordered alone, but the pool is closed")
-            }
-            RecordReason::OrderedThoughFull(max_size) => write!(
-                f,
-                "one is ordered alone, but there are {max_size} already, which is max_size"
-            ),
-            RecordReason::NonePending(id) => {
-                write!(f, "connection {id} is admitted, but no opening was pending")
-            }
-            RecordReason::AdmittedTwice(id) => write!(
-                f,
-                "connection {id} is admitted, but there was one of that id before"
-            ),
-            RecordReason::KeptThoughNotLent(id) => {
-                write!(f, "connection {id} is kept, but it is not lent")
-            }
-            RecordReason::KeptThoughClosed(id) => {
-                write!(f, "connection {id} is kept, but the pool is closed")
-            }
-            RecordReason::KeptThoughOld(id) => write!(
-                f,
-                "connection {id} is kept, but its age has reached max_lifetime"
-            ),
-            RecordReason::ClosedThoughNotLent(id) => {
-                write!(f, "connection {id} is closed, but it is not lent")
-            }
-            RecordReason::NothingReaped => {
-                write!(
+            RecordReason::OrderedThoughFull(max_size) => {
+                return write!(
                     f,
-                    "a reap that closed none and ordered none makes no record"
+                    "one is ordered alone, but there are {max_size} already, which is max_size"
+                );
+            }
+            RecordReason::BeforeBase => (None, "its moment is before that of the base"),
+            RecordReason::BeforeLast => (None, "its moment is before that of the record before it"),
+            RecordReason::OrderedThoughClosed => {
+                (None, "one is ordered alone, but the pool is closed")
+            }
+            RecordReason::NoneIdle(id) => (Some(id), "is taken, but none is idle"),
+            RecordReason::NonePending(id) => (Some(id), "is admitted, but no opening was pending"),
+            RecordReason::AdmittedTwice(id) => {
+                (Some(id), "is admitted, but there was one of that id before")
+            }
+            RecordReason::KeptThoughNotLent(id) => (Some(id), "is kept, but it is not lent"),
+            RecordReason::KeptThoughClosed(id) => (Some(id), "is kept, but the pool is closed"),
+            RecordReason::KeptThoughOld(id) => {
+                (Some(id), "is kept, but its age has reached max_lifetime")
+            }
+            RecordReason::ClosedThoughNotLent(id) => (Some(id), "is closed, but it is not lent"),
+            RecordReason::NothingReaped => {
+                (
+                    None,
+                    "a reap that closed none and ordered none makes no record",
                 )
             }
-            RecordReason::ClosedTwice => {
-                write!(f, "the pool is closed, but it was closed before")
-            }
+            RecordReason::ClosedTwice => (None, "the pool is closed, but it was closed before"),
+        };
+        match id {
+            Some(id) => write!(f, "connection {id} {what}"),
+            None => f.write_str(what),
         }
     }
 }
