@@ -47,40 +47,40 @@ impl ManageConnection for Numbers {
 }
 
 fn main(rt: HostRuntime) -> Result<ExitCode, anyhow::Error> {
-    if let Some(word) = env::args(&rt)?.nth(1) {
-        if word.as_str() == "metrics" {
-            watched_service::served(
-                rt,
-                Prints::Pages,
-                |app| Ok(thread::spawn(&rt, move || app.answer())?),
-            )?;
-            return Ok(ExitCode::SUCCESS);
+    let mut prints = Prints::Findings;
+    let word = env::args(&rt)?.nth(1);
+    if let Some(word) = word {
+        if word.as_str() != "metrics" {
+            return stories::drawn(&rt, word.as_str());
         }
-        return stories::drawn(&rt, word.as_str());
-    }
-    let pool = Builder::new().max_size(15).build(rt, Numbers)?;
-    let mut threads = Vec::new(rt.alloc());
-    for _ in 0..20 {
-        let pool = pool.try_clone()?;
-        threads.push(thread::spawn(&rt, move || found(pool))?)?;
-    }
-    let mut served = 0u32;
-    for thread in threads {
-        if thread.join(&rt).is_some() {
-            served = served.saturating_add(1);
+        prints = Prints::Pages;
+    } else {
+        let pool = Builder::new().max_size(15).build(rt, Numbers)?;
+        let mut threads = Vec::new(rt.alloc());
+        for _ in 0..20 {
+            let pool = pool.try_clone()?;
+            threads.push(thread::spawn(&rt, move || found(pool))?)?;
         }
+        let mut served = 0u32;
+        for thread in threads {
+            if thread.join(&rt).is_some() {
+                served = served.saturating_add(1);
+            }
+        }
+        let state = pool.state();
+        drop(pool);
+        println!(rt; "{served} threads found a connection")?;
+        println!(rt; "{state:?}")?;
+        use_pools(rt)?;
     }
-    println!(rt; "{served} threads found a connection")?;
-    println!(rt; "{:?}", pool.state())?;
-    drop(pool);
-
-    use_pools(rt)?;
     watched_service::served(
         rt,
-        Prints::Findings,
+        prints,
         |app| Ok(thread::spawn(&rt, move || app.answer())?),
     )?;
-    use_the_core(&rt)?;
+    if prints == Prints::Findings {
+        use_the_core(&rt)?;
+    }
     Ok(ExitCode::SUCCESS)
 }
 

@@ -1,12 +1,12 @@
 // The core alone: one connection on its round.
 
 use crate::journal;
-use anyhow::anyhow;
+use anyhow::Context;
 use r2d2_core::{Core, Job, LimitSettings, Limits, Take};
 use std::time::Duration;
 
 pub fn gone<R: Print + AllocGlobal>(rt: &R) -> Result<(), anyhow::Error> {
-    let limits = limits().ok_or_else(|| anyhow!("limits that no core can have"))?;
+    let limits = limits().context("limits that no core can have")?;
     let mut core = Core::new(rt.alloc(), limits, Duration::ZERO)?;
     go_round(rt, &mut core)?;
     journal::printed(rt, limits)

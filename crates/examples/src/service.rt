@@ -9,13 +9,13 @@ use std::alloc::Global;
 pub fn audited<R: PoolRuntime + Print>(rt: R) -> Result<(), anyhow::Error> {
     let log = serve(rt)?;
     for line in log.as_str().lines() {
-        println!(rt; "{}", judge(rt.alloc(), line)?)?;
+        judge(&rt, line)?;
     }
     // Somebody has changed the first id of the log.
     if let Some((front, back)) = log.as_str().split_once(r#""id":0"#) {
         let changed = format!(in rt.alloc(); r#"{front}"id":5{back}"#)?;
         let first = changed.as_str().lines().next().unwrap_or("");
-        println!(rt; "{}", judge(rt.alloc(), first)?)?;
+        judge(&rt, first)?;
     }
     Ok(())
 }
@@ -54,10 +54,13 @@ fn write_journal<R: PoolRuntime>(
     Ok(())
 }
 
-// What there is to say of a line of the log, perhaps much later and elsewhere.
-fn judge(alloc: Global, line: &str) -> Result<String, anyhow::Error> {
+// Says what there is to say of a line of the log, perhaps much later and elsewhere.
+fn judge<R: Print + AllocGlobal>(rt: &R, line: &str) -> Result<(), anyhow::Error> {
+    let alloc = rt.alloc();
     let report = from_json(alloc, line)?;
     let verdict = audit(alloc, &report)?;
     let (takes, lost) = (report.takes, report.lost);
-    Ok(format!(in alloc; "{takes} takes, {lost} records in the base: {verdict}")?)
+    drop(report);
+    println!(rt; "{takes} takes, {lost} records in the base: {verdict}")?;
+    Ok(())
 }

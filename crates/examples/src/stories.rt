@@ -99,8 +99,7 @@ fn take_line(alloc: Global, book: &mut Book<u64>, line: Line) -> Result<(), Allo
 
 // Draws a script that is there.
 pub fn told<R: Print + AllocGlobal>(rt: &R) -> Result<(), anyhow::Error> {
-    let report = report(rt.alloc(), SCRIPT)?;
-    print!(rt; "{}", text(rt.alloc(), &report, &Notes::none())?)?;
+    print!(rt; "{}", drawing(rt.alloc(), Kind::Text, SCRIPT)?)?;
     Ok(())
 }
 
@@ -129,5 +128,7 @@ pub fn drawn<R: Input + Print + Eprint + AllocGlobal>(
 // What a book that took the steps of a script reports, drawn.
 fn drawing(alloc: Global, kind: Kind, script: &str) -> Result<String, Fault> {
     let report = report(alloc, script)?;
-    Ok(kind.drawing(alloc, &report)?)
+    let drawing = kind.drawing(alloc, &report);
+    drop(report);
+    Ok(drawing?)
 }

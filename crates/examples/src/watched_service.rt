@@ -83,8 +83,8 @@ impl<R: PoolRuntime> App<R> {
 
     fn try_clone(&self) -> Result<App<R>, anyhow::Error> {
         Ok(App {
-            pool: self.pool.try_clone()?,
             metrics: self.metrics.try_clone()?,
+            pool: self.pool.try_clone()?,
             rt: self.rt,
         })
     }
