@@ -1,7 +1,7 @@
 // One thread, and no connection lent beside its own.
 ghost use Rattle.std.specs.Prelude.{◌≡◌};
 
-use crate::pools::{Nothings, open_all, open_pool};
+use crate::pools::{Nothings, open_pool};
 use crate::scenario::Case;
 use anyhow::ensure;
 use r2d2::{Builder, PlainPool, PoolRuntime};
@@ -63,7 +63,8 @@ fn count_gets<R: PoolRuntime, L: Ledger + Send + Sync + 'static>(
         .max_size(case.max_size)
         .test_on_check_out(false);
     let pool = builder.build_counted(rt, Nothings, total)?;
-    open_all(rt, &pool, &mut share, case.max_size)?;
+    // The first one waits until a connection is open.
+    drop(pool.get(&mut share)?);
     let start = Instant::now(&rt)?;
     for _i in 0..case.operations {
         drop(pool.get(&mut share)?);

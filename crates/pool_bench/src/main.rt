@@ -57,14 +57,19 @@ fn one_thread(max_size: u32, operations: u32) -> Case
 }
 
 fn measure_alone<R: PoolRuntime + Print>(rt: R, only: Option<&str>) -> Result<(), anyhow::Error> {
-    Scenario::Clock.measure(rt, only, one_thread(1, CALLS))?;
-    Scenario::Lock.measure(rt, only, one_thread(1, CALLS))?;
-    Scenario::Floor.measure(rt, only, one_thread(1, CALLS))?;
-    Scenario::GetDrop.measure(rt, only, one_thread(10, CALLS))?;
-    Scenario::GetDropCheck.measure(rt, only, one_thread(10, CALLS))?;
-    Scenario::CountedGetDrop.measure(rt, only, one_thread(10, CALLS))?;
-    Scenario::TryGetHit.measure(rt, only, one_thread(10, CALLS))?;
-    Scenario::TryGetMiss.measure(rt, only, one_thread(1, CALLS))
+    for &(scenario, max_size) in &[
+        (Scenario::Clock, 1),
+        (Scenario::Lock, 1),
+        (Scenario::Floor, 1),
+        (Scenario::GetDrop, 10),
+        (Scenario::GetDropCheck, 10),
+        (Scenario::CountedGetDrop, 10),
+        (Scenario::TryGetHit, 10),
+        (Scenario::TryGetMiss, 1),
+    ] {
+        scenario.measure(rt, only, one_thread(max_size, CALLS))?;
+    }
+    Ok(())
 }
 
 fn measure_growing<R: PoolRuntime + Print>(rt: R, only: Option<&str>) -> Result<(), anyhow::Error> {

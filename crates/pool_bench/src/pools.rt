@@ -1,12 +1,8 @@
 // Pools of connections that cost nothing.
 ghost use Rattle.std.specs.Prelude.{◌≡◌, ◌<◌, IfOk};
 
-use r2d2::{
-    Builder, CountedPool, Error, ManageConnection, NopConnectionCustomizer, NopErrorHandler,
-    NopEventHandler, PlainPool, PoolRuntime,
-};
+use r2d2::{Builder, Error, ManageConnection, PlainPool, PoolRuntime};
 use std::alloc::AllocError;
-use std::sync::ledger::{Ledger, Share};
 
 /// Opens connections that are nothing at all.
 #[derive(Drop)]
@@ -46,31 +42,4 @@ pub fn open_pool<R: PoolRuntime>(
         .max_size(max_size)
         .test_on_check_out(test_on_check_out)
         .build(rt, Nothings)
-}
-
-/// A pool of them that counts its takes.
-pub type CountedNothings<R, L> = CountedPool<
-    Nothings,
-    NopErrorHandler,
-    NopEventHandler,
-    NopConnectionCustomizer,
-    R,
-    L,
->;
-
-/// Waits until so many connections are open: it takes them all, and gives them back.
-pub fn open_all<R: PoolRuntime, L: Ledger + Send + Sync + 'static>(
-    rt: R,
-    pool: &CountedNothings<R, L>,
-    share: &mut Share<L>,
-    max_size: u32,
-) -> Result<(), anyhow::Error>
-    requires { share.old.parts ≡ 1 }
-    ensures { share.new.parts ≡ 1 }
-{
-    let mut lent = Vec::new(rt.alloc());
-    for _i in 0..max_size {
-        lent.push(pool.get(share)?)?;
-    }
-    Ok(())
 }
