@@ -21,7 +21,7 @@ const THREADS: u32 = 16;
 const TIMES: u32 = 1_000;
 
 /// How often it lends for each report that it reads.
-const TIMES_A_REPORT: u32 = 250;
+const TIMES_A_REPORT: u32 = 100;
 
 /// Room for more records than are made.
 const ROOM_FOR_ALL: usize = 100_000;
@@ -217,7 +217,7 @@ where
     let seen = join_all(rt, threads);
     assert_eq!(rt;
         (seen.found, seen.replayed),
-        (16_000, 64),
+        (16_000, 160),
         "a room of {room}"
     );
     assert_eq!(rt; fit.most.load(Ordering::SeqCst), u64::from(MAX_SIZE));

@@ -52,8 +52,8 @@ fn lines_that_no_person_writes(rt: HostRuntime) -> Result<(), Fail> {
 }
 
 #[test]
-fn a_line_of_a_megabyte(rt: HostRuntime) -> Result<(), Fail> {
-    let long = io::repeat(b'x').take(1_000_000);
+fn a_line_of_ten_megabytes(rt: HostRuntime) -> Result<(), Fail> {
+    let long = io::repeat(b'x').take(10_000_000);
     let input = LIMITS.as_bytes().chain(long).chain("\nstate\n".as_bytes());
     let mut written = Vec::new(rt.alloc());
     assert_eq!(rt;
@@ -65,8 +65,8 @@ fn a_line_of_a_megabyte(rt: HostRuntime) -> Result<(), Fail> {
 }
 
 #[test]
-fn a_text_of_a_megabyte(rt: HostRuntime) -> Result<(), Fail> {
-    let long = io::repeat(b'x').take(1_000_000);
+fn a_text_of_ten_megabytes(rt: HostRuntime) -> Result<(), Fail> {
+    let long = io::repeat(b'x').take(10_000_000);
     let before = format!(in rt.alloc(); "{LIMITS}begin 0\nfail 0 0 ")?;
     let input = before
         .as_bytes()
@@ -81,7 +81,7 @@ fn a_text_of_a_megabyte(rt: HostRuntime) -> Result<(), Fail> {
     let told = rest
         .strip_suffix("\nerror none\n")
         .ok_or("the answer after")?;
-    assert_eq!(rt; told.len(), 1_000_000);
+    assert_eq!(rt; told.len(), 10_000_000);
     assert!(rt; told.bytes().all(|byte| byte == b'x'));
     Ok(())
 }
