@@ -22,8 +22,8 @@ are_born at (l ∷ ls) = nat_le l.birth at && are_born at ls
 
 -- what stands is what a report shows
 pub record ShowsCounts {B : Type 0} (b : SeenBase) (r : Report B) : Type 0 where
-  pub idle : map id_of_idle b.idle ≡ r.idle
-  pub lent : map id_of_lent b.lent ≡ r.lent
+  pub idle : map id_of_idle b.idle ≡ r.idle.items
+  pub lent : map id_of_lent b.lent ≡ r.lent.items
   pub connections : b.connections ≡ r.connections
   pub pending : b.pending ≡ r.pending
   pub closed : b.closed ≡ r.closed

@@ -1,37 +1,48 @@
 -- What a report says.
-use Rattle.std.specs.Prelude.{◌≡◌, ◌⊎◌, ◌+◌, ◌≤◌, false, length, map}
+use Rattle.std.specs.Prelude.{◌≡◌, ◌⊎◌, ◌+◌, ◌≤◌, false, List, length, map}
 use Rattle.std.specs.Duration.{as_nanos}
 use Rattle.r2d2_core.specs.declared.journal.base.Base.{Base}
 use Rattle.r2d2_core.specs.declared.journal.report.Report.{Report}
 use Rattle.r2d2_core.specs.Limits.{seen_limits, wanted_of}
-use Rattle.r2d2_core.specs.Records.{takes_in}
+use Rattle.r2d2_core.specs.Records.{SeenRecord, seen_record, takes_in}
 use Rattle.r2d2_core.specs.Connections.{id_of_idle, id_of_lent}
-use Rattle.r2d2_core.specs.Bases.{SeenBase, IsLegalBase, first_base}
+use Rattle.r2d2_core.specs.Bases.{SeenBase, seen_bare, seen_lent, IsLegalBase, first_base}
 use Rattle.r2d2_core.specs.Folding.{replay, AreLegalFrom}
 use Rattle.r2d2_core.specs.Book.{SeenBook}
 
 module _ {B : Type 0} where
   -- a `Base`
   abbrev pub seen_base : Base B → SeenBase
-  seen_base b = record { at = as_nanos b.at; idle = b.idle; lent = b.lent; connections = b.connections; pending = b.pending; closed = b.closed }
+  seen_base b = record {
+    at = as_nanos b.at;
+    idle = map seen_bare b.idle.items;
+    lent = map seen_lent b.lent.items;
+    connections = b.connections;
+    pending = b.pending;
+    closed = b.closed;
+  }
+
+  -- the records of a `Report`
+  abbrev pub seen_records : Report B → List SeenRecord
+  seen_records r = map seen_record r.records.items
 
   -- what its records come to from its base
   abbrev pub told_in : Report B → SeenBase
-  told_in r = replay (seen_limits r.limits) r.records (seen_base r.base)
+  told_in r = replay (seen_limits r.limits) (seen_records r) (seen_base r.base)
 
   -- its base is legal, its records are legal from there, and come to its ids and counts
   pub record DoesReplay (r : Report B) : Type 0 where
     pub base : IsLegalBase (seen_limits r.limits) (seen_base r.base)
-    pub legal : AreLegalFrom (seen_limits r.limits) (seen_base r.base) r.records
-    pub idle : map id_of_idle (let b = told_in r in b.idle) ≡ r.idle
-    pub lent : map id_of_lent (let b = told_in r in b.lent) ≡ r.lent
+    pub legal : AreLegalFrom (seen_limits r.limits) (seen_base r.base) (seen_records r)
+    pub idle : map id_of_idle (let b = told_in r in b.idle) ≡ r.idle.items
+    pub lent : map id_of_lent (let b = told_in r in b.lent) ≡ r.lent.items
     pub connections : (let b = told_in r in b.connections) ≡ r.connections
     pub pending : (let b = told_in r in b.pending) ≡ r.pending
     pub closed : (let b = told_in r in b.closed) ≡ r.closed
 
   -- its takes are those that its records tell of, where none was folded into the base
   abbrev pub CountsItsTakes : Report B → Type 0
-  CountsItsTakes r = r.lost ≡ 0 → r.takes ≡ takes_in r.records
+  CountsItsTakes r = r.lost ≡ 0 → r.takes ≡ takes_in (seen_records r)
 
   -- its base is that of a pool just made, where none was folded into it
   abbrev pub BeginsAtAMaking : Report B → Type 0
@@ -39,20 +50,20 @@ module _ {B : Type 0} where
 
   -- what keeps of the counts of each report of a book
   pub record HasSoundCounts (r : Report B) : Type 0 where
-    pub counted : r.connections ≡ length r.idle + length r.lent
+    pub counted : r.connections ≡ length r.idle.items + length r.lent.items
     pub fits : r.connections + r.pending ≤ r.limits.max_size
-    pub replenished : r.closed ≡ false → (wanted_of (seen_limits r.limits) ≤ length r.idle + r.pending) ⊎ (r.connections + r.pending ≡ r.limits.max_size)
+    pub replenished : r.closed ≡ false → (wanted_of (seen_limits r.limits) ≤ length r.idle.items + r.pending) ⊎ (r.connections + r.pending ≡ r.limits.max_size)
 
 module _ {T B : Type 0} where
   -- it says what the book shows
   pub record IsReportOf (a : SeenBook T) (r : Report B) : Type 0 where
     pub limits : seen_limits r.limits ≡ a.picture.on_order.limits
     pub base : seen_base r.base ≡ a.journal.base
-    pub records : r.records ≡ a.journal.records
+    pub records : seen_records r ≡ a.journal.records
     pub lost : r.lost ≡ a.journal.lost
     pub takes : r.takes ≡ a.journal.takes
-    pub idle : r.idle ≡ map id_of_idle a.picture.idle
-    pub lent : r.lent ≡ map id_of_lent a.picture.lent
+    pub idle : r.idle.items ≡ map id_of_idle a.picture.idle
+    pub lent : r.lent.items ≡ map id_of_lent a.picture.lent
     pub connections : r.connections ≡ a.picture.connections
     pub pending : r.pending ≡ a.picture.on_order.pending
     pub closed : r.closed ≡ a.picture.on_order.closed

@@ -5,11 +5,12 @@ ghost use Rattle.std.specs.Duration.{as_nanos};
 
 use crate::machine::{Core, Gone, Leftover, Refusal, Released, Returned, Take};
 use crate::schedule::{Job, Limits};
-pub use base::{Base, IdleConnections, LentConnections};
+pub use base::Base;
 use bounded::{Before, Journal};
 pub use faults::Fault;
 pub use record::Record;
-pub use report::{IdList, RecordList, Report};
+pub use report::Report;
+use report::idle_ids;
 use std::alloc::{AllocError, Allocator, Global};
 use std::marker::Model;
 use std::time::Duration;
@@ -184,12 +185,12 @@ impl<T, A: Allocator> Book<T, A> {
     {
         let base = self.base(alloc)?;
         let records = self.journal.copied(alloc)?;
-        let idle = IdList::of_idle(alloc, &self.machine)?;
-        let lent = IdList::of_lent(alloc, &self.machine)?;
+        let idle = idle_ids(alloc, &self.machine)?;
+        let lent = self.machine.lent_ids(alloc)?;
         Ok(Report {
             limits: self.machine.limits(),
             base,
-            records: RecordList::of(records),
+            records,
             lost: self.journal.lost(),
             takes: self.journal.takes(),
             idle,

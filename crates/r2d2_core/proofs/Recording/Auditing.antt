@@ -6,7 +6,7 @@ use Rattle.std.specs.Prelude.{◌&&◌, nat_le, sum_by, filter, is_some}
 use Rattle.std.specs.Prelude.{IsTrue, IfOk, MatchOption, Result, Ok, Err}
 use Rattle.std.specs.List.{All, swap}
 use Rattle.std.specs.List.Sorted.{IsNonDecreasingBy, IsPermutation}
-use Rattle.std.proofs.lemmas.List.{append-nil, length_push, take_all, take-take}
+use Rattle.std.proofs.lemmas.List.{append-nil, length-map, length_push, take_all, take-take}
 use Rattle.std.proofs.lemmas.List.Edits.{swap_is}
 use Rattle.std.proofs.lemmas.List.Sums.{sum_by-set, sum_by-append}
 use Rattle.std.proofs.lemmas.List.Sorted.{IsPermutation-keeps}
@@ -23,7 +23,7 @@ use Rattle.r2d2_core.specs.Folding.{birth_of_idle, birth_of_lent, folded, replay
 use Rattle.r2d2_core.specs.declared.journal.report.Report.{Report}
 use Rattle.r2d2_core.specs.Limits.{seen_limits}
 use Rattle.r2d2_core.specs.RunningBase.{SeenRunningBase, running_base, made_idle_by, made_lent_by, made_idle_in, made_lent_in, rooms_for}
-use Rattle.r2d2_core.specs.Reports.{seen_base, told_in, DoesReplay}
+use Rattle.r2d2_core.specs.Reports.{seen_base, seen_records, told_in, DoesReplay}
 use Rattle.r2d2_core.specs.Auditing.{counts_fit, are_in_order, are_born, ShowsCounts}
 use Rattle.r2d2_core.specs.declared.journal.running_base.Rooms.{Rooms}
 use Rattle.r2d2_core.specs.declared.journal.replaying.Wrong.{Wrong}
@@ -500,7 +500,7 @@ module _ {B : Type 0} (r : Report B) where
   -- what is wrong does not replay
   pub wrong_replays : (w : Wrong) → IsWrong w r → DoesReplay r → ⊥
   wrong_replays wrong.Base none d = none d.base
-  wrong_replays (wrong.Record place) at d = at.wrong (legal_before (seen_limits r.limits) (place + 1) r.records (seen_base r.base) d.legal)
+  wrong_replays (wrong.Record place) at d = at.wrong (legal_before (seen_limits r.limits) (place + 1) (seen_records r) (seen_base r.base) d.legal)
   wrong_replays wrong.Counts comes d = comes.other (record {
     idle = d.idle;
     lent = d.lent;
@@ -518,14 +518,14 @@ module _ {B : Type 0} (r : Report B) where
 
   -- records that follow, and admit no id twice
   pub first_wrong_at : (apart followed : ℕ) → IsLegalBase (seen_limits r.limits) (seen_base r.base) → AreApartUpTo r apart → followed ≤ apart
-      → followed < length r.records
-      → all_follow (seen_limits r.limits) (take followed (take apart r.records)) (seen_base r.base) ≡ true
-      → (followed < apart → all_follow (seen_limits r.limits) (take (followed + 1) (take apart r.records)) (seen_base r.base) ≡ false)
+      → followed < length r.records.items
+      → all_follow (seen_limits r.limits) (take followed (take apart (seen_records r))) (seen_base r.base) ≡ true
+      → (followed < apart → all_follow (seen_limits r.limits) (take (followed + 1) (take apart (seen_records r))) (seen_base r.base) ≡ false)
       → IsFirstWrong r followed
   first_wrong_at apart followed legal upto within here may stops =
       let limits = seen_limits r.limits in
       let base = seen_base r.base in
-      let rs = r.records in
+      let rs = seen_records r in
       let front : take followed (take apart rs) ≡ take followed rs = take-take followed apart rs within in
       record {
         base = legal;
@@ -541,31 +541,32 @@ module _ {B : Type 0} (r : Report B) where
         };
         wrong = λ are. ⊎_elim (λ lt. before lt are) (λ le. behind le are) (cases_lt followed apart);
       } where
-        before : followed < apart → AreLegalFrom (seen_limits r.limits) (seen_base r.base) (take (followed + 1) r.records) → ⊥
+        before : followed < apart → AreLegalFrom (seen_limits r.limits) (seen_base r.base) (take (followed + 1) (seen_records r)) → ⊥
         before lt are =
-            let front : take (followed + 1) (take apart r.records) ≡ take (followed + 1) r.records = take-take (followed + 1) apart r.records
+            let front : take (followed + 1) (take apart (seen_records r)) ≡ take (followed + 1) (seen_records r) = take-take (followed + 1) apart (seen_records r)
             (omega (arith, lt)) in
             cc (ap (λ (l : List SeenRecord). all_follow (seen_limits r.limits) l (seen_base r.base)) front, stops lt, are.follow)
 
-        behind : apart ≤ followed → AreLegalFrom (seen_limits r.limits) (seen_base r.base) (take (followed + 1) r.records) → ⊥
+        behind : apart ≤ followed → AreLegalFrom (seen_limits r.limits) (seen_base r.base) (take (followed + 1) (seen_records r)) → ⊥
         behind le are =
             let same : followed ≡ apart = omega (arith, le, within) in
             upto.stops (omega (arith, same, here)) (subst (λ n. (i : ℕ) → copies_of i (known_in (seen_base r.base)
-            (take (n + 1) r.records)) ≤ 1) same are.apart)
+            (take (n + 1) (seen_records r))) ≤ 1) same are.apart)
 
   -- all follow
-  pub all_legal : (apart followed : ℕ) → AreApartUpTo r apart → followed ≤ apart → length r.records ≤ followed
-      → all_follow (seen_limits r.limits) (take followed (take apart r.records)) (seen_base r.base) ≡ true
-      → AreLegalFrom (seen_limits r.limits) (seen_base r.base) r.records
+  pub all_legal : (apart followed : ℕ) → AreApartUpTo r apart → followed ≤ apart → length r.records.items ≤ followed
+      → all_follow (seen_limits r.limits) (take followed (take apart (seen_records r))) (seen_base r.base) ≡ true
+      → AreLegalFrom (seen_limits r.limits) (seen_base r.base) (seen_records r)
   all_legal apart followed upto within past may =
-      let rs = r.records in
-      let some : take apart rs ≡ rs = take_all apart rs (omega (arith, within, past)) in
-      let all : take followed (take apart rs) ≡ rs = ap (take followed) some ∙ take_all followed rs past in
+      let rs = seen_records r in
+      let many : length rs ≡ length r.records.items = length-map r.records.items seen_record in
+      let some : take apart rs ≡ rs = take_all apart rs (omega (arith, within, past, many)) in
+      let all : take followed (take apart rs) ≡ rs = ap (take followed) some ∙ take_all followed rs (omega (arith, past, many)) in
       record {
         follow = subst (λ (l : List SeenRecord). all_follow (seen_limits r.limits) l (seen_base r.base) ≡ true) all may;
         apart = λ i. subst (λ (l : List SeenRecord). copies_of i (known_in (seen_base r.base) l) ≤ 1) some (upto.apart i);
       }
 
-  pub does : IsLegalBase (seen_limits r.limits) (seen_base r.base) → AreLegalFrom (seen_limits r.limits) (seen_base r.base) r.records
+  pub does : IsLegalBase (seen_limits r.limits) (seen_base r.base) → AreLegalFrom (seen_limits r.limits) (seen_base r.base) (seen_records r)
       → ShowsCounts (told_in r) r → DoesReplay r
   does base legal s = record { base = base; legal = legal; idle = s.idle; lent = s.lent; connections = s.connections; pending = s.pending; closed = s.closed }

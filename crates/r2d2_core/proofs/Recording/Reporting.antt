@@ -11,7 +11,7 @@ use Rattle.r2d2_core.specs.Bases.{SeenBase, first_base}
 use Rattle.r2d2_core.specs.Book.{SeenBook, ReplayTo, IsReplayed}
 use Rattle.r2d2_core.specs.BookParts.{IsRecorded}
 use Rattle.r2d2_core.specs.Journal.{CountsTakes, BeginsAtTheMaking}
-use Rattle.r2d2_core.specs.Reports.{seen_base, DoesReplay, IsReportOf, HasSoundCounts, CountsItsTakes, BeginsAtAMaking}
+use Rattle.r2d2_core.specs.Reports.{seen_base, seen_records, DoesReplay, IsReportOf, HasSoundCounts, CountsItsTakes, BeginsAtAMaking}
 use Rattle.r2d2_core.proofs.Recording.Replaying.{ids_bare}
 
 -- what the type of a book keeps is what its callers see
@@ -21,9 +21,9 @@ is_replayed a k = subst (λ (l : SeenLimits). ReplayTo l a.journal.base a.journa
 -- the records of a book replay, so those of its report do
 pub report_replays : {T B : Type 0} (a : SeenBook T) (r : Report B) → IsReportOf a r → IsReplayed a → DoesReplay r
 report_replays a r is replayed =
-    let k : ReplayTo (seen_limits r.limits) (seen_base r.base) r.records a.picture =
-    subst (λ (l : SeenLimits). ReplayTo l (seen_base r.base) r.records a.picture) (sym is.limits)
-    (subst (λ (b : SeenBase). ReplayTo a.picture.on_order.limits b r.records a.picture) (sym is.base)
+    let k : ReplayTo (seen_limits r.limits) (seen_base r.base) (seen_records r) a.picture =
+    subst (λ (l : SeenLimits). ReplayTo l (seen_base r.base) (seen_records r) a.picture) (sym is.limits)
+    (subst (λ (b : SeenBase). ReplayTo a.picture.on_order.limits b (seen_records r) a.picture) (sym is.base)
     (subst (λ (rs : List SeenRecord). ReplayTo a.picture.on_order.limits a.journal.base rs a.picture) (sym is.records) replayed)) in
     record {
       base = k.base;
@@ -38,8 +38,8 @@ report_replays a r is replayed =
 -- the counts of a report of a sound book are sound
 pub report_sound : {T B : Type 0} (a : SeenBook T) (r : Report B) → IsReportOf a r → IsSound a.picture → HasSoundCounts r
 report_sound a r is s =
-    let idle : length r.idle ≡ length a.picture.idle = ap length is.idle ∙ length-map a.picture.idle id_of_idle in
-    let lent : length r.lent ≡ length a.picture.lent = ap length is.lent ∙ length-map a.picture.lent id_of_lent in
+    let idle : length r.idle.items ≡ length a.picture.idle = ap length is.idle ∙ length-map a.picture.idle id_of_idle in
+    let lent : length r.lent.items ≡ length a.picture.lent = ap length is.lent ∙ length-map a.picture.lent id_of_lent in
     let size : r.limits.max_size ≡ a.picture.on_order.limits.max_size = ap (λ (ls : SeenLimits). ls.max_size) is.limits in
     let wanted : wanted_of (seen_limits r.limits) ≡ wanted_of a.picture.on_order.limits = ap wanted_of is.limits in
     record {

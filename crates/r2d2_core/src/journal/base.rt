@@ -11,7 +11,6 @@ use crate::machine::idle::Idle;
 use crate::machine::lent::LentConnection;
 use crate::machine::roster::{HasId, Roster};
 use std::alloc::{AllocError, Allocator, Global};
-use std::marker::Model;
 use std::time::Duration;
 
 /// What stood before the oldest record of a report: what all earlier records come to. Before the
@@ -21,10 +20,12 @@ use std::time::Duration;
 pub struct Base<A: Allocator = Global> {
     /// The moment of the newest record that it stands for; where there is none, that of the making.
     pub at: Duration,
-    /// The idle connections, in the order in which they came to be idle.
-    pub idle: IdleConnections<A>,
-    /// The lent connections, in the order of their takes.
-    pub lent: LentConnections<A>,
+    /// The idle connections, in the order in which they came to be idle: the id of each, the moment
+    /// of its admission, and the moment since which it is idle.
+    pub idle: Vec<(u64, Duration, Duration), A>,
+    /// The lent connections, in the order of their takes: the id of each, and the moment of its
+    /// admission.
+    pub lent: Vec<(u64, Duration), A>,
     /// How many connections there were, idle and lent ones together.
     pub connections: u32,
     /// How many openings were ordered and not yet admitted.
@@ -44,8 +45,8 @@ impl<A: Allocator> Base<A> {
         A: Copy,
         ensures { IfOk result (λ base. seen_base base ≡ shown_at (as_nanos at) machine.now) }
     {
-        let idle = IdleConnections::copied(alloc, machine.idle_ones())?;
-        let lent = LentConnections::copied(alloc, machine.lent_ones())?;
+        let idle = copied_idle(alloc, machine.idle_ones())?;
+        let lent = copied_lent(alloc, machine.lent_ones())?;
         Ok(Base {
             at,
             idle,
@@ -57,111 +58,33 @@ impl<A: Allocator> Base<A> {
     }
 }
 
-/// The idle connections of a base: the id of each, the moment of its admission, and the moment
-/// since which it is idle.
-#[derive(Drop)]
-pub struct IdleConnections<A: Allocator = Global> {
-    list: Vec<(u64, Duration, Duration), A>,
-}
-
-impl<A: Allocator> Model for IdleConnections<A> {
-    ghost use Rattle.std.specs.Prelude.{List, map};
-    ghost use Rattle.r2d2_core.specs.Bases.{BareConnection, seen_bare};
-
-    ghost Value = { List BareConnection };
-
-    ghost view = { λ a. map seen_bare a.list.items };
-}
-
-impl<A: Allocator> IdleConnections<A> {
-    /// The connections of a list, which it keeps.
-    pub fn of(list: Vec<(u64, Duration, Duration), A>) -> IdleConnections<A>
-        ensures { result ≡ map seen_bare list.items }
-    {
-        IdleConnections { list }
-    }
-
-    // The idle ones, without what their owner keeps of them.
-    pub(super) fn copied<T, B: Allocator>(
-        alloc: A,
-        idle: &Idle<T, B>,
-    ) -> Result<IdleConnections<A>, AllocError>
-        ensures { IfOk result (λ list. list ≡ map bare idle.now.items) }
-    {
-        let count = idle.len();
-        let mut list = Vec::with_capacity(alloc, count)?;
-        for place in 0..count {
-            if let Some(entry) = idle.get(place) {
-                list.push_reserved((entry.id(), entry.birth(), entry.since()));
-            }
+/// A copy of the idle ones, without what their owner keeps of them.
+pub(super) fn copied_idle<T, A: Allocator, B: Allocator>(
+    alloc: A,
+    idle: &Idle<T, B>,
+) -> Result<Vec<(u64, Duration, Duration), A>, AllocError>
+    ensures { IfOk result (λ list. map seen_bare list.items ≡ map bare idle.now.items) }
+{
+    let count = idle.len();
+    let mut list = Vec::with_capacity(alloc, count)?;
+    for place in 0..count {
+        if let Some(entry) = idle.get(place) {
+            list.push_reserved((entry.id(), entry.birth(), entry.since()));
         }
-        Ok(IdleConnections { list })
     }
-
-    /// The connections, the oldest first.
-    pub fn as_slice(&self) -> &[(u64, Duration, Duration)]
-        ensures { map seen_bare result.now ≡ self.now }
-    {
-        self.list.as_slice()
-    }
-
-    /// Gives the list back.
-    pub fn into_vec(self) -> Vec<(u64, Duration, Duration), A>
-        ensures { map seen_bare result.items ≡ self }
-    {
-        self.list
-    }
+    Ok(list)
 }
 
-/// The lent connections of a base: the id of each, and the moment of its admission.
-#[derive(Drop)]
-pub struct LentConnections<A: Allocator = Global> {
-    list: Vec<(u64, Duration), A>,
-}
-
-impl<A: Allocator> Model for LentConnections<A> {
-    ghost use Rattle.std.specs.Prelude.{List, map};
-    ghost use Rattle.r2d2_core.specs.Connections.{SeenLentConnection};
-    ghost use Rattle.r2d2_core.specs.Bases.{seen_lent};
-
-    ghost Value = { List SeenLentConnection };
-
-    ghost view = { λ a. map seen_lent a.list.items };
-}
-
-impl<A: Allocator> LentConnections<A> {
-    /// The connections of a list, which it keeps.
-    pub fn of(list: Vec<(u64, Duration), A>) -> LentConnections<A>
-        ensures { result ≡ map seen_lent list.items }
-    {
-        LentConnections { list }
+/// A copy of the lent ones.
+pub(super) fn copied_lent<A: Allocator, B: Allocator>(
+    alloc: A,
+    lent: &Roster<LentConnection, B>,
+) -> Result<Vec<(u64, Duration), A>, AllocError>
+    ensures { IfOk result (λ list. map seen_lent list.items ≡ lent.now.items) }
+{
+    let mut list = Vec::with_capacity(alloc, lent.len())?;
+    for loan in lent.items() {
+        list.push_reserved((loan.id(), loan.birth()));
     }
-
-    // The lent ones.
-    pub(super) fn copied<B: Allocator>(
-        alloc: A,
-        lent: &Roster<LentConnection, B>,
-    ) -> Result<LentConnections<A>, AllocError>
-        ensures { IfOk result (λ list. list ≡ lent.now.items) }
-    {
-        let mut list = Vec::with_capacity(alloc, lent.len())?;
-        for loan in lent.items() {
-            list.push_reserved((loan.id(), loan.birth()));
-        }
-        Ok(LentConnections { list })
-    }
-
-    /// The connections, in the order of their takes.
-    pub fn as_slice(&self) -> &[(u64, Duration)]
-        ensures { map seen_lent result.now ≡ self.now }
-    {
-        self.list.as_slice()
-    }
-
-    /// Gives the list back.
-    pub fn into_vec(self) -> Vec<(u64, Duration), A>
-        ensures { map seen_lent result.items ≡ self }
-    {
-        self.list
-    }
+    Ok(list)
 }

@@ -3,7 +3,7 @@ ghost use Rattle.std.specs.Prelude.{◌≡◌, ◌≤◌, length, take, IfOk, Ma
 ghost use Rattle.r2d2_core.specs.Limits.{seen_limits};
 ghost use Rattle.r2d2_core.specs.Bases.{IsLegalBase};
 ghost use Rattle.r2d2_core.specs.Folding.{replay, AreLegalFrom};
-ghost use Rattle.r2d2_core.specs.Reports.{seen_base, DoesReplay};
+ghost use Rattle.r2d2_core.specs.Reports.{seen_base, seen_records, DoesReplay};
 ghost use Rattle.r2d2_core.specs.Faults.{IsFault};
 
 use super::base::Base;
@@ -45,7 +45,7 @@ impl<A: Allocator> Report<A> {
                 before: self.after(place)?,
             },
             Wrong::Counts => Fault::Counts {
-                end: self.after(self.records.as_slice().len())?,
+                end: self.after(self.records.len())?,
             },
         };
         Ok(Some(fault))
@@ -55,13 +55,13 @@ impl<A: Allocator> Report<A> {
     fn after(&self, count: usize) -> Result<Base<A>, AllocError>
     where
         A: Copy,
-        requires within { count ≤ length self.now.records }
+        requires within { count ≤ length self.now.records.items }
         requires base { IsLegalBase (seen_limits self.now.limits) (seen_base self.now.base) }
         requires legal { AreLegalFrom (seen_limits self.now.limits) (seen_base self.now.base)
-            (take count self.now.records) }
+            (take count (seen_records self.now)) }
         ensures { IfOk result
             (λ base. seen_base base
-            ≡ replay (seen_limits self.now.limits) (take count self.now.records)
+            ≡ replay (seen_limits self.now.limits) (take count (seen_records self.now))
             (seen_base self.now.base)) }
     {
         let records = &self.records.as_slice()[..count];

@@ -146,8 +146,8 @@ impl<A: Allocator> Report<A> {
 fn has_fitting_counts<A: Allocator>(base: &Base<A>, limits: &Limits) -> bool
     ensures { result ≡ counts_fit (seen_limits limits.now) (seen_base base.now) }
 {
-    let idle = base.idle.as_slice().len();
-    let there = idle + base.lent.as_slice().len();
+    let idle = base.idle.len();
+    let there = idle + base.lent.len();
     let all = base.connections as u64 + base.pending as u64;
     base.connections as usize == there
         && all <= limits.max_size() as u64
@@ -172,11 +172,7 @@ fn known_ids<A: Allocator + Copy>(
 
 // As many as there can be.
 fn most_ids<A: Allocator>(base: &Base<A>, records: &[Record]) -> usize {
-    let there = base
-        .idle
-        .as_slice()
-        .len()
-        .saturating_add(base.lent.as_slice().len());
+    let there = base.idle.len().saturating_add(base.lent.len());
     let admitted = records
         .iter()
         .filter(|record| record.admitted().is_some())

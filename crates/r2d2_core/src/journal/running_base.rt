@@ -16,7 +16,7 @@ ghost use Rattle.r2d2_core.specs.RunningBase.{empty_base, with_more, lent_out, a
 ghost use Rattle.r2d2_core.specs.RunningBase.{kept_in, with_one_idle, parted_from, swept_of};
 ghost use Rattle.r2d2_core.specs.RunningBase.{closed_in};
 
-use super::base::{Base, IdleConnections, LentConnections};
+use super::base::{Base, copied_idle, copied_lent};
 use super::record::Record;
 use crate::machine::idle::{Idle, IdleConnection, reached};
 use crate::machine::is_before;
@@ -41,8 +41,8 @@ impl Rooms {
     pub(crate) fn of<A: Allocator>(base: &Base<A>, records: &[Record]) -> Rooms
         ensures { result ≡ rooms_for (seen_base base.now) (map seen_record records.now) }
     {
-        let mut idle = base.idle.as_slice().len();
-        let mut lent = base.lent.as_slice().len();
+        let mut idle = base.idle.len();
+        let mut lent = base.lent.len();
         for record in records {
             idle += record.made_idle();
             lent += record.made_lent();
@@ -135,8 +135,8 @@ impl<A: Allocator> RunningBase<A> {
         requires { self.now.base.connections < 2 ^ 32 }
         ensures { IfOk result (λ base. seen_base base ≡ self.now.base) }
     {
-        let idle = IdleConnections::copied(alloc, &self.idle)?;
-        let lent = LentConnections::copied(alloc, &self.lent)?;
+        let idle = copied_idle(alloc, &self.idle)?;
+        let lent = copied_lent(alloc, &self.lent)?;
         Ok(Base {
             at: self.at,
             idle,

@@ -45,14 +45,15 @@ impl<A: Allocator> RunningBase<A> {
     ) -> Result<Option<RunningBase<A>>, AllocError>
     where
         A: Copy,
-        requires counted { base.now.connections ≡ length base.now.idle + length base.now.lent }
-        requires idle_room { length base.now.idle ≤ room.idle }
-        requires lent_room { length base.now.lent ≤ room.lent }
+        requires counted { base.now.connections
+            ≡ length base.now.idle.items + length base.now.lent.items }
+        requires idle_room { length base.now.idle.items ≤ room.idle }
+        requires lent_room { length base.now.lent.items ≤ room.lent }
         ensures { IfOk result (λ made. MatchOption made
-            ((are_in_order (as_nanos base.now.at) 0 base.now.idle
-            && are_born (as_nanos base.now.at) base.now.lent) ≡ false)
-            (λ there. ((are_in_order (as_nanos base.now.at) 0 base.now.idle
-            && are_born (as_nanos base.now.at) base.now.lent) ≡ true)
+            ((are_in_order (as_nanos base.now.at) 0 (map seen_bare base.now.idle.items)
+            && are_born (as_nanos base.now.at) (map seen_lent base.now.lent.items)) ≡ false)
+            (λ there. ((are_in_order (as_nanos base.now.at) 0 (map seen_bare base.now.idle.items)
+            && are_born (as_nanos base.now.at) (map seen_lent base.now.lent.items)) ≡ true)
             × (there ≡ running_base (seen_base base.now) room))) }
     {
         let mut running_base = RunningBase::tight(alloc, base.at, base.pending, room)?;

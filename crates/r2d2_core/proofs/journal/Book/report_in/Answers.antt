@@ -12,7 +12,7 @@ returns-clause-given g c =
     subst (λ (a : SeenBook _). IsReportOf a (record {
       limits = c.limits.result;
       base = c.in_ok-base.base;
-      records = c.of.result;
+      records = c.in_ok-records.records;
       lost = c.lost.result;
       takes = c.takes.result;
       idle = c.in_ok-idle.idle;
@@ -24,7 +24,7 @@ returns-clause-given g c =
     (record {
       limits = c.limits.ensures.value;
       base = c.in_ok-base.ensures ∙ ap (λ (a : SeenBook _). a.journal.base) (sym c.self.view_is);
-      records = c.of.ensures ∙ c.in_ok-records.ensures;
+      records = c.in_ok-records.ensures;
       lost = c.lost.ensures;
       takes = c.takes.ensures.value;
       idle = c.in_ok-idle.ensures;

@@ -5,8 +5,8 @@ use Rattle.std.proofs.lemmas.List.{length_push}
 use Rattle.r2d2_core.specs.Bases.{seen_bare}
 use Rattle.r2d2_core.specs.Book.{bare}
 use Rattle.r2d2_core.proofs.Recording.Listing.{copied_more, there_is_one}
-use Rattle.r2d2_core.proofs.journal.base.IdleConnections.copied.Goals as goal
-use Rattle.r2d2_core.proofs.journal.base.IdleConnections.copied.Goals.{in-Some, in_default}
+use Rattle.r2d2_core.proofs.journal.base.copied_idle.Goals as goal
+use Rattle.r2d2_core.proofs.journal.base.copied_idle.Goals.{in-Some, in_default}
 
 pub loop-place-preserved : goal.loop-place-preserved
 loop-place-preserved g c =

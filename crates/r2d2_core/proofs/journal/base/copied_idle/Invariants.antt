@@ -2,7 +2,7 @@ use Rattle.std.proofs.Common.{◌≡◌, length, map, vec_capacity}
 use Rattle.r2d2_core.specs.Bases.{seen_bare}
 use Rattle.r2d2_core.specs.Book.{bare}
 use Rattle.r2d2_core.proofs.Recording.Listing.{IsListed}
-use Rattle.r2d2_core.proofs.journal.base.IdleConnections.copied.Given as goal
+use Rattle.r2d2_core.proofs.journal.base.copied_idle.Given as goal
 
 abbrev pub invariant-loop-place : goal.invariant-loop-place
 invariant-loop-place g l = record {

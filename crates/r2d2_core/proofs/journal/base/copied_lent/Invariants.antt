@@ -1,7 +1,7 @@
 use Rattle.std.proofs.Common.{◌≡◌, ◌+◌, ◌++◌, length, map, vec_capacity}
 use Rattle.r2d2_core.specs.Bases.{seen_lent}
 use Rattle.r2d2_core.specs.Slots.{held}
-use Rattle.r2d2_core.proofs.journal.base.LentConnections.copied.Given as goal
+use Rattle.r2d2_core.proofs.journal.base.copied_lent.Given as goal
 
 abbrev pub invariant-loop-loan : goal.invariant-loop-loan
 invariant-loop-loan g l = record {
