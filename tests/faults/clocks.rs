@@ -97,8 +97,8 @@ fn a_clock_that_cannot_be_read_at_the_making(rt: HostRuntime) -> Result<(), Fail
     // The clock can be read now, and the time since the making still cannot.
     drop(pool.get()?);
     let report = pool.journal()?;
-    assert_eq!(rt; report.records.as_slice().len(), 5);
-    for record in report.records.as_slice() {
+    assert_eq!(rt; report.records.len(), 5);
+    for record in &report.records {
         assert!(rt; record.at().is_zero(), "{record:?}");
     }
     drop(pool);

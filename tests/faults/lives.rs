@@ -44,7 +44,7 @@ fn two_lendings<R: PoolRuntime + Abort>(rt: &R, row: Row) -> Result<(), Fail> {
     assert_eq!(rt; (report.connections, report.pending), (left, 0), "{wanted}");
     assert_eq!(rt; pool.state().idle_connections, left, "{wanted}");
     assert!(rt;
-        report.lost == 0 && report.lent.as_slice().is_empty(),
+        report.lost == 0 && report.lent.is_empty(),
         "{wanted}"
     );
     drop(pool);

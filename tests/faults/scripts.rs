@@ -87,7 +87,7 @@ fn check_script(rt: HostRuntime) -> Result<(), Fail> {
     assert_eq!(rt; play.released.load(Ordering::SeqCst), 1);
     assert_eq!(rt; play.errors.load(Ordering::SeqCst), 1);
     let mut records = String::new(rt.alloc());
-    for record in report.records.as_slice() {
+    for record in &report.records {
         push_record(&mut records, *record)?;
     }
     assert_eq!(rt;

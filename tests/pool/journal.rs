@@ -69,7 +69,7 @@ fn journal_shows_take(rt: HostRuntime) -> Result<(), Fail> {
     assert_eq!(rt; records.as_slice(), wanted.as_slice());
     assert_eq!(rt; report.lost, 0);
     assert_eq!(rt; report.lent.as_slice(), [1].as_slice());
-    assert!(rt; report.idle.as_slice().is_empty());
+    assert!(rt; report.idle.is_empty());
     assert_eq!(rt; (report.connections, report.pending), (1, 0));
     Ok(())
 }
@@ -84,10 +84,10 @@ fn journal_of_a_fresh_pool(rt: HostRuntime) -> Result<(), Fail> {
         .make_unchecked(rt, Manager::new(&counts, 0, Breaks::Never)?)?;
     let report = pool.journal()?;
     assert_eq!(rt; report.limits.max_size(), 3);
-    assert!(rt; report.records.as_slice().is_empty());
+    assert!(rt; report.records.is_empty());
     assert_eq!(rt; report.lost, 0);
-    assert!(rt; report.idle.as_slice().is_empty());
-    assert!(rt; report.lent.as_slice().is_empty());
+    assert!(rt; report.idle.is_empty());
+    assert!(rt; report.lent.is_empty());
     assert_eq!(rt; (report.connections, report.pending), (0, 2));
     assert_eq!(rt; report.closed, false);
     Ok(())

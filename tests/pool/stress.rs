@@ -183,7 +183,7 @@ fn tells_all<R: Abort + PoolRuntime>(
     let _lent = (pool.get()?, pool.get()?);
     let report = pool.journal()?;
     assert_eq!(rt; report.replays(), Ok(true), "a room of {room}");
-    assert_eq!(rt; report.lent.as_slice().len(), 2);
+    assert_eq!(rt; report.lent.len(), 2);
     let found = fit
         .failed_checks
         .load(Ordering::SeqCst)
@@ -192,7 +192,7 @@ fn tells_all<R: Abort + PoolRuntime>(
     let is_whole = report.lost == 0;
     assert_eq!(rt; is_whole, room == ROOM_FOR_ALL, "a room of {room}");
     assert!(rt;
-        is_whole || report.records.as_slice().len() == room,
+        is_whole || report.records.len() == room,
         "a room of {room}"
     );
     Ok(())

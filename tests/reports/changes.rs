@@ -3,7 +3,7 @@
 use crate::books::seeded_report;
 use crate::kept::replays;
 use pool_reports::{RecordReason, Verdict, audit, from_json, to_json};
-use r2d2_core::{Record, RecordList, Report};
+use r2d2_core::{Record, Report};
 use std::alloc::{AllocError, Global};
 use std::test::Fail;
 
@@ -77,25 +77,10 @@ fn corrected(record: Record, reason: RecordReason) -> Option<Record> {
 }
 
 // The report with that record corrected.
-fn with_corrected(report: Report, place: usize, reason: RecordReason) -> Option<Report> {
-    let mut records = report.records.into_vec();
-    let record = records.as_slice().get(place).copied()?;
-    let corrected = corrected(record, reason)?;
-    if let Some(there) = records.as_mut_slice().get_mut(place) {
-        *there = corrected;
-    }
-    Some(Report {
-        limits: report.limits,
-        base: report.base,
-        records: RecordList::of(records),
-        lost: report.lost,
-        takes: report.takes,
-        idle: report.idle,
-        lent: report.lent,
-        connections: report.connections,
-        pending: report.pending,
-        closed: report.closed,
-    })
+fn with_corrected(mut report: Report, place: usize, reason: RecordReason) -> Option<Report> {
+    let record = report.records.get(place).copied()?;
+    report.records[place] = corrected(record, reason)?;
+    Some(report)
 }
 
 // Whether the verdict is past the reason at that place.

@@ -3,7 +3,7 @@
 use crate::books::seeded_report;
 use crate::same::are_same;
 use pool_reports::{from_json, to_json};
-use r2d2_core::{LentConnections, Base, IdList, LimitSettings, Record, RecordList, Report, IdleConnections};
+use r2d2_core::{Base, LimitSettings, Record, Report};
 use std::alloc::Global;
 use std::test::Fail;
 use std::time::Duration;
@@ -55,17 +55,17 @@ fn greatest(alloc: Global) -> Result<Report, Fail> {
         limits,
         base: Base {
             at,
-            idle: IdleConnections::of(Vec::from_array(alloc, [(id, at, at), (0, at, at)])?),
-            lent: LentConnections::of(Vec::from_array(alloc, [(id, at), (0, at)])?),
+            idle: Vec::from_array(alloc, [(id, at, at), (0, at, at)])?,
+            lent: Vec::from_array(alloc, [(id, at), (0, at)])?,
             connections: ordered,
             pending: ordered,
             closed: true,
         },
-        records: RecordList::of(Vec::from_array(alloc, records)?),
+        records: Vec::from_array(alloc, records)?,
         lost: id,
         takes: id,
-        idle: IdList::of(Vec::from_array(alloc, [id, 0])?),
-        lent: IdList::of(Vec::from_array(alloc, [0, id])?),
+        idle: Vec::from_array(alloc, [id, 0])?,
+        lent: Vec::from_array(alloc, [0, id])?,
         connections: ordered,
         pending: ordered,
         closed: true,

@@ -3,11 +3,10 @@
 use crate::books::{Driven, below, limits, ms, random_report};
 use pool_pictures::story::{Cause, Coming, Counts, Ending, Life, Story, Stretch, Use};
 use pool_pictures::{Notes, svg};
-use r2d2_core::{RecordList, Report};
+use r2d2_core::Report;
 use rand_core::SeedableRng;
 use rand_pcg::Pcg32;
 use std::alloc::{AllocError, Global};
-use std::mem;
 use std::test::Fail;
 use std::time::Duration;
 
@@ -30,7 +29,7 @@ fn in_order(alloc: Global, ids: &[u64]) -> Result<Vec<u64>, AllocError> {
 }
 
 fn is_exhausted(report: &Report) -> bool {
-    let lent = u32::try_from(report.lent.as_slice().len()).unwrap_or(u32::MAX);
+    let lent = u32::try_from(report.lent.len()).unwrap_or(u32::MAX);
     !report.closed && lent.saturating_add(report.pending) >= report.limits.max_size()
 }
 
@@ -40,7 +39,7 @@ fn ends_as(alloc: Global, story: &Story, report: &Report) -> Result<bool, AllocE
     let lent = still(alloc, story, Use::Lent)?;
     let counts = Counts {
         at: story.to,
-        idle: u32::try_from(report.idle.as_slice().len()).unwrap_or(u32::MAX),
+        idle: u32::try_from(report.idle.len()).unwrap_or(u32::MAX),
         connections: report.connections,
         pending: report.pending,
         is_exhausted: is_exhausted(report),
@@ -89,7 +88,7 @@ fn each_story_ends_as_its_report(rt: HostRuntime) -> Result<(), Fail> {
             }
             assert_eq!(rt;
                 story.counts.len(),
-                report.records.as_slice().len().saturating_add(1)
+                report.records.len().saturating_add(1)
             );
         }
     }
@@ -97,16 +96,14 @@ fn each_story_ends_as_its_report(rt: HostRuntime) -> Result<(), Fail> {
 }
 
 // The report with two records exchanged and one left out, so that it mostly does not replay.
-fn garble(alloc: Global, rng: &mut Pcg32, report: &mut Report) {
-    let empty = RecordList::of(Vec::new(alloc));
-    let mut records = mem::replace(&mut report.records, empty).into_vec();
+fn garble(rng: &mut Pcg32, report: &mut Report) {
+    let records = &mut report.records;
     let count = u32::try_from(records.len()).unwrap_or(u32::MAX);
     let (one, other) = (below(rng, count) as usize, below(rng, count) as usize);
     if one < records.len() && other < records.len() {
         records.swap(one, other);
         records.remove(one);
     }
-    report.records = RecordList::of(records);
 }
 
 #[test]
@@ -116,7 +113,7 @@ fn a_report_that_does_not_replay_is_told_as_far_as_it_goes(rt: HostRuntime) -> R
     for seed in 0..200 {
         let mut rng = Pcg32::seed_from_u64(seed);
         let mut report = random_report(alloc, &mut rng, 0, 200, 50)?;
-        garble(alloc, &mut rng, &mut report);
+        garble(&mut rng, &mut report);
         if !report.replays()? {
             strange = strange.saturating_add(1);
         }

@@ -58,7 +58,7 @@ impl Played {
 
 fn replayed(alloc: Global, report: &Report) -> Result<Played, Fail> {
     let mut lent = Vec::new(alloc);
-    for (id, _) in report.base.lent.as_slice() {
+    for (id, _) in &report.base.lent {
         lent.push(Loan {
             id: *id,
             since: None,
@@ -76,7 +76,7 @@ fn replayed(alloc: Global, report: &Report) -> Result<Played, Fail> {
         opened: 0,
         closed: 0,
     };
-    for record in report.records.as_slice() {
+    for record in &report.records {
         played.play(record, max_size)?;
     }
     Ok(played)

@@ -26,8 +26,8 @@ fn does_replay<R: Abort + AllocGlobal>(rt: &R, report: &Report) -> (bool, bool) 
 fn standing(base: &Base) -> (Duration, usize, usize) {
     (
         base.at,
-        base.idle.as_slice().len(),
-        base.lent.as_slice().len(),
+        base.idle.len(),
+        base.lent.len(),
     )
 }
 
@@ -63,7 +63,7 @@ fn the_base_has_what_was_dropped(rt: HostRuntime) {
     for order in [LendingOrder::NewestFirst, LendingOrder::OldestFirst] {
         for (room, lost, since) in [(2usize, 1, 1), (0, 3, 3)] {
             let report = report(&rt, order, room);
-            same(&rt, report.records.as_slice().len(), room);
+            same(&rt, report.records.len(), room);
             has_what_was_dropped(&rt, &report, lost, since);
             drop(report);
         }

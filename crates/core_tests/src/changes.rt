@@ -5,8 +5,7 @@ use core_uses::makers::{answered, book_in};
 use core_uses::replays::{Found, read};
 use core_uses::steps::{admit, begin, close, limits, number, put_back, reap, take, want};
 use r2d2_core::{
-    Base, Book, Fault, IdList, IdleConnections, LendingOrder, LentConnections, Limits, Record,
-    RecordList, Report, Step,
+    Base, Book, Fault, LendingOrder, Limits, Record, Report, Step,
 };
 use std::alloc::{AllocError, Allocator, Global};
 use std::process::Abort;
@@ -96,33 +95,33 @@ impl Countdown {
     fn idle(
         &mut self,
         alloc: Global,
-        idle: &IdleConnections,
-    ) -> Result<IdleConnections, AllocError> {
+        idle: &[(u64, Duration, Duration)],
+    ) -> Result<Vec<(u64, Duration, Duration)>, AllocError> {
         let mut list = Vec::new(alloc);
-        for (id, birth, since) in idle.as_slice() {
+        for (id, birth, since) in idle {
             list.push((self.id(*id), self.moment(*birth), self.moment(*since)))?;
         }
-        Ok(IdleConnections::of(list))
+        Ok(list)
     }
 
     fn lent(
         &mut self,
         alloc: Global,
-        lent: &LentConnections,
-    ) -> Result<LentConnections, AllocError> {
+        lent: &[(u64, Duration)],
+    ) -> Result<Vec<(u64, Duration)>, AllocError> {
         let mut list = Vec::new(alloc);
-        for (id, birth) in lent.as_slice() {
+        for (id, birth) in lent {
             list.push((self.id(*id), self.moment(*birth)))?;
         }
-        Ok(LentConnections::of(list))
+        Ok(list)
     }
 
-    fn records(&mut self, alloc: Global, records: &[Record]) -> Result<RecordList, AllocError> {
+    fn records(&mut self, alloc: Global, records: &[Record]) -> Result<Vec<Record>, AllocError> {
         let mut list = Vec::new(alloc);
         for record in records {
             list.push(self.record(*record))?;
         }
-        Ok(RecordList::of(list))
+        Ok(list)
     }
 
     fn base(&mut self, alloc: Global, base: &Base) -> Result<Base, AllocError> {
@@ -140,8 +139,8 @@ impl Countdown {
 
     // A copy of the report with the change, where it is not past all fields.
     fn report(&mut self, alloc: Global, report: &Report) -> Result<Report, AllocError> {
-        let idle = IdList::of(report.idle.as_slice().to_vec(alloc)?);
-        let lent = IdList::of(report.lent.as_slice().to_vec(alloc)?);
+        let idle = report.idle.as_slice().to_vec(alloc)?;
+        let lent = report.lent.as_slice().to_vec(alloc)?;
         let base = self.base(alloc, &report.base)?;
         let records = self.records(alloc, report.records.as_slice())?;
         Ok(Report {
@@ -247,7 +246,7 @@ fn changed(alloc: Global, report: &Report, number: usize) -> Result<Option<Repor
 }
 
 fn counts_of<A: Allocator>(base: &Base<A>) -> [usize; 3] {
-    let (idle, lent) = (base.idle.as_slice().len(), base.lent.as_slice().len());
+    let (idle, lent) = (base.idle.len(), base.lent.len());
     [idle, lent, base.pending as usize]
 }
 

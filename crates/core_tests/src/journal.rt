@@ -9,7 +9,7 @@ use core_uses::steps::{
     admit, begin, close, limits, ms, number, put_back, reap, sized, take, want,
 };
 use linked_list_allocator::LocalHeap;
-use r2d2_core::{Book, IdList, Limits, Record, RecordList, Report, Step};
+use r2d2_core::{Book, Limits, Record, Report, Step};
 use std::alloc::Allocator;
 use std::process::Abort;
 use std::time::Duration;
@@ -74,7 +74,7 @@ fn two_reaped<R: Abort + AllocGlobal>(rt: &R) -> Book<u64> {
 
 // How many a report shows as idle and lent, and how many records were lost.
 fn standing(report: &Report) -> (usize, usize, u64) {
-    let (idle, lent) = (report.idle.as_slice().len(), report.lent.as_slice().len());
+    let (idle, lent) = (report.idle.len(), report.lent.len());
     (idle, lent, report.lost)
 }
 
@@ -122,16 +122,9 @@ fn closed_twice<R: Abort + AllocGlobal>(rt: &R, mut book: Book<u64>) -> Report {
 fn reports_what_a_close_did(rt: HostRuntime) {
     let report = closed_twice(&rt, two_reaped(&rt));
     let last = Record::ClosedAll { at: ms(1001) };
-    same(&rt, report.records.as_slice().len(), 4);
-    same(&rt, report.records.as_slice().last(), Some(&last));
+    same(&rt, report.records.len(), 4);
+    same(&rt, report.records.last(), Some(&last));
     stands(&rt, report, (0, 0, 0), (0, 0, true, true));
-}
-
-#[test]
-fn a_list_of_ids_is_given_back(rt: HostRuntime) {
-    let ids = IdList::of(Vec::from_array(rt.alloc(), [3u64, 5]).expect(&rt, "a list"));
-    same(&rt, ids.as_slice(), &[3u64, 5][..]);
-    same(&rt, ids.into_vec().as_slice(), &[3u64, 5][..]);
 }
 
 // A report with other counts than its records come to is found out.
@@ -142,7 +135,7 @@ fn finds_a_report_that_does_not_replay(rt: HostRuntime) {
     report.pending = 1;
     assert!(rt; !is_replayed(&rt, &report));
     report.pending = 0;
-    report.records = RecordList::of(Vec::new(rt.alloc()));
+    report.records = Vec::new(rt.alloc());
     assert!(rt; !is_replayed(&rt, &report));
 }
 
@@ -177,7 +170,7 @@ fn a_report_takes_memory(rt: HostRuntime) {
     let heap = heap_of(&rt, 8192);
     let report = report_of_a_full_heap(&rt, &heap);
     drop(heap);
-    same(&rt, report.records.as_slice().len(), 3);
+    same(&rt, report.records.len(), 3);
     assert!(rt; is_replayed(&rt, &report));
     drop(report);
 }

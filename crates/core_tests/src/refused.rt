@@ -140,9 +140,9 @@ fn is_unchanged<R: Abort>(rt: &R, book: &Book<u64>, before: &Report) -> bool {
 
 fn lengths(report: &Report) -> (usize, usize, usize) {
     (
-        report.idle.as_slice().len(),
-        report.lent.as_slice().len(),
-        report.records.as_slice().len(),
+        report.idle.len(),
+        report.lent.len(),
+        report.records.len(),
     )
 }
 

@@ -56,10 +56,10 @@ impl Standing {
             closed: base.closed,
             is_strange: false,
         };
-        for (id, birth, since) in base.idle.as_slice() {
+        for (id, birth, since) in &base.idle {
             standing.stand(*id, *birth, *since)?;
         }
-        for (id, birth) in base.lent.as_slice() {
+        for (id, birth) in &base.lent {
             standing.is_strange |= *birth > base.at;
             standing.meet(*id)?;
             standing.lent.push(Known {
@@ -251,7 +251,7 @@ pub fn read<A: Allocator>(alloc: Global, report: &Report<A>) -> Result<Found, Al
     if now.is_strange {
         return Ok(Found::Base);
     }
-    for (place, record) in report.records.as_slice().iter().enumerate() {
+    for (place, record) in report.records.iter().enumerate() {
         let before = now.counts();
         now.follow(*record)?;
         if now.is_strange {

@@ -23,7 +23,7 @@ fn open_one(book: &mut Book<&'static str>) {
 }
 
 fn say<R: Print>(rt: &R, report: &Report) -> Result<(), anyhow::Error> {
-    for record in report.records.as_slice() {
+    for record in &report.records {
         println!(rt; "{record:?}")?;
     }
     println!(rt;

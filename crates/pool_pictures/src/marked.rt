@@ -24,7 +24,7 @@ pub(crate) fn find_marked<A: Allocator>(
     notes: &Notes,
 ) -> Option<Marked> {
     let place = notes.wrong_record()?;
-    let record = report.records.as_slice().get(place)?;
+    let record = report.records.get(place)?;
     // The first of the counts is that of the base.
     let counts = story.counts.get(place.saturating_add(1))?;
     Some(Marked {

@@ -266,7 +266,7 @@ fn counts<A: Allocator>(page: &mut String, report: &Report<A>) -> Result<(), All
 // How many records there are, and were before.
 fn recorded<A: Allocator>(page: &mut String, report: &Report<A>) -> Result<(), AllocError> {
     page.push_str("<table><caption>Records</caption>\n")?;
-    row(page, "in this report", report.records.as_slice().len())?;
+    row(page, "in this report", report.records.len())?;
     row(page, "folded before them", report.lost)?;
     row(page, "takes since the making", report.takes)?;
     page.push_str("</table>\n")
@@ -285,20 +285,20 @@ fn base_of<A: Allocator>(report: &Report<A>) -> Shown {
     let base = &report.base;
     Shown {
         at: base.at,
-        idle: capped(base.idle.as_slice().len()),
+        idle: capped(base.idle.len()),
         connections: base.connections,
         opening: base.pending,
     }
 }
 
 fn end_of<A: Allocator>(report: &Report<A>) -> Shown {
-    let at = match report.records.as_slice().last() {
+    let at = match report.records.last() {
         Some(record) => record.at(),
         None => report.base.at,
     };
     Shown {
         at,
-        idle: capped(report.idle.as_slice().len()),
+        idle: capped(report.idle.len()),
         connections: report.connections,
         opening: report.pending,
     }

@@ -232,7 +232,7 @@ impl Story {
         ensures lost { IfOk result (λ s. s.lost ≡ report.now.lost) }
     {
         let mut teller = Teller::of(alloc, report)?;
-        for record in report.records.as_slice() {
+        for record in &report.records {
             teller.follow(*record)?;
         }
         Ok(teller.told(report))

@@ -6,10 +6,7 @@ use found::{Found, Object, Read};
 use json::{MAX_LEN, Scratch, Tape};
 use parts::{Items, Parts, count_items};
 use place::not_json;
-use r2d2_core::{
-    Base, IdList, IdleConnections, LendingOrder, LentConnections, LimitSettings, Limits, Record,
-    RecordList, Report,
-};
+use r2d2_core::{Base, LendingOrder, LimitSettings, Limits, Record, Report};
 use std::alloc::Global;
 use std::time::{Duration, SystemTime};
 
@@ -149,7 +146,7 @@ fn read_lists(
     alloc: Global,
     report: &Object<'_, '_>,
     list: Option<&str>,
-) -> Result<(Base, RecordList, (IdList, IdList)), FromJsonError> {
+) -> Result<(Base, Vec<Record>, (Vec<u64>, Vec<u64>)), FromJsonError> {
     let base = read_base(alloc, report)?;
     let records = read_records(alloc, report, list)?;
     Ok((base, records, read_holders(alloc, report)?))
@@ -224,10 +221,10 @@ fn base_of(alloc: Global, base: &Object<'_, '_>) -> Result<Base, FromJsonError> 
 fn read_connections(
     alloc: Global,
     base: &Object<'_, '_>,
-) -> Result<(IdleConnections, LentConnections), FromJsonError> {
+) -> Result<(Vec<(u64, Duration, Duration)>, Vec<(u64, Duration)>), FromJsonError> {
     let idle = read_list(alloc, base, "idle", "base.idle")?;
     let lent = read_list(alloc, base, "lent", "base.lent")?;
-    Ok((IdleConnections::of(idle), LentConnections::of(lent)))
+    Ok((idle, lent))
 }
 
 // The moment of a base, and what it counts.
@@ -252,10 +249,13 @@ impl Read for (u64, Duration) {
 }
 
 // The idle connections, and the lent ones.
-fn read_holders(alloc: Global, report: &Object<'_, '_>) -> Result<(IdList, IdList), FromJsonError> {
+fn read_holders(
+    alloc: Global,
+    report: &Object<'_, '_>,
+) -> Result<(Vec<u64>, Vec<u64>), FromJsonError> {
     let idle = read_list(alloc, report, "idle", "idle")?;
     let lent = read_list(alloc, report, "lent", "lent")?;
-    Ok((IdList::of(idle), IdList::of(lent)))
+    Ok((idle, lent))
 }
 
 // The list in a field. Errors call it by the name.
@@ -285,7 +285,7 @@ fn read_records(
     alloc: Global,
     report: &Object<'_, '_>,
     list: Option<&str>,
-) -> Result<RecordList, FromJsonError> {
+) -> Result<Vec<Record>, FromJsonError> {
     let found = report.field("records")?;
     match list {
         Some(list) => read_items(alloc, list),
@@ -293,7 +293,7 @@ fn read_records(
     }
 }
 
-fn read_items(alloc: Global, list: &str) -> Result<RecordList, FromJsonError> {
+fn read_items(alloc: Global, list: &str) -> Result<Vec<Record>, FromJsonError> {
     let (mut scratch, mut spare) = (Scratch::new(alloc), Scratch::new(alloc));
     let count = count_items(list, &mut scratch)?;
     let mut records = Vec::with_capacity(alloc, count)?;
@@ -304,7 +304,7 @@ fn read_items(alloc: Global, list: &str) -> Result<RecordList, FromJsonError> {
         };
         records.push(read_item(alloc, number, text, &mut spare)?)?;
     }
-    Ok(RecordList::of(records))
+    Ok(records)
 }
 
 // The record of this number.

@@ -141,7 +141,7 @@ struct Now {
 
 impl Now {
     fn at_base<A: Allocator>(report: &Report<A>) -> Now {
-        let lent = report.base.lent.as_slice().len();
+        let lent = report.base.lent.len();
         Now {
             at: report.base.at,
             max_size: report.limits.max_size() as u64,

@@ -1,22 +1,25 @@
 -- An idle connection that is taken and given back as a broken one.
 use Rattle.std.proofs.Common.{◌≡◌, ℕ, ◌+◌, ◌-◌, ◌*◌, ◌<◌, ◌≤◌, max, true, false, not, List, [], ◌∷◌, ◌++◌, map, length, append_assoc, Option, Some, None}
-use Rattle.std.proofs.Common.{Result, Ok, Err, refl, sym, ◌∙◌, ap, arith}
+use Rattle.std.proofs.Common.{Result, Ok, Err, refl, sym, ◌∙◌, ap, subst, arith}
 use Rattle.std.specs.Prelude.{option_map, unwrap_or, is_some, reverse}
 use Rattle.std.proofs.lemmas.List.{reverse-append, append-nil, length_push}
 use Rattle.r2d2_core.specs.declared.schedule.limits.LendingOrder.{LendingOrder}
 use Rattle.r2d2_core.specs.declared.schedule.limits.LendingOrder.TheVariants as lending
+use Rattle.r2d2_core.specs.declared.machine.answers.Refusal.{Refusal}
 use Rattle.r2d2_core.specs.declared.machine.answers.Refusal.TheVariants as refusal
 use Rattle.r2d2_core.specs.Ids.{copies_of, last_of, front, without}
 use Rattle.r2d2_core.specs.Lending.{lent_next, still_idle}
 use Rattle.r2d2_core.specs.Refusals.{refused_if, ok_or_back, unless_refused}
 use Rattle.r2d2_core.specs.Connections.{SeenIdleConnection, SeenLentConnection, SeenReleased, lent_connection, id_of_idle, id_of_lent, birth_in, released_at}
 use Rattle.r2d2_core.specs.Picture.{Picture, IsSound}
-use Rattle.r2d2_core.specs.Seen.{SeenReturned, Found, Empty, Closed, take_with}
+use Rattle.r2d2_core.specs.Seen.{SeenTake, SeenReturned, Found, Empty, Closed, take_with}
 use Rattle.r2d2_core.specs.Table.{raised_to, top_up_of, next_of, take_orders, taken, after_take, take_answer, gone_one, return_of}
 use Rattle.r2d2_core.specs.Table.{returned, return_answer, after_return}
 use Rattle.r2d2_core.proofs.Lists.Ids.{copies_of-append3, last_of-push, front-push, last_is}
 use Rattle.r2d2_core.proofs.Lists.Lending.{none_is_next, length-still_idle, found-next, without-next}
-use Rattle.r2d2.specs.Evicted.{in_lending_order, evicted_of, IsEvicted}
+use Rattle.r2d2_core.specs.Book.{SeenBook, seen_book}
+use Rattle.r2d2_core.specs.Noted.{noted_take, noted_return}
+use Rattle.r2d2.specs.Evicted.{in_lending_order, evicted_of, book_taken, book_broken, one_evicted, each_evicted, after_eviction, IsEvicted}
 
 -- the idle connection that a take found, by what it answers
 pub record Next {T : Type 0} (o : Option (SeenIdleConnection T)) (id birth : ℕ) (value : T) : Type 0 where
@@ -114,6 +117,30 @@ module _ {T : Type 0} where
   pub latest_after : (t : ℕ) (p q : Picture T) → q ≡ after_take t false p → max q.latest t ≡ max p.latest t
   latest_after t p q e = omega (arith, ap (λ x. x.latest) e ∙ latest_of (next_of p) t p)
 
+  -- a book is what it shows and what it notes
+  pub taken_is : (t : ℕ) (b q : SeenBook T) (answer : SeenTake T) → answer ≡ take_answer false b.picture → q.picture ≡ after_take t false b.picture
+      → q.journal ≡ noted_take t answer b → q ≡ book_taken t b
+  taken_is t b q answer is shows notes =
+      ap (λ p. seen_book p q.journal) shows ∙ ap (λ j. seen_book (after_take t false b.picture) j) (notes ∙ ap (λ a. noted_take t a b) is)
+
+  pub broken_is : (t id : ℕ) (v : T) (q s : SeenBook T) (answer : Result (SeenReturned T) (Refusal × T)) → answer ≡ return_answer t id v true q.picture
+      → s.picture ≡ after_return t id v true q.picture → s.journal ≡ noted_return t id answer q → s ≡ book_broken t id v q
+  broken_is t id v q s answer is shows notes =
+      ap (λ p. seen_book p s.journal) shows ∙ ap (λ j. seen_book (after_return t id v true q.picture) j) (notes ∙ ap (λ a. noted_return t id a q) is)
+
+  -- the next one went, or there was none
+  pub one_went : (t id birth : ℕ) (v : T) (b q s : SeenBook T) → Next (next_of b.picture) id birth v → q ≡ book_taken t b → s ≡ book_broken t id v q
+      → s ≡ one_evicted t (next_of b.picture) b
+  one_went t id birth v b q s n taken came =
+      came
+      ∙ (ap (λ x. book_broken t id v x) taken
+      ∙ (ap (λ i. book_broken t i v (book_taken t b)) (sym n.same_id)
+      ∙ (ap (λ w. book_broken t n.c.id w (book_taken t b)) (sym n.same_value)
+      ∙ sym (ap (λ o. one_evicted t o b) n.is_next))))
+
+  pub none_went : (t m : ℕ) (b q : SeenBook T) → Empty m ≡ take_answer false b.picture → q ≡ book_taken t b → q ≡ one_evicted t (next_of b.picture) b
+  none_went t m b q e taken = taken ∙ sym (ap (λ o. one_evicted t o b) (none_next (next_of b.picture) (take_orders (next_of b.picture) false b.picture) m e))
+
 some_same : {X : Type 0} {x y : X} → Some x ≡ Some y → x ≡ y
 some_same e = cc
 
@@ -125,18 +152,22 @@ pub record Evicting {T : Type 0} (t : ℕ) (first now : Picture T) (out : List (
   pub latest : max now.latest t ≡ max first.latest t
   pub limits : now.on_order.limits ≡ first.on_order.limits
   pub next_id : now.on_order.next_id ≡ first.on_order.next_id
+  pub closed : now.on_order.closed ≡ first.on_order.closed
+  pub last_error : now.last_error ≡ first.last_error
 
 -- what the closing of the next one leaves
 pub record EvictsNext {T : Type 0} (t : ℕ) (p q : Picture T) : Type 0 where
   pub idle : q.idle ≡ still_idle p.on_order.limits.order p.idle
   pub lent : q.lent ≡ p.lent
-  pub latest : max q.latest t ≡ max p.latest t
+  pub latest : q.latest ≡ max p.latest t
   pub limits : q.on_order.limits ≡ p.on_order.limits
   pub next_id : q.on_order.next_id ≡ p.on_order.next_id
+  pub closed : q.on_order.closed ≡ p.on_order.closed
+  pub last_error : q.last_error ≡ p.last_error
 
 module _ {T : Type 0} where
   pub evicting : (t : ℕ) (p : Picture T) → Evicting t p p []
-  evicting t p = record { handed = refl; left = omega arith; lent = refl; latest = refl; limits = refl; next_id = refl }
+  evicting t p = record { handed = refl; left = omega arith; lent = refl; latest = refl; limits = refl; next_id = refl; closed = refl; last_error = refl }
 
   next_first : (o : LendingOrder) (xs : List (SeenIdleConnection T)) (c : SeenIdleConnection T) → lent_next o xs ≡ Some c
       → in_lending_order o xs ≡ c ∷ in_lending_order o (still_idle o xs)
@@ -167,9 +198,11 @@ module _ {T : Type 0} where
             ∙ (moved (max p.latest t) p.on_order.limits.order q.idle out r c next moment ∙ v.handed);
         left = omega (arith, v.left, length_push out r, ap length rest, length-still_idle p.on_order.limits.order q.idle c next);
         lent = x.lent ∙ v.lent;
-        latest = x.latest ∙ v.latest;
+        latest = omega (arith, x.latest, v.latest);
         limits = x.limits ∙ v.limits;
         next_id = x.next_id ∙ v.next_id;
+        closed = x.closed ∙ v.closed;
+        last_error = x.last_error ∙ v.last_error;
       }
 
   pub goes_on : (t : ℕ) (p q s : Picture T) (out : List (SeenReleased T)) (r : SeenReleased T)
@@ -189,6 +222,16 @@ module _ {T : Type 0} where
       → Evicting t p q out → IsSound p → length out < p.on_order.limits.max_size
   has_more t p q out r is v s = more_by t p q out r (lent_next q.on_order.limits.order q.idle) refl is v s
 
+  -- and then fewer are left
+  fewer_by : (m : ℕ) (q s : Picture T) (r : SeenReleased T) (n : Option (SeenIdleConnection T)) → next_of q ≡ n → Some r ≡ option_map (released_at m) n
+      → s.idle ≡ still_idle q.on_order.limits.order q.idle → length s.idle < length q.idle
+  fewer_by m q s r None e is left = absurd cc
+  fewer_by m q s r (Some c) e is left = omega (arith, ap length left, length-still_idle q.on_order.limits.order q.idle c e)
+
+  pub fewer : (m : ℕ) (q s : Picture T) (r : SeenReleased T) → Some r ≡ option_map (released_at m) (next_of q)
+      → s.idle ≡ still_idle q.on_order.limits.order q.idle → length s.idle < length q.idle
+  fewer m q s r is left = fewer_by m q s r (next_of q) refl is left
+
   -- where none is next it is done
   none_by : (m : ℕ) (n : Option (SeenIdleConnection T)) → None ≡ option_map (released_at m) n → n ≡ None
   none_by m None e = refl
@@ -207,12 +250,42 @@ module _ {T : Type 0} where
       ∙ (sym (ap (λ l. out ++ map (released_at (max p.latest t)) l) (ap (in_lending_order p.on_order.limits.order) e ∙ none_in_order p.on_order.limits.order))
       ∙ v.handed)
 
-  pub evicted : (t : ℕ) (p q s : Picture T) (out : List (SeenReleased T)) → q.idle ≡ [] → Evicting t p q out → EvictsNext t q s → IsEvicted p s
+  pub evicted : (t : ℕ) (p q s : Picture T) (out : List (SeenReleased T)) → q.idle ≡ [] → Evicting t p q out → EvictsNext t q s → IsEvicted t p s
   evicted t p q s out e v x = record {
     none_idle = x.idle ∙ (ap (still_idle q.on_order.limits.order) e ∙ none_still q.on_order.limits.order);
     lent = x.lent ∙ v.lent;
+    latest = x.latest ∙ v.latest;
+    limits = x.limits ∙ v.limits;
     next_id = x.next_id ∙ v.next_id;
+    closed = x.closed ∙ v.closed;
+    last_error = x.last_error ∙ v.last_error;
   }
+
+  -- what is left to do from a book is what is left after the next one
+  rest_by : (t m : ℕ) (b s : SeenBook T) (o : LendingOrder) (r : SeenReleased T) (n : Option (SeenIdleConnection T)) → lent_next o b.picture.idle ≡ n
+      → Some r ≡ option_map (released_at m) n → s ≡ one_evicted t n b → s.picture.idle ≡ still_idle o b.picture.idle
+      → each_evicted t (in_lending_order o s.picture.idle) s ≡ each_evicted t (in_lending_order o b.picture.idle) b
+  rest_by t m b s o r None e is went left = absurd cc
+  rest_by t m b s o r (Some c) e is went left =
+      ap (λ l. each_evicted t (in_lending_order o l) s) left
+      ∙ (ap (λ x. each_evicted t (in_lending_order o (still_idle o b.picture.idle)) x) went
+      ∙ sym (ap (λ l. each_evicted t l b) (next_first o b.picture.idle c e)))
+
+  pub rest_after : (t m : ℕ) (b s : SeenBook T) (o : LendingOrder) (r : SeenReleased T) → b.picture.on_order.limits.order ≡ o
+      → Some r ≡ option_map (released_at m) (next_of b.picture) → s ≡ one_evicted t (next_of b.picture) b
+      → s.picture.idle ≡ still_idle b.picture.on_order.limits.order b.picture.idle
+      → each_evicted t (in_lending_order o s.picture.idle) s ≡ each_evicted t (in_lending_order o b.picture.idle) b
+  rest_after t m b s o r same is went left =
+      subst (λ o. each_evicted t (in_lending_order o s.picture.idle) s ≡ each_evicted t (in_lending_order o b.picture.idle) b) same
+      (rest_by t m b s b.picture.on_order.limits.order r (next_of b.picture) refl is went left)
+
+  -- and where none is idle, a take that finds none
+  pub rest_of_none : (t m : ℕ) (b s : SeenBook T) (o : LendingOrder) → None ≡ option_map (released_at m) (next_of b.picture)
+      → s ≡ one_evicted t (next_of b.picture) b → s ≡ each_evicted t (in_lending_order o b.picture.idle) b
+  rest_of_none t m b s o is went =
+      let none : next_of b.picture ≡ None = none_by m (next_of b.picture) is in
+      let no_idle : b.picture.idle ≡ [] = none_is_next b.picture.on_order.limits.order b.picture.idle none in
+      went ∙ (ap (λ n. one_evicted t n b) none ∙ sym (ap (λ l. each_evicted t l b) (ap (in_lending_order o) no_idle ∙ none_in_order o)))
 
 -- one take more is counted
 pub one_more_counted : (before so_far after count per_take : ℕ) → so_far ≡ before + count * per_take → after ≡ so_far + 1 * per_take

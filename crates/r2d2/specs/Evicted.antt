@@ -1,9 +1,12 @@
 -- What an eviction does. A moment is raised to the latest so far.
-use Rattle.std.specs.Prelude.{◌≡◌, ℕ, nat_lt, max, Bool, ◌||◌, List, [], map, reverse}
+use Rattle.std.specs.Prelude.{◌≡◌, ℕ, nat_lt, max, Bool, true, false, ◌||◌, List, [], ◌∷◌, map, reverse, Option, Some, None}
 use Rattle.r2d2_core.specs.declared.schedule.limits.LendingOrder.{LendingOrder}
 use Rattle.r2d2_core.specs.declared.schedule.limits.LendingOrder.TheVariants as lending
-use Rattle.r2d2_core.specs.Connections.{SeenReleased, released_at}
+use Rattle.r2d2_core.specs.Connections.{SeenIdleConnection, SeenReleased, released_at}
 use Rattle.r2d2_core.specs.Picture.{Picture}
+use Rattle.r2d2_core.specs.Table.{take_answer, after_take, return_answer, after_return}
+use Rattle.r2d2_core.specs.Book.{SeenBook, seen_book}
+use Rattle.r2d2_core.specs.Noted.{noted_take, noted_return}
 
 -- the idle ones in the order in which they would be lent: the list has the oldest first
 abbrev pub in_lending_order : {X : Type 0} → LendingOrder → List X → List X
@@ -15,11 +18,36 @@ module _ {T : Type 0} where
   abbrev pub evicted_of : ℕ → Picture T → List (SeenReleased T)
   evicted_of t p = map (released_at (max p.latest t)) (in_lending_order p.on_order.limits.order p.idle)
 
-  -- what it leaves: nothing is idle, what is lent stays so, and ids go on as before
-  pub record IsEvicted (old new : Picture T) : Type 0 where
+  -- a book after a take, and after an id came back broken
+  abbrev pub book_taken : ℕ → SeenBook T → SeenBook T
+  book_taken t b = seen_book (after_take t false b.picture) (noted_take t (take_answer false b.picture) b)
+
+  abbrev pub book_broken : ℕ → ℕ → T → SeenBook T → SeenBook T
+  book_broken t id value b = seen_book (after_return t id value true b.picture) (noted_return t id (return_answer t id value true b.picture) b)
+
+  -- after an idle connection was taken and came back broken; where none is idle, after a take that finds none
+  abbrev pub one_evicted : ℕ → Option (SeenIdleConnection T) → SeenBook T → SeenBook T
+  one_evicted t None b = book_taken t b
+  one_evicted t (Some c) b = book_broken t c.id c.value (book_taken t b)
+
+  -- after each of some was, and a last take found none
+  abbrev pub each_evicted : ℕ → List (SeenIdleConnection T) → SeenBook T → SeenBook T
+  each_evicted t [] b = one_evicted t None b
+  each_evicted t (c ∷ cs) b = each_evicted t cs (one_evicted t (Some c) b)
+
+  -- a book after an eviction at the moment t: each that was idle went, in the order in which they would be lent
+  abbrev pub after_eviction : ℕ → SeenBook T → SeenBook T
+  after_eviction t b = each_evicted t (in_lending_order b.picture.on_order.limits.order b.picture.idle) b
+
+  -- which comes to this: nothing is idle, the moment is the raised one, the openings that were ordered are pending, and all else stays
+  pub record IsEvicted (t : ℕ) (old new : Picture T) : Type 0 where
     pub none_idle : new.idle ≡ []
     pub lent : new.lent ≡ old.lent
+    pub latest : new.latest ≡ max old.latest t
+    pub limits : new.on_order.limits ≡ old.on_order.limits
     pub next_id : new.on_order.next_id ≡ old.on_order.next_id
+    pub closed : new.on_order.closed ≡ old.on_order.closed
+    pub last_error : new.last_error ≡ old.last_error
 
 -- a connection that comes back is to be closed: it is broken, or was opened before the latest eviction, from which on ids begin with this one
 abbrev pub is_to_close : Bool → ℕ → ℕ → Bool

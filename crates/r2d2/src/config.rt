@@ -211,6 +211,9 @@ impl<
     /// How many connections there are at most: idle ones, lent ones and those that are being opened
     /// together. The default is 10. A pool takes the memory for that many when it is built.
     ///
+    /// A connection that the pool hands to its closing no longer counts, and another may be opened
+    /// while it is still closed. So a server may see more than `max_size` for that long.
+    ///
     /// It may not be 0. The test for a number from outside: `max_size > 0`.
     pub fn max_size(mut self, max_size: u32) -> Self
         requires { 0 < max_size }
@@ -257,8 +260,8 @@ impl<
     /// The age at which a connection is closed; None for never. The default is 30 minutes.
     ///
     /// It is enforced when a lent connection comes back, and for an idle one at the next look for
-    /// expired ones: there is one every 30 seconds, so an idle connection stays at most 30 seconds
-    /// beyond, and longer only while every worker is busy. Until then it can still be lent.
+    /// expired ones. A look is due every 30 seconds, and is made when a worker is free. Until then
+    /// the connection can still be lent.
     ///
     /// It may not be a length of zero. The test for one from outside: None, or `!age.is_zero()`.
     pub fn max_lifetime(mut self, max_lifetime: Option<Duration>) -> Self
@@ -272,9 +275,9 @@ impl<
     /// How long a connection may be idle before it is closed; None for as long as it likes. The
     /// default is 10 minutes.
     ///
-    /// It is enforced at the next look for expired ones: there is one every 30 seconds, so an idle
-    /// connection stays at most 30 seconds beyond, and longer only while every worker is busy.
-    /// Until then it can still be lent, and its idle time starts anew when it comes back.
+    /// It is enforced at the next look for expired ones. A look is due every 30 seconds, and is made
+    /// when a worker is free. Until then the connection can still be lent, and its idle time starts
+    /// anew when it comes back.
     ///
     /// It may not be a length of zero. The test for one from outside: None, or `!length.is_zero()`.
     pub fn idle_timeout(mut self, idle_timeout: Option<Duration>) -> Self

@@ -16,7 +16,8 @@ mod counted;
 mod evicting;
 
 pub use crate::payload::{Payload, open};
-pub use counted::{Counted, Counter, NoCount, Takes, Tied, Ties, lend_counted};
+pub use counted::{Counted, lend_counted};
+pub(crate) use counted::{Counter, NoCount, Takes, Tied, Ties};
 use r2d2_core::{Book, Gone, Refusal, Released, Returned, Take};
 use std::alloc::Allocator;
 use std::time::Duration;

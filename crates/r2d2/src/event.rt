@@ -13,7 +13,7 @@ pub trait HandleEvent: fmt::Debug + Sync + Send + Drop {
     /// A connection was opened and has its id.
     fn handle_acquire(&self, _event: AcquireEvent) {}
 
-    /// A connection leaves the pool to be closed.
+    /// A connection leaves the pool: to be closed, or detached.
     fn handle_release(&self, _event: ReleaseEvent) {}
 
     /// A connection was lent.
@@ -55,7 +55,7 @@ impl AcquireEvent {
     }
 }
 
-/// A connection leaves the pool to be closed.
+/// A connection leaves the pool: to be closed, or detached.
 #[derive(Debug, Drop)]
 pub struct ReleaseEvent {
     id: u64,

@@ -132,8 +132,9 @@ pub trait CustomizeConnection<C: Drop, E>: fmt::Debug + Send + Sync + Drop + 'st
         Ok(())
     }
 
-    /// Is given each connection that the pool closes because it is broken, expired, or failed its
-    /// check. Those that are idle when the pool itself goes away are dropped without it.
+    /// Is given each connection that the pool closes because it is broken, expired, evicted, or
+    /// failed its check, or because it comes back to a closed pool. Those that are idle when the
+    /// pool is closed are dropped without it, and a detached one stays with its caller.
     fn on_release(&self, _connection: C) {}
 }
 

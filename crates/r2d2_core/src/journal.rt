@@ -150,6 +150,7 @@ impl<T, A: Allocator> Book<T, A> {
     pub fn takes(&self) -> u64
         ensures value { result ≡ self.now.journal.takes }
         ensures counted { CountsTakes self.now.journal }
+        ensures facts { HasFacts self.now }
     {
         self.journal.takes()
     }

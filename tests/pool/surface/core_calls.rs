@@ -2,7 +2,7 @@
 ghost use Rattle.std.specs.Prelude.{◌≡◌, ◌<◌, length};
 
 use r2d2::journal::{
-    Base, Book, Fault, IdList, IdleConnections, LentConnections, Record, RecordList, Report,
+    Base, Book, Fault, Record, Report,
 };
 use r2d2::machine::{Core, Gone, Leftover, Limits, Refusal, Released, Returned, Take};
 use r2d2::reuse::{Comparison, Move, compare, is_in_order};
@@ -166,10 +166,10 @@ fn journals(rt: HostRuntime) -> Result<(), Fail> {
 
     let book: Book<u32> = Book::with_first_id(rt.alloc(), limits, Duration::ZERO, 1, 5)?;
     let report = book.report_in(rt.alloc())?;
-    assert!(rt; report.records.as_slice().is_empty() && report.idle.as_slice().is_empty());
-    let records: RecordList = RecordList::of(Vec::new(rt.alloc()));
-    let idle: IdList = IdList::of(Vec::new(rt.alloc()));
-    assert!(rt; records.into_vec().is_empty() && idle.into_vec().is_empty());
+    assert!(rt; report.records.is_empty() && report.idle.is_empty());
+    let Report { records, idle, .. } = report;
+    let (records, idle): (Vec<Record>, Vec<u64>) = (records, idle);
+    assert_eq!(rt; (records.len(), idle.len()), (0, 0));
     Ok(())
 }
 
@@ -224,8 +224,8 @@ fn books(rt: HostRuntime) -> Result<(), Fail> {
 fn first_base(alloc: Global, limits: Limits) -> Base {
     Base {
         at: Duration::ZERO,
-        idle: IdleConnections::of(Vec::new(alloc)),
-        lent: LentConnections::of(Vec::new(alloc)),
+        idle: Vec::new(alloc),
+        lent: Vec::new(alloc),
         connections: 0,
         pending: limits.wanted(),
         closed: false,
@@ -237,11 +237,11 @@ fn first_report(alloc: Global, limits: Limits) -> Report {
     Report {
         limits,
         base: first_base(alloc, limits),
-        records: RecordList::of(Vec::new(alloc)),
+        records: Vec::new(alloc),
         lost: 0,
         takes: 0,
-        idle: IdList::of(Vec::new(alloc)),
-        lent: IdList::of(Vec::new(alloc)),
+        idle: Vec::new(alloc),
+        lent: Vec::new(alloc),
         connections: 0,
         pending: limits.wanted(),
         closed: false,
@@ -282,7 +282,7 @@ fn faults(rt: HostRuntime) -> Result<(), Fail> {
         at: seconds(1),
         id: 0,
     };
-    report.records = RecordList::of(vec![in rt.alloc(); kept]?);
+    report.records = vec![in rt.alloc(); kept]?;
     assert!(rt; matches!(report.first_fault()?, Some(Fault::Record { place: 0, .. })));
     // More are on order than there may be.
     report.base.pending = 3;
@@ -292,11 +292,12 @@ fn faults(rt: HostRuntime) -> Result<(), Fail> {
 
 #[test]
 fn lists_of_a_base(rt: HostRuntime) -> Result<(), Fail> {
-    let idle: IdleConnections =
-        IdleConnections::of(vec![in rt.alloc(); (1, seconds(1), seconds(2))]?);
-    let lent: LentConnections = LentConnections::of(vec![in rt.alloc(); (2, seconds(1))]?);
-    assert_eq!(rt; (idle.as_slice().len(), lent.as_slice().len()), (1, 1));
-    assert_eq!(rt; (idle.into_vec().len(), lent.into_vec().len()), (1, 1));
+    let mut base = first_base(rt.alloc(), limits);
+    let idle: Vec<(u64, Duration, Duration)> = vec![in rt.alloc(); (1, seconds(1), seconds(2))]?;
+    let lent: Vec<(u64, Duration)> = vec![in rt.alloc(); (2, seconds(1))]?;
+    base.idle = idle;
+    base.lent = lent;
+    assert_eq!(rt; base.idle.iter().map(|idle| idle.0).sum::<u64>() + base.lent[0].0, 3);
     Ok(())
 }
 

@@ -135,8 +135,8 @@ fn a_user_of_its_contracts(rt: HostRuntime) -> Result<(), Fail> {
         }
     );
     let report = audit(&pool)?.ok_or("records were dropped")?;
-    assert_eq!(rt; report.records.as_slice().len(), 3);
-    assert_eq!(rt; report.lent.as_slice().len(), 1);
+    assert_eq!(rt; report.records.len(), 3);
+    assert_eq!(rt; report.lent.len(), 1);
     assert_eq!(rt; pool.journal()?.lost, 0);
     Ok(())
 }

@@ -50,7 +50,7 @@ impl Teller {
     }
 
     fn meet_resting<A: Allocator>(&mut self, base: &Base<A>) -> Result<(), AllocError> {
-        for (id, birth, since) in base.idle.as_slice() {
+        for (id, birth, since) in &base.idle {
             let from = (*since).min(base.at);
             self.meet(*id, (*birth).min(from), Coming::Resting, from)?;
         }
@@ -58,7 +58,7 @@ impl Teller {
     }
 
     fn meet_away<A: Allocator>(&mut self, base: &Base<A>) -> Result<(), AllocError> {
-        for (id, birth) in base.lent.as_slice() {
+        for (id, birth) in &base.lent {
             self.meet(*id, (*birth).min(base.at), Coming::Away, base.at)?;
         }
         Ok(())

@@ -79,7 +79,7 @@ pub(super) fn reason<A: Allocator>(
 // The least id that stands twice.
 fn twice<A: Allocator>(alloc: Global, base: &Base<A>) -> Result<Option<u64>, AllocError> {
     let mut ids = Vec::new(alloc);
-    for (id, _, _) in base.idle.as_slice() {
+    for (id, _, _) in &base.idle {
         ids.push(*id)?;
     }
     add_lent(&mut ids, base.lent.as_slice())?;
@@ -132,8 +132,8 @@ fn born_after(at: Duration, lent: &[(u64, Duration)]) -> Option<u64> {
 
 // Which counts are wrong, where the ids and the moments are not.
 fn wrong_count<A: Allocator>(limits: &Limits, base: &Base<A>) -> BaseReason {
-    let idle = base.idle.as_slice().len();
-    let listed = idle.saturating_add(base.lent.as_slice().len());
+    let idle = base.idle.len();
+    let listed = idle.saturating_add(base.lent.len());
     if base.connections as usize != listed {
         let shown = base.connections;
         return BaseReason::Connections { shown, listed };

@@ -76,7 +76,7 @@ pub(super) fn verdict<A: Allocator>(report: &Report<A>) -> Verdict
     if !is_replenished(report) {
         return Verdict::Starved(StarvedReason {
             wanted: report.limits.wanted(),
-            idle: report.idle.as_slice().len(),
+            idle: report.idle.len(),
             pending: report.pending,
         });
     }
@@ -88,8 +88,8 @@ fn is_first<A: Allocator>(limits: &Limits, base: &Base<A>) -> bool
     ensures { IsTrue result
         ↔ (seen_base base.now ≡ first_base (seen_limits limits.now) (as_nanos base.now.at)) }
 {
-    base.idle.as_slice().is_empty()
-        && base.lent.as_slice().is_empty()
+    base.idle.is_empty()
+        && base.lent.is_empty()
         && base.connections == 0
         && base.pending == limits.wanted()
         && !base.closed
@@ -97,7 +97,7 @@ fn is_first<A: Allocator>(limits: &Limits, base: &Base<A>) -> bool
 
 // How it is not. Its connections are its idle and its lent ones.
 fn making_reason<A: Allocator>(limits: &Limits, base: &Base<A>) -> MakingReason {
-    let (idle, lent) = (base.idle.as_slice().len(), base.lent.as_slice().len());
+    let (idle, lent) = (base.idle.len(), base.lent.len());
     let (shown, due) = (base.pending, limits.wanted());
     if idle > 0 {
         MakingReason::Idle(idle)
@@ -117,7 +117,7 @@ fn is_replenished<A: Allocator>(report: &Report<A>) -> bool
         → (wanted_of (seen_limits report.now.limits) ≤ length report.now.idle + report.now.pending)
         ⊎ (report.now.connections + report.now.pending ≡ report.now.limits.max_size)) }
 {
-    let ready = report.idle.as_slice().len() as u128 + report.pending as u128;
+    let ready = report.idle.len() as u128 + report.pending as u128;
     let all = report.connections as u64 + report.pending as u64;
     report.closed
         || ready >= report.limits.wanted() as u128

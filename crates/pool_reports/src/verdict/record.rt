@@ -148,7 +148,7 @@ fn of_taken<A: Allocator>(
         None => RecordReason::NoneIdle(id),
         Some(next) if next != id => RecordReason::NotNext { id, next },
         Some(_) => {
-            let idle = before.idle.as_slice().len().saturating_sub(1);
+            let idle = before.idle.len().saturating_sub(1);
             let due = due(limits, before, idle, before.connections);
             RecordReason::Ordered { ordered, due }
         }
@@ -189,7 +189,7 @@ fn of_kept<A: Allocator>(before: &Base<A>, id: u64) -> RecordReason {
 }
 
 fn is_lent<A: Allocator>(before: &Base<A>, id: u64) -> bool {
-    before.lent.as_slice().iter().any(|loan| loan.0 == id)
+    before.lent.iter().any(|loan| loan.0 == id)
 }
 
 fn of_closed<A: Allocator>(
@@ -201,7 +201,7 @@ fn of_closed<A: Allocator>(
     if !is_lent(before, id) {
         return RecordReason::ClosedThoughNotLent(id);
     }
-    let idle = before.idle.as_slice().len();
+    let idle = before.idle.len();
     let due = due(limits, before, idle, before.connections.saturating_sub(1));
     RecordReason::Ordered { ordered, due }
 }

@@ -25,6 +25,9 @@ use std::sync::ledger::{Ledger, Share};
 use std::time::Duration;
 
 /// What stands beside a book, and is tied to the count of its takes.
+///
+/// It is public as far as the types of `Pool` and `Counted` ask, and so are `Counter`, `NoCount`,
+/// `Takes` and `Tied`: no user names or implements them.
 pub trait Ties: Drop {
     // Whether it stands at a count of takes.
     ghost stands_at: { Self → ℕ → Type 0 };
@@ -116,7 +119,8 @@ impl<L: Ledger> Counter for Takes<L> {
 /// A book beside what counts its takes: the counter stands at the number of the book's takes that
 /// found.
 ///
-/// A take is `lend`, and there is no other one. All else is the book's, and leaves the counter.
+/// Outside of this crate it has no name but `Counted`, whose one take is `lend_counted`. All else
+/// is the book's, and leaves the counter.
 #[derive(Drop)]
 pub struct Tied<T, C: Ties> {
     book: Book<T>,
@@ -139,7 +143,7 @@ pub type Counted<T, L> = Tied<T, Takes<L>>;
 
 impl<T> Tied<T, NoCount> {
     /// A book whose takes nothing counts.
-    pub fn plain(book: Book<T>) -> Tied<T, NoCount>
+    pub(crate) fn plain(book: Book<T>) -> Tied<T, NoCount>
         ensures book { result.book ≡ book }
     {
         Tied {
@@ -305,7 +309,12 @@ impl<T, C: Ties> Tied<T, C> {
 impl<T, C: Counter> Tied<T, C> {
     /// As `lend` of a book. A take that found is counted with the tally, which has a part at least.
     #[inline(always)]
-    pub fn lend(&mut self, now: Duration, or_order: bool, tally: &mut C::Tally) -> (Take<T>, Wakes)
+    pub(crate) fn lend(
+        &mut self,
+        now: Duration,
+        or_order: bool,
+        tally: &mut C::Tally,
+    ) -> (Take<T>, Wakes)
         requires { 0 < C.parts tally.old }
         ensures answer { seen_take result.0 ≡ table.take_answer or_order self.old.book.picture }
         ensures wakes { result.1 ≡ wakes_of_take (seen_take result.0) }

@@ -81,7 +81,7 @@ impl<P: Drop, C: Ties> Guarded<Tied<P, C>> {
     ghost use Rattle.r2d2_core.specs.Seen.{seen_returned, seen_released, map_ok};
     ghost use Rattle.r2d2_core.specs.Table.{return_answer, after_return};
     ghost use Rattle.r2d2.specs.Wakes.{wakes_of_return};
-    ghost use Rattle.r2d2.specs.Evicted.{is_to_close, evicted_of, IsEvicted};
+    ghost use Rattle.r2d2.specs.Evicted.{is_to_close, evicted_of, after_eviction, IsEvicted};
 
     /// Puts a lent connection back. One that was opened before the latest eviction is closed, as a
     /// broken one is.
@@ -123,7 +123,9 @@ impl<P: Drop, C: Ties> Guarded<Tied<P, C>> {
             ≤ vec_capacity evicted.old }
         ensures released { map seen_released evicted.new.items
             ≡ evicted_of (as_nanos now) self.old.book.book.picture }
-        ensures after { IsEvicted self.old.book.book.picture self.new.book.book.picture }
+        ensures after { self.new.book.book ≡ after_eviction (as_nanos now) self.old.book.book }
+        ensures comes_to { IsEvicted (as_nanos now) self.old.book.book.picture
+            self.new.book.book.picture }
         ensures kept { self.new.first_kept ≡ self.old.book.book.picture.on_order.next_id }
         ensures waiting { self.new.waiting ≡ self.old.waiting }
         ensures parts { C.parts tally.new ≡ C.parts tally.old }

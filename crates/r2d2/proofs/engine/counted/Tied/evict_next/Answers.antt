@@ -1,7 +1,7 @@
 use Rattle.std.proofs.Common.{◌-◌, max, Ok, sym, ◌∙◌, ap}
 use Rattle.std.specs.Duration.{as_nanos}
 use Rattle.r2d2_core.specs.Seen.{seen_take, seen_returned, map_ok}
-use Rattle.r2d2.proofs.Evicting.{next, idle_of_none, lent_after, closing, lent_then, released_next, never_refused, same_age, same_value, latest_after}
+use Rattle.r2d2.proofs.Evicting.{next, idle_of_none, lent_after, closing, lent_then, released_next, never_refused, same_age, same_value, latest_after, taken_is, broken_is, one_went, none_went}
 use Rattle.r2d2.proofs.engine.counted.Tied.evict_next.Goals as goal
 
 pub returns-in_default-clause-idle : goal.returns-in_default-clause-idle
@@ -47,3 +47,22 @@ returns-clause-lent g c =
     let lent = lent_after t c.in-Found.id (as_nanos c.in-Found.birth) c.in-Found.value p q n c.lend-taken.ensures.after in
     lent_then t c.in-Found.id (as_nanos c.in-Found.birth) c.in-Found.value q c.give_back-answer.new.self.book.picture p.lent c.lend-taken.ensures.sound lent
     c.give_back-answer.ensures.after
+
+pub returns-in_default-clause-after : goal.returns-in_default-clause-after
+returns-in_default-clause-after g c =
+    let t = as_nanos c.args.now in
+    let b = c.args.self.now.book in
+    let q = c.lend-taken.new.self.book in
+    let taken = taken_is t b q _ c.lend-taken.ensures.answer c.lend-taken.ensures.after c.lend-taken.ensures.noted in
+    none_went t _ b q (sym (ap seen_take c.in_default.is) ∙ c.lend-taken.ensures.answer) taken
+
+pub returns-clause-after : goal.returns-clause-after
+returns-clause-after g c =
+    let t = as_nanos c.args.now in
+    let b = c.args.self.now.book in
+    let q = c.lend-taken.new.self.book in
+    let back = c.give_back-answer in
+    let n = next _ _ c.in-Found.id (as_nanos c.in-Found.birth) _ c.in-Found.value (sym (ap seen_take c.in-Found.is) ∙ c.lend-taken.ensures.answer) in
+    let taken = taken_is t b q _ c.lend-taken.ensures.answer c.lend-taken.ensures.after c.lend-taken.ensures.noted in
+    let came = broken_is t c.in-Found.id c.in-Found.value q back.new.self.book _ back.ensures.answer back.ensures.after back.ensures.noted in
+    one_went t c.in-Found.id (as_nanos c.in-Found.birth) c.in-Found.value b q back.new.self.book n taken came
