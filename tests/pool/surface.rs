@@ -7,3 +7,4 @@ mod engine_calls;
 mod pool_calls;
 mod pool_uses;
 mod user_types;
+mod written_types;

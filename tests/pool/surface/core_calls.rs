@@ -292,7 +292,7 @@ fn faults(rt: HostRuntime) -> Result<(), Fail> {
 
 #[test]
 fn lists_of_a_base(rt: HostRuntime) -> Result<(), Fail> {
-    let mut base = first_base(rt.alloc(), limits);
+    let mut base = first_base(rt.alloc(), limits().ok_or("limits")?);
     let idle: Vec<(u64, Duration, Duration)> = vec![in rt.alloc(); (1, seconds(1), seconds(2))]?;
     let lent: Vec<(u64, Duration)> = vec![in rt.alloc(); (2, seconds(1))]?;
     base.idle = idle;
