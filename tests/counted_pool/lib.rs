@@ -15,9 +15,13 @@ mod detaching;
 #[cfg(test)]
 mod draining;
 #[cfg(test)]
+mod ends;
+#[cfg(test)]
 mod evicting;
 #[cfg(test)]
 mod extremes;
+#[cfg(test)]
+mod hand;
 #[cfg(test)]
 mod hands;
 #[cfg(test)]
@@ -32,6 +36,8 @@ mod listening;
 mod lives;
 #[cfg(test)]
 mod managers;
+#[cfg(test)]
+mod moments;
 #[cfg(test)]
 mod opening;
 #[cfg(test)]

@@ -1,71 +1,17 @@
 // A clock that its test moves: moments and ages exactly, and who is woken after a reap.
 
+use crate::hand::Hand;
 use crate::kind::Makes;
 use crate::play::{GOOD, Manager, Others, Play, Rows, Sorry, watched};
 use r2d2::event::{AcquireEvent, CheckinEvent, CheckoutEvent, ReleaseEvent, TimeoutEvent};
 use r2d2::{Builder, HandleError, HandleEvent, PoolRuntime};
 use r2d2_core::Record;
-use std::alloc::{Alloc, AllocError};
-use std::rt::Clock;
+use std::alloc::AllocError;
 use std::sync::atomic::{AtomicU64, Ordering};
-use std::sync::{Arc, Mutex, Wait};
+use std::sync::{Arc, Mutex};
 use std::test::Fail;
-use std::thread::Threads;
 use std::time::Duration;
-use std::{fmt, io, thread};
-
-/// A clock that shows so many seconds, and moves on by as many at each reading.
-#[derive(Clone, Copy)]
-struct Hand<R> {
-    rt: R,
-    shows: &'static AtomicU64,
-    moves_by: &'static AtomicU64,
-}
-
-impl<R: PoolRuntime> Hand<R> {
-    // It stands at zero.
-    fn new(rt: R) -> Result<Hand<R>, AllocError> {
-        Ok(Hand {
-            rt,
-            shows: Box::leak(Box::new(rt.alloc(), AtomicU64::new(0))?),
-            moves_by: Box::leak(Box::new(rt.alloc(), AtomicU64::new(0))?),
-        })
-    }
-}
-
-impl<R> Hand<R> {
-    fn set(&self, seconds: u64, moves_by: u64) {
-        self.shows.store(seconds, Ordering::SeqCst);
-        self.moves_by.store(moves_by, Ordering::SeqCst);
-    }
-}
-
-impl<R: Clock> Clock for Hand<R> {
-    fn monotonic(&self) -> io::Result<Duration> {
-        let by = self.moves_by.load(Ordering::SeqCst);
-        Ok(Duration::from_secs(self.shows.fetch_add(by, Ordering::SeqCst)))
-    }
-
-    fn since_1970(&self) -> io::Result<Duration> {
-        self.rt.since_1970()
-    }
-
-    fn sleep(&self, duration: Duration) {
-        self.rt.sleep(duration)
-    }
-}
-
-impl<R: Wait> Wait for Hand<R> {}
-
-impl<R: Threads> Threads for Hand<R> {}
-
-impl<R: Alloc> Alloc for Hand<R> {
-    type A = R::A;
-
-    fn alloc(&self) -> R::A {
-        self.rt.alloc()
-    }
-}
+use std::{fmt, thread};
 
 type Ages = Arc<Mutex<Vec<Duration>>>;
 
@@ -108,9 +54,9 @@ impl<R: PoolRuntime> HandleEvent for Mover<R> {
     fn handle_acquire(&self, _event: AcquireEvent) {}
 
     fn handle_release(&self, event: ReleaseEvent) {
-        self.hand.moves_by.store(0, Ordering::SeqCst);
+        self.hand.stop();
         // Where memory is refused the age is missing in the list, and the test that reads it fails.
-        self.ages.lock(&self.hand.rt).push(event.age()).ok();
+        self.ages.lock(&self.hand).push(event.age()).ok();
     }
 
     fn handle_checkout(&self, _event: CheckoutEvent) {}

@@ -5,6 +5,10 @@
 #[cfg(test)]
 mod clocks;
 #[cfg(test)]
+mod ends;
+#[cfg(test)]
+mod hand;
+#[cfg(test)]
 mod hands;
 #[cfg(test)]
 mod in_turn;
@@ -12,6 +16,8 @@ mod in_turn;
 mod kind;
 #[cfg(test)]
 mod lives;
+#[cfg(test)]
+mod moments;
 #[cfg(test)]
 mod passing_on;
 #[cfg(test)]

@@ -145,6 +145,17 @@ fn a_drain_waits_for_the_last_return(rt: HostRuntime) -> Result<(), Fail> {
 }
 
 #[test]
+fn a_drain_waits_for_the_longest_timeout(rt: HostRuntime) -> Result<(), Fail> {
+    let counts = Counts::new(rt.alloc())?;
+    let pool = of(rt, &counts, 1)?;
+    let lent = pool.get()?;
+    thread::spawn(&rt, move || keep(rt, Duration::from_millis(300), lent))?;
+    assert_eq!(rt; pool.drain(Duration::MAX).err(), None);
+    assert_eq!(rt; pool.status().lent, 0);
+    Ok(())
+}
+
+#[test]
 fn a_drain_tells_what_is_lent_past_its_timeout(rt: HostRuntime) -> Result<(), Fail> {
     let counts = Counts::new(rt.alloc())?;
     let pool = of(rt, &counts, 3)?;

@@ -5,7 +5,7 @@ use crate::kind::{Makes, PooledConnection};
 use crate::listening::{Listener, Told};
 use crate::managers::{Breaks, Counts, Manager, Sevens};
 use r2d2::event::{AcquireEvent, CheckinEvent, CheckoutEvent, ReleaseEvent, TimeoutEvent};
-use r2d2::{Builder, HandleEvent, PoolRuntime};
+use r2d2::{Builder, ErrorKind, HandleEvent, PoolRuntime};
 use std::sync::{Arc, Mutex, Wait};
 use std::test::Fail;
 use std::time::Duration;
@@ -55,6 +55,20 @@ fn event_on_try_get(rt: HostRuntime) -> Result<(), Fail> {
     assert!(rt; pool.try_get()?.is_none());
     let events = [Told::Acquire(0), Told::Checkout(0)];
     assert_eq!(rt; told.lock(&rt).as_slice(), events.as_slice());
+    Ok(())
+}
+
+#[test]
+fn a_closed_pool_tells_of_no_timeout(rt: HostRuntime) -> Result<(), Fail> {
+    let told = Arc::new(rt.alloc(), Mutex::new(Vec::new(rt.alloc())))?;
+    let pool = Builder::new()
+        .max_size(1)
+        .event_handler(Listener::new(rt, &told)?)
+        .make(rt, Sevens)?;
+    pool.close();
+    let error = pool.get().err().ok_or("a connection")?;
+    assert_eq!(rt; error.kind(), ErrorKind::Closed);
+    assert_eq!(rt; told.lock(&rt).as_slice(), [Told::Acquire(0)].as_slice());
     Ok(())
 }
 

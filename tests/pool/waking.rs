@@ -16,10 +16,12 @@ use std::test::Fail;
 use std::time::Duration;
 use std::{fmt, thread};
 
-/// How many callers were served, and how often somebody waited for the first of them in vain.
+/// How many callers were served, and how often somebody began to wait for the first of them, and
+/// waited in vain.
 #[derive(Drop)]
 struct Served {
     callers: AtomicU64,
+    waits: AtomicU64,
     waited_in_vain: AtomicU64,
 }
 
@@ -27,6 +29,7 @@ impl Served {
     fn new(alloc: Global) -> Result<Arc<Served>, AllocError> {
         let served = Served {
             callers: AtomicU64::new(0),
+            waits: AtomicU64::new(0),
             waited_in_vain: AtomicU64::new(0),
         };
         Ok(Arc::new(alloc, served)?)
@@ -59,6 +62,7 @@ impl<R> Patient<R> {
 
 impl<R: Clock> Patient<R> {
     fn wait(&self) {
+        self.served.waits.fetch_add(1, Ordering::SeqCst);
         if watched(&self.rt, &self.served.callers, 1, 500) == 0 {
             self.served.waited_in_vain.fetch_add(1, Ordering::SeqCst);
         }
@@ -152,5 +156,28 @@ fn a_failed_opening_wakes_before_its_error_is_told(rt: HostRuntime) -> Result<()
     served.callers.fetch_add(1, Ordering::SeqCst);
     drop(lent);
     assert_eq!(rt; served.waited_in_vain(), 0);
+    Ok(())
+}
+
+// Closes what is idle.
+fn evicts<R: PoolRuntime>(pool: ReleasingPool<R>) -> bool {
+    pool.evict().is_ok_and(|evicted| evicted == 1)
+}
+
+#[test]
+fn an_eviction_wakes_before_its_releases(rt: HostRuntime) -> Result<(), Fail> {
+    let served = Served::new(rt.alloc())?;
+    let pool = releasing_pool(rt, Wrong::HasBroken, &served)?;
+    // Time for the workers to come to their waits.
+    thread::sleep(&rt, Duration::from_millis(300));
+    let theirs = pool.try_clone()?;
+    let eviction = thread::spawn(&rt, move || evicts(theirs))?;
+    // While the release waits, this thread finds none, and orders none.
+    assert_eq!(rt; watched(&rt, &served.waits, 1, 500), 1);
+    let lent = pool.get()?;
+    served.callers.fetch_add(1, Ordering::SeqCst);
+    assert!(rt; eviction.join(&rt));
+    assert_eq!(rt; served.waited_in_vain(), 0);
+    drop(lent);
     Ok(())
 }

@@ -37,10 +37,11 @@ impl<C: Counter, M: ManageConnection, K: Hooks<M>, R: PoolRuntime> AnyPool<C, M,
         // Modelled in model/waiting.pml: keep both alike.
         let shared = self.shared();
         let start = shared.moment();
+        let mut seen = start;
         let closer = Arc::try_clone(&self.closer).map_err(|_| Error::memory())?;
         let end = timeout.map(|timeout| start.saturating_add(timeout));
         for _ in shared.rt.forever() {
-            match shared.lend_until(end, tally) {
+            match shared.lend_until(end, &mut seen, tally) {
                 Ok(Some(lent)) => {
                     if let Some(lent) = shared.if_sound(lent) {
                         let lent_at = shared.moment();

@@ -36,10 +36,12 @@ pub enum Vain {
 impl<P: Drop, C: Counter, M, K, R: Clock + Wait> Shared<Tied<P, C>, M, K, R> {
     /// Takes the idle connection that is lent next. Where there is none it orders one and waits,
     /// until the moment `end`, or until the pool is closed. With no end it neither orders nor
-    /// waits, and answers None.
+    /// waits, and answers None. `seen` is the latest moment that the call saw: a wait is as long as
+    /// what is left from there, also where the clock can't be read meanwhile.
     pub(super) fn lend_until(
         &self,
         end: Option<Duration>,
+        seen: &mut Duration,
         tally: &mut C::Tally,
     ) -> Result<Option<Lent<P>>, Vain>
         requires { 0 < C.parts tally.old }
@@ -68,7 +70,8 @@ impl<P: Drop, C: Counter, M, K, R: Clock + Wait> Shared<Tied<P, C>, M, K, R> {
             }
             // Before the wait, which lets the lock go.
             self.wake(wakes);
-            let left = end.saturating_sub(now);
+            *seen = (*seen).max(now);
+            let left = end.saturating_sub(*seen);
             guarded.begin_wait();
             let (again, outcome) = self.callers.wait_timeout(&self.rt, guarded, left);
             guarded = again;
@@ -140,9 +143,11 @@ impl<C: Ties, M: ManageConnection, K: Hooks<M>, R: PoolRuntime> SharedOf<C, M, K
     /// connections that a reap closes.
     pub(super) fn work(&self, mut expired: Vec<Released<PayloadOf<M>>>) {
         // Modelled in model/waiting.pml: keep both alike.
+        let mut seen = Duration::ZERO;
         for _ in self.rt.forever() {
             let mut guarded = self.guarded.lock(&self.rt);
             let now = self.moment();
+            seen = seen.max(now);
             match guarded.book.begin(now) {
                 Job::Open { tries } => {
                     drop(guarded);
@@ -156,7 +161,8 @@ impl<C: Ties, M: ManageConnection, K: Hooks<M>, R: PoolRuntime> SharedOf<C, M, K
                     self.release_all(&mut expired);
                 }
                 Job::Wait(due) => {
-                    let left = due.saturating_sub(now);
+                    // Not from `now`, which is zero where the clock can't be read.
+                    let left = due.saturating_sub(seen);
                     let _woken = self.workers.wait_timeout(&self.rt, guarded, left);
                 }
                 Job::Nothing => {

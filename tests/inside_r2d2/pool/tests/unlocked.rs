@@ -5,6 +5,7 @@
 use super::*;
 use crate::event::{AcquireEvent, CheckinEvent, CheckoutEvent, ReleaseEvent, TimeoutEvent};
 use std::sync::atomic::AtomicBool;
+use std::thread::JoinHandle;
 
 /// What the pool calls: a bit for each.
 #[derive(Clone, Copy)]
@@ -154,11 +155,10 @@ impl<R: PoolRuntime> HandleEvent for Prober<R> {
     }
 }
 
+type ProbedPool<R> = Pool<Prober<R>, Prober<R>, Prober<R>, Prober<R>, R>;
+
 // Answers each question when it has read the pool's state, until the test is over.
-fn answer<R: PoolRuntime>(
-    pool: Pool<Prober<R>, Prober<R>, Prober<R>, Prober<R>, R>,
-    probe: Arc<Probe<R>>,
-) {
+fn answer<R: PoolRuntime>(pool: ProbedPool<R>, probe: Arc<Probe<R>>) {
     for _ in 0..60_000 {
         let asked = probe.asked.load(Ordering::SeqCst);
         let _state = pool.state();
@@ -170,8 +170,11 @@ fn answer<R: PoolRuntime>(
     }
 }
 
-#[test]
-fn calls_are_made_without_the_lock(rt: HostRuntime) -> Result<(), Fail> {
+// A pool of one connection, whose calls ask, with what they asked. The thread answers them.
+fn asking<R: PoolRuntime>(
+    rt: R,
+    builder: Builder<Prober<R>>,
+) -> Result<(ProbedPool<R>, Arc<Probe<R>>, JoinHandle<()>), Fail> {
     let probe = Probe {
         asked: AtomicU64::new(0),
         answered: AtomicU64::new(0),
@@ -182,17 +185,23 @@ fn calls_are_made_without_the_lock(rt: HostRuntime) -> Result<(), Fail> {
         rt,
     };
     let probe = Arc::new(rt.alloc(), probe)?;
-    let pool = Builder::new()
+    let pool = builder
         .max_size(1)
-        .idle_timeout(Some(Duration::from_millis(500)))
-        .reaper_rate(Duration::from_millis(500))
         .error_handler(Prober::new(&probe)?)
         .event_handler(Prober::new(&probe)?)
         .connection_customizer(Prober::new(&probe)?)
         .build_unchecked(rt, Prober::new(&probe)?)?;
     let (theirs, questions) = (pool.try_clone()?, Arc::try_clone(&probe)?);
     let thread = thread::spawn(&rt, move || answer(theirs, questions))?;
+    Ok((pool, probe, thread))
+}
 
+#[test]
+fn calls_are_made_without_the_lock(rt: HostRuntime) -> Result<(), Fail> {
+    let builder = Builder::new()
+        .idle_timeout(Some(Duration::from_millis(500)))
+        .reaper_rate(Duration::from_millis(500));
+    let (pool, probe, thread) = asking(rt, builder)?;
     let lent = pool.get()?;
     assert!(rt; pool.get_timeout(Duration::from_millis(50)).is_err());
     drop(lent);
@@ -200,6 +209,23 @@ fn calls_are_made_without_the_lock(rt: HostRuntime) -> Result<(), Fail> {
     assert!(rt; watched(&rt, &probe.releases, 3, 2000) >= 3);
     assert_eq!(rt; probe.waited_in_vain.load(Ordering::SeqCst), 0);
     assert_eq!(rt; probe.called.load(Ordering::SeqCst), ALL_CALLS);
+    probe.is_over.store(true, Ordering::SeqCst);
+    thread.join(&rt);
+    Ok(())
+}
+
+#[test]
+fn an_eviction_calls_without_the_lock(rt: HostRuntime) -> Result<(), Fail> {
+    let (pool, probe, thread) = asking(rt, Builder::new())?;
+    for _ in 0..1000 {
+        if pool.state().idle_connections == 1 {
+            break;
+        }
+        thread::sleep(&rt, Duration::from_millis(10));
+    }
+    assert_eq!(rt; pool.evict()?, 1);
+    assert_eq!(rt; probe.releases.load(Ordering::SeqCst), 1);
+    assert_eq!(rt; probe.waited_in_vain.load(Ordering::SeqCst), 0);
     probe.is_over.store(true, Ordering::SeqCst);
     thread.join(&rt);
     Ok(())
