@@ -315,6 +315,102 @@ fn answers_who_is_lent_and_how_long_all_were(rt: HostRuntime) -> Result<(), Fail
     serves(&rt, Form::Words, early.as_str(), words, Ok(true))
 }
 
+// What is wrong with a report that replays hides none of the answers.
+#[test]
+fn answers_what_a_report_that_replays_is_asked(rt: HostRuntime) -> Result<(), Fail> {
+    let alloc = rt.alloc();
+    let (front, rest) = NEW.split_once(r#""pending":1"#).ok_or("pending")?;
+    let (middle, back) = rest.split_once(r#""pending":1"#).ok_or("pending")?;
+    let none = format!(in alloc; r#"{front}"pending":0{middle}"pending":0{back}"#)?;
+    let (front, back) = none.as_str().split_once(r#""lost":0"#).ok_or("lost")?;
+    let starved = format!(in alloc; r#"{front}"lost":9{back}"#)?;
+    let (front, back) = NEW.split_once(r#""takes":0"#).ok_or("takes")?;
+    let takes = format!(in alloc; r#"{front}"takes":5{back}"#)?;
+    for (input, why) in [
+        (
+            none.as_str(),
+            "the base: lost is 0, so it is that of the making, but pending is 0 where 1 are wanted",
+        ),
+        (
+            takes.as_str(),
+            "the counts: takes is 5, but the records tell of 0",
+        ),
+        (
+            starved.as_str(),
+            "the counts: wanted are 1, and there is room, but idle has 0, and pending is 0",
+        ),
+    ] {
+        let words = format!(in alloc; "line 1: {why}\n{ANSWERS}")?;
+        serves(&rt, Form::Words, input, words.as_str(), Ok(false))?;
+        let json = format!(in alloc;
+            "{{\"line\":1,\"replays\":false,\"why\":\"{why}\",{SUMMARY}}}\n")?;
+        serves(&rt, Form::Json, input, json.as_str(), Ok(false))?;
+    }
+    Ok(())
+}
+
+// A report of one, which begins nine seconds after the making and covers one second; it is lent for
+// the second half of that.
+const LATE: &str = concat!(
+    r#"{"version":1,"limits":{"max_size":1,"min_idle":0,"max_lifetime":null,"#,
+    r#""idle_timeout":null,"connection_timeout":9,"reap_every":9,"order":"newest_first"},"#,
+    r#""base":{"at":9000000000,"idle":[[0,1,1]],"lent":[],"connections":1,"pending":0,"#,
+    r#""closed":false},"records":[{"kind":"taken","at":9500000000,"id":0,"ordered":0},"#,
+    r#"{"kind":"kept","at":10000000000,"id":0}],"lost":9,"takes":4,"#,
+    r#""idle":[0],"lent":[],"connections":1,"pending":0,"closed":false}"#,
+);
+
+#[test]
+fn the_exhausted_part_is_of_what_the_report_covers(rt: HostRuntime) -> Result<(), Fail> {
+    let words = concat!(
+        "line 1: replays\n",
+        "  covers 1.000 s, from 9.000 s on: 0 opened, 0 closed at return, 0 closed while idle\n",
+        "  at most 1 of 1 lent at once; all of them lent or opening for 0.500 s, ",
+        "50 % of the time\n",
+    );
+    serves(&rt, Form::Words, LATE, words, Ok(true))
+}
+
+// A report of a pool whose connections, so many, are all lent since before the base.
+fn all_lent(alloc: Global, count: usize) -> Result<String, Fail> {
+    let (mut base, mut ids) = (String::new(alloc), String::new(alloc));
+    for id in 0..count {
+        let comma = if id == 0 { "" } else { "," };
+        write!(base, "{comma}[{id},0]")?;
+        write!(ids, "{comma}{id}")?;
+    }
+    let counts = format!(in alloc; r#""connections":{count},"pending":0,"closed":false"#)?;
+    let limits = concat!(
+        r#""min_idle":0,"max_lifetime":null,"idle_timeout":null,"connection_timeout":9,"#,
+        r#""reap_every":9,"order":"newest_first""#,
+    );
+    let mut text = format!(in alloc; r#"{{"version":1,"limits":{{"max_size":{count},{limits}}},"#)?;
+    write!(text, r#""base":{{"at":0,"idle":[],"lent":[{base}],{counts}}},"records":[],"#)?;
+    write!(text, r#""lost":99,"takes":99,"idle":[],"lent":[{ids}],{counts}}}"#)?;
+    Ok(text)
+}
+
+#[test]
+fn names_twenty_and_counts_the_others(rt: HostRuntime) -> Result<(), Fail> {
+    let alloc = rt.alloc();
+    for (count, named, more) in [
+        (20usize, 20usize, ""),
+        (21, 20, "  lent at the end: 1 more\n"),
+        (43, 20, "  lent at the end: 23 more\n"),
+    ] {
+        let counts = "0 opened, 0 closed at return, 0 closed while idle";
+        let mut words = format!(in alloc; "line 1: replays\n  covers 0.000 s, from 0.000 s on: ")?;
+        write!(words, "{counts}\n  at most {count} of {count} lent at once; ")?;
+        words.push_str("all of them lent or opening for 0.000 s\n")?;
+        for id in 0..named {
+            write!(words, "  lent at the end: connection {id}, since before the base\n")?;
+        }
+        words.push_str(more)?;
+        serves(&rt, Form::Words, all_lent(alloc, count)?.as_str(), words.as_str(), Ok(true))?;
+    }
+    Ok(())
+}
+
 #[test]
 fn drawings_have_the_answers_and_the_clock(rt: HostRuntime) -> Result<(), Fail> {
     let answers = lines(rt.alloc(), WHO)?;

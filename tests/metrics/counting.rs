@@ -2,7 +2,7 @@
 
 use crate::kind::Makes;
 use crate::managers::{Breaks, Counts, Manager, Sevens};
-use pool_metrics::{Metrics, Snapshot};
+use pool_metrics::{Distribution, Metrics, Scale, Snapshot, Timed, UpTo};
 use r2d2::Builder;
 use std::test::Fail;
 use std::thread;
@@ -90,5 +90,25 @@ fn a_snapshot_adds_up_while_threads_count(rt: HostRuntime) -> Result<(), Fail> {
     assert_eq!(rt; metrics.snapshot().waits.count(), 800);
     assert_eq!(rt; metrics.snapshot().uses.count(), 800);
     assert_eq!(rt; metrics.lent_longer_than(Duration::ZERO)?.len(), 0);
+    Ok(())
+}
+
+// Whether the buckets end where those of this scale do.
+fn has_bounds(seen: Distribution, scale: Scale) -> bool {
+    let buckets = seen.buckets();
+    let mut ends = buckets.iter().zip(scale.bounds().iter());
+    ends.all(|(bucket, bound)| bucket.up_to == UpTo::Nanos(*bound))
+}
+
+// Lengths of waiting, of use and of openings are short, and ages are long.
+#[test]
+fn each_length_is_counted_between_bounds_of_its_scale(rt: HostRuntime) -> Result<(), Fail> {
+    let metrics = Metrics::new(rt, 1)?;
+    let _manager = Timed::new(Sevens, &metrics)?;
+    let seen = metrics.snapshot();
+    assert!(rt; has_bounds(seen.waits, Scale::Short));
+    assert!(rt; has_bounds(seen.uses, Scale::Short));
+    assert!(rt; has_bounds(seen.openings.ok_or("openings")?, Scale::Short));
+    assert!(rt; has_bounds(seen.ages, Scale::Long));
     Ok(())
 }

@@ -1,14 +1,14 @@
 // A manager whose openings are timed.
 
 use crate::kind::Makes;
-use crate::managers::Blammo;
+use crate::managers::{Blammo, Sevens};
 use pool_metrics::{Metrics, Timed};
 use r2d2::{Builder, ManageConnection, PoolRuntime};
 use std::sync::Arc;
 use std::sync::atomic::{AtomicU64, Ordering};
 use std::test::Fail;
 use std::thread;
-use std::time::Duration;
+use std::time::{Duration, Instant};
 
 /// What it was asked.
 #[derive(Drop)]
@@ -83,5 +83,23 @@ fn openings_are_timed_and_all_else_is_the_managers(rt: HostRuntime) -> Result<()
     // It comes back broken.
     drop(lent);
     assert_eq!(rt; metrics.snapshot().ages.count(), 1);
+    Ok(())
+}
+
+// The metrics may be made long before the pool.
+#[test]
+fn an_opening_is_timed_from_its_own_begin(rt: HostRuntime) -> Result<(), Fail> {
+    let metrics = Metrics::new(rt, 1)?;
+    thread::sleep(&rt, Duration::from_secs(1));
+    let timed = Timed::new(Sevens, &metrics)?;
+    let before = Instant::now(&rt)?;
+    let pool = Builder::new()
+        .max_size(1)
+        .event_handler(metrics.try_clone()?)
+        .make(rt, timed)?;
+    let openings = metrics.snapshot().openings.ok_or("openings")?;
+    assert_eq!(rt; openings.count(), 1);
+    assert!(rt; openings.sum() <= before.elapsed(&rt)?);
+    assert_eq!(rt; *pool.get()?, 7);
     Ok(())
 }

@@ -4,6 +4,7 @@ use crate::callers::watched;
 use crate::kind::Makes;
 use crate::managers::{Blammo, Breaks, Counts, Line, Manager, Sevens, Value};
 use r2d2::{Builder, CustomizeConnection, ManageConnection, PoolRuntime};
+use std::process::Abort;
 use std::sync::Arc;
 use std::sync::atomic::{AtomicBool, AtomicU64, Ordering};
 use std::test::Fail;
@@ -76,8 +77,8 @@ impl CustomizeConnection<Line, Blammo> for Marks {
     }
 }
 
-#[test]
-fn two_openings_at_once(rt: HostRuntime) -> Result<(), Fail> {
+// Whether a pool of two, with so many workers, opens both at once.
+fn opens_both_at_once<R: PoolRuntime + Abort>(rt: R, workers: usize) -> Result<bool, Fail> {
     let openings = Openings {
         begun: AtomicU64::new(0),
         saw_both: AtomicBool::new(false),
@@ -87,9 +88,20 @@ fn two_openings_at_once(rt: HostRuntime) -> Result<(), Fail> {
         openings: Arc::try_clone(&openings)?,
         rt,
     };
-    let pool = Builder::new().max_size(2).thread_pool(2).make(rt, manager)?;
-    assert!(rt; openings.saw_both.load(Ordering::SeqCst));
+    let pool = Builder::new().max_size(2).thread_pool(workers).make(rt, manager)?;
     assert_eq!(rt; pool.state().connections, 2);
+    Ok(openings.saw_both.load(Ordering::SeqCst))
+}
+
+#[test]
+fn two_openings_at_once(rt: HostRuntime) -> Result<(), Fail> {
+    assert!(rt; opens_both_at_once(rt, 3)?);
+    Ok(())
+}
+
+#[test]
+fn as_many_workers_as_are_set(rt: HostRuntime) -> Result<(), Fail> {
+    assert!(rt; opens_both_at_once(rt, 2)?);
     Ok(())
 }
 

@@ -96,6 +96,24 @@ fn a_pool_that_wants_more_and_opens_none(rt: HostRuntime) -> Result<(), Fail> {
     standing(&rt, 9, base, counts, starved)
 }
 
+// It is said of the end, and not of the base, where one more was pending.
+#[test]
+fn a_starved_pool_is_told_as_it_ends(rt: HostRuntime) -> Result<(), Fail> {
+    let text = concat!(
+        r#"{"version":1,"limits":{"max_size":4,"min_idle":2,"max_lifetime":null,"#,
+        r#""idle_timeout":null,"connection_timeout":9,"reap_every":9,"order":"newest_first"},"#,
+        r#""base":{"at":0,"idle":[],"lent":[[8,0]],"connections":1,"pending":1,"closed":false},"#,
+        r#""records":[{"kind":"admitted","at":1,"id":9}],"lost":9,"takes":9,"#,
+        r#""idle":[9],"lent":[8],"connections":2,"pending":0,"closed":false}"#,
+    );
+    let report = from_json(rt.alloc(), text)?;
+    assert!(rt; report.replays()?);
+    let starved = "the counts: wanted are 2, and there is room, but idle has 1, and pending is 0";
+    let said = audit(rt.alloc(), &report)?.to_string(rt.alloc())?;
+    assert_eq!(rt; said.as_str(), starved);
+    Ok(())
+}
+
 #[test]
 fn each_report_of_a_book_is_sound(rt: HostRuntime) -> Result<(), Fail> {
     for seed in 0..60 {

@@ -3,6 +3,7 @@
 use crate::books::{Driven, limits, ms};
 use crate::stories::one_of_each;
 use pool_pictures::{Finding, Notes, html, svg, text};
+use pool_reports::from_json;
 use r2d2_core::Report;
 use std::alloc::{AllocError, Global};
 use std::test::Fail;
@@ -191,6 +192,80 @@ fn draws_a_base_alone(rt: HostRuntime) -> Result<(), Fail> {
             .as_str()
             .contains(">base at 5 ms; times are counted from there<")
     );
+    Ok(())
+}
+
+// One comes and goes; the report covers its last second of ten, and it is lent for half of that.
+#[test]
+fn the_exhausted_part_is_of_what_is_drawn(rt: HostRuntime) -> Result<(), Fail> {
+    let limits = limits(1, 0, None, None).ok_or("limits")?;
+    let mut driven = Driven::new(rt.alloc(), limits, ms(0), 0, 2)?;
+    driven.take(ms(5000), true)?;
+    driven.open(ms(6000));
+    driven.take(ms(7000), true)?;
+    driven.put_back(ms(9000), 0, false);
+    driven.take(ms(9500), true)?;
+    driven.put_back(ms(10_000), 0, false);
+    let report = driven.report()?;
+    assert_eq!(rt; (report.base.at, report.lost), (ms(9000), 4));
+    let words = "exhausted once, for 500 ms in all, 50.0 % of the time";
+    assert!(rt; text(rt.alloc(), &report, &Notes::none())?.as_str().contains(words));
+    assert!(rt; html(rt.alloc(), &report, &Notes::none())?.as_str().contains(words));
+    let drawn = svg(rt.alloc(), &report, &Notes::none())?;
+    assert!(rt; drawn.as_str().contains(words));
+    assert!(rt; drawn.as_str().contains(">exhausted 50.0 %</text>"));
+    Ok(())
+}
+
+// The line of a drawing that has this part; the empty one where none has it.
+fn line_with<'t>(drawn: &'t str, part: &str) -> &'t str {
+    drawn.lines().find(|line| line.contains(part)).unwrap_or("")
+}
+
+// The plot goes from 80 to 1030: the pool is exhausted from its half to its end, and in the column
+// of the making.
+#[test]
+fn an_exhaustion_is_hatched_to_the_end(rt: HostRuntime) -> Result<(), Fail> {
+    let limits = limits(1, 1, None, None).ok_or("limits")?;
+    let mut driven = Driven::new(rt.alloc(), limits, ms(0), 0, 9)?;
+    driven.open(ms(0));
+    driven.take(ms(50), true)?;
+    driven.put_back(ms(100), 0, true);
+    let drawn = svg(rt.alloc(), &driven.report()?, &Notes::none())?;
+    for class in ["<path class=\"exhausted\"", "<path class=\"shade\""] {
+        let stripes = line_with(drawn.as_str(), class);
+        assert_eq!(rt; count(stripes, "z"), 2, "{class}");
+        assert!(rt; stripes.contains("M555 ") && stripes.contains("h-475z\"/>"), "{class}");
+    }
+    Ok(())
+}
+
+// A report that no pool makes: three are lent of this many.
+fn three_lent(alloc: Global, max_size: u32) -> Result<Report, Fail> {
+    let limits = concat!(
+        r#""min_idle":0,"max_lifetime":null,"idle_timeout":null,"connection_timeout":9,"#,
+        r#""reap_every":9,"order":"newest_first""#,
+    );
+    let base = r#""at":0,"idle":[],"lent":[[0,0],[1,0],[2,0]]"#;
+    let counts = r#""connections":3,"pending":0,"closed":false"#;
+    let mut text = format!(in alloc; r#"{{"version":1,"limits":{{"max_size":{max_size},"#)?;
+    write!(text, r#"{limits}}},"base":{{{base},{counts}}},"records":[],"lost":9,"takes":9,"#)?;
+    write!(text, r#""idle":[],"lent":[0,1,2],{counts}}}"#)?;
+    Ok(from_json(alloc, text.as_str())?)
+}
+
+#[test]
+fn what_is_too_many_is_drawn_above_the_line_of_the_size(rt: HostRuntime) -> Result<(), Fail> {
+    let alloc = rt.alloc();
+    let all = svg(alloc, &three_lent(alloc, 3)?, &Notes::none())?;
+    let too_many = svg(alloc, &three_lent(alloc, 1)?, &Notes::none())?;
+    let (lent, size) = ("<path class=\"lents\"", "<path class=\"limit\"");
+    let (high, low) = (all.as_str(), too_many.as_str());
+    assert!(rt; high.contains(lent) && high.contains(size) && low.contains(size));
+    assert_eq!(rt; line_with(low, lent), line_with(high, lent));
+    assert!(rt; line_with(low, size) != line_with(high, size));
+    let plain = text(alloc, &three_lent(alloc, 1)?, &Notes::none())?;
+    assert!(rt; plain.as_str().contains(" a full bar is 3\n"));
     Ok(())
 }
 

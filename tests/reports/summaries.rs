@@ -120,6 +120,38 @@ fn a_closed_pool_is_not_exhausted(rt: HostRuntime) -> Result<(), Fail> {
     Ok(())
 }
 
+// It ends where it begins, at the moment of its base.
+#[test]
+fn a_report_without_records_covers_no_time(rt: HostRuntime) -> Result<(), Fail> {
+    let limits = limits(1, 1, None, None).ok_or("limits")?;
+    let mut driven = Driven::new(rt.alloc(), limits, ms(0), 0, 0)?;
+    driven.open(ms(70));
+    let report = driven.report()?;
+    assert!(rt; report.records.as_slice().is_empty());
+    let said = summarize(rt.alloc(), &report)?;
+    assert_eq!(rt; (said.from, said.until, said.covers()), (ms(70), ms(70), ms(0)));
+    Ok(())
+}
+
+// A connection comes back broken, and its place is ordered anew: the pool stays exhausted.
+#[test]
+fn an_exhaustion_goes_on_over_its_records(rt: HostRuntime) -> Result<(), Fail> {
+    let limits = limits(1, 1, None, None).ok_or("limits")?;
+    let mut driven = Driven::new(rt.alloc(), limits, ms(0), 0, 9)?;
+    driven.open(ms(10));
+    driven.take(ms(20), true)?;
+    driven.put_back(ms(40), 0, true);
+    driven.open(ms(90));
+    let report = driven.report()?;
+    let said = summarize(rt.alloc(), &report)?;
+    assert_eq!(rt; said.exhausted, ms(80));
+    // Until the first one came, and from its take until the second one came.
+    let drawn = Story::of(rt.alloc(), &report)?.exhaustion();
+    assert_eq!(rt; (drawn.nanos, drawn.times), (ms(80).as_nanos(), 2));
+    assert!(rt; !drawn.is_still);
+    Ok(())
+}
+
 #[test]
 fn the_wall_clock_goes_round(rt: HostRuntime) -> Result<(), Fail> {
     let alloc = rt.alloc();

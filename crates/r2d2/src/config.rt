@@ -144,6 +144,9 @@ impl<H: fmt::Debug, V: fmt::Debug, Z: fmt::Debug> fmt::Debug for Config<H, V, Z>
 #[derive(Drop)]
 pub struct Builder<M, H = NopErrorHandler, V = NopEventHandler, Z = NopConnectionCustomizer> {
     config: Config<H, V, Z>,
+    // The id of the first connection. It matters to the book that the pool begins with, and to
+    // nothing later.
+    first_id: u64,
     manager: PhantomData<M>,
 }
 
@@ -194,6 +197,7 @@ impl<M: ManageConnection> Default for Builder<M> {
                 event_handler: NopEventHandler,
                 connection_customizer: NopConnectionCustomizer,
             },
+            first_id: 0,
             manager: PhantomData,
         }
     }
@@ -313,6 +317,27 @@ impl<
         self
     }
 
+    /// The time from one look for expired connections to the next. The default is 30 seconds. Tests
+    /// of this crate alone set it.
+    ///
+    /// It may not be a length of zero.
+    pub(crate) fn reaper_rate(mut self, reaper_rate: Duration) -> Self
+        requires { 0 < as_nanos reaper_rate }
+        ensures { result ≡ record self { reaper_rate = reaper_rate } }
+    {
+        self.config.reaper_rate = reaper_rate;
+        self
+    }
+
+    /// The id of the first connection; each later one has the next. The default is 0. Tests of this
+    /// crate alone set it.
+    pub(crate) fn first_id(mut self, first_id: u64) -> Self
+        ensures { result ≡ self }
+    {
+        self.first_id = first_id;
+        self
+    }
+
     /// Which of the idle connections is lent next. The default is `NewestFirst`: few connections
     /// are kept in use, and the others reach their `idle_timeout` and are closed. Under
     /// `OldestFirst` each connection is used in its turn, so none is idle for long while the pool
@@ -330,9 +355,14 @@ impl<
     pub fn error_handler<G: HandleError<M::Error>>(self, handler: G) -> Builder<M, G, V, Z>
         ensures { result ≡ with_error_handler handler self }
     {
-        let Builder { config, manager } = self;
+        let Builder {
+            config,
+            first_id,
+            manager,
+        } = self;
         Builder {
             config: config.with_error_handler(handler),
+            first_id,
             manager,
         }
     }
@@ -341,9 +371,14 @@ impl<
     pub fn event_handler<W: HandleEvent + 'static>(self, handler: W) -> Builder<M, H, W, Z>
         ensures { result ≡ with_event_handler handler self }
     {
-        let Builder { config, manager } = self;
+        let Builder {
+            config,
+            first_id,
+            manager,
+        } = self;
         Builder {
             config: config.with_event_handler(handler),
+            first_id,
             manager,
         }
     }
@@ -356,11 +391,21 @@ impl<
     ) -> Builder<M, H, V, Y>
         ensures { result ≡ with_customizer customizer self }
     {
-        let Builder { config, manager } = self;
+        let Builder {
+            config,
+            first_id,
+            manager,
+        } = self;
         Builder {
             config: config.with_customizer(customizer),
+            first_id,
             manager,
         }
+    }
+
+    /// The id that the first connection gets.
+    pub(crate) fn id_of_the_first(&self) -> u64 {
+        self.first_id
     }
 
     /// The settings alone.

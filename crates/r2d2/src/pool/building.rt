@@ -90,9 +90,11 @@ impl<
         let Some(limits) = self.limits() else {
             unreachable!()
         };
+        let first_id = self.id_of_the_first();
         let config = self.into_config();
         let lists = reap_lists(alloc, config.thread_pool, limits.max_size())?;
-        let book = Book::new(alloc, limits, Duration::ZERO, config.journal_room)?;
+        let room = config.journal_room;
+        let book = Book::with_first_id(alloc, limits, Duration::ZERO, first_id, room)?;
         Ok((config, book, lists))
     }
 }

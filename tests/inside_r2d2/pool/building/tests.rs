@@ -1,7 +1,7 @@
 // The last ids that there are.
 
 use super::*;
-use crate::{NopConnectionCustomizer, NopErrorHandler, NopEventHandler};
+use crate::ErrorKind;
 use std::sync::atomic::{AtomicU64, Ordering};
 use std::test::Fail;
 
@@ -32,46 +32,42 @@ impl ManageConnection for Nothings {
     }
 }
 
-type PoolOfNothings<R> = Pool<
-    Nothings,
-    NopErrorHandler,
-    NopEventHandler,
-    NopConnectionCustomizer,
-    R,
->;
-
-// A pool of two as `build_unchecked` makes it, but that its first connection has this id.
-fn pool_with_first_id<R: PoolRuntime>(
-    rt: R,
-    first_id: u64,
-    manager: Nothings,
-) -> Result<PoolOfNothings<R>, Fail> {
-    let builder = Builder::<Nothings>::new()
+// The settings of a pool of two, for which one id is left.
+fn with_one_id() -> Builder<Nothings> {
+    Builder::new()
         .max_size(2)
-        .connection_timeout(Duration::from_millis(500));
-    let limits = builder.limits().ok_or("limits")?;
-    let (config, _, lists) = builder.prepare(rt.alloc())?;
-    let book = Book::with_first_id(rt.alloc(), limits, Duration::ZERO, first_id, 0)?;
-    Ok(open_pool(rt, Tied::plain(book), config, manager, lists)?)
+        .connection_timeout(Duration::from_millis(500))
+        .first_id(u64::MAX - 1)
 }
 
+fn nothings(opened: &Arc<AtomicU64>) -> Result<Nothings, AllocError> {
+    Ok(Nothings {
+        opened: Arc::try_clone(opened)?,
+    })
+}
+
+// The opening that gets no id counts as failed, with no text, and is tried again and again.
 #[test]
 fn ids_used_up(rt: HostRuntime) -> Result<(), Fail> {
     let opened = Arc::new(rt.alloc(), AtomicU64::new(0))?;
-    let manager = Nothings {
-        opened: Arc::try_clone(&opened)?,
-    };
-    let pool = pool_with_first_id(rt, u64::MAX - 1, manager)?;
-    let error = wait_for_connections(&pool).err().ok_or("two ids")?;
+    let error = with_one_id().build(rt, nothings(&opened)?).err().ok_or("two ids")?;
+    assert_eq!(rt; (error.kind(), error.message()), (ErrorKind::Timeout, None));
     assert_eq!(rt;
         error.to_string(rt.alloc())?.as_str(),
         "timed out waiting for connection"
     );
+
+    let opened = Arc::new(rt.alloc(), AtomicU64::new(0))?;
+    let pool = with_one_id().build_unchecked(rt, nothings(&opened)?)?;
     let lent = pool.get()?;
     assert_eq!(rt; lent.lent.id, 18_446_744_073_709_551_614);
-    assert_eq!(rt; pool.state().connections, 1);
-    // The one that got no id counts as failed: it is opened again and again.
-    thread::sleep(&rt, Duration::from_secs(1));
-    assert!(rt; opened.load(Ordering::SeqCst) >= 3);
+    let error = pool.get().err().ok_or("two ids")?;
+    assert_eq!(rt; (error.kind(), error.message()), (ErrorKind::Timeout, None));
+    for _ in 0..2 {
+        let before = opened.load(Ordering::SeqCst);
+        thread::sleep(&rt, Duration::from_secs(1));
+        assert!(rt; opened.load(Ordering::SeqCst) > before);
+        assert_eq!(rt; pool.state().connections, 1);
+    }
     Ok(())
 }
