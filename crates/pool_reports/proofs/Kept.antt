@@ -8,7 +8,7 @@ use Rattle.r2d2_core.specs.Connections.{id_of_idle, id_of_lent}
 use Rattle.r2d2_core.specs.Records.{SeenRecord}
 use Rattle.r2d2_core.specs.Bases.{SeenBase, IsLegalBase}
 use Rattle.r2d2_core.specs.Folding.{replay, folded, AreLegalFrom}
-use Rattle.r2d2_core.specs.Reports.{seen_base, told_in, DoesReplay, HasSoundCounts}
+use Rattle.r2d2_core.specs.Reports.{seen_base, seen_records, told_in, DoesReplay, HasSoundCounts}
 use Rattle.r2d2_core.proofs.Recording.Folding.{folds_first}
 use Rattle.r2d2_core.proofs.Recording.Auditing.{legal_before}
 use Rattle.pool_reports.specs.declared.verdict.Verdict.{Verdict}
@@ -25,13 +25,13 @@ legal_told limits (r ∷ rs) b legal are =
 
 module _ {B : Type 0} (r : Report B) where
   -- so the counts of a report that replays are sound where what is wanted is there or on its way
-  pub sound_counts : DoesReplay r → (r.closed ≡ false → (wanted_of (seen_limits r.limits) ≤ length r.idle + r.pending)
+  pub sound_counts : DoesReplay r → (r.closed ≡ false → (wanted_of (seen_limits r.limits) ≤ length r.idle.items + r.pending)
       ⊎ (r.connections + r.pending ≡ r.limits.max_size)) → HasSoundCounts r
   sound_counts d ready =
       let end = told_in r in
-      let legal : IsLegalBase (seen_limits r.limits) end = legal_told (seen_limits r.limits) r.records (seen_base r.base) d.base d.legal in
-      let idle : length end.idle ≡ length r.idle = sym (length-map end.idle id_of_idle) ∙ ap (λ (l : List ℕ). length l) d.idle in
-      let lent : length end.lent ≡ length r.lent = sym (length-map end.lent id_of_lent) ∙ ap (λ (l : List ℕ). length l) d.lent in
+      let legal : IsLegalBase (seen_limits r.limits) end = legal_told (seen_limits r.limits) (seen_records r) (seen_base r.base) d.base d.legal in
+      let idle : length end.idle ≡ length r.idle.items = sym (length-map end.idle id_of_idle) ∙ ap (λ (l : List ℕ). length l) d.idle in
+      let lent : length end.lent ≡ length r.lent.items = sym (length-map end.lent id_of_lent) ∙ ap (λ (l : List ℕ). length l) d.lent in
       let fits : end.connections + end.pending ≤ r.limits.max_size = legal.fits in
       record {
         counted = omega (arith, legal.counted, idle, lent, d.connections);
@@ -45,7 +45,7 @@ module _ {B : Type 0} (r : Report B) where
   sound_alone (verdict.Base _) on = (λ is. absurd (cc is), λ s. absurd (on s.replays.base))
   sound_alone (verdict.Record place _) on = (
     λ is. absurd (cc is),
-    λ s. absurd (on.wrong (legal_before (seen_limits r.limits) (place + 1) r.records
+    λ s. absurd (on.wrong (legal_before (seen_limits r.limits) (place + 1) (seen_records r)
         (seen_base r.base) s.replays.legal)),
   )
   sound_alone (verdict.Counts _) on = (

@@ -2,7 +2,7 @@
 use Rattle.std.specs.Prelude.{◌≡◌, ◌≢◌, ℕ}
 use Rattle.r2d2_core.specs.declared.journal.report.Report.{Report}
 use Rattle.r2d2_core.specs.Records.{takes_in}
-use Rattle.r2d2_core.specs.Reports.{DoesReplay, CountsItsTakes, BeginsAtAMaking, HasSoundCounts}
+use Rattle.r2d2_core.specs.Reports.{seen_records, DoesReplay, CountsItsTakes, BeginsAtAMaking, HasSoundCounts}
 use Rattle.r2d2_core.specs.Faults.{HasWrongBase, IsFirstWrong, ComesToOther}
 use Rattle.pool_reports.specs.declared.verdict.Verdict.{Verdict}
 use Rattle.pool_reports.specs.declared.verdict.Verdict.TheVariants as verdict
@@ -26,7 +26,7 @@ module _ {B : Type 0} where
     pub begins : BeginsAtAMaking r
     pub none_lost : r.lost ≡ 0
     pub shows : shown ≡ r.takes
-    pub tells : due ≡ takes_in r.records
+    pub tells : due ≡ takes_in (seen_records r)
     pub other : shown ≢ due
 
   -- it replays, and counts its takes, but no step of a pool leaves such counts

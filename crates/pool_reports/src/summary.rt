@@ -2,6 +2,7 @@
 ghost use Rattle.std.specs.Prelude.{◌≡◌, ◌+◌, ◌-◌, map, IfOk};
 ghost use Rattle.std.specs.Duration.{as_nanos};
 ghost use Rattle.r2d2_core.specs.Records.{seen_record};
+ghost use Rattle.r2d2_core.specs.Reports.{seen_records};
 ghost use Rattle.pool_reports.specs.Summaries.{opened_in, closed_in};
 
 use crate::counting::{admissions, closings};
@@ -56,13 +57,13 @@ impl Summary {
 /// It takes time in proportion to the records, and memory to the lent connections. The error comes
 /// only where that is refused.
 pub fn summarize<A: Allocator>(alloc: Global, report: &Report<A>) -> Result<Summary, AllocError>
-    ensures opened { IfOk result (λ s. s.opened ≡ opened_in report.now.records) }
-    ensures closed { IfOk result (λ s. s.closed ≡ closed_in report.now.records) }
+    ensures opened { IfOk result (λ s. s.opened ≡ opened_in (seen_records report.now)) }
+    ensures closed { IfOk result (λ s. s.closed ≡ closed_in (seen_records report.now)) }
     ensures reaped { IfOk result
         (λ s. s.reaped
-        ≡ (report.now.base.connections + opened_in report.now.records)
-        - (closed_in report.now.records + report.now.connections)) }
-    ensures lent { IfOk result (λ s. map (λ l. l.id) s.lent.items ≡ report.now.lent) }
+        ≡ (report.now.base.connections + opened_in (seen_records report.now))
+        - (closed_in (seen_records report.now) + report.now.connections)) }
+    ensures lent { IfOk result (λ s. map (λ l. l.id) s.lent.items ≡ report.now.lent.items) }
 {
     let records = report.records.as_slice();
     let opened = admissions(records);

@@ -114,7 +114,8 @@ fn making_reason<A: Allocator>(limits: &Limits, base: &Base<A>) -> MakingReason 
 fn is_replenished<A: Allocator>(report: &Report<A>) -> bool
     ensures { IsTrue result
         ↔ (report.now.closed ≡ false
-        → (wanted_of (seen_limits report.now.limits) ≤ length report.now.idle + report.now.pending)
+        → (wanted_of (seen_limits report.now.limits) ≤ length report.now.idle.items
+        + report.now.pending)
         ⊎ (report.now.connections + report.now.pending ≡ report.now.limits.max_size)) }
 {
     let ready = report.idle.len() as u128 + report.pending as u128;

@@ -1,5 +1,6 @@
-use Rattle.std.proofs.Common.{◌∙◌, ap, arith}
-use Rattle.r2d2_core.specs.Records.{takes_in}
+use Rattle.std.proofs.Common.{◌∙◌, ap, List, map, arith}
+use Rattle.r2d2_core.specs.declared.journal.record.Record.{Record}
+use Rattle.r2d2_core.specs.Records.{seen_record, takes_in}
 use Rattle.pool_reports.specs.Verdicts.{IsSound}
 use Rattle.pool_reports.proofs.Kept.{sound_counts}
 use Rattle.pool_reports.proofs.verdict.kept.verdict.Goals.{then-report-eq0+else-not-is_first+else-report-due, else-report-eq0}
@@ -13,7 +14,7 @@ returns g c =
       | then-report-eq0+else-not-is_first+else-report-due w ↦ record {
         replays = c.requires.replays;
         begins = λ none. w.is_first.ensures.0 w.if-not-is_first.false;
-        counted = λ none. w.if-report-due.false ∙ (w.takes-due.ensures ∙ ap takes_in w.as_slice.ensures);
+        counted = λ none. w.if-report-due.false ∙ (w.takes-due.ensures ∙ ap (λ (l : List Record). takes_in (map seen_record l)) w.as_slice.ensures.value);
         sound = counts;
       }
       | else-report-eq0 w ↦ record {
