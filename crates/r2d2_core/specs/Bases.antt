@@ -31,9 +31,13 @@ pub record SeenBase : Type 0 where
   pub pending : ℕ
   pub closed : Bool
 
+-- a base of these parts, in their order
+abbrev pub base_of : ℕ → List BareConnection → List SeenLentConnection → ℕ → ℕ → Bool → SeenBase
+base_of at idle lent connections pending closed = record { at = at; idle = idle; lent = lent; connections = connections; pending = pending; closed = closed }
+
 -- that of a pool just made, at a moment: what is wanted is pending
 abbrev pub first_base : SeenLimits → ℕ → SeenBase
-first_base limits now = record { at = now; idle = []; lent = []; connections = 0; pending = wanted_of limits; closed = false }
+first_base limits now = base_of now [] [] 0 (wanted_of limits) false
 
 -- the ids of all that is idle or lent in it
 abbrev pub ids_of : SeenBase → List ℕ

@@ -4,7 +4,7 @@ use Rattle.r2d2_core.specs.Limits.{SeenLimits}
 use Rattle.r2d2_core.specs.Ids.{copies_of}
 use Rattle.r2d2_core.specs.Picture.{Picture, IsSound}
 use Rattle.r2d2_core.specs.Records.{SeenRecord}
-use Rattle.r2d2_core.specs.Bases.{SeenBase}
+use Rattle.r2d2_core.specs.Bases.{SeenBase, base_of}
 use Rattle.r2d2_core.specs.Folding.{replay, known_in}
 use Rattle.r2d2_core.specs.Journal.{SeenJournal, BeginsAtTheMaking}
 use Rattle.r2d2_core.specs.Book.{SeenBook, seen_book, bare, ReplayTo}
@@ -21,14 +21,7 @@ pub record KeepReplaying {T : Type 0} (limits : SeenLimits) (b : SeenBase) (rs :
 module _ {T : Type 0} where
   -- what a picture shows, as a base that tells up to a moment
   abbrev pub shown_at : ℕ → Picture T → SeenBase
-  shown_at at p = record {
-    at = at;
-    idle = map bare p.idle;
-    lent = p.lent;
-    connections = p.connections;
-    pending = p.on_order.pending;
-    closed = p.on_order.closed;
-  }
+  shown_at at p = base_of at (map bare p.idle) p.lent p.connections p.on_order.pending p.on_order.closed
 
   -- a journal beside its machine: where it has no room, what is before its records is what the machine shows
   abbrev pub beside : Picture T → SeenJournal → SeenJournal

@@ -6,21 +6,14 @@ use Rattle.r2d2_core.specs.declared.journal.report.Report.{Report}
 use Rattle.r2d2_core.specs.Limits.{seen_limits, wanted_of}
 use Rattle.r2d2_core.specs.Records.{SeenRecord, seen_record, takes_in}
 use Rattle.r2d2_core.specs.Connections.{id_of_idle, id_of_lent}
-use Rattle.r2d2_core.specs.Bases.{SeenBase, seen_bare, seen_lent, IsLegalBase, first_base}
+use Rattle.r2d2_core.specs.Bases.{SeenBase, base_of, seen_bare, seen_lent, IsLegalBase, first_base}
 use Rattle.r2d2_core.specs.Folding.{replay, AreLegalFrom}
 use Rattle.r2d2_core.specs.Book.{SeenBook}
 
 module _ {B : Type 0} where
   -- a `Base`
   abbrev pub seen_base : Base B → SeenBase
-  seen_base b = record {
-    at = as_nanos b.at;
-    idle = map seen_bare b.idle.items;
-    lent = map seen_lent b.lent.items;
-    connections = b.connections;
-    pending = b.pending;
-    closed = b.closed;
-  }
+  seen_base b = base_of (as_nanos b.at) (map seen_bare b.idle.items) (map seen_lent b.lent.items) b.connections b.pending b.closed
 
   -- the records of a `Report`
   abbrev pub seen_records : Report B → List SeenRecord

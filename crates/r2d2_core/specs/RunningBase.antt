@@ -7,7 +7,7 @@ use Rattle.r2d2_core.specs.Limits.{SeenLimits}
 use Rattle.r2d2_core.specs.Ids.{without}
 use Rattle.r2d2_core.specs.Connections.{SeenLentConnection, idle_connection, lent_connection, id_of_idle, id_of_lent}
 use Rattle.r2d2_core.specs.Records.{SeenRecord, Taken, Admitted, Kept}
-use Rattle.r2d2_core.specs.Bases.{SeenBase, BareConnection}
+use Rattle.r2d2_core.specs.Bases.{SeenBase, BareConnection, base_of}
 use Rattle.r2d2_core.specs.Folding.{birth_of_idle, birth_of_lent, idle_after_reap, expired_in}
 
 -- how many may be idle, and how many lent
@@ -24,18 +24,11 @@ running_base b room = record { base = b; room = room }
 
 -- what stands in a pool where nothing is idle or lent
 abbrev pub empty_base : ℕ → ℕ → SeenBase
-empty_base at pending = record { at = at; idle = []; lent = []; connections = 0; pending = pending; closed = false }
+empty_base at pending = base_of at [] [] 0 pending false
 
 module _ {A : Type 0} where
   abbrev pub base_in : Inside A → SeenBase
-  base_in s = record {
-    at = as_nanos s.at;
-    idle = s.idle.items;
-    lent = s.lent.items;
-    connections = length s.idle.items + length s.lent.items;
-    pending = s.pending;
-    closed = s.closed;
-  }
+  base_in s = base_of (as_nanos s.at) s.idle.items s.lent.items (length s.idle.items + length s.lent.items) s.pending s.closed
 
 -- how many come to be idle by a record, and how many come to be lent
 abbrev pub made_idle_by : SeenRecord → ℕ

@@ -8,18 +8,15 @@ use Rattle.r2d2_core.specs.Roster.{SeenRoster, roster}
 use Rattle.r2d2_core.specs.Ids.{found, without, copies_of}
 use Rattle.r2d2_core.specs.Lending.{lent_next, still_idle}
 use Rattle.r2d2_core.specs.Connections.{SeenLentConnection, lent_connection, id_of_idle, is_expired, is_kept}
-use Rattle.r2d2_core.specs.Bases.{SeenBase, BareConnection}
+use Rattle.r2d2_core.specs.Bases.{BareConnection, base_of}
 use Rattle.r2d2_core.specs.Book.{bare}
 use Rattle.r2d2_core.specs.Folding.{birth_of_idle}
 use Rattle.r2d2_core.specs.declared.journal.running_base.Rooms.{Rooms}
 use Rattle.r2d2_core.specs.RunningBase.{running_base, rooms, lent_out, swept_of}
 use Rattle.r2d2_core.proofs.Lists.Lending.{found-next, without-next, length-still_idle}
 
-abbrev base_with : ℕ → List BareConnection → List SeenLentConnection → ℕ → ℕ → Bool → SeenBase
-base_with at idle lent connections pending closed = record { at = at; idle = idle; lent = lent; connections = connections; pending = pending; closed = closed }
-
 pub same_base : (at pending : ℕ) (closed : Bool) (i i' : List BareConnection) (l l' : List SeenLentConnection) (n n' : ℕ) → i ≡ i' → l ≡ l' → n ≡ n'
-    → base_with at i l n pending closed ≡ base_with at i' l' n' pending closed
+    → base_of at i l n pending closed ≡ base_of at i' l' n' pending closed
 same_base at pending closed i i' l l' n n' e f h = rw (e, f, h) refl
 
 abbrev pub birth_of : BareConnection → ℕ
@@ -29,9 +26,9 @@ birth_of c = c.birth
 pub lends : (o : LendingOrder) (at pending : ℕ) (closed : Bool) (idle : List BareConnection) (lent : List SeenLentConnection) (room : Rooms) (id birth : ℕ)
     (c : BareConnection) → ((i : ℕ) → copies_of i (map id_of_idle idle) ≤ 1)
     → lent_next o idle ≡ Some c → c.id ≡ id → birth ≡ c.birth
-    → (let l = lent_connection id birth in running_base (base_with at (still_idle o idle) (lent ++ l ∷ [])
+    → (let l = lent_connection id birth in running_base (base_of at (still_idle o idle) (lent ++ l ∷ [])
     (length (still_idle o idle) + length (lent ++ l ∷ [])) pending closed) room
-    ≡ running_base (lent_out id (base_with at idle lent (length idle + length lent) pending closed)) room)
+    ≡ running_base (lent_out id (base_of at idle lent (length idle + length lent) pending closed)) room)
 lends o at pending closed idle lent room id birth c apart next is born_then =
     let l = lent_connection id birth in
     let others : still_idle o idle ≡ without id_of_idle id idle = sym (subst (λ i. without id_of_idle i idle ≡ still_idle o idle) is
@@ -49,12 +46,12 @@ lends o at pending closed idle lent room id birth c apart next is born_then =
 pub sweeps : (limits : SeenLimits) (at pending : ℕ) (closed : Bool) (idle : List BareConnection) (lent : List SeenLentConnection) (room lent_room : ℕ)
     (now : SeenRoster BareConnection) → now ≡ roster (filter (is_kept limits at) idle) room
     → length now.items + length (filter (is_expired limits at) idle) ≡ length idle
-    → running_base (base_with at now.items lent (length now.items + length lent) pending closed) (rooms now.room lent_room) ≡ running_base
-    (swept_of limits (base_with at idle lent (length idle + length lent) pending closed)) (rooms room lent_room)
+    → running_base (base_of at now.items lent (length now.items + length lent) pending closed) (rooms now.room lent_room) ≡ running_base
+    (swept_of limits (base_of at idle lent (length idle + length lent) pending closed)) (rooms room lent_room)
 sweeps limits at pending closed idle lent room lent_room now is count =
     let kept : now.items ≡ filter (is_kept limits at) idle = ap (λ (r : SeenRoster BareConnection). r.items) is in
     let same : now.room ≡ room = ap (λ (r : SeenRoster BareConnection). r.room) is in
-    ap (λ n. running_base (base_with at now.items lent (length now.items + length lent) pending closed) (rooms n lent_room)) same
+    ap (λ n. running_base (base_of at now.items lent (length now.items + length lent) pending closed) (rooms n lent_room)) same
     ∙ ap (λ b. running_base b (rooms room lent_room)) (same_base at pending closed now.items (filter (is_kept limits at) idle) lent lent _
     (length idle + length lent - length (filter (is_expired limits at) idle)) kept refl (omega (arith, count)))
 
