@@ -1,5 +1,6 @@
 // The handler that counts and times, and what is read of it.
-ghost use Rattle.std.specs.Prelude.{◌≡◌, slice_index};
+ghost use Rattle.std.specs.Prelude.{◌≡◌, slice_index, IfOk};
+ghost use Rattle.pool_metrics.specs.Longest.{IsLongestFirst};
 
 use crate::buckets::{Scale, nanos_of};
 use crate::histogram::{Distribution, Histogram};
@@ -115,6 +116,7 @@ impl<R> Metrics<R> {
     pub fn lent_longer_than(&self, length: Duration) -> Result<Vec<Overdue>, AllocError>
     where
         R: Clock + Wait + AllocGlobal,
+        ensures longest_first { IfOk result (λ list. IsLongestFirst list.items) }
     {
         let records = &*self.records;
         let lent = records.lent.lock(&records.rt);
