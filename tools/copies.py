@@ -173,6 +173,15 @@ class Copy:
     def crate(self, name):
         return os.path.join(self.folder, "crates", crate_of(name))
 
+    def put_program(self, name, text, below):
+        """Puts a program into the copy, above these crates: in the place of one with this name."""
+        source, listed = os.path.join(self.crate(name), "src", "main.rt"), os.path.join(self.folder, "crates.txt")
+        os.makedirs(os.path.dirname(source), exist_ok=True)
+        others = [line for line in open(listed, encoding="utf-8") if not line.startswith(name + ":")]
+        for path, written in ((source, text), (listed, "".join(others) + f"{name}: {' '.join(below)}\n")):
+            with open(path, "w", encoding="utf-8") as it:
+                it.write(written)
+
     def count(self, name):
         """How many tests there are."""
         return count_in(os.path.join(self.crate(name), "src"))

@@ -171,7 +171,7 @@ fn answer<R: PoolRuntime>(pool: ProbedPool<R>, probe: Arc<Probe<R>>) {
 }
 
 // A pool of one connection, whose calls ask, with what they asked. The thread answers them.
-fn asking<R: PoolRuntime>(
+fn probed<R: PoolRuntime>(
     rt: R,
     builder: Builder<Prober<R>>,
 ) -> Result<(ProbedPool<R>, Arc<Probe<R>>, JoinHandle<()>), Fail> {
@@ -201,7 +201,7 @@ fn calls_are_made_without_the_lock(rt: HostRuntime) -> Result<(), Fail> {
     let builder = Builder::new()
         .idle_timeout(Some(Duration::from_millis(500)))
         .reaper_rate(Duration::from_millis(500));
-    let (pool, probe, thread) = asking(rt, builder)?;
+    let (pool, probe, thread) = probed(rt, builder)?;
     let lent = pool.get()?;
     assert!(rt; pool.get_timeout(Duration::from_millis(50)).is_err());
     drop(lent);
@@ -216,7 +216,7 @@ fn calls_are_made_without_the_lock(rt: HostRuntime) -> Result<(), Fail> {
 
 #[test]
 fn an_eviction_calls_without_the_lock(rt: HostRuntime) -> Result<(), Fail> {
-    let (pool, probe, thread) = asking(rt, Builder::new())?;
+    let (pool, probe, thread) = probed(rt, Builder::new())?;
     for _ in 0..1000 {
         if pool.state().idle_connections == 1 {
             break;
