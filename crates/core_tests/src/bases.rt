@@ -24,11 +24,7 @@ fn does_replay<R: Abort + AllocGlobal>(rt: &R, report: &Report) -> (bool, bool) 
 
 // Its moment, and how many are idle and lent.
 fn standing(base: &Base) -> (Duration, usize, usize) {
-    (
-        base.at,
-        base.idle.len(),
-        base.lent.len(),
-    )
+    (base.at, base.idle.len(), base.lent.len())
 }
 
 // How many are connected and pending, and whether it is closed.

@@ -4,9 +4,7 @@
 use core_uses::makers::{answered, book_in};
 use core_uses::replays::{Found, read};
 use core_uses::steps::{admit, begin, close, limits, number, put_back, reap, take, want};
-use r2d2_core::{
-    Base, Book, Fault, LendingOrder, Limits, Record, Report, Step,
-};
+use r2d2_core::{Base, Book, Fault, LendingOrder, Limits, Record, Report, Step};
 use std::alloc::{AllocError, Allocator, Global};
 use std::process::Abort;
 use std::time::Duration;

@@ -139,11 +139,7 @@ fn is_unchanged<R: Abort>(rt: &R, book: &Book<u64>, before: &Report) -> bool {
 }
 
 fn lengths(report: &Report) -> (usize, usize, usize) {
-    (
-        report.idle.len(),
-        report.lent.len(),
-        report.records.len(),
-    )
+    (report.idle.len(), report.lent.len(), report.records.len())
 }
 
 // Reports on heaps that grow; the book stays as it is.
