@@ -57,6 +57,7 @@ impl<P: Drop, C: Counter, M, K, R: Clock + Wait> Shared<Tied<P, C>, M, K, R> {
         let mut guarded = self.guarded.lock(&self.rt);
         for _ in self.rt.forever() {
             let now = self.moment();
+            *seen = (*seen).max(now);
             let (taken, wakes) = guarded.book.lend(now, end.is_some(), tally);
             let found = Lent::of(taken);
             let (Some(end), None) = (end, &found) else {
@@ -70,7 +71,6 @@ impl<P: Drop, C: Counter, M, K, R: Clock + Wait> Shared<Tied<P, C>, M, K, R> {
             }
             // Before the wait, which lets the lock go.
             self.wake(wakes);
-            *seen = (*seen).max(now);
             let left = end.saturating_sub(*seen);
             guarded.begin_wait();
             let (again, outcome) = self.callers.wait_timeout(&self.rt, guarded, left);
