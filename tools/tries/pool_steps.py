@@ -14,6 +14,7 @@ from tally import TOP, Tally
 TALLY = Tally("pool-steps")
 check = TALLY.check
 SCRIPT = os.path.join(TOP, "pool-steps")
+PROGRAM = os.path.join(TOP, "crates", "pool_steps", "out", "pool_steps")
 LIMITS = "limits 1 - - - 30000 30000\n"
 # The form of the first line, and what fields have to be, as `pool-steps` says it.
 FIRST = "limits MAX MIN LIFE IDLE TIMEOUT RATE [ORDER]"
@@ -193,6 +194,26 @@ def try_streams():
     check("/dev/null", done.returncode == 1 and done.stderr.startswith(b"line 1: not a step\n"), done.stderr)
 
 
+def try_the_program():
+    """The program plays its input whatever its arguments, and says what is wrong with a line where the environment asks."""
+    def holds(what, words, asked, given, *wanted):
+        how = {"stdout": subprocess.PIPE, "stderr": subprocess.PIPE, "timeout": 60}
+        done = subprocess.run([PROGRAM, *words], input=given.encode(), env={**os.environ, **asked}, **how)
+        seen = (done.returncode, done.stdout.decode(), done.stderr.decode())
+        check(f"the program {what}", seen == wanted, seen)
+
+    for words in [[], ["--help"], ["--why-no-step"], ["--why-no-limits"], ["-"], [""], ["/nowhere/at.all"], ["take 5", "--", "x"], [b"\xff"]]:
+        holds(f"with the arguments {words}", words, {}, LIMITS + "state\n", 0, "state 0 0 1\n", "")
+        holds(f"with the arguments {words} at a fault", words, {}, LIMITS + "jump\n", 1, "", "line 2: not a step\n")
+    asked = {word: {"POOL_STEPS_WHY_NO": word} for word in ["limits", "step", "", "steps"]}
+    for word in ["", "steps"]:
+        holds(f"asked for {word!r}", [], asked[word], LIMITS + "state\n", 0, "state 0 0 1\n", "")
+    holds("asked for a step", [], asked["step"], "take 5", 0, "", "")
+    holds("asked for what is no step", ["state"], asked["step"], "take", 0, "T is missing: take T\n", "")
+    holds("asked for limits", [], asked["limits"], LIMITS.strip(), 0, "", "")
+    holds("asked for limits that are refused", [], asked["limits"], "limits 0 - - - 1 1", 0, "MAX is 0\n", "")
+
+
 def try_a_build(folder):
     """The build, with a stand-in for the command `rt` in a copy of the repository."""
     source = os.path.join(folder, "crates", "r2d2_core", "src", "lib.rt")
@@ -228,8 +249,7 @@ def try_a_build(folder):
     with open(os.path.join(folder, log), encoding="utf-8") as told:
         check("the log of a build", told.read() == "no proof\n", log)
     # It reads a script of its own, and not what the build's caller was given.
-    program = os.path.join(TOP, "crates", "pool_steps", "out", "pool_steps")
-    stand_in(f'[ "$1" = run ] && [ "$(cat)" = "{LIMITS.strip()}" ] && cp "{program}" out/pool_steps\n')
+    stand_in(f'[ "$1" = run ] && [ "$(cat)" = "{LIMITS.strip()}" ] && cp "{PROGRAM}" out/pool_steps\n')
     holds("a build", 0, "state 0 0 1\n", progress)
     holds("no second build", 0, "state 0 0 1\n")
     later = time.time() + 10
@@ -319,6 +339,7 @@ def tried():
         try_words()
         try_lines()
         try_first_lines()
+        try_the_program()
         with tempfile.TemporaryDirectory() as folder:
             try_files(folder)
         with tempfile.TemporaryDirectory() as folder:

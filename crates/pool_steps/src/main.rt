@@ -1,16 +1,17 @@
 //! The program `pool-steps`: it reads the steps of a pool from standard input and writes each
-//! answer on standard output. With an argument it says why the line on standard input is not what
-//! it has to be, and nothing where it is.
+//! answer on standard output, whatever its arguments. Where the environment has `limits` or `step`
+//! under `POOL_STEPS_WHY_NO`, it says in place of that why the line on standard input is not
+//! allowed as the first one, or is no step, and nothing where it is.
 #![tactic(auto)]
 
 use pool_lines::program::{self, Fault, why};
-use std::env;
+use std::env::{self, VarError};
 use std::io::{self, BufWriter, ErrorKind, Read, Write};
 use std::process::ExitCode;
 use std::rt::Env;
 
-// The status for arguments that are not understood.
-const NOT_UNDERSTOOD: u8 = 5;
+// Where the environment may ask what is wrong with a line. An argument can't: any are ignored.
+const ASKED: &str = "POOL_STEPS_WHY_NO";
 
 // What the program is asked to do.
 #[derive(Clone, Copy)]
@@ -22,12 +23,8 @@ enum Task {
 
 fn main(rt: HostRuntime) -> ExitCode {
     let outcome = match asked(&rt) {
-        Ok(Some(Task::Play)) => play(rt),
-        Ok(Some(task)) => explain(rt, task),
-        Ok(None) => {
-            let _ = eprintln!(rt; "pool_steps [--why-no-limits | --why-no-step]");
-            return ExitCode::from(NOT_UNDERSTOOD);
-        }
+        Ok(Task::Play) => play(rt),
+        Ok(task) => explain(rt, task),
         Err(fault) => Err(fault),
     };
     match outcome {
@@ -40,20 +37,17 @@ fn main(rt: HostRuntime) -> ExitCode {
     }
 }
 
-// What the arguments ask for, if they are understood.
-fn asked<R: Env + AllocGlobal>(rt: &R) -> Result<Option<Task>, Fault> {
-    let mut words = match env::args(rt) {
-        Ok(words) => words.skip(1),
-        Err(error) if error.kind() == ErrorKind::OutOfMemory => return Err(Fault::Memory),
-        Err(_) => return Ok(None),
+// What the environment asks for; with any other word there, or none, a script is played.
+fn asked<R: Env + AllocGlobal>(rt: &R) -> Result<Task, Fault> {
+    let word = match env::var(rt, ASKED) {
+        Ok(word) => word,
+        Err(VarError::OutOfMemory) => return Err(Fault::Memory),
+        Err(_) => return Ok(Task::Play),
     };
-    let Some(word) = words.next() else {
-        return Ok(Some(Task::Play));
-    };
-    Ok(match (word.as_str(), words.next()) {
-        ("--why-no-limits", None) => Some(Task::ExplainLimits),
-        ("--why-no-step", None) => Some(Task::ExplainStep),
-        _ => None,
+    Ok(match word.as_str() {
+        "limits" => Task::ExplainLimits,
+        "step" => Task::ExplainStep,
+        _ => Task::Play,
     })
 }
 
