@@ -54,7 +54,12 @@ pub(crate) fn play<R: Host>(rt: R, plan: Plan, seen: &Arc<Seen<R>>) -> Result<()
         let made = super::build(builder, rt, manager)?;
         watch.check(seen, "build ends later than its timeout", 0, Some(wait));
         match made {
-            Some(pool) => shared(rt, plan, seen, pool)?,
+            Some(pool) => {
+                if u64::from(pool.status().connections) < plan.wanted {
+                    seen.fault("build ends, and fewer are open than are wanted");
+                }
+                shared(rt, plan, seen, pool)?
+            }
             None => {
                 watch.check(seen, "build gives up before its timeout", wait, None);
                 if wait == PATIENT {

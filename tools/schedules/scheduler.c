@@ -235,11 +235,11 @@ static nanoseconds next_early_deadline(void) {
     return first_long <= next ? NEVER : next;
 }
 
-static void let_time_go_on(nanoseconds to) {
+static void let_time_go_on(nanoseconds to, const char *how) {
     now = to > now ? to : now;
     trace(0x77);
     if (is_told)
-        dprintf(1, "%10.3f  time goes on\n", (double)(now - BEGIN) / SECOND);
+        dprintf(1, "%10.3f  time goes on%s\n", (double)(now - BEGIN) / SECOND, how);
     for (int i = 0; i < thread_count; i++) {
         struct thread *it = &threads[i];
         if (has_deadline(it) && it->until <= now) {
@@ -255,7 +255,7 @@ static void let_time_go_on_early(void) {
         return;
     jumps_left--;
     jumps_made++;
-    let_time_go_on(next);
+    let_time_go_on(next, ", though somebody can go on");
 }
 
 /* -- Who goes on -- */
@@ -293,7 +293,7 @@ static void go_on_somehow(void) {
         return;
     nanoseconds next = next_deadline();
     if (next != NEVER && now <= LAST)
-        let_time_go_on(next);
+        let_time_go_on(next, "");
     else if (is_any_left(0))
         fail(STUCK, "nobody can go on");
     else
@@ -607,8 +607,10 @@ static void at_breakpoint(int signal_number, siginfo_t *info, void *given) {
                                 : bsearch(&key, spots, spot_count, sizeof key, by_place);
     if (!it)
         fail(BROKEN, "a breakpoint of another");
-    if (is_on && me >= 0)
+    if (is_on && me >= 0) {
         point(true);
+        tell(is_behind ? "goes on behind a locked instruction" : "comes to a locked instruction");
+    }
     *next =
         (greg_t)(is_behind ? it->at + it->length : (uintptr_t)slots + SLOT * (size_t)(it - spots));
     errno = before;
