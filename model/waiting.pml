@@ -4,7 +4,19 @@
 
    A step under the lock is one atomic block, and the wakes that follow it are blocks of their own, since the lock is
    free by then. Callers make any number of calls, openings fail any number of times, connections come back sound or
-   broken: nothing is counted, so Spin's search ends with all that can happen in a pool of these sizes. */
+   broken: nothing is counted, so Spin's search ends with all that can happen in a pool of these sizes.
+
+   Where it is not the code, step for step, and why that hides no wake that is missing:
+   - Steps under the lock that change nothing anybody waits for, and wake nobody, are left out: `number`, `state`,
+     `status`, `journal`, `audit`, and the look at `max_size` with which an eviction begins.
+   - Ids are not used up. An opening for which there is none ends as a failed one.
+   - A worker that wakes has the lock at once, and looks. In the code its wait takes the lock and lets it go, and then it
+     takes the lock anew: until it looks it is awake in both, and all that others do meanwhile it finds.
+   - All workers who rest until a moment wake when anything falls due; in the code each wakes at the moment that it was
+     told. Only a failed opening makes an earlier one, and wakes them all: that it does is found without reaps.
+   - `close` is there as the begin of a drain alone. A second close is not there; it would but wake everybody once more.
+   - A connection that outlives its pool is here a pool that its caller still has.
+   tools/schedules plays the code itself, with the real variables, though by chance and not in all interleavings. */
 
 #ifndef SIZE
 #define SIZE 1            /* max_size */
@@ -314,6 +326,7 @@ let_go: /* Closer::drop, where it was the last one, and Shared::close */
 #ifdef DROPS_BEFORE_IT_WAKES
   if :: MAY_STAY -> goto stays :: true fi;
 #endif
+  atomic { wake_callers(CLOSE) };
   atomic { wake_workers(CLOSE) };
   if :: MAY_STAY -> goto stays :: true fi;   /* Closer::drop: what was idle is dropped */
 gone:
@@ -437,8 +450,8 @@ active [CLOSERS] proctype closer() {
   bool wakes;             /* it is to wake another one, and one waits */
   bool waits;
   atomic { close() };                                               /* Shared::close */
-  atomic { wake_workers(CLOSE) };
   atomic { wake_callers(CLOSE) };
+  atomic { wake_workers(CLOSE) };
 
 looks: /* Shared::wait_for_returns */
   atomic {

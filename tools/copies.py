@@ -27,8 +27,8 @@ SECONDS = "400"
 
 
 def names():
-    """The folders of tests, those with the most tests first."""
-    folders = [name for name in os.listdir(TESTS) if os.path.isdir(os.path.join(TESTS, name))]
+    """The folders of tests, those with the most tests first. (tests/schedules has none: it is a program.)"""
+    folders = [name for name in os.listdir(TESTS) if count_of(files_of(name).values())]
     return sorted(folders, key=lambda name: (-count_of(files_of(name).values()), name))
 
 

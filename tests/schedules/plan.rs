@@ -1,0 +1,155 @@
+// What a run does: a scenario of tools/schedules/scenarios.txt, which says what its words mean.
+
+use crate::callbacks::CALLBACKS;
+
+#[derive(Clone, Copy)]
+pub(crate) struct Plan {
+    pub(crate) size: u64,
+    pub(crate) wanted: u64,
+    pub(crate) workers: u64,
+    pub(crate) callers: u64,
+    pub(crate) impatient: u64,
+    pub(crate) calls: u64,
+    pub(crate) bad: u64,
+    pub(crate) closers: u64,
+    pub(crate) drainers: u64,
+    pub(crate) fails: bool,
+    pub(crate) checks: bool,
+    pub(crate) breaks: bool,
+    pub(crate) reaps: bool,
+    pub(crate) evicts: bool,
+    pub(crate) detaches: bool,
+    pub(crate) tries: bool,
+    pub(crate) builds: bool,
+    pub(crate) oldest: bool,
+    pub(crate) last_drop: bool,
+    pub(crate) slow_openings: bool,
+    pub(crate) slow_checks: bool,
+    pub(crate) slow_returns: bool,
+    pub(crate) slow_releases: bool,
+    pub(crate) error_stays: bool,
+    pub(crate) release_stays: bool,
+    /// The callback that calls into the pool, counted from 1.
+    pub(crate) within: u64,
+    pub(crate) endless: bool,
+}
+
+impl Plan {
+    pub(crate) fn new() -> Plan {
+        Plan {
+            size: 1,
+            wanted: 0,
+            workers: 1,
+            callers: 2,
+            impatient: 0,
+            calls: 2,
+            bad: 0,
+            closers: 0,
+            drainers: 0,
+            fails: false,
+            checks: false,
+            breaks: false,
+            reaps: false,
+            evicts: false,
+            detaches: false,
+            tries: false,
+            builds: false,
+            oldest: false,
+            last_drop: false,
+            slow_openings: false,
+            slow_checks: false,
+            slow_returns: false,
+            slow_releases: false,
+            error_stays: false,
+            release_stays: false,
+            within: 0,
+            endless: false,
+        }
+    }
+
+    /// Takes a word of a scenario in; false where there is no such word.
+    pub(crate) fn take(&mut self, word: &str) -> bool {
+        if let Some(callback) = word.strip_prefix("within=") {
+            return self.take_callback(callback);
+        }
+        if let Some((name, number)) = word.split_once('=') {
+            return match number.parse::<u64>() {
+                Ok(number) => self.take_number(name, number),
+                Err(_) => false,
+            };
+        }
+        match word {
+            "fails" => self.fails = true,
+            "checks" => self.checks = true,
+            "breaks" => self.breaks = true,
+            "reaps" => self.reaps = true,
+            "evicts" => self.evicts = true,
+            "detaches" => self.detaches = true,
+            "tries" => self.tries = true,
+            "builds" => self.builds = true,
+            "oldest" => self.oldest = true,
+            "last_drop" => self.last_drop = true,
+            "slow_openings" => self.slow_openings = true,
+            "slow_checks" => self.slow_checks = true,
+            "slow_returns" => self.slow_returns = true,
+            "slow_releases" => self.slow_releases = true,
+            "error_stays" => self.error_stays = true,
+            "release_stays" => self.release_stays = true,
+            "endless" => self.endless = true,
+            _ => return false,
+        }
+        true
+    }
+
+    fn take_callback(&mut self, callback: &str) -> bool {
+        for name in &CALLBACKS {
+            self.within = self.within.saturating_add(1);
+            if *name == callback {
+                return true;
+            }
+        }
+        false
+    }
+
+    fn take_number(&mut self, name: &str, number: u64) -> bool {
+        match name {
+            "size" => self.size = number,
+            "wanted" => self.wanted = number,
+            "workers" => self.workers = number,
+            "callers" => self.callers = number,
+            "impatient" => self.impatient = number,
+            "calls" => self.calls = number,
+            "bad" => self.bad = number,
+            "closers" => self.closers = number,
+            "drainers" => self.drainers = number,
+            _ => return false,
+        }
+        true
+    }
+
+    /// Whether somebody closes the pool while others have it.
+    pub(crate) fn closes(&self) -> bool {
+        self.closers > 0 || self.drainers > 0
+    }
+
+    /// How many seconds a caller's own checks take at most past its timeout, or None where no
+    /// moment can be told, since a handler of its own call is slow.
+    pub(crate) fn own_seconds(&self) -> Option<u64> {
+        if !self.checks {
+            return Some(0);
+        }
+        if self.error_stays || self.release_stays || self.slow_releases {
+            return None;
+        }
+        Some(if self.slow_checks {
+            self.bad.saturating_add(1).saturating_mul(2)
+        } else {
+            0
+        })
+    }
+
+    /// Whether a return and an eviction take no time.
+    pub(crate) fn releases_at_once(&self) -> bool {
+        !(self.release_stays || self.slow_releases)
+    }
+}
