@@ -49,6 +49,8 @@ mod patience;
 #[cfg(test)]
 mod play;
 #[cfg(test)]
+mod readings;
+#[cfg(test)]
 mod scripts;
 #[cfg(test)]
 mod status;

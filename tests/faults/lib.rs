@@ -25,6 +25,8 @@ mod patience;
 #[cfg(test)]
 mod play;
 #[cfg(test)]
+mod readings;
+#[cfg(test)]
 mod refused;
 #[cfg(test)]
 mod scripts;

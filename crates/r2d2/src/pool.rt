@@ -27,6 +27,7 @@ use std::thread::Threads;
 use std::time::{Duration, SystemTime};
 
 mod building;
+mod call_time;
 mod closing;
 mod counting;
 mod lending;

@@ -57,8 +57,9 @@ impl<
         ensures settings { IfOk result (λ pool. pool ≡ self) }
         ensures refused { IfErr result IsOfMemoryOrThreads }
     {
+        let listens = self.listens();
         let (config, book, lists) = self.prepare(rt.alloc()).map_err(|_| Error::memory())?;
-        open_pool(rt, Tied::plain(book), config, manager, lists)
+        open_pool(rt, Tied::plain(book), config, listens, manager, lists)
     }
 
     /// Makes a pool whose takes are counted, and is otherwise as `build_unchecked`.
@@ -77,8 +78,10 @@ impl<
         ensures settings { IfOk result (λ pool. pool ≡ self) }
         ensures refused { IfErr result IsOfMemoryOrThreads }
     {
+        let listens = self.listens();
         let (config, book, lists) = self.prepare(rt.alloc()).map_err(|_| Error::memory())?;
-        open_pool(rt, Counted::new(book, total), config, manager, lists)
+        let book = Counted::new(book, total);
+        open_pool(rt, book, config, listens, manager, lists)
     }
 
     // The settings, a book in which nothing has happened, and a list for each worker.
@@ -111,13 +114,14 @@ fn open_pool<C: Ties + Send + 'static, M: ManageConnection, K: Hooks<M>, R: Pool
     rt: R,
     book: Tied<PayloadOf<M>, C>,
     hooks: K,
+    listens: bool,
     manager: M,
     lists: Vec<Vec<Released<PayloadOf<M>>>>,
 ) -> Result<AnyPool<C, M, K, R>, Error>
     ensures settings { IfOk result (λ pool. pool ≡ hooks) }
     ensures refused { IfErr result IsOfMemoryOrThreads }
 {
-    let closer = shared_state(rt, book, hooks, manager).map_err(|_| Error::memory())?;
+    let closer = shared_state(rt, book, hooks, listens, manager).map_err(|_| Error::memory())?;
     start_workers(&closer, lists)?;
     Ok(AnyPool { closer })
 }
@@ -156,6 +160,7 @@ fn shared_state<P: Drop, C: Ties, M: Drop, K: Drop, R: PoolRuntime>(
     rt: R,
     book: Tied<P, C>,
     hooks: K,
+    listens: bool,
     manager: M,
 ) -> Result<Arc<Closer<P, C, M, K, R>>, AllocError>
     ensures { IfOk result (λ closer. (arc_value (arc_value closer).shared).hooks ≡ hooks) }
@@ -168,6 +173,7 @@ fn shared_state<P: Drop, C: Ties, M: Drop, K: Drop, R: PoolRuntime>(
         workers: Condvar::new(),
         manager,
         hooks,
+        listens,
         made,
         made_at,
         rt,

@@ -2,6 +2,7 @@
 ghost use Rattle.std.specs.Prelude.{◌≡◌, ◌≤◌, ◌<◌, ◌+◌, IfOk, IfErr, IfSome, IsSome};
 ghost use Rattle.std.specs.Option.{IsNone};
 
+use super::call_time::CallTime;
 use super::lent::{AnyConnection, Lent};
 use super::locking::SharedOf;
 use super::waiting::Vain;
@@ -36,16 +37,13 @@ impl<C: Counter, M: ManageConnection, K: Hooks<M>, R: PoolRuntime> AnyPool<C, M,
     {
         // Modelled in model/waiting.pml: keep both alike.
         let shared = self.shared();
-        let start = shared.moment();
-        let mut seen = start;
+        let mut time = CallTime::new(shared.start_of_call());
         let closer = Arc::try_clone(&self.closer).map_err(|_| Error::memory())?;
-        let end = timeout.map(|timeout| start.saturating_add(timeout));
         for _ in shared.rt.forever() {
-            match shared.lend_until(end, &mut seen, tally) {
+            match shared.lend_until(timeout, &mut time, tally) {
                 Ok(Some(lent)) => {
                     if let Some(lent) = shared.if_sound(lent) {
-                        let lent_at = shared.moment();
-                        shared.hooks.check_out(lent.id, start, lent_at);
+                        let lent_at = shared.check_out(lent.id, &time);
                         return Ok(Some(AnyConnection {
                             closer,
                             lent_at,
@@ -67,6 +65,27 @@ impl<C: Counter, M: ManageConnection, K: Hooks<M>, R: PoolRuntime> AnyPool<C, M,
 }
 
 impl<C: Ties, M: ManageConnection, K: Hooks<M>, R: PoolRuntime> SharedOf<C, M, K, R> {
+    // The moment at which a call begins, where somebody sees it.
+    fn start_of_call(&self) -> Option<Duration> {
+        if !self.listens {
+            return None;
+        }
+        Some(self.moment())
+    }
+
+    // Tells that a connection is lent, and answers when. Where nobody listens and nothing was
+    // checked since, that is when it was taken.
+    fn check_out(&self, id: u64, time: &CallTime) -> Duration {
+        if !self.listens && !self.hooks.test_on_check_out() {
+            return time.step();
+        }
+        let lent_at = self.moment();
+        if self.listens {
+            self.hooks.check_out(id, time.start(), lent_at);
+        }
+        lent_at
+    }
+
     /// The connection, where it need not be checked, or its check finds it sound. Else it is
     /// closed.
     fn if_sound(&self, mut lent: Lent<PayloadOf<M>>) -> Option<Lent<PayloadOf<M>>> {

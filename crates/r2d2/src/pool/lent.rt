@@ -80,7 +80,8 @@ impl<C: Ties, M: ManageConnection, K: Hooks<M>, R: PoolRuntime> AnyConnection<C,
     }
 
     /// When it was lent, as a time since the pool was made: the moment that the checkout event
-    /// tells.
+    /// tells. Where no handler of events was set it is that of the take, or, where the connection
+    /// was checked, the moment after the check.
     pub fn lent_at(this: &Self) -> Duration
         ensures { result ≡ this.now.lent_at }
     {
@@ -102,7 +103,9 @@ impl<C: Ties, M: ManageConnection, K: Hooks<M>, R: PoolRuntime> AnyConnection<C,
         } = this;
         let Lent { id, payload } = lent;
         let shared = &closer.shared;
-        shared.hooks.check_in(id, lent_at, shared.moment());
+        if shared.listens {
+            shared.hooks.check_in(id, lent_at, shared.moment());
+        }
         if let Settled::Gone(gone) = shared.settle(Outcome::Unsound { id, text: None }) {
             shared.hooks.gone(id, gone.age);
         }
@@ -185,7 +188,9 @@ impl<C: Ties, M: ManageConnection, K: Hooks<M>, R: PoolRuntime> Drop for AnyConn
         } = self;
         let id = lent.id;
         let shared = &closer.shared;
-        shared.hooks.check_in(id, lent_at, shared.moment());
+        if shared.listens {
+            shared.hooks.check_in(id, lent_at, shared.moment());
+        }
         let broken = shared.manager.has_broken(&mut lent.payload.connection);
         let returned = shared.put_back(lent, broken);
         if let Ok(Returned::Closed { value, age, .. }) = returned {

@@ -12,8 +12,12 @@ use r2d2_core::machine::Leftover;
 use r2d2_core::{Refusal, Released, Report, Returned};
 use std::alloc::AllocError;
 use std::rt::Clock;
-use std::sync::{Condvar, Mutex, Wait};
+use std::sync::{Condvar, Mutex, MutexGuard, Wait};
+use std::thread::yield_now;
 use std::time::{Duration, Instant, SystemTime};
+
+/// How often a thread that finds the lock taken lets others run, before it sleeps for it.
+const TURNS: u32 = 10;
 
 /// What the lock guards: the book, how many callers wait, and which connections stay.
 #[derive(Drop)]
@@ -137,7 +141,8 @@ impl<P: Drop, C: Ties> Guarded<Tied<P, C>> {
     }
 }
 
-/// What workers, pools and lent connections share. The lock is held for the book's steps alone.
+/// What workers, pools and lent connections share. The lock is held for the book's steps, and while
+/// a report of it is copied.
 #[derive(Drop)]
 pub struct Shared<B, M, K, R> {
     pub(super) guarded: Mutex<Guarded<B>>,
@@ -147,6 +152,8 @@ pub struct Shared<B, M, K, R> {
     pub(super) workers: Condvar,
     pub(super) manager: M,
     pub(super) hooks: K,
+    /// Whether a handler of events was set: if not, nobody sees when a call began or ended.
+    pub(super) listens: bool,
     /// When the pool was made; None where the clock could not be read.
     pub(super) made: Option<Instant>,
     /// What the wall clock showed then, where it could be read.
@@ -187,6 +194,33 @@ impl<B, M, K, R> Shared<B, M, K, R> {
         self.workers.notify_all();
     }
 
+    /// Takes the lock.
+    #[inline(always)]
+    pub(super) fn lock(&self) -> MutexGuard<'_, Guarded<B>>
+    where
+        R: Wait,
+    {
+        match self.guarded.try_lock() {
+            Some(guarded) => guarded,
+            None => self.lock_in_turn(),
+        }
+    }
+
+    /// Takes the lock, which another thread had just now. That one needs it for a step alone, so
+    /// this one lets others run a few times before it sleeps, which takes longer.
+    pub(super) fn lock_in_turn(&self) -> MutexGuard<'_, Guarded<B>>
+    where
+        R: Wait,
+    {
+        for _ in 0..TURNS {
+            yield_now();
+            if let Some(guarded) = self.guarded.try_lock() {
+                return guarded;
+            }
+        }
+        self.guarded.lock(&self.rt)
+    }
+
     // Makes a step: takes the lock, reads the moment, calls, lets the lock go, wakes. What the call
     // did to the book, nobody can say after it.
     #[inline(always)]
@@ -197,7 +231,7 @@ impl<B, M, K, R> Shared<B, M, K, R> {
         ensures { (g : _) × (now : _) × (w : _) × (g' : _) × F.post call g now (result, w) g' }
     {
         // Modelled in model/waiting.pml: keep both alike.
-        let mut guarded = self.guarded.lock(&self.rt);
+        let mut guarded = self.lock();
         let (answer, wakes) = call(&mut guarded, self.moment());
         let wakes = guarded.who_waits(wakes);
         drop(guarded);

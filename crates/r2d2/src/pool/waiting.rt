@@ -10,8 +10,9 @@ ghost use Rattle.r2d2_core.specs.Reports.{BeginsAtAMaking};
 ghost use Rattle.r2d2.specs.Counted.{counted_up_to};
 ghost use Rattle.r2d2.specs.Status.{IsStatus};
 
+use super::call_time::CallTime;
 use super::lent::Lent;
-use super::locking::{Shared, SharedOf};
+use super::locking::{Guarded, Shared, SharedOf};
 use super::{PoolRuntime, Status};
 use crate::ManageConnection;
 use crate::engine::{Counted, Counter, Tied, Ties, Wakes};
@@ -20,8 +21,8 @@ use crate::payload::{Payload, PayloadOf};
 use r2d2_core::{Book, Job, Released, Report};
 use std::alloc::AllocError;
 use std::rt::Clock;
-use std::sync::Wait;
 use std::sync::ledger::{Ledger, Share};
+use std::sync::{MutexGuard, Wait};
 use std::time::Duration;
 
 /// Why a caller who waited is lent nothing.
@@ -35,13 +36,12 @@ pub enum Vain {
 
 impl<P: Drop, C: Counter, M, K, R: Clock + Wait> Shared<Tied<P, C>, M, K, R> {
     /// Takes the idle connection that is lent next. Where there is none it orders one and waits,
-    /// until the moment `end`, or until the pool is closed. With no end it neither orders nor
-    /// waits, and answers None. `seen` is the latest moment that the call saw: a wait is as long as
-    /// what is left from there, also where the clock can't be read meanwhile.
+    /// until the call's timeout has passed, or until the pool is closed. With no timeout it neither
+    /// orders nor waits, and answers None.
     pub(super) fn lend_until(
         &self,
-        end: Option<Duration>,
-        seen: &mut Duration,
+        timeout: Option<Duration>,
+        time: &mut CallTime,
         tally: &mut C::Tally,
     ) -> Result<Option<Lent<P>>, Vain>
         requires { 0 < C.parts tally.old }
@@ -50,17 +50,20 @@ impl<P: Drop, C: Counter, M, K, R: Clock + Wait> Shared<Tied<P, C>, M, K, R> {
             (λ found. MatchOption found (C.amount tally.new ≡ C.amount tally.old)
             (λ _. C.amount tally.new ≡ C.amount tally.old + C.per_take)) }
         ensures refused { OnErr result (C.amount tally.new ≡ C.amount tally.old) }
-        ensures waits { IsSome end → IfOk result IsSome }
-        ensures at_once { IsNone end → IsOk result }
+        ensures waits { IsSome timeout → IfOk result IsSome }
+        ensures at_once { IsNone timeout → IsOk result }
     {
         // Modelled in model/waiting.pml: keep both alike.
-        let mut guarded = self.guarded.lock(&self.rt);
+        let mut guarded = self.lock_for(time);
+        if timeout.is_none() && guarded.book.book().idle() == 0 {
+            return Ok(None);
+        }
         for _ in self.rt.forever() {
             let now = self.moment();
-            *seen = (*seen).max(now);
-            let (taken, wakes) = guarded.book.lend(now, end.is_some(), tally);
+            time.look(now);
+            let (taken, wakes) = guarded.book.lend(now, timeout.is_some(), tally);
             let found = Lent::of(taken);
-            let (Some(end), None) = (end, &found) else {
+            let (Some(timeout), None) = (timeout, &found) else {
                 drop(guarded);
                 self.wake(wakes);
                 return Ok(found);
@@ -71,7 +74,7 @@ impl<P: Drop, C: Counter, M, K, R: Clock + Wait> Shared<Tied<P, C>, M, K, R> {
             }
             // Before the wait, which lets the lock go.
             self.wake(wakes);
-            let left = end.saturating_sub(*seen);
+            let left = time.left_of(timeout);
             guarded.begin_wait();
             let (again, outcome) = self.callers.wait_timeout(&self.rt, guarded, left);
             guarded = again;
@@ -91,6 +94,18 @@ impl<P: Drop, C: Counter, M, K, R: Clock + Wait> Shared<Tied<P, C>, M, K, R> {
 }
 
 impl<P: Drop, C: Ties, M, K, R: Clock + Wait> Shared<Tied<P, C>, M, K, R> {
+    // Takes the lock for a call. One that has to wait for it, and looked at no clock before, does
+    // so first.
+    fn lock_for(&self, time: &mut CallTime) -> MutexGuard<'_, Guarded<Tied<P, C>>> {
+        if let Some(guarded) = self.guarded.try_lock() {
+            return guarded;
+        }
+        if !time.has_begun() {
+            time.look(self.moment());
+        }
+        self.lock_in_turn()
+    }
+
     /// Waits until there are so many connections, and as long as this at most. Past that it answers
     /// the latest error of an opening or a check.
     pub(super) fn wait_for(&self, wanted: u32, timeout: Duration) -> Result<(), Option<String>> {
@@ -145,7 +160,7 @@ impl<C: Ties, M: ManageConnection, K: Hooks<M>, R: PoolRuntime> SharedOf<C, M, K
         // Modelled in model/waiting.pml: keep both alike.
         let mut seen = Duration::ZERO;
         for _ in self.rt.forever() {
-            let mut guarded = self.guarded.lock(&self.rt);
+            let mut guarded = self.lock();
             let now = self.moment();
             seen = seen.max(now);
             match guarded.book.begin(now) {

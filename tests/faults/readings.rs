@@ -1,0 +1,100 @@
+// How often the clock is read: where a handler of events was set, for all that it is told; else for
+// the steps alone, and once more after a check.
+
+use crate::hand::Hand;
+use crate::kind::{Makes, Pool, PooledConnection};
+use crate::play::{GOOD, Manager, Play, Rows, watched};
+use r2d2::{
+    Builder, HandleEvent, NopConnectionCustomizer, NopErrorHandler, NopEventHandler, PoolRuntime,
+};
+use std::sync::atomic::Ordering;
+use std::test::Fail;
+use std::time::Duration;
+
+type Settings<V, R> = Builder<Manager<R>, NopErrorHandler, V, NopConnectionCustomizer>;
+
+/// Hears nothing, but was set.
+#[derive(Debug, Drop)]
+struct Deaf;
+
+impl HandleEvent for Deaf {}
+
+/// What a `get`, a `try_get` that found none, and the return came to.
+#[derive(Clone, Copy, PartialEq, Debug)]
+struct Seen {
+    /// When it was lent.
+    lent_at: Duration,
+    /// How often the clock was read by the `get` and the return.
+    used: u64,
+    /// How often by the `try_get`.
+    missed: u64,
+}
+
+// Takes the one connection, looks for another, and gives it back, by a clock that shows 10 s and
+// moves on by a second at each reading. The only worker is at a second opening until the end.
+fn used<V: HandleEvent + 'static, R: PoolRuntime>(
+    rt: R,
+    settings: Settings<V, R>,
+) -> Result<Seen, Fail> {
+    let rows = Rows { unheld: 1, ..GOOD };
+    let (play, hand) = (Play::new(rt.alloc(), rows)?, Hand::new(rt)?);
+    let pool: Pool<_, _, _, _, Hand<R>> = settings
+        .max_size(2)
+        .thread_pool(1)
+        .make_unchecked(hand, Manager::new(rt, &play)?)?;
+    watched(&rt, play.connects(), 2, 1000);
+    let readings = || hand.readings().load(Ordering::SeqCst);
+    hand.set(10, 1);
+    let before = readings();
+    let lent = pool.get()?;
+    let lent_at = PooledConnection::lent_at(&lent);
+    let between = readings();
+    let is_missed = pool.try_get()?.is_none();
+    let missed = readings().saturating_sub(between);
+    drop(lent);
+    let all = readings().saturating_sub(before);
+    play.let_go.store(1, Ordering::SeqCst);
+    if !is_missed {
+        return Err(Fail::from("lent twice"));
+    }
+    Ok(Seen {
+        lent_at,
+        used: all.saturating_sub(missed),
+        missed,
+    })
+}
+
+fn seen(lent_at: u64, used: u64, missed: u64) -> Seen {
+    Seen {
+        lent_at: Duration::from_secs(lent_at),
+        used,
+        missed,
+    }
+}
+
+fn silent<R: PoolRuntime>() -> Settings<NopEventHandler, R> {
+    Builder::new()
+}
+
+#[test]
+fn two_steps_read_the_clock_where_nobody_listens(rt: HostRuntime) -> Result<(), Fail> {
+    let came = used(rt, silent().test_on_check_out(false))?;
+    assert_eq!(rt; came, seen(10, 2, 0));
+    Ok(())
+}
+
+#[test]
+fn a_check_is_followed_by_a_look_at_the_clock(rt: HostRuntime) -> Result<(), Fail> {
+    let came = used(rt, silent().test_on_check_out(true))?;
+    assert_eq!(rt; came, seen(11, 3, 0));
+    Ok(())
+}
+
+#[test]
+fn who_listens_is_told_of_five_readings(rt: HostRuntime) -> Result<(), Fail> {
+    let came = used(rt, silent().event_handler(Deaf).test_on_check_out(false))?;
+    assert_eq!(rt; came, seen(12, 5, 1));
+    let came = used(rt, silent().event_handler(Deaf))?;
+    assert_eq!(rt; came, seen(12, 5, 1));
+    Ok(())
+}
