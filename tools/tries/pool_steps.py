@@ -202,7 +202,8 @@ def try_the_program():
         seen = (done.returncode, done.stdout.decode(), done.stderr.decode())
         check(f"the program {what}", seen == wanted, seen)
 
-    for words in [[], ["--help"], ["--why-no-step"], ["--why-no-limits"], ["-"], [""], ["/nowhere/at.all"], ["take 5", "--", "x"], [b"\xff"]]:
+    several = ["take 5", "--", "x"]
+    for words in [[], ["--help"], ["--why-no-step"], ["--why-no-limits"], ["-"], [""], ["/nowhere/at.all"], several, [b"\xff"]]:
         holds(f"with the arguments {words}", words, {}, LIMITS + "state\n", 0, "state 0 0 1\n", "")
         holds(f"with the arguments {words} at a fault", words, {}, LIMITS + "jump\n", 1, "", "line 2: not a step\n")
     asked = {word: {"POOL_STEPS_WHY_NO": word} for word in ["limits", "step", "", "steps"]}

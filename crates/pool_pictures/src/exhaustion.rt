@@ -1,5 +1,5 @@
 // How long a pool was exhausted.
-ghost use Rattle.std.specs.Prelude.{◌≤◌, ◌-◌};
+ghost use Rattle.std.specs.Prelude.{◌≡◌, ◌≤◌, ◌-◌};
 ghost use Rattle.std.specs.Duration.{as_nanos};
 
 use crate::lengths::{Length, length_of};
@@ -37,7 +37,8 @@ impl Story {
     /// For how much of the story a caller who came had to wait: the pool was open, and all
     /// `max_size` were lent or opening.
     pub fn exhaustion(&self) -> Exhaustion
-        ensures { result.nanos ≤ as_nanos self.now.to - as_nanos self.now.from }
+        ensures within { result.nanos ≤ as_nanos self.now.to - as_nanos self.now.from }
+        ensures whole { result.whole ≡ as_nanos self.now.to - as_nanos self.now.from }
     {
         let (from, to) = (self.from.as_nanos(), self.to.as_nanos());
         let to = to.max(from);
