@@ -16,9 +16,9 @@
 
    Time is the scheduler's own, so what the program reads is exact. It goes on, to the next
    deadline, where nobody can go on. Up to three times in a schedule it also goes on before, as on a
-   machine that is slow: then who was woken in time may find its time run out. It never passes the
-   end of a LONG wait while anything else can happen: who waits that long is told of a timeout only
-   where nobody would ever have woken it.
+   machine that is slow, most often where one who was woken in time would then find its time run
+   out. It never passes the end of a LONG wait while anything else can happen: who waits that long
+   is told of a timeout only where nobody would ever have woken it.
 
    What a program can ask for:
    - The wall clock shows seconds that are drawn from CHANCES, so that what a manager answers is
@@ -79,10 +79,11 @@ static const char *const state_names[] = {"can go on", "waits",         "sleeps"
 
 struct thread {
     enum state state;
-    nanoseconds until;  /* where it is parked or sleeps: its deadline, or NEVER */
-    nanoseconds unread; /* the deadline of a wait that it began, until it reads a clock past it: it
-                           may still be told of a timeout */
-    bool is_long;       /* that is so far off that it comes only where nobody can go on */
+    nanoseconds until; /* where it is parked or sleeps: its deadline, or NEVER */
+    nanoseconds
+        unread;   /* the deadline of a wait that it began, until it reads the clock: by then it
+                           may be past it, though it was woken */
+    bool is_long; /* that is so far off that it comes only where nobody can go on */
     bool is_timed_out;
     bool does_watch;
     uint32_t *word; /* where it is parked */
@@ -331,6 +332,14 @@ static void await_the_baton(void) {
         kernel(SYS_futex, (long)&threads[me].baton, FUTEX_WAIT_PRIVATE, 0, 0, 0, 0);
 }
 
+/* Whether one was woken in time, and may yet find that its time has run out. */
+static bool may_be_late(void) {
+    for (int i = 0; i < thread_count; i++)
+        if (threads[i].state == READY && threads[i].unread > now)
+            return true;
+    return false;
+}
+
 static void step_down(void) {
     threads[me].priority = -points;
 }
@@ -342,7 +351,7 @@ static void point(bool can_go_on) {
         return;
     if (++points > MOST_POINTS)
         fail(ENDLESS, "no end of points");
-    if (jumps_left > 0 && drawn() % (unsigned)jump_in == 0)
+    if (jumps_left > 0 && drawn() % (unsigned)(may_be_late() ? 4 : jump_in) == 0)
         let_time_go_on_early();
     if (by_priority && changes_left > 0 && drawn() % (unsigned)change_in == 0) {
         changes_left--;
@@ -526,8 +535,7 @@ int clock_gettime(clockid_t which, struct timespec *at) {
     }
     point(true);
     *at = (struct timespec){.tv_sec = now / SECOND, .tv_nsec = now % SECOND};
-    if (threads[me].unread <= now)
-        threads[me].unread = 0;
+    threads[me].unread = 0;
     tell("reads the clock");
     return 0;
 }
