@@ -99,8 +99,7 @@ fn try_gets<R: PoolRuntime>(
 }
 
 /// What the rules ask of a `get` and a return, with no pool: a shared pointer cloned and dropped,
-/// five readings of the clock, and the lock taken twice, with one of the readings under it each
-/// time.
+/// and the lock taken twice, with a reading of the clock under it each time.
 pub fn floor<R: PoolRuntime>(rt: R, case: Case) -> Result<Duration, anyhow::Error> {
     let latest = Arc::new(rt.alloc(), Mutex::new(Duration::ZERO))?;
     let start = Instant::now(&rt)?;
@@ -115,13 +114,10 @@ pub fn floor<R: PoolRuntime>(rt: R, case: Case) -> Result<Duration, anyhow::Erro
 /// One round of `floor`. It hands on no error of the clock: moving one about would cost more than a
 /// pool does.
 pub fn floor_round<R: PoolRuntime>(rt: R, latest: &Arc<Mutex<Duration>>, start: Instant) -> bool {
-    since(rt, start);
     let Ok(holder) = Arc::try_clone(latest) else {
         return false;
     };
     step(rt, &holder, start);
-    since(rt, start);
-    since(rt, start);
     step(rt, &holder, start);
     true
 }

@@ -1,22 +1,24 @@
-// Several threads at one pool.
+// Several threads at one pool. They begin all at once, so that they meet from the first call on.
 use crate::alone::floor_round;
 use crate::pools::{Nothings, open_pool};
-use crate::scenario::{Case, RUNS};
+use crate::scenario::{Case, RUNS, Times};
 use anyhow::ensure;
 use r2d2::{PlainPool, PoolRuntime};
-use std::sync::{Arc, Mutex};
+use std::sync::{Arc, Barrier, Mutex};
 use std::thread::JoinHandle;
 use std::time::{Duration, Instant};
 
-/// Calls of all threads together, in one run.
-const CALLS: u32 = 8_000;
+/// Calls of all threads together, in one run: so many that it lasts for some turns of the
+/// processors.
+const CALLS: u32 = 80_000;
 
 /// Times each number of threads at each size of pool. `start` starts a thread that makes so many
-/// calls.
+/// calls once the gate opens.
 pub fn measure<R, S>(rt: R, start: S) -> Result<(), anyhow::Error>
 where
     R: PoolRuntime + Print,
-    S: Fn(PlainPool<Nothings, R>, u32) -> Result<JoinHandle<bool>, anyhow::Error> + Drop,
+    S: Fn(PlainPool<Nothings, R>, Arc<Barrier>, u32) -> Result<JoinHandle<bool>, anyhow::Error>
+        + Drop,
     requires { S.IsAlwaysCallable start }
 {
     for &threads in &[1, 2, 4, 8] {
@@ -26,11 +28,11 @@ where
                 max_size,
                 operations: CALLS,
             };
-            let mut fastest = Duration::MAX;
+            let mut times = Times::new(rt.alloc());
             for _ in 0..RUNS {
-                fastest = fastest.min(get_drop(rt, case, &start)?);
+                times.add(case, get_drop(rt, case, &start)?)?;
             }
-            case.print(rt, "mt", fastest)?;
+            case.print(rt, "mt", times)?;
         }
     }
     Ok(())
@@ -40,19 +42,27 @@ where
 fn get_drop<R, S>(rt: R, case: Case, start: &S) -> Result<Duration, anyhow::Error>
 where
     R: PoolRuntime,
-    S: Fn(PlainPool<Nothings, R>, u32) -> Result<JoinHandle<bool>, anyhow::Error>,
+    S: Fn(PlainPool<Nothings, R>, Arc<Barrier>, u32) -> Result<JoinHandle<bool>, anyhow::Error>,
     requires { S.IsAlwaysCallable start.now }
 {
     let pool = open_pool(rt, case.max_size, false)?;
+    let gate = gate(rt, case)?;
     let calls = case.operations / case.threads;
-    let begun = Instant::now(&rt)?;
     let mut callers = Vec::new(rt.alloc());
     for _ in 0..case.threads {
         let theirs = pool.try_clone()?;
-        callers.push(start(theirs, calls)?)?;
+        callers.push(start(theirs, Arc::try_clone(&gate)?, calls)?)?;
     }
+    gate.wait(&rt);
+    let begun = Instant::now(&rt)?;
     ensure!(join_all(rt, callers), "a call was not served");
     Ok(begun.elapsed(&rt)?)
+}
+
+// It opens when all threads are there, and the one that starts them.
+fn gate<R: PoolRuntime>(rt: R, case: Case) -> Result<Arc<Barrier>, anyhow::Error> {
+    let all = case.threads.saturating_add(1);
+    Ok(Arc::new(rt.alloc(), Barrier::new(all as usize))?)
 }
 
 // Waits for all threads to end, and says whether each succeeded.
@@ -64,8 +74,14 @@ fn join_all<R: PoolRuntime>(rt: R, callers: Vec<JoinHandle<bool>>) -> bool {
     went
 }
 
-/// Whether each of so many calls got a connection.
-pub fn is_served<R: PoolRuntime>(pool: PlainPool<Nothings, R>, calls: u32) -> bool {
+/// Whether each of so many calls got a connection, once the gate opened.
+pub fn is_served<R: PoolRuntime>(
+    rt: R,
+    pool: PlainPool<Nothings, R>,
+    gate: Arc<Barrier>,
+    calls: u32,
+) -> bool {
+    gate.wait(&rt);
     for _ in 0..calls {
         if pool.get().is_err() {
             return false;
@@ -75,11 +91,12 @@ pub fn is_served<R: PoolRuntime>(pool: PlainPool<Nothings, R>, calls: u32) -> bo
 }
 
 /// Times what the rules ask of a `get` and a return, by each number of threads at one lock. `start`
-/// starts a thread of so many rounds.
+/// starts a thread of so many rounds once the gate opens.
 pub fn measure_floor<R, S>(rt: R, start: S) -> Result<(), anyhow::Error>
 where
     R: PoolRuntime + Print,
-    S: Fn(Arc<Mutex<Duration>>, u32) -> Result<JoinHandle<bool>, anyhow::Error> + Drop,
+    S: Fn(Arc<Mutex<Duration>>, Arc<Barrier>, u32) -> Result<JoinHandle<bool>, anyhow::Error>
+        + Drop,
     requires { S.IsAlwaysCallable start }
 {
     for &threads in &[1, 2, 4, 8] {
@@ -88,11 +105,11 @@ where
             max_size: 1,
             operations: CALLS,
         };
-        let mut fastest = Duration::MAX;
+        let mut times = Times::new(rt.alloc());
         for _ in 0..RUNS {
-            fastest = fastest.min(floor(rt, case, &start)?);
+            times.add(case, floor(rt, case, &start)?)?;
         }
-        case.print(rt, "mt_floor", fastest)?;
+        case.print(rt, "mt_floor", times)?;
     }
     Ok(())
 }
@@ -101,21 +118,31 @@ where
 fn floor<R, S>(rt: R, case: Case, start: &S) -> Result<Duration, anyhow::Error>
 where
     R: PoolRuntime,
-    S: Fn(Arc<Mutex<Duration>>, u32) -> Result<JoinHandle<bool>, anyhow::Error>,
+    S: Fn(Arc<Mutex<Duration>>, Arc<Barrier>, u32) -> Result<JoinHandle<bool>, anyhow::Error>,
     requires { S.IsAlwaysCallable start.now }
 {
     let latest = Arc::new(rt.alloc(), Mutex::new(Duration::ZERO))?;
-    let begun = Instant::now(&rt)?;
+    let gate = gate(rt, case)?;
+    let rounds = case.operations / case.threads;
     let mut callers = Vec::new(rt.alloc());
     for _ in 0..case.threads {
-        callers.push(start(Arc::try_clone(&latest)?, case.operations / case.threads)?)?;
+        let (theirs, gate) = (Arc::try_clone(&latest)?, Arc::try_clone(&gate)?);
+        callers.push(start(theirs, gate, rounds)?)?;
     }
+    gate.wait(&rt);
+    let begun = Instant::now(&rt)?;
     ensure!(join_all(rt, callers), "a round failed");
     Ok(begun.elapsed(&rt)?)
 }
 
-/// Whether each of so many rounds succeeded.
-pub fn goes_round<R: PoolRuntime>(rt: R, latest: Arc<Mutex<Duration>>, rounds: u32) -> bool {
+/// Whether each of so many rounds succeeded, once the gate opened.
+pub fn goes_round<R: PoolRuntime>(
+    rt: R,
+    latest: Arc<Mutex<Duration>>,
+    gate: Arc<Barrier>,
+    rounds: u32,
+) -> bool {
+    gate.wait(&rt);
     let Ok(start) = Instant::now(&rt) else {
         return false;
     };

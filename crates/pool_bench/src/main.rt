@@ -1,6 +1,6 @@
 //! Times the calls of a pool. Given `bench`, it prints a line for each scenario: its name, the
-//! threads, `max_size`, how many operations were timed, and the nanoseconds for each, in the
-//! fastest of twenty-five runs. Given a scenario's name too, it runs that one alone, as for a
+//! threads, `max_size`, how many operations were timed, and the nanoseconds for each, the least and
+//! the median of twenty-five runs. Given a scenario's name too, it runs that one alone, as for a
 //! profile. Else it says how to run it.
 #![tactic(auto)]
 
@@ -30,16 +30,18 @@ fn main(rt: HostRuntime) -> Result<(), anyhow::Error> {
     // The only scenario to run, or all.
     let word = words.next();
     let only = word.as_deref();
-    println!(rt; "scenario threads max_size ops ns_per_op")?;
+    println!(rt; "scenario threads max_size ops least_ns median_ns")?;
     measure_alone(rt, only)?;
     if is_chosen("mt", only) {
-        contended::measure(rt, |pool, calls| {
-            Ok(thread::spawn(&rt, move || is_served(pool, calls))?)
+        contended::measure(rt, |pool, gate, calls| {
+            let serves = move || is_served(rt, pool, gate, calls);
+            Ok(thread::spawn(&rt, serves)?)
         })?;
     }
     if is_chosen("mt_floor", only) {
-        contended::measure_floor(rt, |latest, calls| {
-            Ok(thread::spawn(&rt, move || goes_round(rt, latest, calls))?)
+        contended::measure_floor(rt, |latest, gate, rounds| {
+            let goes = move || goes_round(rt, latest, gate, rounds);
+            Ok(thread::spawn(&rt, goes)?)
         })?;
     }
     measure_growing(rt, only)

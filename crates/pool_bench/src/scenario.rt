@@ -4,10 +4,11 @@ ghost use Rattle.std.specs.Duration.{as_nanos};
 
 use crate::{alone, growing};
 use r2d2::PoolRuntime;
+use std::alloc::{AllocError, Global};
 use std::time::Duration;
 
-/// How often each scenario is run. The fastest run counts: the others were held up by something
-/// else. So runs are short and many.
+/// How often each scenario is run. The fastest run tells what a call takes: the others were held up
+/// by something else. The median tells what it takes among what else goes on.
 pub const RUNS: u32 = 25;
 
 /// Whether the scenario of this name is to be run: it is the only one, or all are.
@@ -38,8 +39,8 @@ impl Case {
         time.as_nanos() / u128::from(self.operations)
     }
 
-    /// Prints the line of a scenario, whose fastest run took so long.
-    pub fn print<R: Print>(&self, rt: R, name: &str, fastest: Duration) -> Result<(), anyhow::Error>
+    /// Prints the line of a scenario, whose runs took so long.
+    pub fn print<R: Print>(&self, rt: R, name: &str, times: Times) -> Result<(), anyhow::Error>
     where
         R: Drop,
     {
@@ -48,9 +49,38 @@ impl Case {
             max_size,
             operations,
         } = *self;
-        let each = self.per_operation(fastest);
-        println!(rt; "{name} {threads} {max_size} {operations} {each}")?;
+        let (least, median) = times.least_and_median();
+        println!(rt; "{name} {threads} {max_size} {operations} {least} {median}")?;
         Ok(())
+    }
+}
+
+/// What an operation took in each run, in nanoseconds.
+#[derive(Drop)]
+pub struct Times {
+    runs: Vec<u128>,
+}
+
+impl Times {
+    /// Of no run yet.
+    pub fn new(alloc: Global) -> Times {
+        Times {
+            runs: Vec::new(alloc),
+        }
+    }
+
+    /// One run more, which took so long.
+    pub fn add(&mut self, case: Case, time: Duration) -> Result<(), AllocError> {
+        self.runs.push(case.per_operation(time))?;
+        Ok(())
+    }
+
+    // Zeros where there was no run.
+    fn least_and_median(mut self) -> (u128, u128) {
+        self.runs.sort_unstable();
+        let least = self.runs.first().copied().unwrap_or(0);
+        let median = self.runs.get(self.runs.len() / 2).copied().unwrap_or(0);
+        (least, median)
     }
 }
 
@@ -118,11 +148,11 @@ impl Scenario {
         if !is_chosen(self.name(), only) {
             return Ok(());
         }
-        let mut fastest = Duration::MAX;
+        let mut times = Times::new(rt.alloc());
         for _ in 0..RUNS {
             let time = self.run(rt, case)?;
-            fastest = fastest.min(time);
+            times.add(case, time)?;
         }
-        case.print(rt, self.name(), fastest)
+        case.print(rt, self.name(), times)
     }
 }

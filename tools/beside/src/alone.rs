@@ -59,8 +59,8 @@ pub fn try_get_miss(case: Case) -> Duration {
 }
 
 /// What a `get` and a return need of the machine, with no pool: a shared pointer cloned and
-/// dropped, five readings of the clock, and the lock taken twice, with one of them under it each
-/// time. The lock is the one that r2d2 takes.
+/// dropped, and the lock taken twice, with a reading of the clock under it each time. The lock is
+/// the one that r2d2 takes.
 pub fn floor(case: Case) -> Duration {
     let latest = Arc::new(Mutex::new(Duration::ZERO));
     let start = Instant::now();
@@ -72,11 +72,8 @@ pub fn floor(case: Case) -> Duration {
 
 /// One round of `floor`.
 pub fn floor_round(latest: &Arc<Mutex<Duration>>, start: Instant) {
-    black_box(start.elapsed());
     let holder = Arc::clone(latest);
     step(&holder, start);
-    black_box(start.elapsed());
-    black_box(start.elapsed());
     step(&holder, start);
 }
 

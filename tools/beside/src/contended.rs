@@ -1,15 +1,15 @@
-// Several threads at one pool.
+// Several threads at one pool. They begin all at once.
 use crate::alone::floor_round;
 use crate::pools::{open_pool, Nothings};
 use crate::scenario::{measure, Case};
 use parking_lot::Mutex;
 use r2d2::Pool;
-use std::sync::Arc;
+use std::sync::{Arc, Barrier};
 use std::thread;
 use std::time::{Duration, Instant};
 
 /// Calls of all threads together, in one run.
-const CALLS: u32 = 8_000;
+const CALLS: u32 = 80_000;
 
 /// Times each number of threads at each size of pool.
 pub fn measure_pools() {
@@ -55,15 +55,20 @@ fn floor(case: Case) -> Duration {
     })
 }
 
-// The time of threads that share the calls, from before the first is started until all have ended.
+// The time of threads that share the calls, from when all are there until all have ended.
 fn in_threads<C: FnOnce(u32) + Send + 'static>(case: Case, caller: impl Fn() -> C) -> Duration {
     let calls = case.operations / case.threads;
-    let begun = Instant::now();
+    let gate = Arc::new(Barrier::new(case.threads as usize + 1));
     let mut callers = Vec::new();
     for _ in 0..case.threads {
-        let call = caller();
-        callers.push(thread::spawn(move || call(calls)));
+        let (call, gate) = (caller(), Arc::clone(&gate));
+        callers.push(thread::spawn(move || {
+            gate.wait();
+            call(calls)
+        }));
     }
+    gate.wait();
+    let begun = Instant::now();
     for caller in callers {
         caller.join().expect("a call was not served");
     }

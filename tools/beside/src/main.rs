@@ -1,6 +1,6 @@
 //! Times the calls of r2d2's pool in the scenarios of `crates/pool_bench`, under their names and
 //! with their figures, and prints the same lines: the name, the threads, `max_size`, how many
-//! operations were timed, and the nanoseconds for each, in the fastest run.
+//! operations were timed, and the nanoseconds for each, the least and the median of the runs.
 
 mod alone;
 mod contended;
@@ -15,7 +15,7 @@ use scenario::{measure, Case};
 const CALLS: u32 = 2_000;
 
 fn main() {
-    println!("scenario threads max_size ops ns_per_op");
+    println!("scenario threads max_size ops least_ns median_ns");
     measure_alone();
     contended::measure_pools();
     contended::measure_floor();
