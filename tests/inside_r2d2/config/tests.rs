@@ -1,4 +1,4 @@
-// What only this crate can set: no clause speaks of the first id.
+// What only this crate can see: no clause speaks of the first id, nor of who listens.
 
 use super::*;
 use crate::tests::Numbers;
@@ -25,5 +25,45 @@ fn the_first_id_is_kept_by_all_other_settings(rt: HostRuntime) -> Result<(), Fai
     assert_eq!(rt; builder.first_id, 7);
     assert_eq!(rt; builder.id_of_the_first(), 7);
     assert_eq!(rt; builder.config.reaper_rate, Duration::from_secs(2));
+    Ok(())
+}
+
+#[test]
+fn who_listens_is_known_after_all_other_settings(rt: HostRuntime) -> Result<(), Fail> {
+    let new = Builder::<Numbers>::new;
+    assert!(rt; !new().listens());
+    assert!(rt; !Builder::<Numbers>::default().listens());
+    assert!(rt; !new().first_id(7).listens());
+    assert!(rt; !new().max_size(3).listens());
+    assert!(rt; !new().min_idle(Some(1)).listens());
+    assert!(rt; !new().thread_pool(2).listens());
+    assert!(rt; !new().test_on_check_out(false).listens());
+    assert!(rt; !new().max_lifetime(None).listens());
+    assert!(rt; !new().idle_timeout(None).listens());
+    assert!(rt; !new().connection_timeout(Duration::from_secs(1)).listens());
+    assert!(rt; !new().journal_room(4).listens());
+    assert!(rt; !new().reaper_rate(Duration::from_secs(2)).listens());
+    assert!(rt; !new().lending_order(LendingOrder::OldestFirst).listens());
+    assert!(rt; !new().error_handler(NopErrorHandler).listens());
+    assert!(rt; !new().connection_customizer(NopConnectionCustomizer).listens());
+    let heard = new().event_handler(NopEventHandler);
+    assert!(rt; heard.listens());
+    let heard = heard.error_handler(NopErrorHandler);
+    assert!(rt; heard.listens());
+    let heard = heard.connection_customizer(NopConnectionCustomizer);
+    assert!(rt; heard.listens());
+    let heard = heard
+        .first_id(7)
+        .max_size(3)
+        .min_idle(Some(1))
+        .thread_pool(2)
+        .test_on_check_out(false)
+        .max_lifetime(None)
+        .idle_timeout(None)
+        .connection_timeout(Duration::from_secs(1))
+        .journal_room(4)
+        .reaper_rate(Duration::from_secs(2))
+        .lending_order(LendingOrder::OldestFirst);
+    assert!(rt; heard.listens());
     Ok(())
 }
