@@ -19,7 +19,7 @@ use Rattle.r2d2_core.proofs.Lists.Ids.{copies_of-append3, last_of-push, front-pu
 use Rattle.r2d2_core.proofs.Lists.Lending.{none_is_next, length-still_idle, found-next, without-next}
 use Rattle.r2d2_core.specs.Book.{SeenBook, seen_book}
 use Rattle.r2d2_core.specs.Noted.{noted_take, noted_return}
-use Rattle.r2d2.specs.Evicted.{in_lending_order, evicted_of, book_taken, book_broken, one_evicted, each_evicted, after_eviction, IsEvicted}
+use Rattle.r2d2.specs.Evicted.{in_lending_order, evicted_of, book_taken, book_broken, one_evicted, each_evicted, IsEvicted}
 
 -- the idle connection that a take found, by what it answers
 pub record Next {T : Type 0} (o : Option (SeenIdleConnection T)) (id birth : ℕ) (value : T) : Type 0 where
