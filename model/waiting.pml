@@ -14,6 +14,8 @@
      takes the lock anew: until it looks it is awake in both, and all that others do meanwhile it finds.
    - All workers who rest until a moment wake when anything falls due; in the code each wakes at the moment that it was
      told. Only a failed opening makes an earlier one, and wakes them all: that it does is found without reaps.
+   - Who finds the lock taken tries again a few times before it sleeps for it (Shared::lock). Here it comes to the lock
+     when that is free: nobody waits for anything else meanwhile, and whoever has the lock lets it go.
    - `close` is there as the begin of a drain alone. A second close is not there; it would but wake everybody once more.
    - A connection that outlives its pool is here a pool that its caller still has.
    tools/schedules plays the code itself, with the real variables, though by chance and not in all interleavings. */
@@ -233,7 +235,7 @@ evicts: /* Shared::evict: what is lent then is closed as it comes back, as each 
   if :: MAY_STAY -> goto stays :: true fi;                          /* Hooks::release */
   goto calls;
 
-look: /* Shared::lend_until; of a `try_get` it has no end, and a miss changes nothing */
+look: /* Shared::lend_until; of a `try_get` it has no timeout, and a miss makes no step */
 #ifdef WAKES_BEFORE_THE_STEP
   atomic { wake_workers(MISS) };
 #endif

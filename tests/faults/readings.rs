@@ -7,8 +7,10 @@ use crate::play::{GOOD, Manager, Play, Rows, watched};
 use r2d2::{
     Builder, HandleEvent, NopConnectionCustomizer, NopErrorHandler, NopEventHandler, PoolRuntime,
 };
+use r2d2_core::Record;
 use std::sync::atomic::Ordering;
 use std::test::Fail;
+use std::thread;
 use std::time::Duration;
 
 type Settings<V, R> = Builder<Manager<R>, NopErrorHandler, V, NopConnectionCustomizer>;
@@ -96,5 +98,68 @@ fn who_listens_is_told_of_five_readings(rt: HostRuntime) -> Result<(), Fail> {
     assert_eq!(rt; came, seen(12, 5, 1));
     let came = used(rt, silent().event_handler(Deaf))?;
     assert_eq!(rt; came, seen(12, 5, 1));
+    Ok(())
+}
+
+/// When one was taken, lent, and kept, of the journal and of the caller.
+type Moments = [Duration; 3];
+
+// A call that had to wait: when it was lent.
+fn waits<V: HandleEvent + 'static, R: PoolRuntime>(
+    pool: Pool<Manager<R>, NopErrorHandler, V, NopConnectionCustomizer, Hand<R>>,
+) -> Option<Duration> {
+    match pool.get() {
+        Ok(lent) => Some(PooledConnection::lent_at(&lent)),
+        Err(_) => None,
+    }
+}
+
+// A caller begins at 10 s, and waits for the one connection, which comes back at 20 s.
+fn moments<V: HandleEvent + 'static, R: PoolRuntime>(
+    rt: R,
+    settings: Settings<V, R>,
+) -> Result<Moments, Fail> {
+    let (play, hand) = (Play::new(rt.alloc(), GOOD)?, Hand::new(rt)?);
+    let pool = settings
+        .max_size(1)
+        .thread_pool(1)
+        .max_lifetime(None)
+        .idle_timeout(None)
+        .journal_room(16)
+        .make(hand, Manager::new(rt, &play)?)?;
+    hand.set(10, 0);
+    let lent = pool.get()?;
+    let theirs = pool.try_clone()?;
+    let caller = thread::spawn(&rt, move || waits(theirs))?;
+    for _ in 0..500 {
+        if pool.status().waiting == 1 {
+            break;
+        }
+        thread::sleep(&rt, Duration::from_millis(10));
+    }
+    hand.set(20, 1);
+    drop(lent);
+    let Some(lent_at) = caller.join(&rt) else {
+        return Err(Fail::from("nothing was lent"));
+    };
+    let report = pool.journal()?;
+    match report.records.as_slice() {
+        [.., Record::Taken { at, .. }, Record::Kept { at: kept, .. }] => Ok([*at, lent_at, *kept]),
+        _ => Err(Fail::from("it was not taken, or not kept")),
+    }
+}
+
+#[test]
+fn who_had_to_wait_is_lent_one_after_its_take(rt: HostRuntime) -> Result<(), Fail> {
+    for is_checked in [false, true] {
+        for came in [
+            moments(rt, silent().test_on_check_out(is_checked))?,
+            moments(rt, silent().event_handler(Deaf).test_on_check_out(is_checked))?,
+        ] {
+            assert!(rt; came[0] > Duration::from_secs(20), "taken {:?}", came);
+            assert!(rt; came[0] <= came[1], "lent {:?}", came);
+            assert!(rt; came[1] < came[2], "kept {:?}", came);
+        }
+    }
     Ok(())
 }
