@@ -41,6 +41,7 @@
 #include <limits.h>
 #include <link.h>
 #include <linux/futex.h>
+#include <poll.h>
 #include <pthread.h>
 #include <signal.h>
 #include <stdarg.h>
@@ -691,11 +692,17 @@ void _exit(int status) {
 /* -- Many schedules -- */
 
 /* What the child writes to its standard error, to the end. */
-static void collect(int from, char *text, size_t room) {
+static void collect(int from, pid_t child, char *text, size_t room) {
+    struct pollfd end = {.fd = from, .events = POLLIN};
     size_t length = 0;
-    ssize_t got;
-    while (length < room - 1 && (got = read(from, text + length, room - 1 - length)) > 0)
-        length += (size_t)got;
+    ssize_t got = 1;
+    while (got > 0 && length < room - 1) {
+        /* Nothing that is played waits in real time, so it has an end within moments. */
+        if (poll(&end, 1, 60000) == 0)
+            kill(child, SIGKILL);
+        got = read(from, text + length, room - 1 - length);
+        length += got > 0 ? (size_t)got : 0;
+    }
     text[length] = 0;
     close(from);
 }
@@ -712,12 +719,11 @@ static int play_in_a_child(uint64_t seed, char *text, size_t room) {
         dup2(ends[1], 2);
         close(ends[0]);
         close(ends[1]);
-        alarm(30);
         begin_schedule(seed);
         return -1;
     }
     close(ends[1]);
-    collect(ends[0], text, room);
+    collect(ends[0], child, text, room);
     if (child < 0 || waitpid(child, &status, 0) != child)
         exit(BROKEN);
     return WIFEXITED(status) ? WEXITSTATUS(status) : 128 + WTERMSIG(status);
