@@ -19,9 +19,9 @@ use std::time::Duration;
 type Ended = Arc<AtomicU64>;
 
 // A caller and a drain at the beginning of their waits have read the clock so often: the caller for
-// its start, its look and its wait, the drain for its close, its whole time, what is left of that,
-// and its wait.
-const OF_A_CALLER: u64 = 3;
+// its look and its wait, the drain for its close, its whole time, what is left of that, and its
+// wait.
+const OF_A_CALLER: u64 = 2;
 
 const OF_A_DRAIN: u64 = 4;
 
