@@ -38,6 +38,11 @@ def proved():
     return [name for name in sorted(os.listdir(crates)) if count_in(os.path.join(crates, name, "src"))]
 
 
+def write(path, text):
+    with open(path, "w", encoding="utf-8") as it:
+        it.write(text)
+
+
 def crate_of(name):
     """The crate whose tests they are, in the copy."""
     return name.removeprefix(INSIDE)
@@ -178,9 +183,8 @@ class Copy:
         source, listed = os.path.join(self.crate(name), "src", "main.rt"), os.path.join(self.folder, "crates.txt")
         os.makedirs(os.path.dirname(source), exist_ok=True)
         others = [line for line in open(listed, encoding="utf-8") if not line.startswith(name + ":")]
-        for path, written in ((source, text), (listed, "".join(others) + f"{name}: {' '.join(below)}\n")):
-            with open(path, "w", encoding="utf-8") as it:
-                it.write(written)
+        write(source, text)
+        write(listed, "".join(others) + f"{name}: {' '.join(below)}\n")
 
     def count(self, name):
         """How many tests there are."""
