@@ -362,6 +362,8 @@ fn uses<R: Host>(inner: &Inner<R>, pool: Own<R>, size: u32) {
 
 // Each opening evicts what the last one opened, so there are never as many as are wanted.
 fn opens_for_ever<R: Host>(rt: R, seen: &Seen<R>, pool: &Own<R>) {
+    // The first ones may have been opened before the manager had its pool.
+    drop(pool.evict().ok());
     for _ in 0..1000 {
         if pool.status().closed {
             break;
