@@ -15,6 +15,7 @@ pub mod OnOrder
 pub mod OnOrderParts
 pub mod Picture
 pub mod Table
+pub mod CoreSteps
 pub mod CoreParts
 pub mod History
 pub mod Deeds
@@ -31,6 +32,7 @@ pub mod JournalParts
 pub mod Book
 pub mod BookParts
 pub mod Noted
+pub mod BookSteps
 pub mod Steps
 pub mod Reports
 pub mod Auditing

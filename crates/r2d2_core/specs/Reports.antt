@@ -47,6 +47,13 @@ module _ {B : Type 0} where
     pub fits : r.connections + r.pending ≤ r.limits.max_size
     pub replenished : r.closed ≡ false → (wanted_of (seen_limits r.limits) ≤ length r.idle.items + r.pending) ⊎ (r.connections + r.pending ≡ r.limits.max_size)
 
+  -- all that a book, and a pool, promises of each of its reports
+  pub record IsSoundReport (r : Report B) : Type 0 where
+    pub replays : DoesReplay r
+    pub begins : BeginsAtAMaking r
+    pub counted : CountsItsTakes r
+    pub sound : HasSoundCounts r
+
 module _ {T B : Type 0} where
   -- it says what the book shows
   pub record IsReportOf (a : SeenBook T) (r : Report B) : Type 0 where
