@@ -52,8 +52,7 @@ impl<T, A: Allocator> Book<T, A> {
     ghost use Rattle.r2d2_core.specs.Table.{first_picture};
     ghost use Rattle.r2d2_core.specs.Journal.{first_journal, CountsTakes};
     ghost use Rattle.r2d2_core.specs.Book.{seen_book, HasFacts};
-    ghost use Rattle.r2d2_core.specs.Reports.{seen_base, IsReportOf, DoesReplay, HasSoundCounts};
-    ghost use Rattle.r2d2_core.specs.Reports.{CountsItsTakes, BeginsAtAMaking};
+    ghost use Rattle.r2d2_core.specs.Reports.{seen_base, IsReportOf, IsSoundReport};
 
     /// A book of a core whose ids are counted from 0, made at the moment `now`, that keeps the
     /// newest records, `room` of them at most. The error comes only where its memory is refused.
@@ -162,10 +161,7 @@ impl<T, A: Allocator> Book<T, A> {
     where
         A: Copy,
         ensures given { IfOk result (λ report. IsReportOf self.now report) }
-        ensures replays { IfOk result DoesReplay }
-        ensures sound { IfOk result HasSoundCounts }
-        ensures counted { IfOk result CountsItsTakes }
-        ensures whole { IfOk result BeginsAtAMaking }
+        ensures sound { IfOk result IsSoundReport }
         ensures since { IfOk result
             (λ report. report.lost ≡ 0 → as_nanos report.base.at ≡ self.now.journal.made) }
     {
@@ -177,10 +173,7 @@ impl<T, A: Allocator> Book<T, A> {
     where
         B: Copy,
         ensures given { IfOk result (λ report. IsReportOf self.now report) }
-        ensures replays { IfOk result DoesReplay }
-        ensures sound { IfOk result HasSoundCounts }
-        ensures counted { IfOk result CountsItsTakes }
-        ensures whole { IfOk result BeginsAtAMaking }
+        ensures sound { IfOk result IsSoundReport }
         ensures since { IfOk result
             (λ report. report.lost ≡ 0 → as_nanos report.base.at ≡ self.now.journal.made) }
     {
@@ -217,22 +210,14 @@ impl<T, A: Allocator> Book<T, A> {
 }
 
 impl<T, A: Allocator> Book<T, A> {
-    ghost use Rattle.r2d2_core.specs.Seen.{seen_take, seen_returned, seen_gone, seen_released};
-    ghost use Rattle.r2d2_core.specs.Seen.{map_ok};
-    ghost use Rattle.r2d2_core.specs.Jobs.{seen_job};
-    ghost use Rattle.r2d2_core.specs.Picture.{IsSound};
-    ghost use Rattle.r2d2_core.specs.Table as table;
-    ghost use Rattle.r2d2_core.specs.Noted.{noted_take, noted_admission, noted_return, noted_check};
-    ghost use Rattle.r2d2_core.specs.Noted.{noted_reap, noted_close};
+    ghost use Rattle.r2d2_core.specs.BookSteps.{IsTake, IsBegin, IsNumbering, IsAdmission};
+    ghost use Rattle.r2d2_core.specs.BookSteps.{IsFailedOpening, IsFailedCheck, IsReturn};
+    ghost use Rattle.r2d2_core.specs.BookSteps.{IsReap, IsTelling, IsClose};
 
     /// As `Core::take`. A take that found is noted, and one that ordered.
     #[inline(always)]
     pub fn take(&mut self, now: Duration, or_order: bool) -> Take<T>
-        ensures answer { seen_take result ≡ table.take_answer or_order self.old.picture }
-        ensures after { self.new.picture
-            ≡ table.after_take (as_nanos now) or_order self.old.picture }
-        ensures sound { IsSound self.new.picture }
-        ensures noted { self.new.journal ≡ noted_take (as_nanos now) (seen_take result) self.old }
+        ensures { IsTake now or_order result self.old self.new }
     {
         let taken = self.machine.take(now, or_order);
         let at = self.machine.latest();
@@ -242,31 +227,21 @@ impl<T, A: Allocator> Book<T, A> {
 
     /// As `Core::begin`, which is never noted.
     pub fn begin(&mut self, now: Duration) -> Job
-        ensures answer { seen_job result ≡ table.begin_answer (as_nanos now) self.old.picture }
-        ensures after { self.new.picture ≡ table.after_begin (as_nanos now) self.old.picture }
-        ensures sound { IsSound self.new.picture }
-        ensures noted { self.new.journal ≡ self.old.journal }
+        ensures { IsBegin now result self.old self.new }
     {
         self.machine.begin(now)
     }
 
     /// As `Core::number`, which is never noted.
     pub fn number(&mut self, tries: u32) -> Result<u64, Refusal>
-        ensures answer { result ≡ table.number_answer tries self.old.picture }
-        ensures after { self.new.picture ≡ table.after_number tries self.old.picture }
-        ensures sound { IsSound self.new.picture }
-        ensures noted { self.new.journal ≡ self.old.journal }
+        ensures { IsNumbering tries result self.old self.new }
     {
         self.machine.number(tries)
     }
 
     /// As `Core::admit`. It is noted where it is accepted.
     pub fn admit(&mut self, now: Duration, id: u64, value: T) -> Result<(), (Refusal, T)>
-        ensures answer { result ≡ table.admit_answer id value self.old.picture }
-        ensures after { self.new.picture
-            ≡ table.after_admit (as_nanos now) id value self.old.picture }
-        ensures sound { IsSound self.new.picture }
-        ensures noted { self.new.journal ≡ noted_admission (as_nanos now) id result self.old }
+        ensures { IsAdmission now id value result self.old self.new }
     {
         let answer = self.machine.admit(now, id, value);
         let at = self.machine.latest();
@@ -281,12 +256,7 @@ impl<T, A: Allocator> Book<T, A> {
         tries: u32,
         text: Option<String>,
     ) -> Result<Duration, Refusal>
-        ensures answer { map_ok as_nanos result
-            ≡ table.fail_answer (as_nanos now) tries self.old.picture }
-        ensures after { self.new.picture
-            ≡ table.after_fail (as_nanos now) tries text self.old.picture }
-        ensures sound { IsSound self.new.picture }
-        ensures noted { self.new.journal ≡ self.old.journal }
+        ensures { IsFailedOpening now tries text result self.old self.new }
     {
         self.machine.fail(now, tries, text)
     }
@@ -298,13 +268,7 @@ impl<T, A: Allocator> Book<T, A> {
         id: u64,
         text: Option<String>,
     ) -> Result<Gone, Refusal>
-        ensures answer { map_ok seen_gone result
-            ≡ table.check_answer (as_nanos now) id self.old.picture }
-        ensures after { self.new.picture
-            ≡ table.after_check (as_nanos now) id text self.old.picture }
-        ensures sound { IsSound self.new.picture }
-        ensures noted { self.new.journal
-            ≡ noted_check (as_nanos now) id (map_ok seen_gone result) self.old }
+        ensures { IsFailedCheck now id text result self.old self.new }
     {
         let answer = self.machine.fail_check(now, id, text);
         let at = self.machine.latest();
@@ -321,13 +285,7 @@ impl<T, A: Allocator> Book<T, A> {
         value: T,
         broken: bool,
     ) -> Result<Returned<T>, (Refusal, T)>
-        ensures answer { map_ok seen_returned result
-            ≡ table.return_answer (as_nanos now) id value broken self.old.picture }
-        ensures after { self.new.picture
-            ≡ table.after_return (as_nanos now) id value broken self.old.picture }
-        ensures sound { IsSound self.new.picture }
-        ensures noted { self.new.journal
-            ≡ noted_return (as_nanos now) id (map_ok seen_returned result) self.old }
+        ensures { IsReturn now id value broken result self.old self.new }
     {
         let answer = self.machine.put_back(now, id, value, broken);
         let at = self.machine.latest();
@@ -339,13 +297,7 @@ impl<T, A: Allocator> Book<T, A> {
     pub fn reap(&mut self, now: Duration, out: &mut Vec<Released<T>>) -> u32
         requires empty { vec_len out.old ≡ 0 }
         requires room { self.old.picture.on_order.limits.max_size ≤ vec_capacity out.old }
-        ensures released { map seen_released out.new.items
-            ≡ table.reap_closed (as_nanos now) self.old.picture }
-        ensures answer { result ≡ table.reap_orders (as_nanos now) self.old.picture }
-        ensures after { self.new.picture ≡ table.after_reap (as_nanos now) self.old.picture }
-        ensures sound { IsSound self.new.picture }
-        ensures noted { self.new.journal
-            ≡ noted_reap (as_nanos now) (length out.new.items) result self.old }
+        ensures { IsReap now out.new.items result self.old self.new }
     {
         let ordered = self.machine.reap_uncounted(now, out);
         let at = self.machine.latest();
@@ -355,20 +307,14 @@ impl<T, A: Allocator> Book<T, A> {
 
     /// As `Core::take_error`, which is never noted.
     pub fn take_error(&mut self) -> Option<String>
-        ensures answer { option_map string_bytes result ≡ self.old.picture.last_error }
-        ensures after { self.new.picture ≡ table.after_take_error self.old.picture }
-        ensures sound { IsSound self.new.picture }
-        ensures noted { self.new.journal ≡ self.old.journal }
+        ensures { IsTelling result self.old self.new }
     {
         self.machine.take_error()
     }
 
     /// As `Core::close`. The first one is noted.
     pub fn close(&mut self) -> Leftover<T, A>
-        ensures answer { result ≡ table.close_answer self.old.picture }
-        ensures after { self.new.picture ≡ table.after_close self.old.picture }
-        ensures sound { IsSound self.new.picture }
-        ensures noted { self.new.journal ≡ noted_close self.old }
+        ensures { IsClose result self.old self.new }
     {
         let made = Record::of_close(self.machine.latest(), self.machine.is_closed());
         self.journal.note(made);

@@ -191,19 +191,15 @@ impl<T, A: Allocator> Core<T, A> {
 }
 
 impl<T, A: Allocator> Core<T, A> {
-    ghost use Rattle.r2d2_core.specs.Seen.{seen_take, seen_returned, seen_gone, seen_released};
-    ghost use Rattle.r2d2_core.specs.Seen.{map_ok};
-    ghost use Rattle.r2d2_core.specs.Jobs.{seen_job};
-    ghost use Rattle.r2d2_core.specs.Picture.{IsSound};
-    ghost use Rattle.r2d2_core.specs.Table as table;
+    ghost use Rattle.r2d2_core.specs.CoreSteps.{IsTake, IsBegin, IsNumbering, IsAdmission};
+    ghost use Rattle.r2d2_core.specs.CoreSteps.{IsFailedOpening, IsFailedCheck, IsReturn};
+    ghost use Rattle.r2d2_core.specs.CoreSteps.{IsReap, IsTelling, IsClose};
 
     /// Lends the idle connection that is next in the order of the limits, and tops up; where none
     /// is idle, orders one if `or_order` says so and there is room.
     #[inline(always)]
     pub fn take(&mut self, now: Duration, or_order: bool) -> Take<T>
-        ensures answer { seen_take result ≡ table.take_answer or_order self.old }
-        ensures after { self.new ≡ table.after_take (as_nanos now) or_order self.old }
-        ensures sound { IsSound self.new }
+        ensures { IsTake now or_order result self.old self.new }
     {
         self.latest = later(self.latest, now);
         let order = self.on_order.limits().order();
@@ -234,9 +230,7 @@ impl<T, A: Allocator> Core<T, A> {
     /// What a worker is to do at the moment `now`: the least opening, or the reap that is due
     /// before it.
     pub fn begin(&mut self, now: Duration) -> Job
-        ensures answer { seen_job result ≡ table.begin_answer (as_nanos now) self.old }
-        ensures after { self.new ≡ table.after_begin (as_nanos now) self.old }
-        ensures sound { IsSound self.new }
+        ensures { IsBegin now result self.old self.new }
     {
         self.latest = later(self.latest, now);
         self.on_order.begin(self.latest)
@@ -246,9 +240,7 @@ impl<T, A: Allocator> Core<T, A> {
     /// the core is closed, where no such opening is in work, and where the next id would be
     /// `u64::MAX`.
     pub fn number(&mut self, tries: u32) -> Result<u64, Refusal>
-        ensures answer { result ≡ table.number_answer tries self.old }
-        ensures after { self.new ≡ table.after_number tries self.old }
-        ensures sound { IsSound self.new }
+        ensures { IsNumbering tries result self.old self.new }
     {
         self.on_order.number(tries)
     }
@@ -256,9 +248,7 @@ impl<T, A: Allocator> Core<T, A> {
     /// Takes in a connection that was numbered, as the newest idle one. It is refused, and the
     /// value comes back, where the core is closed and where the id does not await its admission.
     pub fn admit(&mut self, now: Duration, id: u64, value: T) -> Result<(), (Refusal, T)>
-        ensures answer { result ≡ table.admit_answer id value self.old }
-        ensures after { self.new ≡ table.after_admit (as_nanos now) id value self.old }
-        ensures sound { IsSound self.new }
+        ensures { IsAdmission now id value result self.old self.new }
     {
         match self.on_order.admit(id) {
             Ok(()) => {
@@ -281,9 +271,7 @@ impl<T, A: Allocator> Core<T, A> {
         tries: u32,
         text: Option<String>,
     ) -> Result<Duration, Refusal>
-        ensures answer { map_ok as_nanos result ≡ table.fail_answer (as_nanos now) tries self.old }
-        ensures after { self.new ≡ table.after_fail (as_nanos now) tries text self.old }
-        ensures sound { IsSound self.new }
+        ensures { IsFailedOpening now tries text result self.old self.new }
     {
         let latest = later(self.latest, now);
         match self.on_order.fail(latest, tries) {
@@ -304,9 +292,7 @@ impl<T, A: Allocator> Core<T, A> {
         id: u64,
         text: Option<String>,
     ) -> Result<Gone, Refusal>
-        ensures answer { map_ok seen_gone result ≡ table.check_answer (as_nanos now) id self.old }
-        ensures after { self.new ≡ table.after_check (as_nanos now) id text self.old }
-        ensures sound { IsSound self.new }
+        ensures { IsFailedCheck now id text result self.old self.new }
     {
         match self.lent.remove(id) {
             Some(loan) => {
@@ -333,10 +319,7 @@ impl<T, A: Allocator> Core<T, A> {
         value: T,
         broken: bool,
     ) -> Result<Returned<T>, (Refusal, T)>
-        ensures answer { map_ok seen_returned result
-            ≡ table.return_answer (as_nanos now) id value broken self.old }
-        ensures after { self.new ≡ table.after_return (as_nanos now) id value broken self.old }
-        ensures sound { IsSound self.new }
+        ensures { IsReturn now id value broken result self.old self.new }
     {
         match self.lent.remove(id) {
             Some(loan) => {
@@ -379,11 +362,7 @@ impl<T, A: Allocator> Core<T, A> {
     ) -> u32
         requires empty { vec_len out.old ≡ 0 }
         requires room { self.old.on_order.limits.max_size ≤ vec_capacity out.old }
-        ensures released { map seen_released out.new.items
-            ≡ table.reap_closed (as_nanos now) self.old }
-        ensures answer { result ≡ table.reap_orders (as_nanos now) self.old }
-        ensures after { self.new ≡ table.after_reap (as_nanos now) self.old }
-        ensures sound { IsSound self.new }
+        ensures step { IsReap now out.new.items result self.old self.new }
         ensures two_for_each { steps.new ≤ steps.old + 2 * length self.old.idle }
         ensures two_for_each_closed { self.old.on_order.limits.max_lifetime ≡ None
             → steps.new ≤ steps.old + (2 * length out.new.items + 1) }
@@ -401,11 +380,7 @@ impl<T, A: Allocator> Core<T, A> {
     pub fn reap_uncounted(&mut self, now: Duration, out: &mut Vec<Released<T>>) -> u32
         requires empty { vec_len out.old ≡ 0 }
         requires room { self.old.on_order.limits.max_size ≤ vec_capacity out.old }
-        ensures released { map seen_released out.new.items
-            ≡ table.reap_closed (as_nanos now) self.old }
-        ensures answer { result ≡ table.reap_orders (as_nanos now) self.old }
-        ensures after { self.new ≡ table.after_reap (as_nanos now) self.old }
-        ensures sound { IsSound self.new }
+        ensures { IsReap now out.new.items result self.old self.new }
     {
         self.reap_from::<Brand>(now, out, Blank::new(1))
     }
@@ -422,11 +397,7 @@ impl<T, A: Allocator> Core<T, A> {
         requires some { 0 < L.parts }
         requires empty { vec_len out.old ≡ 0 }
         requires room { self.old.on_order.limits.max_size ≤ vec_capacity out.old }
-        ensures released { map seen_released out.new.items
-            ≡ table.reap_closed (as_nanos now) self.old }
-        ensures answer { result ≡ table.reap_orders (as_nanos now) self.old }
-        ensures after { self.new ≡ table.after_reap (as_nanos now) self.old }
-        ensures sound { IsSound self.new }
+        ensures { IsReap now out.new.items result self.old self.new }
     {
         let mut steps: Steps<L> = Steps::new(blank);
         self.reap(now, out, &mut steps)
@@ -435,18 +406,14 @@ impl<T, A: Allocator> Core<T, A> {
     /// The latest text recorded since the last admission, if it was not told yet: each is told
     /// once.
     pub fn take_error(&mut self) -> Option<String>
-        ensures answer { option_map string_bytes result ≡ self.old.last_error }
-        ensures after { self.new ≡ table.after_take_error self.old }
-        ensures sound { IsSound self.new }
+        ensures { IsTelling result self.old self.new }
     {
         self.last_error.take()
     }
 
     /// Hands out all idle values, and forgets all openings, for good. Lent connections stay lent.
     pub fn close(&mut self) -> Leftover<T, A>
-        ensures answer { result ≡ table.close_answer self.old }
-        ensures after { self.new ≡ table.after_close self.old }
-        ensures sound { IsSound self.new }
+        ensures { IsClose result self.old self.new }
     {
         let left = self.idle.close();
         self.on_order.close();

@@ -5,6 +5,7 @@ use Rattle.r2d2_core.specs.Table.{admit_answer}
 use Rattle.r2d2_core.specs.Records.{seen_record}
 use Rattle.r2d2_core.specs.Recorded.{record_of_admission}
 use Rattle.r2d2_core.specs.Journal.{with_noted}
+use Rattle.r2d2_core.specs.CoreSteps.{IsAdmission}
 use Rattle.r2d2_core.specs.Book.{SeenBook}
 use Rattle.r2d2_core.specs.BookParts.{beside, book_in}
 use Rattle.r2d2_core.specs.Noted.{noted_admission}
@@ -28,8 +29,8 @@ note-requires g c =
     (keeps_admit (as_nanos c.args.now) c.args.id c.args.value (book_in old l) c.self.invariant.sound c.self.invariant.recorded) in
     may_note l _ old c.admit-answer.new.self keeps
 
-pub returns-clause-noted : goal.returns-clause-noted
-returns-clause-noted g c =
+pub returns : goal.returns
+returns g c =
     let old = c.self.inside.machine in
     let l = c.self.inside.journal in
     let made : option_map seen_record c.of_admission.result ≡ record_of_admission (max old.latest (as_nanos c.args.now)) c.args.id
@@ -40,11 +41,15 @@ returns-clause-noted g c =
     ∙ admission_at (as_nanos c.args.now) c.args.id c.args.value old)) in
     let keeps = keeps_as (beside old l) _ _ _ c.admit-answer.new.self made c.admit-answer.ensures.after
     (keeps_admit (as_nanos c.args.now) c.args.id c.args.value (book_in old l) c.self.invariant.sound c.self.invariant.recorded) in
-    subst (λ (b : SeenBook _). beside c.admit-answer.new.self c.note.new.self ≡ noted_admission
-    (as_nanos c.args.now) c.args.id c.admit-answer.result b) c.self.view_is
-    (noted_beside l c.note.new.self _ old c.admit-answer.new.self c.self.invariant keeps c.note.ensures
-    ∙ ap (λ made. with_noted made (beside old l))
-    (made ∙ sym (ap (record_of_admission _ c.args.id) c.admit-answer.ensures.answer)))
+    record {
+      step = subst (λ (b : SeenBook _). IsAdmission c.args.now c.args.id c.args.value c.admit-answer.result b.picture c.admit-answer.new.self)
+          c.self.view_is c.admit-answer.ensures;
+      noted = subst (λ (b : SeenBook _). beside c.admit-answer.new.self c.note.new.self ≡ noted_admission
+          (as_nanos c.args.now) c.args.id c.admit-answer.result b) c.self.view_is
+          (noted_beside l c.note.new.self _ old c.admit-answer.new.self c.self.invariant keeps c.note.ensures
+          ∙ ap (λ made. with_noted made (beside old l))
+          (made ∙ sym (ap (record_of_admission _ c.args.id) c.admit-answer.ensures.answer)));
+    }
 
 pub invariant_of-self : goal.invariant_of-self
 invariant_of-self g c =

@@ -4,6 +4,7 @@ use Rattle.r2d2_core.specs.Table.{after_close}
 use Rattle.r2d2_core.specs.Records.{seen_record}
 use Rattle.r2d2_core.specs.Recorded.{record_of_close}
 use Rattle.r2d2_core.specs.Journal.{with_noted}
+use Rattle.r2d2_core.specs.CoreSteps.{IsClose}
 use Rattle.r2d2_core.specs.Book.{SeenBook}
 use Rattle.r2d2_core.specs.BookParts.{beside, book_in}
 use Rattle.r2d2_core.specs.Noted.{noted_close}
@@ -22,8 +23,8 @@ note-requires g c =
     let keeps = keeps_as (beside old l) _ _ _ (after_close old) made refl (keeps_close (book_in old l) c.self.invariant.sound c.self.invariant.recorded) in
     may_note l _ old (after_close old) keeps
 
-pub returns-clause-noted : goal.returns-clause-noted
-returns-clause-noted g c =
+pub returns : goal.returns
+returns g c =
     let old = c.self.inside.machine in
     let l = c.self.inside.journal in
     let made : option_map seen_record c.of_close-made.result ≡ record_of_close old.latest old.on_order.closed =
@@ -31,8 +32,12 @@ returns-clause-noted g c =
     ∙ ap (record_of_close old.latest) c.is_closed.ensures.value) in
     let keeps = keeps_as (beside old l) _ _ _ c.close.new.self made c.close.ensures.after (keeps_close
     (book_in old l) c.self.invariant.sound c.self.invariant.recorded) in
-    subst (λ (b : SeenBook _). beside c.close.new.self c.note.new.self ≡ noted_close b) c.self.view_is
-    (noted_beside l c.note.new.self _ old c.close.new.self c.self.invariant keeps c.note.ensures ∙ ap (λ made. with_noted made (beside old l)) made)
+    record {
+      step = subst (λ (b : SeenBook _). IsClose c.close.result b.picture c.close.new.self)
+          c.self.view_is c.close.ensures;
+      noted = subst (λ (b : SeenBook _). beside c.close.new.self c.note.new.self ≡ noted_close b) c.self.view_is
+          (noted_beside l c.note.new.self _ old c.close.new.self c.self.invariant keeps c.note.ensures ∙ ap (λ made. with_noted made (beside old l)) made);
+    }
 
 pub invariant_of-self : goal.invariant_of-self
 invariant_of-self g c =

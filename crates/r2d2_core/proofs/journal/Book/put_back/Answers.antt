@@ -6,6 +6,7 @@ use Rattle.r2d2_core.specs.Table.{return_answer}
 use Rattle.r2d2_core.specs.Records.{seen_record}
 use Rattle.r2d2_core.specs.Recorded.{record_of_return}
 use Rattle.r2d2_core.specs.Journal.{with_noted}
+use Rattle.r2d2_core.specs.CoreSteps.{IsReturn}
 use Rattle.r2d2_core.specs.Book.{SeenBook}
 use Rattle.r2d2_core.specs.BookParts.{beside, book_in}
 use Rattle.r2d2_core.specs.Noted.{noted_return}
@@ -30,8 +31,8 @@ note-requires g c =
     (keeps_return (as_nanos c.args.now) c.args.id c.args.value c.args.broken (book_in old l) c.self.invariant.sound c.self.invariant.recorded) in
     may_note l _ old c.put_back-answer.new.self keeps
 
-pub returns-clause-noted : goal.returns-clause-noted
-returns-clause-noted g c =
+pub returns : goal.returns
+returns g c =
     let old = c.self.inside.machine in
     let l = c.self.inside.journal in
     let made : option_map seen_record c.of_return.result ≡ record_of_return (max old.latest (as_nanos c.args.now)) c.args.id
@@ -43,11 +44,15 @@ returns-clause-noted g c =
     ∙ return_at (as_nanos c.args.now) c.args.id c.args.value c.args.broken old)) in
     let keeps = keeps_as (beside old l) _ _ _ c.put_back-answer.new.self made c.put_back-answer.ensures.after
     (keeps_return (as_nanos c.args.now) c.args.id c.args.value c.args.broken (book_in old l) c.self.invariant.sound c.self.invariant.recorded) in
-    subst (λ (b : SeenBook _). beside c.put_back-answer.new.self c.note.new.self ≡ noted_return (as_nanos c.args.now) c.args.id
-    (map_ok seen_returned c.put_back-answer.result) b) c.self.view_is
-    (noted_beside l c.note.new.self _ old c.put_back-answer.new.self c.self.invariant keeps c.note.ensures
-    ∙ ap (λ made. with_noted made (beside old l))
-    (made ∙ sym (ap (record_of_return _ c.args.id) c.put_back-answer.ensures.answer)))
+    record {
+      step = subst (λ (b : SeenBook _). IsReturn c.args.now c.args.id c.args.value c.args.broken c.put_back-answer.result b.picture c.put_back-answer.new.self)
+          c.self.view_is c.put_back-answer.ensures;
+      noted = subst (λ (b : SeenBook _). beside c.put_back-answer.new.self c.note.new.self ≡ noted_return (as_nanos c.args.now) c.args.id
+          (map_ok seen_returned c.put_back-answer.result) b) c.self.view_is
+          (noted_beside l c.note.new.self _ old c.put_back-answer.new.self c.self.invariant keeps c.note.ensures
+          ∙ ap (λ made. with_noted made (beside old l))
+          (made ∙ sym (ap (record_of_return _ c.args.id) c.put_back-answer.ensures.answer)));
+    }
 
 pub invariant_of-self : goal.invariant_of-self
 invariant_of-self g c =

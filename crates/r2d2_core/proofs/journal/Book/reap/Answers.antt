@@ -7,6 +7,7 @@ use Rattle.r2d2_core.specs.Table.{reap_closed, reap_orders}
 use Rattle.r2d2_core.specs.Records.{seen_record}
 use Rattle.r2d2_core.specs.Recorded.{record_of_reap}
 use Rattle.r2d2_core.specs.Journal.{with_noted}
+use Rattle.r2d2_core.specs.CoreSteps.{IsReap}
 use Rattle.r2d2_core.specs.Book.{SeenBook}
 use Rattle.r2d2_core.specs.BookParts.{beside, book_in}
 use Rattle.r2d2_core.specs.Noted.{noted_reap}
@@ -33,8 +34,8 @@ note-requires g c =
     (keeps_reap (as_nanos c.args.now) (book_in old l) c.len.result closed c.self.invariant.sound c.self.invariant.recorded) in
     may_note l _ old c.reap_uncounted-ordered.new.self keeps
 
-pub returns-clause-noted : goal.returns-clause-noted
-returns-clause-noted g c =
+pub returns : goal.returns
+returns g c =
     let old = c.self.inside.machine in
     let l = c.self.inside.journal in
     let closed : c.len.result ≡ length (reap_closed (as_nanos c.args.now) old) =
@@ -48,15 +49,19 @@ returns-clause-noted g c =
     ∙ ap (record_of_reap (max old.latest (as_nanos c.args.now)) c.len.result) c.reap_uncounted-ordered.ensures.answer) in
     let keeps = keeps_as (beside old l) _ _ _ c.reap_uncounted-ordered.new.self made c.reap_uncounted-ordered.ensures.after
     (keeps_reap (as_nanos c.args.now) (book_in old l) c.len.result closed c.self.invariant.sound c.self.invariant.recorded) in
-    subst (λ (b : SeenBook _). beside c.reap_uncounted-ordered.new.self c.note.new.self ≡ noted_reap (as_nanos c.args.now)
-    (length c.reap_uncounted-ordered.new.out.items) c.reap_uncounted-ordered.result b) c.self.view_is
-    (noted_beside l c.note.new.self _ old c.reap_uncounted-ordered.new.self c.self.invariant keeps c.note.ensures
-    ∙ ap (λ made. with_noted made (beside old l))
-    (c.of_reap.ensures
-    ∙ (ap (λ at. record_of_reap at c.len.result c.reap_uncounted-ordered.result) (c.latest-at.ensures.value
-    ∙ ap latest_in c.reap_uncounted-ordered.ensures.after)
-    ∙ ap (λ n. record_of_reap (max old.latest (as_nanos c.args.now)) n c.reap_uncounted-ordered.result)
-    (c.len.ensures ∙ c.reap_uncounted-ordered.new.out.ok.0))))
+    record {
+      step = subst (λ (b : SeenBook _). IsReap c.args.now c.reap_uncounted-ordered.new.out.items c.reap_uncounted-ordered.result b.picture c.reap_uncounted-ordered.new.self)
+          c.self.view_is c.reap_uncounted-ordered.ensures;
+      noted = subst (λ (b : SeenBook _). beside c.reap_uncounted-ordered.new.self c.note.new.self ≡ noted_reap (as_nanos c.args.now)
+          (length c.reap_uncounted-ordered.new.out.items) c.reap_uncounted-ordered.result b) c.self.view_is
+          (noted_beside l c.note.new.self _ old c.reap_uncounted-ordered.new.self c.self.invariant keeps c.note.ensures
+          ∙ ap (λ made. with_noted made (beside old l))
+          (c.of_reap.ensures
+          ∙ (ap (λ at. record_of_reap at c.len.result c.reap_uncounted-ordered.result) (c.latest-at.ensures.value
+          ∙ ap latest_in c.reap_uncounted-ordered.ensures.after)
+          ∙ ap (λ n. record_of_reap (max old.latest (as_nanos c.args.now)) n c.reap_uncounted-ordered.result)
+          (c.len.ensures ∙ c.reap_uncounted-ordered.new.out.ok.0))));
+    }
 
 pub invariant_of-self : goal.invariant_of-self
 invariant_of-self g c =

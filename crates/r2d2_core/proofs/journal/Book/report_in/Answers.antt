@@ -34,21 +34,17 @@ returns-clause-given g c =
       closed = c.is_closed.ensures.value;
     })
 
-pub returns-clause-replays : goal.returns-clause-replays
-returns-clause-replays g c = report_replays c.args.self.now _ (returns-clause-given g c)
-    (subst IsReplayed c.self.view_is (is_replayed (book_in c.self.inside.machine c.self.inside.journal) c.self.invariant.recorded))
-
 pub returns-clause-sound : goal.returns-clause-sound
-returns-clause-sound g c = report_sound c.args.self.now _ (returns-clause-given g c) (subst
-    (λ (a : SeenBook _). IsSound a.picture) c.self.view_is c.self.invariant.sound)
-
-pub returns-clause-counted : goal.returns-clause-counted
-returns-clause-counted g c = report_counts c.args.self.now _ (returns-clause-given g c) (subst
-    (λ (a : SeenBook _). CountsTakes a.journal) c.self.view_is c.takes.ensures.counted)
-
-pub returns-clause-whole : goal.returns-clause-whole
-returns-clause-whole g c = report_whole c.args.self.now _ (returns-clause-given g c) (subst IsRecorded c.self.view_is c.self.invariant.recorded)
-    (subst (λ (a : SeenBook _). BeginsAtTheMaking a.journal) c.self.view_is c.self.invariant.begins)
+returns-clause-sound g c =
+    let given = returns-clause-given g c in
+    record {
+      replays = report_replays c.args.self.now _ given
+          (subst IsReplayed c.self.view_is (is_replayed (book_in c.self.inside.machine c.self.inside.journal) c.self.invariant.recorded));
+      begins = report_whole c.args.self.now _ given (subst IsRecorded c.self.view_is c.self.invariant.recorded)
+          (subst (λ (a : SeenBook _). BeginsAtTheMaking a.journal) c.self.view_is c.self.invariant.begins);
+      counted = report_counts c.args.self.now _ given (subst (λ (a : SeenBook _). CountsTakes a.journal) c.self.view_is c.takes.ensures.counted);
+      sound = report_sound c.args.self.now _ given (subst (λ (a : SeenBook _). IsSound a.picture) c.self.view_is c.self.invariant.sound);
+    }
 
 pub returns-clause-since : goal.returns-clause-since
 returns-clause-since g c = report_since c.args.self.now _ (returns-clause-given g c) (subst IsRecorded c.self.view_is c.self.invariant.recorded)

@@ -21,17 +21,25 @@ invariant_of-self-in-Err g c =
     whole (after_admit (as_nanos c.args.now) c.args.id c.args.value c.args.self.now) (grind (arith, common_steps))
     (sound_admit (as_nanos c.args.now) c.args.id c.args.value s) (search rules)
 
-pub returns-in-Ok-clause-sound : goal.returns-in-Ok-clause-sound
-returns-in-Ok-clause-sound g c =
+pub returns-in-Ok : goal.returns-in-Ok
+returns-in-Ok g c =
     let s : IsSound c.args.self.now = subst IsSound c.self.view_is c.self.invariant.sound in
-    sound_as (after_admit (as_nanos c.args.now) c.args.id c.args.value c.args.self.now) (grind (arith, common_steps))
-    (sound_admit (as_nanos c.args.now) c.args.id c.args.value s)
+    record {
+      answer = search rules;
+      after = grind (arith, common_steps);
+      sound = sound_as (after_admit (as_nanos c.args.now) c.args.id c.args.value c.args.self.now) (grind (arith, common_steps))
+          (sound_admit (as_nanos c.args.now) c.args.id c.args.value s);
+    }
 
-pub returns-in-Err-clause-sound : goal.returns-in-Err-clause-sound
-returns-in-Err-clause-sound g c =
+pub returns-in-Err : goal.returns-in-Err
+returns-in-Err g c =
     let s : IsSound c.args.self.now = subst IsSound c.self.view_is c.self.invariant.sound in
-    sound_as (after_admit (as_nanos c.args.now) c.args.id c.args.value c.args.self.now) (grind (arith, common_steps))
-    (sound_admit (as_nanos c.args.now) c.args.id c.args.value s)
+    record {
+      answer = search rules;
+      after = search rules;
+      sound = sound_as (after_admit (as_nanos c.args.now) c.args.id c.args.value c.args.self.now) (grind (arith, common_steps))
+          (sound_admit (as_nanos c.args.now) c.args.id c.args.value s);
+    }
 
 pub admit-requires : goal.admit-requires
 admit-requires g c =

@@ -12,7 +12,11 @@ invariant_of-self g c =
     let s : IsSound c.args.self.now = subst IsSound c.self.view_is c.self.invariant.sound in
     whole (after_begin (as_nanos c.args.now) c.args.self.now) (grind (arith, common_steps)) (sound_begin (as_nanos c.args.now) s) (search rules)
 
-pub returns-clause-sound : goal.returns-clause-sound
-returns-clause-sound g c =
+pub returns : goal.returns
+returns g c =
     let s : IsSound c.args.self.now = subst IsSound c.self.view_is c.self.invariant.sound in
-    sound_as (after_begin (as_nanos c.args.now) c.args.self.now) (grind (arith, common_steps)) (sound_begin (as_nanos c.args.now) s)
+    record {
+      answer = search rules;
+      after = search rules;
+      sound = sound_as (after_begin (as_nanos c.args.now) c.args.self.now) (grind (arith, common_steps)) (sound_begin (as_nanos c.args.now) s);
+    }

@@ -11,7 +11,11 @@ invariant_of-self g c =
     let s : IsSound c.args.self.now = subst IsSound c.self.view_is c.self.invariant.sound in
     whole (after_close c.args.self.now) (grind (arith, common_steps)) (sound_close s) (search rules)
 
-pub returns-clause-sound : goal.returns-clause-sound
-returns-clause-sound g c =
+pub returns : goal.returns
+returns g c =
     let s : IsSound c.args.self.now = subst IsSound c.self.view_is c.self.invariant.sound in
-    sound_as (after_close c.args.self.now) (grind (arith, common_steps)) (sound_close s)
+    record {
+      answer = search rules;
+      after = search rules;
+      sound = sound_as (after_close c.args.self.now) (grind (arith, common_steps)) (sound_close s);
+    }

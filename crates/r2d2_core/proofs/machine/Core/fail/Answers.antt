@@ -25,14 +25,22 @@ invariant_of-self-in-Err-2 g c =
     whole (after_fail (as_nanos c.args.now) c.args.tries c.args.text c.args.self.now) (grind (arith, common_steps))
     (sound_fail (as_nanos c.args.now) c.args.tries c.args.text s) (search rules)
 
-pub returns-in-Ok-clause-sound : goal.returns-in-Ok-clause-sound
-returns-in-Ok-clause-sound g c =
+pub returns-in-Ok : goal.returns-in-Ok
+returns-in-Ok g c =
     let s : IsSound c.args.self.now = subst IsSound c.self.view_is c.self.invariant.sound in
-    sound_as (after_fail (as_nanos c.args.now) c.args.tries c.args.text c.args.self.now) (grind (arith, common_steps))
-    (sound_fail (as_nanos c.args.now) c.args.tries c.args.text s)
+    record {
+      answer = search rules;
+      after = search rules;
+      sound = sound_as (after_fail (as_nanos c.args.now) c.args.tries c.args.text c.args.self.now) (grind (arith, common_steps))
+          (sound_fail (as_nanos c.args.now) c.args.tries c.args.text s);
+    }
 
-pub returns-in-Err-clause-sound : goal.returns-in-Err-clause-sound
-returns-in-Err-clause-sound g c =
+pub returns-in-Err : goal.returns-in-Err
+returns-in-Err g c =
     let s : IsSound c.args.self.now = subst IsSound c.self.view_is c.self.invariant.sound in
-    sound_as (after_fail (as_nanos c.args.now) c.args.tries c.args.text c.args.self.now) (grind (arith, common_steps))
-    (sound_fail (as_nanos c.args.now) c.args.tries c.args.text s)
+    record {
+      answer = search rules;
+      after = search rules;
+      sound = sound_as (after_fail (as_nanos c.args.now) c.args.tries c.args.text c.args.self.now) (grind (arith, common_steps))
+          (sound_fail (as_nanos c.args.now) c.args.tries c.args.text s);
+    }

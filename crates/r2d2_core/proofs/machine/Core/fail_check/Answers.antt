@@ -16,11 +16,15 @@ invariant_of-self g c =
     whole (after_check (as_nanos c.args.now) c.args.id c.args.text c.args.self.now) (grind (arith, common_steps))
     (sound_check (as_nanos c.args.now) c.args.id c.args.text s) (search rules)
 
-pub returns-in-Some-clause-sound : goal.returns-in-Some-clause-sound
-returns-in-Some-clause-sound g c =
+pub returns-in-Some : goal.returns-in-Some
+returns-in-Some g c =
     let s : IsSound c.args.self.now = subst IsSound c.self.view_is c.self.invariant.sound in
-    sound_as (after_check (as_nanos c.args.now) c.args.id c.args.text c.args.self.now) (grind (arith, common_steps))
-    (sound_check (as_nanos c.args.now) c.args.id c.args.text s)
+    record {
+      answer = search rules;
+      after = search rules;
+      sound = sound_as (after_check (as_nanos c.args.now) c.args.id c.args.text c.args.self.now) (grind (arith, common_steps))
+          (sound_check (as_nanos c.args.now) c.args.id c.args.text s);
+    }
 
 pub remove-requires : goal.remove-requires
 remove-requires g c =

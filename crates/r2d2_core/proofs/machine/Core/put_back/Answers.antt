@@ -22,17 +22,25 @@ invariant_of-self-else-is_closed g c =
     whole (after_return (as_nanos c.args.now) c.args.id c.args.value c.args.broken c.args.self.now) (grind (arith, common_steps))
     (sound_return (as_nanos c.args.now) c.args.id c.args.value c.args.broken s) (search rules)
 
-pub returns-then-is_closed-clause-sound : goal.returns-then-is_closed-clause-sound
-returns-then-is_closed-clause-sound g c =
+pub returns-then-is_closed : goal.returns-then-is_closed
+returns-then-is_closed g c =
     let s : IsSound c.args.self.now = subst IsSound c.self.view_is c.self.invariant.sound in
-    sound_as (after_return (as_nanos c.args.now) c.args.id c.args.value c.args.broken c.args.self.now) (grind (arith, common_steps))
-    (sound_return (as_nanos c.args.now) c.args.id c.args.value c.args.broken s)
+    record {
+      answer = search rules;
+      after = search rules;
+      sound = sound_as (after_return (as_nanos c.args.now) c.args.id c.args.value c.args.broken c.args.self.now) (grind (arith, common_steps))
+          (sound_return (as_nanos c.args.now) c.args.id c.args.value c.args.broken s);
+    }
 
-pub returns-else-is_closed-clause-sound : goal.returns-else-is_closed-clause-sound
-returns-else-is_closed-clause-sound g c =
+pub returns-else-is_closed : goal.returns-else-is_closed
+returns-else-is_closed g c =
     let s : IsSound c.args.self.now = subst IsSound c.self.view_is c.self.invariant.sound in
-    sound_as (after_return (as_nanos c.args.now) c.args.id c.args.value c.args.broken c.args.self.now) (grind (arith, common_steps))
-    (sound_return (as_nanos c.args.now) c.args.id c.args.value c.args.broken s)
+    record {
+      answer = search rules;
+      after = grind (arith, common_steps);
+      sound = sound_as (after_return (as_nanos c.args.now) c.args.id c.args.value c.args.broken c.args.self.now) (grind (arith, common_steps))
+          (sound_return (as_nanos c.args.now) c.args.id c.args.value c.args.broken s);
+    }
 
 pub remove-requires : goal.remove-requires
 remove-requires g c =

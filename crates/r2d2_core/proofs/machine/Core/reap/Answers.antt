@@ -12,7 +12,12 @@ invariant_of-self g c =
     let s : IsSound c.args.self.now = subst IsSound c.self.view_is c.self.invariant.sound in
     whole (after_reap (as_nanos c.args.now) c.args.self.now) (grind (arith, common_steps)) (sound_reap (as_nanos c.args.now) s) (search rules)
 
-pub returns-clause-sound : goal.returns-clause-sound
-returns-clause-sound g c =
+pub returns-clause-step : goal.returns-clause-step
+returns-clause-step g c =
     let s : IsSound c.args.self.now = subst IsSound c.self.view_is c.self.invariant.sound in
-    sound_as (after_reap (as_nanos c.args.now) c.args.self.now) (grind (arith, common_steps)) (sound_reap (as_nanos c.args.now) s)
+    record {
+      released = search rules;
+      answer = search rules;
+      after = search rules;
+      sound = sound_as (after_reap (as_nanos c.args.now) c.args.self.now) (grind (arith, common_steps)) (sound_reap (as_nanos c.args.now) s);
+    }

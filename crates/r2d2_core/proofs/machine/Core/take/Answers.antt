@@ -19,14 +19,22 @@ invariant_of-self-in-None g c =
     whole (after_take (as_nanos c.args.now) c.args.or_order c.args.self.now) (grind (arith, common_steps)) (sound_take (as_nanos c.args.now) c.args.or_order s)
     (search rules)
 
-pub returns-in-Some-clause-sound : goal.returns-in-Some-clause-sound
-returns-in-Some-clause-sound g c =
+pub returns-in-Some : goal.returns-in-Some
+returns-in-Some g c =
     let s : IsSound c.args.self.now = subst IsSound c.self.view_is c.self.invariant.sound in
-    sound_as (after_take (as_nanos c.args.now) c.args.or_order c.args.self.now) (grind (arith, common_steps))
-    (sound_take (as_nanos c.args.now) c.args.or_order s)
+    record {
+      answer = grind (arith, common_steps);
+      after = grind (arith, common_steps);
+      sound = sound_as (after_take (as_nanos c.args.now) c.args.or_order c.args.self.now) (grind (arith, common_steps))
+          (sound_take (as_nanos c.args.now) c.args.or_order s);
+    }
 
-pub returns-in-None-clause-sound : goal.returns-in-None-clause-sound
-returns-in-None-clause-sound g c =
+pub returns-in-None : goal.returns-in-None
+returns-in-None g c =
     let s : IsSound c.args.self.now = subst IsSound c.self.view_is c.self.invariant.sound in
-    sound_as (after_take (as_nanos c.args.now) c.args.or_order c.args.self.now) (grind (arith, common_steps))
-    (sound_take (as_nanos c.args.now) c.args.or_order s)
+    record {
+      answer = grind (arith, common_steps);
+      after = grind (arith, common_steps);
+      sound = sound_as (after_take (as_nanos c.args.now) c.args.or_order c.args.self.now) (grind (arith, common_steps))
+          (sound_take (as_nanos c.args.now) c.args.or_order s);
+    }
