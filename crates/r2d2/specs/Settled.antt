@@ -1,9 +1,10 @@
 -- What becomes of a worker's opening and of a caller's check, each told to the book as one outcome: one step of the book for each.
-use Rattle.std.specs.Prelude.{ℕ, true, false, Option, Some, None, Result, Ok, Err}
+use Rattle.std.specs.Prelude.{◌≡◌, ℕ, true, false, Option, Some, None, Result, Ok, Err}
+use Rattle.std.specs.declared.time.Duration.{Duration}
 use Rattle.std.specs.Duration.{as_nanos}
 use Rattle.r2d2_core.specs.declared.machine.answers.Refusal.{Refusal}
 use Rattle.r2d2_core.specs.Seen.{SeenGone, seen_gone}
-use Rattle.r2d2_core.specs.Picture.{Picture}
+use Rattle.r2d2_core.specs.Picture.{Picture, IsSound}
 use Rattle.r2d2_core.specs.Table.{admit_answer, after_admit, fail_answer, after_fail, check_answer, after_check}
 use Rattle.r2d2_core.specs.Journal.{SeenJournal}
 use Rattle.r2d2_core.specs.Book.{SeenBook}
@@ -63,6 +64,14 @@ module _ {T : Type 0} where
   noted_settle t (outcome.Opened id value) b = noted_admission t id (admit_answer id value b.picture) b
   noted_settle t (outcome.Failed tries text) b = b.journal
   noted_settle t (outcome.Unsound id text) b = noted_check t id (check_answer t id b.picture) b
+
+  -- so an outcome is settled
+  pub record IsSettling (now : Duration) (outcome : Outcome T) (result : Settled T)
+      (old new : SeenBook T) : Type 0 where
+    pub answer : seen_settled result ≡ settle_answer (as_nanos now) outcome old.picture
+    pub after : new.picture ≡ after_settle (as_nanos now) outcome old.picture
+    pub sound : IsSound new.picture
+    pub noted : new.journal ≡ noted_settle (as_nanos now) outcome old
 
   -- whom to wake: after an admission, a caller; after a failed opening, the workers, since it is due again; after a failed check, a
   -- caller, and the workers where it ordered; after a refusal, nobody

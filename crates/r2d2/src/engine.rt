@@ -1,16 +1,11 @@
 //! What the pool does to its book while it holds the lock: one function for each thing, which says
 //! whom to wake when the lock is free again. Beside it `Payload`, which a pool's book keeps, and
 //! `open`, which needs no book and no lock.
-ghost use Rattle.std.specs.Prelude.{◌≡◌, ◌≤◌, map, length, vec_len, vec_capacity};
-ghost use Rattle.std.specs.Duration.{as_nanos};
-ghost use Rattle.r2d2_core.specs.Seen.{seen_take, seen_returned, seen_released, map_ok};
-ghost use Rattle.r2d2_core.specs.Table.{take_answer, after_take, return_answer, after_return};
-ghost use Rattle.r2d2_core.specs.Table.{reap_closed, reap_orders, after_reap};
-ghost use Rattle.r2d2_core.specs.Picture.{IsSound};
-ghost use Rattle.r2d2_core.specs.Noted.{noted_take, noted_return, noted_reap};
+ghost use Rattle.std.specs.Prelude.{◌≡◌, ◌≤◌, length, vec_len, vec_capacity};
+ghost use Rattle.r2d2_core.specs.Seen.{seen_take, seen_returned, map_ok};
+ghost use Rattle.r2d2_core.specs.BookSteps.{IsTake, IsReturn, IsReap};
 ghost use Rattle.r2d2.specs.Wakes.{wakes_of_take, wakes_of_return, wakes_of_reap};
-ghost use Rattle.r2d2.specs.Settled.{seen_settled, settle_answer, after_settle, noted_settle};
-ghost use Rattle.r2d2.specs.Settled.{wakes_of_settled};
+ghost use Rattle.r2d2.specs.Settled.{seen_settled, wakes_of_settled, IsSettling};
 
 mod counted;
 mod evicting;
@@ -122,11 +117,8 @@ pub fn lend<T, A: Allocator>(
     now: Duration,
     or_order: bool,
 ) -> (Take<T>, Wakes)
-    ensures answer { seen_take result.0 ≡ take_answer or_order book.old.picture }
+    ensures step { IsTake now or_order result.0 book.old book.new }
     ensures wakes { result.1 ≡ wakes_of_take (seen_take result.0) }
-    ensures after { book.new.picture ≡ after_take (as_nanos now) or_order book.old.picture }
-    ensures sound { IsSound book.new.picture }
-    ensures noted { book.new.journal ≡ noted_take (as_nanos now) (seen_take result.0) book.old }
 {
     let taken = book.take(now, or_order);
     let wakes = match &taken {
@@ -145,14 +137,8 @@ pub fn give_back<T, A: Allocator>(
     value: T,
     broken: bool,
 ) -> (Result<Returned<T>, (Refusal, T)>, Wakes)
-    ensures answer { map_ok seen_returned result.0
-        ≡ return_answer (as_nanos now) id value broken book.old.picture }
+    ensures step { IsReturn now id value broken result.0 book.old book.new }
     ensures wakes { result.1 ≡ wakes_of_return (map_ok seen_returned result.0) }
-    ensures after { book.new.picture
-        ≡ after_return (as_nanos now) id value broken book.old.picture }
-    ensures sound { IsSound book.new.picture }
-    ensures noted { book.new.journal
-        ≡ noted_return (as_nanos now) id (map_ok seen_returned result.0) book.old }
 {
     let returned = book.put_back(now, id, value, broken);
     let wakes = match &returned {
@@ -170,11 +156,8 @@ pub fn settle<T, A: Allocator>(
     now: Duration,
     outcome: Outcome<T>,
 ) -> (Settled<T>, Wakes)
-    ensures answer { seen_settled result.0 ≡ settle_answer (as_nanos now) outcome book.old.picture }
+    ensures step { IsSettling now outcome result.0 book.old book.new }
     ensures wakes { result.1 ≡ wakes_of_settled (seen_settled result.0) }
-    ensures after { book.new.picture ≡ after_settle (as_nanos now) outcome book.old.picture }
-    ensures sound { IsSound book.new.picture }
-    ensures noted { book.new.journal ≡ noted_settle (as_nanos now) outcome book.old }
 {
     let settled = match outcome {
         Outcome::Opened { id, value } => match book.admit(now, id, value) {
@@ -203,14 +186,8 @@ pub fn sweep<T, A: Allocator>(
 ) -> (u32, Wakes)
     requires empty { vec_len out.old ≡ 0 }
     requires room { book.old.picture.on_order.limits.max_size ≤ vec_capacity out.old }
-    ensures released { map seen_released out.new.items
-        ≡ reap_closed (as_nanos now) book.old.picture }
-    ensures answer { result.0 ≡ reap_orders (as_nanos now) book.old.picture }
+    ensures step { IsReap now out.new.items result.0 book.old book.new }
     ensures wakes { result.1 ≡ wakes_of_reap (length out.new.items) result.0 }
-    ensures after { book.new.picture ≡ after_reap (as_nanos now) book.old.picture }
-    ensures sound { IsSound book.new.picture }
-    ensures noted { book.new.journal
-        ≡ noted_reap (as_nanos now) (length out.new.items) result.0 book.old }
 {
     let ordered = book.reap(now, out);
     let wakes = Wakes {

@@ -1,18 +1,13 @@
 // A book whose takes a ledger counts.
-ghost use Rattle.std.specs.Prelude.{ℕ, ⊤, ◌≡◌, ◌+◌, ◌*◌, ◌<◌, ◌≤◌, map, length, option_map};
-ghost use Rattle.std.specs.Prelude.{string_bytes, vec_len, vec_capacity, IfOk};
-ghost use Rattle.std.specs.Duration.{as_nanos};
-ghost use Rattle.r2d2_core.specs.Seen.{seen_take, seen_returned, seen_released, map_ok};
-ghost use Rattle.r2d2_core.specs.Jobs.{seen_job};
-ghost use Rattle.r2d2_core.specs.Table as table;
-ghost use Rattle.r2d2_core.specs.Picture.{IsSound};
-ghost use Rattle.r2d2_core.specs.Noted.{noted_take, noted_return, noted_reap, noted_close};
+ghost use Rattle.std.specs.Prelude.{ℕ, ⊤, ◌≡◌, ◌+◌, ◌*◌, ◌<◌, ◌≤◌, length, vec_len, vec_capacity};
+ghost use Rattle.std.specs.Prelude.{IfOk};
+ghost use Rattle.r2d2_core.specs.Seen.{seen_take, seen_returned, map_ok};
+ghost use Rattle.r2d2_core.specs.BookSteps.{IsTake, IsBegin, IsNumbering, IsReturn, IsReap};
+ghost use Rattle.r2d2_core.specs.BookSteps.{IsTelling, IsClose};
 ghost use Rattle.r2d2_core.specs.Journal.{one_more};
-ghost use Rattle.r2d2_core.specs.Reports.{IsReportOf, DoesReplay, HasSoundCounts, CountsItsTakes};
-ghost use Rattle.r2d2_core.specs.Reports.{BeginsAtAMaking};
+ghost use Rattle.r2d2_core.specs.Reports.{IsReportOf, IsSoundReport};
 ghost use Rattle.r2d2.specs.Wakes.{wakes_of_take, wakes_of_return, wakes_of_reap};
-ghost use Rattle.r2d2.specs.Settled.{seen_settled, settle_answer, after_settle, noted_settle};
-ghost use Rattle.r2d2.specs.Settled.{wakes_of_settled};
+ghost use Rattle.r2d2.specs.Settled.{seen_settled, wakes_of_settled, IsSettling};
 ghost use Rattle.r2d2.specs.Counted.{found_by, counted_up_to, counted_where};
 
 use super::{Outcome, Settled, Wakes, give_back, lend, settle, sweep};
@@ -172,10 +167,7 @@ impl<T, L: Ledger> Counted<T, L> {
     pub fn audit(&mut self, all: &mut Share<L>) -> Result<Report, AllocError>
         requires { all.old.parts ≡ L.parts }
         ensures given { IfOk result (λ report. IsReportOf self.old.book report) }
-        ensures replays { IfOk result DoesReplay }
-        ensures sound { IfOk result HasSoundCounts }
-        ensures counted { IfOk result CountsItsTakes }
-        ensures whole { IfOk result BeginsAtAMaking }
+        ensures sound { IfOk result IsSoundReport }
         ensures takes { IfOk result (λ report. report.takes ≡ counted_up_to all.old.amount) }
         ensures book { self.new.book ≡ self.old.book }
         ensures total { self.new.total ≡ self.old.total }
@@ -204,14 +196,8 @@ impl<T, C: Ties> Tied<T, C> {
         value: T,
         broken: bool,
     ) -> (Result<Returned<T>, (Refusal, T)>, Wakes)
-        ensures answer { map_ok seen_returned result.0
-            ≡ table.return_answer (as_nanos now) id value broken self.old.book.picture }
+        ensures step { IsReturn now id value broken result.0 self.old.book self.new.book }
         ensures wakes { result.1 ≡ wakes_of_return (map_ok seen_returned result.0) }
-        ensures after { self.new.book.picture
-            ≡ table.after_return (as_nanos now) id value broken self.old.book.picture }
-        ensures sound { IsSound self.new.book.picture }
-        ensures noted { self.new.book.journal
-            ≡ noted_return (as_nanos now) id (map_ok seen_returned result.0) self.old.book }
         ensures total { self.new.total ≡ self.old.total }
     {
         give_back(&mut self.book, now, id, value, broken)
@@ -219,13 +205,8 @@ impl<T, C: Ties> Tied<T, C> {
 
     /// As `settle`.
     pub fn settle(&mut self, now: Duration, outcome: Outcome<T>) -> (Settled<T>, Wakes)
-        ensures answer { seen_settled result.0
-            ≡ settle_answer (as_nanos now) outcome self.old.book.picture }
+        ensures step { IsSettling now outcome result.0 self.old.book self.new.book }
         ensures wakes { result.1 ≡ wakes_of_settled (seen_settled result.0) }
-        ensures after { self.new.book.picture
-            ≡ after_settle (as_nanos now) outcome self.old.book.picture }
-        ensures sound { IsSound self.new.book.picture }
-        ensures noted { self.new.book.journal ≡ noted_settle (as_nanos now) outcome self.old.book }
         ensures total { self.new.total ≡ self.old.total }
     {
         settle(&mut self.book, now, outcome)
@@ -235,15 +216,8 @@ impl<T, C: Ties> Tied<T, C> {
     pub fn sweep(&mut self, now: Duration, out: &mut Vec<Released<T>>) -> (u32, Wakes)
         requires empty { vec_len out.old ≡ 0 }
         requires room { self.old.book.picture.on_order.limits.max_size ≤ vec_capacity out.old }
-        ensures released { map seen_released out.new.items
-            ≡ table.reap_closed (as_nanos now) self.old.book.picture }
-        ensures answer { result.0 ≡ table.reap_orders (as_nanos now) self.old.book.picture }
+        ensures step { IsReap now out.new.items result.0 self.old.book self.new.book }
         ensures wakes { result.1 ≡ wakes_of_reap (length out.new.items) result.0 }
-        ensures after { self.new.book.picture
-            ≡ table.after_reap (as_nanos now) self.old.book.picture }
-        ensures sound { IsSound self.new.book.picture }
-        ensures noted { self.new.book.journal
-            ≡ noted_reap (as_nanos now) (length out.new.items) result.0 self.old.book }
         ensures total { self.new.total ≡ self.old.total }
     {
         sweep(&mut self.book, now, out)
@@ -251,11 +225,7 @@ impl<T, C: Ties> Tied<T, C> {
 
     /// As `Book::begin`.
     pub fn begin(&mut self, now: Duration) -> Job
-        ensures answer { seen_job result ≡ table.begin_answer (as_nanos now) self.old.book.picture }
-        ensures after { self.new.book.picture
-            ≡ table.after_begin (as_nanos now) self.old.book.picture }
-        ensures sound { IsSound self.new.book.picture }
-        ensures noted { self.new.book.journal ≡ self.old.book.journal }
+        ensures step { IsBegin now result self.old.book self.new.book }
         ensures total { self.new.total ≡ self.old.total }
     {
         self.book.begin(now)
@@ -263,10 +233,7 @@ impl<T, C: Ties> Tied<T, C> {
 
     /// As `Book::number`.
     pub fn number(&mut self, tries: u32) -> Result<u64, Refusal>
-        ensures answer { result ≡ table.number_answer tries self.old.book.picture }
-        ensures after { self.new.book.picture ≡ table.after_number tries self.old.book.picture }
-        ensures sound { IsSound self.new.book.picture }
-        ensures noted { self.new.book.journal ≡ self.old.book.journal }
+        ensures step { IsNumbering tries result self.old.book self.new.book }
         ensures total { self.new.total ≡ self.old.total }
     {
         self.book.number(tries)
@@ -274,10 +241,7 @@ impl<T, C: Ties> Tied<T, C> {
 
     /// As `Book::take_error`.
     pub fn take_error(&mut self) -> Option<String>
-        ensures answer { option_map string_bytes result ≡ self.old.book.picture.last_error }
-        ensures after { self.new.book.picture ≡ table.after_take_error self.old.book.picture }
-        ensures sound { IsSound self.new.book.picture }
-        ensures noted { self.new.book.journal ≡ self.old.book.journal }
+        ensures step { IsTelling result self.old.book self.new.book }
         ensures total { self.new.total ≡ self.old.total }
     {
         self.book.take_error()
@@ -285,10 +249,7 @@ impl<T, C: Ties> Tied<T, C> {
 
     /// As `Book::close`.
     pub fn close(&mut self) -> Leftover<T>
-        ensures answer { result ≡ table.close_answer self.old.book.picture }
-        ensures after { self.new.book.picture ≡ table.after_close self.old.book.picture }
-        ensures sound { IsSound self.new.book.picture }
-        ensures noted { self.new.book.journal ≡ noted_close self.old.book }
+        ensures step { IsClose result self.old.book self.new.book }
         ensures total { self.new.total ≡ self.old.total }
     {
         self.book.close()
@@ -297,10 +258,7 @@ impl<T, C: Ties> Tied<T, C> {
     /// As `Book::report`.
     pub fn report(&self) -> Result<Report, AllocError>
         ensures given { IfOk result (λ report. IsReportOf self.now.book report) }
-        ensures replays { IfOk result DoesReplay }
-        ensures sound { IfOk result HasSoundCounts }
-        ensures counted { IfOk result CountsItsTakes }
-        ensures whole { IfOk result BeginsAtAMaking }
+        ensures sound { IfOk result IsSoundReport }
     {
         self.book.report()
     }
@@ -316,13 +274,8 @@ impl<T, C: Counter> Tied<T, C> {
         tally: &mut C::Tally,
     ) -> (Take<T>, Wakes)
         requires { 0 < C.parts tally.old }
-        ensures answer { seen_take result.0 ≡ table.take_answer or_order self.old.book.picture }
+        ensures step { IsTake now or_order result.0 self.old.book self.new.book }
         ensures wakes { result.1 ≡ wakes_of_take (seen_take result.0) }
-        ensures after { self.new.book.picture
-            ≡ table.after_take (as_nanos now) or_order self.old.book.picture }
-        ensures sound { IsSound self.new.book.picture }
-        ensures noted { self.new.book.journal
-            ≡ noted_take (as_nanos now) (seen_take result.0) self.old.book }
         ensures parts { C.parts tally.new ≡ C.parts tally.old }
         ensures amount { C.amount tally.new
             ≡ C.amount tally.old + found_by (seen_take result.0) * C.per_take }
@@ -345,13 +298,8 @@ pub fn lend_counted<T, L: Ledger>(
     share: &mut Share<L>,
 ) -> (Take<T>, Wakes)
     requires { 0 < share.old.parts }
-    ensures answer { seen_take result.0 ≡ table.take_answer or_order counted.old.book.picture }
+    ensures step { IsTake now or_order result.0 counted.old.book counted.new.book }
     ensures wakes { result.1 ≡ wakes_of_take (seen_take result.0) }
-    ensures after { counted.new.book.picture
-        ≡ table.after_take (as_nanos now) or_order counted.old.book.picture }
-    ensures sound { IsSound counted.new.book.picture }
-    ensures noted { counted.new.book.journal
-        ≡ noted_take (as_nanos now) (seen_take result.0) counted.old.book }
     ensures parts { share.new.parts ≡ share.old.parts }
     ensures amount { share.new.amount ≡ share.old.amount + found_by (seen_take result.0) }
     ensures total { counted.new.total ≡ counted.old.total + found_by (seen_take result.0) }
