@@ -1,8 +1,7 @@
 //! The pool: one lock round its book, workers that open connections, and what it lends.
 ghost use Rattle.std.specs.Prelude.{◌≡◌, ℕ, ◌≤◌, ◌<◌, ◌+◌, ◌*◌, IfOk, IfErr, IfSome, OnErr};
 ghost use Rattle.std.specs.Arc.{arc_value};
-ghost use Rattle.r2d2_core.specs.Reports.{DoesReplay, HasSoundCounts, CountsItsTakes};
-ghost use Rattle.r2d2_core.specs.Reports.{BeginsAtAMaking};
+ghost use Rattle.r2d2_core.specs.Reports.{IsSoundReport};
 
 use self::closing::Closer;
 use self::lent::AnyConnection;
@@ -116,10 +115,7 @@ impl<C: Ties, M: ManageConnection, K: Hooks<M>, R: PoolRuntime> AnyPool<C, M, K,
     /// that, and what there is now. Where its `lost` is 0, that is all since the pool was made. The
     /// error is lack of memory; then nothing has changed.
     pub fn journal(&self) -> Result<Report, Error>
-        ensures replays { IfOk result DoesReplay }
-        ensures sound { IfOk result HasSoundCounts }
-        ensures counted { IfOk result CountsItsTakes }
-        ensures whole { IfOk result BeginsAtAMaking }
+        ensures sound { IfOk result IsSoundReport }
         ensures refused { IfErr result IsOfMemory }
     {
         self.shared().report().map_err(|_| Error::memory())

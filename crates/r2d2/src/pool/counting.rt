@@ -1,7 +1,6 @@
 // The calls of a pool that counts its takes.
 ghost use Rattle.std.specs.Prelude.{◌≡◌, ◌≤◌, ◌<◌, ◌+◌, IfOk, IfErr, IfSome, OnErr};
-ghost use Rattle.r2d2_core.specs.Reports.{DoesReplay, HasSoundCounts, CountsItsTakes};
-ghost use Rattle.r2d2_core.specs.Reports.{BeginsAtAMaking};
+ghost use Rattle.r2d2_core.specs.Reports.{IsSoundReport};
 
 use super::{CountedConnection, CountedPool, PoolRuntime};
 use crate::event::HandleEvent;
@@ -87,10 +86,7 @@ impl<
     pub fn audit(&self, all: &mut Share<L>) -> Result<Report, Error>
         requires { all.old.parts ≡ L.parts }
         ensures takes { IfOk result (λ report. report.takes ≡ counted_up_to all.old.amount) }
-        ensures counted { IfOk result CountsItsTakes }
-        ensures whole { IfOk result BeginsAtAMaking }
-        ensures replays { IfOk result DoesReplay }
-        ensures sound { IfOk result HasSoundCounts }
+        ensures sound { IfOk result IsSoundReport }
         ensures refused { IfErr result IsOfMemory }
         ensures amount { all.new.amount ≡ all.old.amount }
         ensures parts { all.new.parts ≡ all.old.parts }

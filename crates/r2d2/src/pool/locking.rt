@@ -1,8 +1,7 @@
 // The lock of a pool, and each step that is made under it.
 ghost use Rattle.std.specs.Prelude.{◌≡◌, ◌≤◌, ◌<◌, ◌+◌, ◌-◌, ◌*◌, ◌^◌, min, map, length, vec_len};
 ghost use Rattle.std.specs.Prelude.{vec_capacity, IfOk};
-ghost use Rattle.r2d2_core.specs.Reports.{DoesReplay, HasSoundCounts, CountsItsTakes};
-ghost use Rattle.r2d2_core.specs.Reports.{BeginsAtAMaking};
+ghost use Rattle.r2d2_core.specs.Reports.{IsSoundReport};
 
 use super::lent::Lent;
 use super::{State, Status};
@@ -259,10 +258,7 @@ impl<P: Drop, C: Ties, M, K, R: Clock + Wait> Shared<Tied<P, C>, M, K, R> {
 
     /// What the book reports.
     pub(super) fn report(&self) -> Result<Report, AllocError>
-        ensures replays { IfOk result DoesReplay }
-        ensures sound { IfOk result HasSoundCounts }
-        ensures counted { IfOk result CountsItsTakes }
-        ensures whole { IfOk result BeginsAtAMaking }
+        ensures sound { IfOk result IsSoundReport }
     {
         self.step(|guarded, _now| (guarded.book.report(), Wakes::nobody()))
     }

@@ -5,8 +5,7 @@ ghost use Rattle.std.specs.Prelude.{◌≡◌, ◌≤◌, ◌<◌, ◌+◌, ◌*
 ghost use Rattle.std.specs.Prelude.{IfOk, IfErr, vec_len, vec_capacity};
 ghost use Rattle.std.specs.Option.{IsNone};
 ghost use Rattle.std.specs.Result.{IsOk};
-ghost use Rattle.r2d2_core.specs.Reports.{DoesReplay, HasSoundCounts, CountsItsTakes};
-ghost use Rattle.r2d2_core.specs.Reports.{BeginsAtAMaking};
+ghost use Rattle.r2d2_core.specs.Reports.{IsSoundReport};
 ghost use Rattle.r2d2.specs.Counted.{counted_up_to};
 ghost use Rattle.r2d2.specs.Status.{IsStatus};
 
@@ -250,10 +249,7 @@ impl<P: Drop, L: Ledger, M, K, R: Clock + Wait> Shared<Counted<P, L>, M, K, R> {
     pub(super) fn audit(&self, all: &mut Share<L>) -> Result<Report, AllocError>
         requires { all.old.parts ≡ L.parts }
         ensures takes { IfOk result (λ report. report.takes ≡ counted_up_to all.old.amount) }
-        ensures counted { IfOk result CountsItsTakes }
-        ensures whole { IfOk result BeginsAtAMaking }
-        ensures replays { IfOk result DoesReplay }
-        ensures sound { IfOk result HasSoundCounts }
+        ensures sound { IfOk result IsSoundReport }
         ensures amount { all.new.amount ≡ all.old.amount }
         ensures parts { all.new.parts ≡ all.old.parts }
     {
