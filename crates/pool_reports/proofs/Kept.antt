@@ -8,12 +8,12 @@ use Rattle.r2d2_core.specs.Connections.{id_of_idle, id_of_lent}
 use Rattle.r2d2_core.specs.Records.{SeenRecord}
 use Rattle.r2d2_core.specs.Bases.{SeenBase, IsLegalBase}
 use Rattle.r2d2_core.specs.Folding.{replay, folded, AreLegalFrom}
-use Rattle.r2d2_core.specs.Reports.{seen_base, seen_records, told_in, DoesReplay, HasSoundCounts}
+use Rattle.r2d2_core.specs.Reports.{seen_base, seen_records, told_in, DoesReplay, HasSoundCounts, IsSoundReport}
 use Rattle.r2d2_core.proofs.Recording.Folding.{folds_first}
 use Rattle.r2d2_core.proofs.Recording.Auditing.{legal_before}
 use Rattle.pool_reports.specs.declared.verdict.Verdict.{Verdict}
 use Rattle.pool_reports.specs.declared.verdict.Verdict.TheVariants as verdict
-use Rattle.pool_reports.specs.Verdicts.{IsSound, IsVerdictOn}
+use Rattle.pool_reports.specs.Verdicts.{IsVerdictOn}
 
 -- what legal records come to is legal
 pub legal_told : (limits : SeenLimits) (rs : List SeenRecord) (b : SeenBase) → IsLegalBase limits b → AreLegalFrom limits b rs
@@ -40,7 +40,7 @@ module _ {B : Type 0} (r : Report B) where
       }
 
   -- of a sound report nothing else is said, and of no other one that it is sound
-  pub sound_alone : (v : Verdict) → IsVerdictOn v r → (v ≡ verdict.Sound) ↔ IsSound r
+  pub sound_alone : (v : Verdict) → IsVerdictOn v r → (v ≡ verdict.Sound) ↔ IsSoundReport r
   sound_alone verdict.Sound on = (λ _. on, λ _. refl)
   sound_alone (verdict.Base _) on = (λ is. absurd (cc is), λ s. absurd (on s.replays.base))
   sound_alone (verdict.Record place _) on = (

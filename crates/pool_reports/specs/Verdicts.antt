@@ -2,19 +2,12 @@
 use Rattle.std.specs.Prelude.{◌≡◌, ◌≢◌, ℕ}
 use Rattle.r2d2_core.specs.declared.journal.report.Report.{Report}
 use Rattle.r2d2_core.specs.Records.{takes_in}
-use Rattle.r2d2_core.specs.Reports.{seen_records, DoesReplay, CountsItsTakes, BeginsAtAMaking, HasSoundCounts}
+use Rattle.r2d2_core.specs.Reports.{seen_records, DoesReplay, CountsItsTakes, BeginsAtAMaking, HasSoundCounts, IsSoundReport}
 use Rattle.r2d2_core.specs.Faults.{HasWrongBase, IsFirstWrong, ComesToOther}
 use Rattle.pool_reports.specs.declared.verdict.Verdict.{Verdict}
 use Rattle.pool_reports.specs.declared.verdict.Verdict.TheVariants as verdict
 
 module _ {B : Type 0} where
-  -- all that a pool promises of each of its reports
-  pub record IsSound (r : Report B) : Type 0 where
-    pub replays : DoesReplay r
-    pub begins : BeginsAtAMaking r
-    pub counted : CountsItsTakes r
-    pub sound : HasSoundCounts r
-
   -- it replays, but from the base of no pool just made, though nothing was folded into it
   pub record BeginsElsewhere (r : Report B) : Type 0 where
     pub replays : DoesReplay r
@@ -39,7 +32,7 @@ module _ {B : Type 0} where
   -- the report is sound, or what is named is wrong first: the base, the record at the place, what the records come to, the making, the
   -- takes, or that less is idle or on its way than is wanted
   abbrev pub IsVerdictOn : Verdict → Report B → Type 0
-  IsVerdictOn verdict.Sound r = IsSound r
+  IsVerdictOn verdict.Sound r = IsSoundReport r
   IsVerdictOn (verdict.Base _) r = HasWrongBase r
   IsVerdictOn (verdict.Record place _) r = IsFirstWrong r place
   IsVerdictOn (verdict.Counts _) r = ComesToOther r

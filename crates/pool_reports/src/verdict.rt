@@ -1,7 +1,8 @@
 // What is wrong with a report, in words.
 ghost use Rattle.std.specs.Prelude.{◌≡◌, ◌↔◌, IfOk};
 ghost use Rattle.pool_reports.specs.declared.verdict.Verdict.TheVariants.{Sound};
-ghost use Rattle.pool_reports.specs.Verdicts.{IsVerdictOn, IsSound};
+ghost use Rattle.r2d2_core.specs.Reports.{IsSoundReport};
+ghost use Rattle.pool_reports.specs.Verdicts.{IsVerdictOn};
 
 pub use base::BaseReason;
 pub use counts::CountsReason;
@@ -64,7 +65,7 @@ impl fmt::Display for Verdict {
 /// memory is refused.
 pub fn audit(alloc: Global, report: &Report) -> Result<Verdict, AllocError>
     ensures on { IfOk result (λ verdict. IsVerdictOn verdict report.now) }
-    ensures sound { IfOk result (λ verdict. (verdict ≡ Sound) ↔ IsSound report.now) }
+    ensures sound { IfOk result (λ verdict. (verdict ≡ Sound) ↔ IsSoundReport report.now) }
 {
     let Some(fault) = report.first_fault()? else {
         return Ok(kept::verdict(report));

@@ -1,7 +1,7 @@
 use Rattle.std.proofs.Common.{◌∙◌, ap, List, map, arith}
 use Rattle.r2d2_core.specs.declared.journal.record.Record.{Record}
 use Rattle.r2d2_core.specs.Records.{seen_record, takes_in}
-use Rattle.pool_reports.specs.Verdicts.{IsSound}
+use Rattle.r2d2_core.specs.Reports.{IsSoundReport}
 use Rattle.pool_reports.proofs.Kept.{sound_counts}
 use Rattle.pool_reports.proofs.verdict.kept.verdict.Goals.{then-report-eq0+else-not-is_first+else-report-due, else-report-eq0}
 use Rattle.pool_reports.proofs.verdict.kept.verdict.Goals as goal
@@ -10,7 +10,7 @@ pub returns : goal.returns
 returns g c =
     let r = c.args.report.now in
     let counts = sound_counts r c.requires.replays (c.is_replenished.ensures.0 c.if-not-is_replenished.false) in
-    elim c.if-report-eq0.branch as (λ _. IsSound r) [
+    elim c.if-report-eq0.branch as (λ _. IsSoundReport r) [
       | then-report-eq0+else-not-is_first+else-report-due w ↦ record {
         replays = c.requires.replays;
         begins = λ none. w.is_first.ensures.0 w.if-not-is_first.false;
