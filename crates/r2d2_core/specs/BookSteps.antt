@@ -20,7 +20,7 @@ module _ {T : Type 0} where
   -- its core takes that step, and that is its journal then
   pub record IsStep (is_step : Picture T → Picture T → Type 0) (journal : SeenJournal)
       (old new : SeenBook T) : Type 0 where
-    pub step : is_step old.picture new.picture
+    pub of_core : is_step old.picture new.picture
     pub noted : new.journal ≡ journal
 
   abbrev pub IsTake : Duration → Bool → Take T → SeenBook T → SeenBook T → Type 0

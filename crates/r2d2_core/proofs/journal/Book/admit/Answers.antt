@@ -42,7 +42,9 @@ returns g c =
     let keeps = keeps_as (beside old l) _ _ _ c.admit-answer.new.self made c.admit-answer.ensures.after
     (keeps_admit (as_nanos c.args.now) c.args.id c.args.value (book_in old l) c.self.invariant.sound c.self.invariant.recorded) in
     record {
-      step = subst (λ (b : SeenBook _). IsAdmission c.args.now c.args.id c.args.value c.admit-answer.result b.picture c.admit-answer.new.self)
+      of_core = subst
+          (λ (b : SeenBook _). IsAdmission c.args.now c.args.id c.args.value
+          c.admit-answer.result b.picture c.admit-answer.new.self)
           c.self.view_is c.admit-answer.ensures;
       noted = subst (λ (b : SeenBook _). beside c.admit-answer.new.self c.note.new.self ≡ noted_admission
           (as_nanos c.args.now) c.args.id c.admit-answer.result b) c.self.view_is

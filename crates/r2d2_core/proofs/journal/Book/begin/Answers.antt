@@ -14,7 +14,9 @@ returns g c =
     let keeps = keeps_as (beside old l) None None _ c.begin.new.self refl c.begin.ensures.after
     (keeps_begin (as_nanos c.args.now) (book_in old l) c.self.invariant.recorded) in
     record {
-      step = subst (λ (b : SeenBook _). IsBegin c.args.now c.begin.result b.picture c.begin.new.self)
+      of_core = subst
+          (λ (b : SeenBook _). IsBegin c.args.now
+          c.begin.result b.picture c.begin.new.self)
           c.self.view_is c.begin.ensures;
       noted = subst (λ (b : SeenBook _). beside c.begin.new.self l ≡ b.journal) c.self.view_is (noted_beside l l None old c.begin.new.self c.self.invariant keeps
           (none_alone l));

@@ -33,7 +33,7 @@ returns g c =
     let keeps = keeps_as (beside old l) _ _ _ c.close.new.self made c.close.ensures.after (keeps_close
     (book_in old l) c.self.invariant.sound c.self.invariant.recorded) in
     record {
-      step = subst (λ (b : SeenBook _). IsClose c.close.result b.picture c.close.new.self)
+      of_core = subst (λ (b : SeenBook _). IsClose c.close.result b.picture c.close.new.self)
           c.self.view_is c.close.ensures;
       noted = subst (λ (b : SeenBook _). beside c.close.new.self c.note.new.self ≡ noted_close b) c.self.view_is
           (noted_beside l c.note.new.self _ old c.close.new.self c.self.invariant keeps c.note.ensures ∙ ap (λ made. with_noted made (beside old l)) made);

@@ -14,7 +14,9 @@ returns g c =
     let keeps = keeps_as (beside old l) None None _ c.fail.new.self refl c.fail.ensures.after
     (keeps_fail (as_nanos c.args.now) c.args.tries c.args.text (book_in old l) c.self.invariant.recorded) in
     record {
-      step = subst (λ (b : SeenBook _). IsFailedOpening c.args.now c.args.tries c.args.text c.fail.result b.picture c.fail.new.self)
+      of_core = subst
+          (λ (b : SeenBook _). IsFailedOpening c.args.now c.args.tries c.args.text
+          c.fail.result b.picture c.fail.new.self)
           c.self.view_is c.fail.ensures;
       noted = subst (λ (b : SeenBook _). beside c.fail.new.self l ≡ b.journal) c.self.view_is (noted_beside l l None old c.fail.new.self c.self.invariant keeps
           (none_alone l));

@@ -45,7 +45,9 @@ returns g c =
     let keeps = keeps_as (beside old l) _ _ _ c.fail_check-answer.new.self made c.fail_check-answer.ensures.after
     (keeps_check (as_nanos c.args.now) c.args.id c.args.text (book_in old l) c.self.invariant.sound c.self.invariant.recorded) in
     record {
-      step = subst (λ (b : SeenBook _). IsFailedCheck c.args.now c.args.id c.args.text c.fail_check-answer.result b.picture c.fail_check-answer.new.self)
+      of_core = subst
+          (λ (b : SeenBook _). IsFailedCheck c.args.now c.args.id c.args.text
+          c.fail_check-answer.result b.picture c.fail_check-answer.new.self)
           c.self.view_is c.fail_check-answer.ensures;
       noted = subst (λ (b : SeenBook _). beside c.fail_check-answer.new.self c.note.new.self ≡ noted_check (as_nanos c.args.now) c.args.id
           (map_ok seen_gone c.fail_check-answer.result) b) c.self.view_is

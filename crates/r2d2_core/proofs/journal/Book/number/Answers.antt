@@ -13,7 +13,9 @@ returns g c =
     let keeps = keeps_as (beside old l) None None _ c.number.new.self refl c.number.ensures.after
     (keeps_number c.args.tries (book_in old l) c.self.invariant.sound c.self.invariant.recorded) in
     record {
-      step = subst (λ (b : SeenBook _). IsNumbering c.args.tries c.number.result b.picture c.number.new.self)
+      of_core = subst
+          (λ (b : SeenBook _). IsNumbering c.args.tries
+          c.number.result b.picture c.number.new.self)
           c.self.view_is c.number.ensures;
       noted = subst (λ (b : SeenBook _). beside c.number.new.self l ≡ b.journal) c.self.view_is (noted_beside l l None old c.number.new.self c.self.invariant keeps
           (none_alone l));

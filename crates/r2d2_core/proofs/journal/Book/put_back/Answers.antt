@@ -45,7 +45,9 @@ returns g c =
     let keeps = keeps_as (beside old l) _ _ _ c.put_back-answer.new.self made c.put_back-answer.ensures.after
     (keeps_return (as_nanos c.args.now) c.args.id c.args.value c.args.broken (book_in old l) c.self.invariant.sound c.self.invariant.recorded) in
     record {
-      step = subst (λ (b : SeenBook _). IsReturn c.args.now c.args.id c.args.value c.args.broken c.put_back-answer.result b.picture c.put_back-answer.new.self)
+      of_core = subst
+          (λ (b : SeenBook _). IsReturn c.args.now c.args.id c.args.value c.args.broken
+          c.put_back-answer.result b.picture c.put_back-answer.new.self)
           c.self.view_is c.put_back-answer.ensures;
       noted = subst (λ (b : SeenBook _). beside c.put_back-answer.new.self c.note.new.self ≡ noted_return (as_nanos c.args.now) c.args.id
           (map_ok seen_returned c.put_back-answer.result) b) c.self.view_is

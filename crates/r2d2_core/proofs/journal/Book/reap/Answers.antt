@@ -50,7 +50,9 @@ returns g c =
     let keeps = keeps_as (beside old l) _ _ _ c.reap_uncounted-ordered.new.self made c.reap_uncounted-ordered.ensures.after
     (keeps_reap (as_nanos c.args.now) (book_in old l) c.len.result closed c.self.invariant.sound c.self.invariant.recorded) in
     record {
-      step = subst (λ (b : SeenBook _). IsReap c.args.now c.reap_uncounted-ordered.new.out.items c.reap_uncounted-ordered.result b.picture c.reap_uncounted-ordered.new.self)
+      of_core = subst
+          (λ (b : SeenBook _). IsReap c.args.now c.reap_uncounted-ordered.new.out.items
+          c.reap_uncounted-ordered.result b.picture c.reap_uncounted-ordered.new.self)
           c.self.view_is c.reap_uncounted-ordered.ensures;
       noted = subst (λ (b : SeenBook _). beside c.reap_uncounted-ordered.new.self c.note.new.self ≡ noted_reap (as_nanos c.args.now)
           (length c.reap_uncounted-ordered.new.out.items) c.reap_uncounted-ordered.result b) c.self.view_is

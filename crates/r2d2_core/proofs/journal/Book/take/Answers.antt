@@ -41,7 +41,9 @@ returns g c =
     let keeps = keeps_as (beside old l) _ _ _ c.take-taken.new.self made c.take-taken.ensures.after
     (keeps_take (as_nanos c.args.now) c.args.or_order (book_in old l) c.self.invariant.sound c.self.invariant.recorded) in
     record {
-      step = subst (λ (b : SeenBook _). IsTake c.args.now c.args.or_order c.take-taken.result b.picture c.take-taken.new.self)
+      of_core = subst
+          (λ (b : SeenBook _). IsTake c.args.now c.args.or_order
+          c.take-taken.result b.picture c.take-taken.new.self)
           c.self.view_is c.take-taken.ensures;
       noted = subst (λ (b : SeenBook _). beside c.take-taken.new.self c.note.new.self ≡ noted_take (as_nanos c.args.now) (seen_take c.take-taken.result) b) c.self.view_is
           (noted_beside l c.note.new.self _ old c.take-taken.new.self c.self.invariant keeps c.note.ensures

@@ -13,7 +13,9 @@ returns g c =
     let keeps = keeps_as (beside old l) None None _ c.take_error.new.self refl c.take_error.ensures.after
     (keeps_take_error (book_in old l) c.self.invariant.recorded) in
     record {
-      step = subst (λ (b : SeenBook _). IsTelling c.take_error.result b.picture c.take_error.new.self)
+      of_core = subst
+          (λ (b : SeenBook _). IsTelling
+          c.take_error.result b.picture c.take_error.new.self)
           c.self.view_is c.take_error.ensures;
       noted = subst (λ (b : SeenBook _). beside c.take_error.new.self l ≡ b.journal) c.self.view_is (noted_beside l l None old c.take_error.new.self c.self.invariant
           keeps (none_alone l));

@@ -27,8 +27,8 @@ returns-in-Ok g c =
     record {
       answer = search rules;
       after = grind (arith, common_steps);
-      sound = sound_as (after_admit (as_nanos c.args.now) c.args.id c.args.value c.args.self.now) (grind (arith, common_steps))
-          (sound_admit (as_nanos c.args.now) c.args.id c.args.value s);
+      sound = sound_as (after_admit (as_nanos c.args.now) c.args.id c.args.value c.args.self.now)
+          (grind (arith, common_steps)) (sound_admit (as_nanos c.args.now) c.args.id c.args.value s);
     }
 
 pub returns-in-Err : goal.returns-in-Err
@@ -37,8 +37,8 @@ returns-in-Err g c =
     record {
       answer = search rules;
       after = search rules;
-      sound = sound_as (after_admit (as_nanos c.args.now) c.args.id c.args.value c.args.self.now) (grind (arith, common_steps))
-          (sound_admit (as_nanos c.args.now) c.args.id c.args.value s);
+      sound = sound_as (after_admit (as_nanos c.args.now) c.args.id c.args.value c.args.self.now)
+          (grind (arith, common_steps)) (sound_admit (as_nanos c.args.now) c.args.id c.args.value s);
     }
 
 pub admit-requires : goal.admit-requires

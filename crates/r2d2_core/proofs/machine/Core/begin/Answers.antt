@@ -18,5 +18,6 @@ returns g c =
     record {
       answer = search rules;
       after = search rules;
-      sound = sound_as (after_begin (as_nanos c.args.now) c.args.self.now) (grind (arith, common_steps)) (sound_begin (as_nanos c.args.now) s);
+      sound = sound_as (after_begin (as_nanos c.args.now) c.args.self.now)
+          (grind (arith, common_steps)) (sound_begin (as_nanos c.args.now) s);
     }

@@ -17,5 +17,6 @@ returns g c =
     record {
       answer = search rules;
       after = search rules;
-      sound = sound_as (after_close c.args.self.now) (grind (arith, common_steps)) (sound_close s);
+      sound = sound_as (after_close c.args.self.now)
+          (grind (arith, common_steps)) (sound_close s);
     }

@@ -31,8 +31,8 @@ returns-in-Ok g c =
     record {
       answer = search rules;
       after = search rules;
-      sound = sound_as (after_fail (as_nanos c.args.now) c.args.tries c.args.text c.args.self.now) (grind (arith, common_steps))
-          (sound_fail (as_nanos c.args.now) c.args.tries c.args.text s);
+      sound = sound_as (after_fail (as_nanos c.args.now) c.args.tries c.args.text c.args.self.now)
+          (grind (arith, common_steps)) (sound_fail (as_nanos c.args.now) c.args.tries c.args.text s);
     }
 
 pub returns-in-Err : goal.returns-in-Err
@@ -41,6 +41,6 @@ returns-in-Err g c =
     record {
       answer = search rules;
       after = search rules;
-      sound = sound_as (after_fail (as_nanos c.args.now) c.args.tries c.args.text c.args.self.now) (grind (arith, common_steps))
-          (sound_fail (as_nanos c.args.now) c.args.tries c.args.text s);
+      sound = sound_as (after_fail (as_nanos c.args.now) c.args.tries c.args.text c.args.self.now)
+          (grind (arith, common_steps)) (sound_fail (as_nanos c.args.now) c.args.tries c.args.text s);
     }

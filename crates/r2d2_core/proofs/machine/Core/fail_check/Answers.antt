@@ -22,8 +22,8 @@ returns-in-Some g c =
     record {
       answer = search rules;
       after = search rules;
-      sound = sound_as (after_check (as_nanos c.args.now) c.args.id c.args.text c.args.self.now) (grind (arith, common_steps))
-          (sound_check (as_nanos c.args.now) c.args.id c.args.text s);
+      sound = sound_as (after_check (as_nanos c.args.now) c.args.id c.args.text c.args.self.now)
+          (grind (arith, common_steps)) (sound_check (as_nanos c.args.now) c.args.id c.args.text s);
     }
 
 pub remove-requires : goal.remove-requires

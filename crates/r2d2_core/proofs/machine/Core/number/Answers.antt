@@ -17,5 +17,6 @@ returns g c =
     record {
       answer = search rules;
       after = search rules;
-      sound = sound_as (after_number c.args.tries c.args.self.now) (grind (arith, common_steps)) (sound_number c.args.tries s);
+      sound = sound_as (after_number c.args.tries c.args.self.now)
+          (grind (arith, common_steps)) (sound_number c.args.tries s);
     }

@@ -28,8 +28,8 @@ returns-then-is_closed g c =
     record {
       answer = search rules;
       after = search rules;
-      sound = sound_as (after_return (as_nanos c.args.now) c.args.id c.args.value c.args.broken c.args.self.now) (grind (arith, common_steps))
-          (sound_return (as_nanos c.args.now) c.args.id c.args.value c.args.broken s);
+      sound = sound_as (after_return (as_nanos c.args.now) c.args.id c.args.value c.args.broken c.args.self.now)
+          (grind (arith, common_steps)) (sound_return (as_nanos c.args.now) c.args.id c.args.value c.args.broken s);
     }
 
 pub returns-else-is_closed : goal.returns-else-is_closed
@@ -38,8 +38,8 @@ returns-else-is_closed g c =
     record {
       answer = search rules;
       after = grind (arith, common_steps);
-      sound = sound_as (after_return (as_nanos c.args.now) c.args.id c.args.value c.args.broken c.args.self.now) (grind (arith, common_steps))
-          (sound_return (as_nanos c.args.now) c.args.id c.args.value c.args.broken s);
+      sound = sound_as (after_return (as_nanos c.args.now) c.args.id c.args.value c.args.broken c.args.self.now)
+          (grind (arith, common_steps)) (sound_return (as_nanos c.args.now) c.args.id c.args.value c.args.broken s);
     }
 
 pub remove-requires : goal.remove-requires

@@ -19,5 +19,6 @@ returns-clause-step g c =
       released = search rules;
       answer = search rules;
       after = search rules;
-      sound = sound_as (after_reap (as_nanos c.args.now) c.args.self.now) (grind (arith, common_steps)) (sound_reap (as_nanos c.args.now) s);
+      sound = sound_as (after_reap (as_nanos c.args.now) c.args.self.now)
+          (grind (arith, common_steps)) (sound_reap (as_nanos c.args.now) s);
     }

@@ -25,8 +25,8 @@ returns-in-Some g c =
     record {
       answer = grind (arith, common_steps);
       after = grind (arith, common_steps);
-      sound = sound_as (after_take (as_nanos c.args.now) c.args.or_order c.args.self.now) (grind (arith, common_steps))
-          (sound_take (as_nanos c.args.now) c.args.or_order s);
+      sound = sound_as (after_take (as_nanos c.args.now) c.args.or_order c.args.self.now)
+          (grind (arith, common_steps)) (sound_take (as_nanos c.args.now) c.args.or_order s);
     }
 
 pub returns-in-None : goal.returns-in-None
@@ -35,6 +35,6 @@ returns-in-None g c =
     record {
       answer = grind (arith, common_steps);
       after = grind (arith, common_steps);
-      sound = sound_as (after_take (as_nanos c.args.now) c.args.or_order c.args.self.now) (grind (arith, common_steps))
-          (sound_take (as_nanos c.args.now) c.args.or_order s);
+      sound = sound_as (after_take (as_nanos c.args.now) c.args.or_order c.args.self.now)
+          (grind (arith, common_steps)) (sound_take (as_nanos c.args.now) c.args.or_order s);
     }
