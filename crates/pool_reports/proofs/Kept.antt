@@ -8,7 +8,8 @@ use Rattle.r2d2_core.specs.Connections.{id_of_idle, id_of_lent}
 use Rattle.r2d2_core.specs.Records.{SeenRecord}
 use Rattle.r2d2_core.specs.Bases.{SeenBase, IsLegalBase}
 use Rattle.r2d2_core.specs.Folding.{replay, folded, AreLegalFrom}
-use Rattle.r2d2_core.specs.Reports.{seen_base, seen_records, told_in, DoesReplay, HasSoundCounts, IsSoundReport}
+use Rattle.r2d2_core.specs.Reports.{seen_base, seen_records, told_in, DoesReplay, HasSoundCounts}
+use Rattle.r2d2_core.specs.Reports.{IsSoundReport}
 use Rattle.r2d2_core.proofs.Recording.Folding.{folds_first}
 use Rattle.r2d2_core.proofs.Recording.Auditing.{legal_before}
 use Rattle.pool_reports.specs.declared.verdict.Verdict.{Verdict}

@@ -2,7 +2,8 @@
 use Rattle.std.specs.Prelude.{◌≡◌, ◌≢◌, ℕ}
 use Rattle.r2d2_core.specs.declared.journal.report.Report.{Report}
 use Rattle.r2d2_core.specs.Records.{takes_in}
-use Rattle.r2d2_core.specs.Reports.{seen_records, DoesReplay, CountsItsTakes, BeginsAtAMaking, HasSoundCounts, IsSoundReport}
+use Rattle.r2d2_core.specs.Reports.{seen_records, DoesReplay, CountsItsTakes, BeginsAtAMaking}
+use Rattle.r2d2_core.specs.Reports.{HasSoundCounts, IsSoundReport}
 use Rattle.r2d2_core.specs.Faults.{HasWrongBase, IsFirstWrong, ComesToOther}
 use Rattle.pool_reports.specs.declared.verdict.Verdict.{Verdict}
 use Rattle.pool_reports.specs.declared.verdict.Verdict.TheVariants as verdict
