@@ -48,7 +48,7 @@ module _ {T : Type 0} where
   refused_with (step.Fail now tries text) why = Failed (Err why)
   refused_with (step.FailCheck now id text) why = CheckFailed (Err why)
   refused_with (step.PutBack now id value broken) why = CameBack (Err (why, value))
-  -- no other step is refused, so this never comes
+  -- no other step is ever refused (`refusal_of`): this answer stands here because a function has one for each step, and is never given
   refused_with _ why = Told None
 
   -- THE LAST ERROR
@@ -109,9 +109,12 @@ module _ {T : Type 0} where
   orders_by h after s (Reaped closed n) = top_up_after h after
   orders_by h after s _ = 0
 
-  -- how many openings a step orders; neither what is idle nor the connections depend on the number that an answer names
+  -- how many openings a step orders. It is read off the history with the step, answered as if it ordered none: what is idle and connected
+  -- after a step does not depend on the number that its answer names
   unfoldable pub orders_of : History T → Step T → ℕ
-  orders_of h s = if is_closed h then 0 else orders_by h (Then h s (reply_with h 0 s)) s (reply_with h 0 s)
+  orders_of h s =
+      let r = reply_with h 0 s in
+      if is_closed h then 0 else orders_by h (Then h s r) s r
 
   -- A STEP
 

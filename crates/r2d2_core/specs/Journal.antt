@@ -5,16 +5,19 @@ use Rattle.r2d2_core.specs.Records.{SeenRecord, is_take, takes_in}
 use Rattle.r2d2_core.specs.Bases.{SeenBase, first_base}
 use Rattle.r2d2_core.specs.Folding.{folded}
 
--- the limits of the pool; the moment of the making; what stood before the oldest record; the newest records, the oldest of them first; how many there is room
--- for; how
--- many were folded into the base; and how many takes were noted
 pub record SeenJournal : Type 0 where
   pub limits : SeenLimits
+  -- the moment of the making
   pub made : ℕ
+  -- what stood before the oldest record
   pub base : SeenBase
+  -- the newest records, the oldest of them first
   pub records : List SeenRecord
+  -- how many of them there is room for
   pub room : ℕ
+  -- how many were folded into the base
   pub lost : ℕ
+  -- how many takes were noted
   pub takes : ℕ
 
 -- one more; a count stops at the greatest number of 64 bits
