@@ -5,6 +5,7 @@ use Rattle.std.specs.declared.time.Duration.{Duration}
 use Rattle.std.specs.List.{All}
 use Rattle.std.specs.List.Sorted.{IsNonDecreasingBy}
 use Rattle.r2d2_core.specs.Limits.{SeenLimits, wanted_of}
+use Rattle.r2d2_core.specs.Sums.{FitsIn}
 use Rattle.r2d2_core.specs.Ids.{copies_of}
 use Rattle.r2d2_core.specs.Connections.{SeenIdleConnection, SeenLentConnection, idle_connection, lent_connection, id_of_idle, id_of_lent, since_of}
 
@@ -49,7 +50,7 @@ pub record IsLegalBase (limits : SeenLimits) (b : SeenBase) : Type 0 where
   pub apart : (i : ℕ) → copies_of i (ids_of b) ≤ 1
   -- connections are the idle ones and the lent ones; with the pending ones they are at most `max_size`
   pub counted : b.connections ≡ length b.idle + length b.lent
-  pub fits : b.connections + b.pending ≤ limits.max_size
+  pub fits : FitsIn limits.max_size b.connections b.pending
   -- the idle ones stand in the order in which they came to be idle, none after its moment
   pub is_sorted : IsNonDecreasingBy since_of b.idle
   pub seen : All (λ c. c.since ≤ b.at) b.idle

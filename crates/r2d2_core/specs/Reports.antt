@@ -1,9 +1,10 @@
 -- What a report says.
-use Rattle.std.specs.Prelude.{◌≡◌, ◌⊎◌, ◌+◌, ◌≤◌, false, List, length, map}
+use Rattle.std.specs.Prelude.{◌≡◌, ◌+◌, List, length, map}
 use Rattle.std.specs.Duration.{as_nanos}
 use Rattle.r2d2_core.specs.declared.journal.base.Base.{Base}
 use Rattle.r2d2_core.specs.declared.journal.report.Report.{Report}
 use Rattle.r2d2_core.specs.Limits.{seen_limits, wanted_of}
+use Rattle.r2d2_core.specs.Sums.{FitsIn, IsReplenished}
 use Rattle.r2d2_core.specs.Records.{SeenRecord, seen_record, takes_in}
 use Rattle.r2d2_core.specs.Connections.{id_of_idle, id_of_lent}
 use Rattle.r2d2_core.specs.Bases.{SeenBase, base_of, seen_bare, seen_lent, IsLegalBase, first_base}
@@ -44,8 +45,9 @@ module _ {B : Type 0} where
   -- what keeps of the counts of each report of a book
   pub record HasSoundCounts (r : Report B) : Type 0 where
     pub counted : r.connections ≡ length r.idle.items + length r.lent.items
-    pub fits : r.connections + r.pending ≤ r.limits.max_size
-    pub replenished : r.closed ≡ false → (wanted_of (seen_limits r.limits) ≤ length r.idle.items + r.pending) ⊎ (r.connections + r.pending ≡ r.limits.max_size)
+    pub fits : FitsIn r.limits.max_size r.connections r.pending
+    pub replenished : IsReplenished (wanted_of (seen_limits r.limits)) r.limits.max_size
+        (length r.idle.items) r.connections r.pending r.closed
 
 module _ {T B : Type 0} where
   -- it says what the book shows
