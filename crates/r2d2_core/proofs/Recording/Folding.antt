@@ -17,7 +17,7 @@ use Rattle.r2d2_core.specs.Lending.{lent_next, still_idle}
 use Rattle.r2d2_core.specs.Connections.{SeenLentConnection, idle_connection, lent_connection, birth_in, id_of_idle, id_of_lent, since_of, is_expired, is_kept}
 use Rattle.r2d2_core.specs.Records.{SeenRecord, Taken, Ordered, Admitted, Kept, Closed, Reaped, ClosedAll}
 use Rattle.r2d2_core.specs.Bases.{SeenBase, BareConnection, ids_of, IsLegalBase}
-use Rattle.r2d2_core.specs.Folding.{moment_in, birth_of_idle, birth_of_lent, idle_after_reap, expired_in, folded, replay, is_next, fits, may_follow, all_follow}
+use Rattle.r2d2_core.specs.Folding.{moment_in, birth_of_idle, birth_of_lent, expired_in, up_to, folded, replay, is_next, fits, may_follow, all_follow}
 use Rattle.r2d2_core.specs.Folding.{admitted_by, admitted_in, known_in, AreLegalFrom}
 use Rattle.r2d2_core.proofs.Lists.Filters.{copies_of-filter}
 use Rattle.r2d2_core.proofs.Lists.Ids.{copies_of-append, copies_of-push, copies_of-without, length-without, All-without, All-found, All-push, All-weaker}
@@ -147,7 +147,7 @@ ids_folded limits (Reaped at n) b apart fit i =
     omega (
       arith,
       copies_of-append i (map id_of_idle b.idle) (map id_of_lent b.lent),
-      copies_of-append i (map id_of_idle (idle_after_reap limits at b)) (map id_of_lent b.lent),
+      copies_of-append i (map id_of_idle (filter (is_kept limits at) b.idle)) (map id_of_lent b.lent),
       copies_of-filter (is_kept limits at) id_of_idle i b.idle,
     )
 ids_folded limits (ClosedAll at) b apart fit i = omega (arith, copies_of-append i (map id_of_idle b.idle) (map id_of_lent b.lent))
@@ -174,14 +174,14 @@ module _ (limits : SeenLimits) (b : SeenBase) (legal : IsLegalBase limits b) whe
       let f = split _ _ fit in
       let s = stands_next limits id b (idle_apart b legal.apart) f.0 in
       let l = lent_connection id (birth_of_idle id b.idle) in
-      let is : n ≡ top_up limits b.closed (length b.idle - 1) b.connections b.pending = eqb-true n _ f.1 in
+      let is : n ≡ top_up limits b.closed (length (without id_of_idle id b.idle)) b.connections b.pending = eqb-true n _ f.1 in
       let since : s.c.since ≤ b.at = All-found (λ c. c.since ≤ b.at) id_of_idle id b.idle s.c legal.seen s.there in
       let birth : s.c.birth ≤ s.c.since = All-found (λ c. c.birth ≤ c.since) id_of_idle id b.idle s.c legal.born s.there in
       let born : birth_of_idle id b.idle ≡ s.c.birth = ap (λ o. unwrap_or (option_map (λ (c : BareConnection). c.birth) o) 0) s.there in
       record {
         apart = apart;
         counted = omega (arith, legal.counted, length-without id_of_idle id b.idle s.c s.there, length_push b.lent l);
-        fits = ordered_fits b.closed n (wanted_of limits) limits.max_size (length b.idle - 1) b.connections b.pending legal.fits is;
+        fits = ordered_fits b.closed n (wanted_of limits) limits.max_size (length (without id_of_idle id b.idle)) b.connections b.pending legal.fits is;
         is_sorted = subst (IsNonDecreasingBy since_of) (sym s.others) (IsNonDecreasingBy-still_idle since_of limits.order b.idle legal.is_sorted);
         seen = All-without (λ c. c.since ≤ at) id_of_idle id b.idle (seen_at at later);
         born = All-without (λ c. c.birth ≤ c.since) id_of_idle id b.idle legal.born;
@@ -270,12 +270,12 @@ module _ (limits : SeenLimits) (b : SeenBase) (legal : IsLegalBase limits b) whe
   unfolding is_kept is_expired
   legal_reaped at n later fit apart =
       let f = split _ _ fit in
-      let is : n ≡ top_up limits b.closed (length (idle_after_reap limits at b)) (b.connections - expired_in limits at b) b.pending = eqb-true n _ f.0 in
+      let is : n ≡ top_up limits b.closed (length (filter (is_kept limits at) b.idle)) (b.connections - expired_in limits (up_to at b)) b.pending = eqb-true n _ f.0 in
       record {
         apart = apart;
         counted = omega (arith, legal.counted, length-filter_both (is_expired limits at) (is_kept limits at) (λ c. refl) b.idle);
-        fits = ordered_fits b.closed n (wanted_of limits) limits.max_size (length (idle_after_reap limits at b))
-            (b.connections - expired_in limits at b) b.pending (omega (arith, legal.fits)) is;
+        fits = ordered_fits b.closed n (wanted_of limits) limits.max_size (length (filter (is_kept limits at) b.idle))
+            (b.connections - expired_in limits (up_to at b)) b.pending (omega (arith, legal.fits)) is;
         is_sorted = IsNonDecreasingBy-filter since_of (is_kept limits at) b.idle legal.is_sorted;
         seen = All-filter (is_kept limits at) (λ c. c.since ≤ at) b.idle (seen_at at later);
         born = All-filter (is_kept limits at) (λ c. c.birth ≤ c.since) b.idle legal.born;

@@ -10,9 +10,9 @@ use Rattle.r2d2_core.specs.Lending.{lent_next, still_idle}
 use Rattle.r2d2_core.specs.Connections.{SeenLentConnection, lent_connection, id_of_idle, is_expired, is_kept}
 use Rattle.r2d2_core.specs.Bases.{BareConnection, base_of}
 use Rattle.r2d2_core.specs.Book.{bare}
-use Rattle.r2d2_core.specs.Folding.{birth_of_idle}
+use Rattle.r2d2_core.specs.Folding.{birth_of_idle, lent_out, swept_of}
 use Rattle.r2d2_core.specs.declared.journal.running_base.Rooms.{Rooms}
-use Rattle.r2d2_core.specs.RunningBase.{running_base, rooms, lent_out, swept_of}
+use Rattle.r2d2_core.specs.RunningBase.{running_base, rooms}
 use Rattle.r2d2_core.proofs.Lists.Lending.{found-next, without-next, length-still_idle}
 
 pub same_base : (at pending : ℕ) (closed : Bool) (i i' : List BareConnection) (l l' : List SeenLentConnection) (n n' : ℕ) → i ≡ i' → l ≡ l' → n ≡ n'

@@ -21,7 +21,7 @@ use Rattle.r2d2_core.specs.Journal.{added}
 use Rattle.r2d2_core.specs.Book.{bare}
 use Rattle.r2d2_core.specs.BookParts.{KeepReplaying}
 use Rattle.r2d2_core.proofs.Lists.Ids.{copies_of-without, length-without}
-use Rattle.r2d2_core.proofs.Lists.Lending.{none_is_next, next-map, still_idle-map, length-still_idle, found-next, without-next}
+use Rattle.r2d2_core.proofs.Lists.Lending.{none_is_next, next-map, still_idle-map, found-next, without-next}
 use Rattle.r2d2_core.proofs.Recording.Folding.{both}
 use Rattle.r2d2_core.proofs.Recording.Replaying.{lt_is, idle_apart, Says, with_one_more, with_none_more}
 
@@ -53,14 +53,16 @@ module _ {T : Type 0} where
       let apart = idle_apart p sound in
       let there : found id_of_idle c.id idle ≡ Some (bare c) = found-next id_of_idle o idle (bare c) next apart in
       let born : birth_of_idle c.id idle ≡ c.birth = ap (λ o. unwrap_or (option_map (λ (c : BareConnection). c.birth) o) 0) there in
-      let less : length idle - 1 ≡ length (still_idle o p.idle) = omega (arith, length-map p.idle bare, length-still_idle o p.idle c e) in
+      let others : without id_of_idle c.id idle ≡ map bare (still_idle o p.idle) = without-next id_of_idle o idle (bare c) next apart
+      ∙ still_idle-map bare o p.idle c e in
+      let left : length (without id_of_idle c.id idle) ≡ length (still_idle o p.idle) = ap length others ∙ length-map (still_idle o p.idle) bare in
       record {
         fit = both _ _
             (ap (λ o. unwrap_or (option_map (λ (x : BareConnection). x.id == c.id) o) false) next ∙ eq-eqb c.id c.id refl)
-            (orders_alike p.on_order.closed (length idle - 1) (length (still_idle o p.idle)) (wanted_of p.on_order.limits)
-            (room_beside p.connections p.on_order) less);
+            (orders_alike p.on_order.closed (length (without id_of_idle c.id idle)) (length (still_idle o p.idle)) (wanted_of p.on_order.limits)
+            (room_beside p.connections p.on_order) left);
         comes = record {
-          idle = without-next id_of_idle o idle (bare c) next apart ∙ still_idle-map bare o p.idle c e;
+          idle = others;
           lent = ap (λ b. p.lent ++ lent_connection c.id b ∷ []) born;
           connections = refl;
           pending = refl;
