@@ -1,5 +1,5 @@
 -- Which connections are idle and lent: each accepted step did something to ids, and the latest deed of an id says where its connection is.
-use Rattle.std.specs.Prelude.{ℕ, ◌+◌, ◌-◌, Bool, true, false, ◌==◌, if◌then◌else◌, List, [], ◌∷◌, ◌++◌, map, length, filter_map, Option, Some, None, option_map}
+use Rattle.std.specs.Prelude.{ℕ, ◌-◌, Bool, true, false, ◌==◌, if◌then◌else◌, List, [], ◌∷◌, ◌++◌, map, filter_map, count_by, Option, Some, None, option_map}
 use Rattle.std.specs.Prelude.{Ok}
 use Rattle.r2d2_core.specs.declared.run.Step.{Step}
 use Rattle.r2d2_core.specs.declared.run.Step.TheVariants as step
@@ -85,23 +85,21 @@ module _ {T : Type 0} where
 
   -- HOW MANY
 
+  abbrev pub has_come : What T → Bool
+  has_come (Admission value) = true
+  has_come _ = false
+
+  abbrev pub is_gone : What T → Bool
+  is_gone Going = true
+  is_gone _ = false
+
   -- how many ids were admitted
   abbrev pub admitted_count : History T → ℕ
-  admitted_count (Made limits moment first) = 0
-  admitted_count (Then h (step.Admit now id value) r) = admitted_count h + 1
-  admitted_count (Then h _ r) = admitted_count h
-
-  abbrev pub gone_count_after : ℕ → SeenAnswer T → ℕ
-  gone_count_after n (CheckFailed (Ok gone)) = n + 1
-  gone_count_after n (CameBack (Ok (Closed value age ordered))) = n + 1
-  gone_count_after n (Reaped closed ordered) = n + length closed
-  gone_count_after n (Left left) = n + length left
-  gone_count_after n _ = n
+  admitted_count h = count_by (λ d. has_come d.what) (deeds_of h)
 
   -- how many are gone
   abbrev pub gone_count : History T → ℕ
-  gone_count (Made limits moment first) = 0
-  gone_count (Then h s r) = gone_count_after (gone_count h) r
+  gone_count h = count_by (λ d. is_gone d.what) (deeds_of h)
 
   -- how many ids were admitted, less how many are gone; never more are gone than were admitted
   unfoldable pub connections_of : History T → ℕ

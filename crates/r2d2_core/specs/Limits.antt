@@ -16,6 +16,17 @@ pub record SeenLimits : Type 0 where
   pub reap_every : Duration
   pub order : LendingOrder
 
+abbrev pub seen_limits : Limits → SeenLimits
+seen_limits l = record {
+  max_size = l.max_size;
+  min_idle = l.min_idle;
+  max_lifetime = l.max_lifetime;
+  idle_timeout = l.idle_timeout;
+  connection_timeout = l.connection_timeout;
+  reap_every = l.reap_every;
+  order = l.order;
+}
+
 -- limits that lend the newest first
 abbrev pub settings : ℕ → Option ℕ → Option Duration → Option Duration → Duration → Duration → SeenLimits
 settings size least life idle timeout every = record {
@@ -31,9 +42,6 @@ settings size least life idle timeout every = record {
 -- the same limits, lending in that order
 abbrev pub with_order : LendingOrder → SeenLimits → SeenLimits
 with_order order limits = record limits { order = order }
-
-abbrev pub seen_limits : Limits → SeenLimits
-seen_limits l = record (settings l.max_size l.min_idle l.max_lifetime l.idle_timeout l.connection_timeout l.reap_every) { order = l.order }
 
 -- sizes and lengths are positive, and no more are wanted idle than there may be
 pub record AreLegal (limits : SeenLimits) : Type 0 where

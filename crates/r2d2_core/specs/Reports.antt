@@ -28,11 +28,11 @@ module _ {B : Type 0} where
   pub record DoesReplay (r : Report B) : Type 0 where
     pub base : IsLegalBase (seen_limits r.limits) (seen_base r.base)
     pub legal : AreLegalFrom (seen_limits r.limits) (seen_base r.base) (seen_records r)
-    pub idle : map id_of_idle (let b = told_in r in b.idle) ≡ r.idle.items
-    pub lent : map id_of_lent (let b = told_in r in b.lent) ≡ r.lent.items
-    pub connections : (let b = told_in r in b.connections) ≡ r.connections
-    pub pending : (let b = told_in r in b.pending) ≡ r.pending
-    pub closed : (let b = told_in r in b.closed) ≡ r.closed
+    pub idle : map id_of_idle (told_in r).idle ≡ r.idle.items
+    pub lent : map id_of_lent (told_in r).lent ≡ r.lent.items
+    pub connections : (told_in r).connections ≡ r.connections
+    pub pending : (told_in r).pending ≡ r.pending
+    pub closed : (told_in r).closed ≡ r.closed
 
   -- its takes are those that its records tell of, where none was folded into the base
   abbrev pub CountsItsTakes : Report B → Type 0

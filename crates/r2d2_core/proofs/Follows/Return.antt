@@ -17,6 +17,7 @@ use Rattle.r2d2_core.specs.Deeds.{Going, Keeping, birth_of, idle_of, connections
 use Rattle.r2d2_core.specs.Pending.{on_order_of}
 use Rattle.r2d2_core.specs.Answers.{refusal_of, is_lent, closes, return_with, reply_with, orders_of, orders_by, top_up_after, picture_of}
 use Rattle.r2d2_core.proofs.Histories.Kept.{IsKept, Follows}
+use Rattle.r2d2_core.proofs.Histories.Counts.{come_in, step_deeds, more_gone, none_admitted, none_gone, connections_of-same, connections_of-less}
 use Rattle.r2d2_core.proofs.Facts.Accounted.{passes, not_false}
 use Rattle.r2d2_core.proofs.Histories.GoingOnes.{apart_in}
 use Rattle.r2d2_core.proofs.Histories.LentOnes.{lent_birth-is, lent_refusal-is, lent_of-back, idle_of-lost, idle_of-kept, lent_is_connected}
@@ -43,13 +44,11 @@ module _ {T : Type 0} where
 
   connections_of-gone : (h : History T) (now : Duration) (id : ℕ) (value : T) (broken : Bool) (n : ℕ)
       → connections_of (then_back h now id value broken n true) ≡ connections_of h - 1
-  unfolding connections_of
-  connections_of-gone h now id value broken n = omega arith
+  connections_of-gone h now id value broken n = connections_of-less h (step.PutBack now id value broken) (back_reply h (as_nanos now) id value n true) 1 refl refl
 
   connections_of-kept : (h : History T) (now : Duration) (id : ℕ) (value : T) (broken : Bool) (n : ℕ)
       → connections_of (then_back h now id value broken n false) ≡ connections_of h
-  unfolding connections_of
-  connections_of-kept h now id value broken n = refl
+  connections_of-kept h now id value broken n = connections_of-same h (step.PutBack now id value broken) (back_reply h (as_nanos now) id value n false) refl refl
 
   -- what it orders: a top-up where one is closed, and else nothing
   abbrev back_orders : History T → Bool → ℕ
@@ -73,6 +72,11 @@ module _ {T : Type 0} where
   orders_of-return h now id value broken false e lent sound = orders_of-kept h (step.PutBack now id value broken)
       (ap (back_reply h (as_nanos now) id value 0) e)
 
+  none_come : (h : History T) (now : Duration) (id : ℕ) (value : T) (broken : Bool) (n : ℕ) (b : Bool)
+      → come_in (step_deeds h (step.PutBack now id value broken) (back_reply h (as_nanos now) id value n b)) ≡ 0
+  none_come h now id value broken n true = refl
+  none_come h now id value broken n false = refl
+
   ordering_return : (h : History T) (now : Duration) (id : ℕ) (value : T) (broken : Bool) (n : ℕ) (b : Bool)
       → IsOrdering h (step.PutBack now id value broken) (back_reply h (as_nanos now) id value n b)
   ordering_return h now id value broken n b = record {
@@ -82,7 +86,7 @@ module _ {T : Type 0} where
     ended = λ k. refl;
     ids = refl;
     admitted = λ i. refl;
-    count = refl;
+    count = none_admitted h (step.PutBack now id value broken) (back_reply h (as_nanos now) id value n b) (none_come h now id value broken n b);
     reaps = refl;
   }
 
@@ -109,8 +113,18 @@ module _ {T : Type 0} where
 
   gone_of-return : (h : History T) (now : Duration) (id : ℕ) (value : T) (broken : Bool) (n : ℕ) (b : Bool) → is_lent h id ≡ true → IsKept h
       → gone_count (then_back h now id value broken n b) ≤ admitted_count h
-  gone_of-return h now id value broken n true lent kept = lent_is_connected h id lent kept.sound
-  gone_of-return h now id value broken n false lent kept = kept.gone_were_admitted
+  gone_of-return h now id value broken n true lent kept =
+      omega (
+        arith,
+        lent_is_connected h id lent kept.sound,
+        more_gone h (step.PutBack now id value broken) (back_reply h (as_nanos now) id value n true) 1 refl,
+      )
+  gone_of-return h now id value broken n false lent kept =
+      omega (
+        arith,
+        kept.gone_were_admitted,
+        none_gone h (step.PutBack now id value broken) (back_reply h (as_nanos now) id value n false) refl,
+      )
 
   -- the answer of the table, where it orders as many
   return_by-is : (h : History T) (now : Duration) (id : ℕ) (value : T) (n : ℕ) (b : Bool) → n ≡ back_orders h b

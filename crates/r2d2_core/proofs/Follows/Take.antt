@@ -14,6 +14,7 @@ use Rattle.r2d2_core.specs.Deeds.{idle_of, connections_of, gone_count}
 use Rattle.r2d2_core.specs.Pending.{on_order_of}
 use Rattle.r2d2_core.specs.Answers.{orders_of, orders_by, picture_of}
 use Rattle.r2d2_core.proofs.Histories.Kept.{IsKept, Follows}
+use Rattle.r2d2_core.proofs.Histories.Counts.{come_in, gone_in, step_deeds, none_admitted, none_gone, connections_of-same}
 use Rattle.r2d2_core.proofs.Histories.Deeds.{idle_of-none, lent_of-none}
 use Rattle.r2d2_core.proofs.Histories.GoingOnes.{apart_in}
 use Rattle.r2d2_core.proofs.Histories.Comings.{idle_of-found, lent_of-found}
@@ -22,11 +23,21 @@ use Rattle.r2d2_core.proofs.Histories.Following.{follows_accepted}
 use Rattle.r2d2_core.proofs.Facts.Sounds.{sound_take}
 
 module _ {T : Type 0} where
+  -- none come by a take, and none go
+  none_come : (h : History T) (now : Duration) (or_order : Bool) (m : Option (SeenIdleConnection T)) (n : ℕ)
+      → come_in (step_deeds h (step.Take now or_order) (Taken (take_with m n))) ≡ 0
+  none_come h now or_order None n = refl
+  none_come h now or_order (Some c) n = refl
+
+  none_go : (h : History T) (now : Duration) (or_order : Bool) (m : Option (SeenIdleConnection T)) (n : ℕ)
+      → gone_in (step_deeds h (step.Take now or_order) (Taken (take_with m n))) ≡ 0
+  none_go h now or_order None n = refl
+  none_go h now or_order (Some c) n = refl
+
   connections_of-take : (h : History T) (now : Duration) (or_order : Bool) (m : Option (SeenIdleConnection T)) (n : ℕ)
       → connections_of (Then h (step.Take now or_order) (Taken (take_with m n))) ≡ connections_of h
-  unfolding connections_of
-  connections_of-take h now or_order None n = refl
-  connections_of-take h now or_order (Some c) n = refl
+  connections_of-take h now or_order m n = connections_of-same h (step.Take now or_order) (Taken (take_with m n)) (none_come h now or_order m n)
+      (none_go h now or_order m n)
 
   -- what a take orders
   orders_of-take : (h : History T) (now : Duration) (or_order : Bool) (m : Option (SeenIdleConnection T)) → lent_next (limits_of h).order (idle_of h) ≡ m
@@ -52,7 +63,7 @@ module _ {T : Type 0} where
     ended = λ k. refl;
     ids = refl;
     admitted = λ i. refl;
-    count = refl;
+    count = none_admitted h (step.Take now or_order) (Taken (take_with m n)) (none_come h now or_order m n);
     reaps = refl;
   }
 
@@ -80,8 +91,7 @@ module _ {T : Type 0} where
 
   gone_of-take : (h : History T) (now : Duration) (or_order : Bool) (m : Option (SeenIdleConnection T)) (n : ℕ)
       → gone_count (Then h (step.Take now or_order) (Taken (take_with m n))) ≡ gone_count h
-  gone_of-take h now or_order None n = refl
-  gone_of-take h now or_order (Some c) n = refl
+  gone_of-take h now or_order m n = none_gone h (step.Take now or_order) (Taken (take_with m n)) (none_go h now or_order m n)
 
   pub follows_take : (h : History T) (now : Duration) (or_order : Bool) → IsKept h
       → Follows h (step.Take now or_order) (Taken (take_answer or_order (picture_of h))) (after_take (as_nanos now) or_order (picture_of h))

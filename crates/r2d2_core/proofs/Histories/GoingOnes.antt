@@ -1,5 +1,5 @@
 -- Many connections that go in one step: what stays idle, and what stays lent.
-use Rattle.std.proofs.Common.{◌≡◌, ℕ, ◌+◌, ◌-◌, Bool, false, not, ◌==◌, List, [], ◌∷◌, ◌++◌, map, length, refl, ◌∙◌, ap, arith}
+use Rattle.std.proofs.Common.{◌≡◌, ℕ, ◌+◌, Bool, false, not, ◌==◌, List, [], ◌∷◌, ◌++◌, map, length, refl, ◌∙◌, ap, arith}
 use Rattle.std.specs.Prelude.{filter, filter_map}
 use Rattle.std.specs.List.{list_any}
 use Rattle.std.proofs.lemmas.List.{append-nil}
@@ -19,11 +19,6 @@ use Rattle.r2d2_core.proofs.Histories.Deeds.{AreApart, idle_of-then, lent_of-the
 use Rattle.r2d2_core.proofs.Lists.Filters.{copies_of-filter, filter-outside, filter-apart}
 use Rattle.r2d2_core.proofs.Lists.Ids.{copies_of-append3}
 use Rattle.r2d2_core.proofs.Facts.Latest.{is_other, any_id, none_left}
-
--- HOW MANY GO
-
-pub less_gone : (admitted gone n m : ℕ) → n ≡ m → admitted - (gone + n) ≡ admitted - gone - m
-less_gone admitted gone n m e = omega (arith, e)
 
 -- DEEDS BY WHICH MANY GO
 
