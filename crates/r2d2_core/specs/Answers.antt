@@ -7,11 +7,11 @@ use Rattle.r2d2_core.specs.declared.run.Step.TheVariants as step
 use Rattle.r2d2_core.specs.declared.machine.answers.Refusal.{Refusal}
 use Rattle.r2d2_core.specs.declared.machine.answers.Refusal.TheVariants as refusal
 use Rattle.r2d2_core.specs.Limits.{top_up, later_by, delay_of, has_reached}
-use Rattle.r2d2_core.specs.Lending.{lent_next}
+use Rattle.r2d2_core.specs.Lending.{next_to_lend}
 use Rattle.r2d2_core.specs.Connections.{closed_of, pair_of}
 use Rattle.r2d2_core.specs.Refusals.{refused_if}
-use Rattle.r2d2_core.specs.Seen.{SeenAnswer, Taken, Found, Empty, Begun, Numbered, Admitted, Failed, CheckFailed, CameBack, SeenReturned, Kept, Closed, Reaped}
-use Rattle.r2d2_core.specs.Seen.{Told, Left}
+use Rattle.r2d2_core.specs.Seen.{SeenAnswer, Taken, Found, Empty, Begun, Numbered, Admitted, Failed, CheckFailed, PutBack, SeenReturned, Kept, Closed, Reaped}
+use Rattle.r2d2_core.specs.Seen.{TakeError, Close}
 use Rattle.r2d2_core.specs.Picture.{Picture}
 use Rattle.r2d2_core.specs.Seen.{take_with}
 use Rattle.r2d2_core.specs.Seen.{or_text}
@@ -47,9 +47,9 @@ module _ {T : Type 0} where
   refused_with (step.Admit now id value) why = Admitted (Err (why, value))
   refused_with (step.Fail now tries text) why = Failed (Err why)
   refused_with (step.FailCheck now id text) why = CheckFailed (Err why)
-  refused_with (step.PutBack now id value broken) why = CameBack (Err (why, value))
+  refused_with (step.PutBack now id value broken) why = PutBack (Err (why, value))
   -- no other step is ever refused (`refusal_of`): this answer stands here because a function has one for each step, and is never given
-  refused_with _ why = Told None
+  refused_with _ why = TakeError None
 
   -- THE LAST ERROR
 
@@ -77,7 +77,7 @@ module _ {T : Type 0} where
 
   -- the answer to a step that is accepted, were it to order n openings
   abbrev pub reply_with : History T → ℕ → Step T → SeenAnswer T
-  reply_with h n (step.Take now or_order) = Taken (take_with (lent_next (limits_of h).order (idle_of h)) n)
+  reply_with h n (step.Take now or_order) = Taken (take_with (next_to_lend (limits_of h).order (idle_of h)) n)
   reply_with h n (step.Begin now) = Begun (job_of h (moment_of h (step.Begin now)))
   reply_with h n (step.Number tries) = Numbered (Ok (next_id_of h))
   reply_with h n (step.Admit now id value) = Admitted (Ok tt)
@@ -85,10 +85,10 @@ module _ {T : Type 0} where
   reply_with h n (step.FailCheck now id text) = CheckFailed (Ok (record { age = age_of h (moment_of h (step.FailCheck now id text)) id; ordered = n }))
   reply_with h n (step.PutBack now id value broken) =
       let t = moment_of h (step.PutBack now id value broken) in
-      CameBack (Ok (return_with (closes h t id broken) value (age_of h t id) n))
+      PutBack (Ok (return_with (closes h t id broken) value (age_of h t id) n))
   reply_with h n (step.Reap now) = Reaped (closed_of (limits_of h) (moment_of h (step.Reap now)) (idle_of h)) n
-  reply_with h n step.TakeError = Told (last_error_of h)
-  reply_with h n step.Close = Left (map pair_of (idle_of h))
+  reply_with h n step.TakeError = TakeError (last_error_of h)
+  reply_with h n step.Close = Close (map pair_of (idle_of h))
 
   -- ORDERS
 
@@ -105,7 +105,7 @@ module _ {T : Type 0} where
   orders_by h after s (Taken (Found id birth value n)) = top_up_after h after
   orders_by h after (step.Take now or_order) (Taken (Empty n)) = order_on_miss h or_order
   orders_by h after s (CheckFailed (Ok gone)) = top_up_after h after
-  orders_by h after s (CameBack (Ok (Closed value age n))) = top_up_after h after
+  orders_by h after s (PutBack (Ok (Closed value age n))) = top_up_after h after
   orders_by h after s (Reaped closed n) = top_up_after h after
   orders_by h after s _ = 0
 

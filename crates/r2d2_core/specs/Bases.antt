@@ -41,13 +41,13 @@ abbrev pub first_base : SeenLimits → ℕ → SeenBase
 first_base limits now = base_of now [] [] 0 (wanted_of limits) false
 
 -- the ids of all that is idle or lent in it
-abbrev pub ids_of : SeenBase → List ℕ
-ids_of b = map id_of_idle b.idle ++ map id_of_lent b.lent
+abbrev pub ids_in_base : SeenBase → List ℕ
+ids_in_base b = map id_of_idle b.idle ++ map id_of_lent b.lent
 
 -- what holds of each base of a pool with these limits
 pub record IsLegalBase (limits : SeenLimits) (b : SeenBase) : Type 0 where
   -- no id stands twice
-  pub apart : (i : ℕ) → copies_of i (ids_of b) ≤ 1
+  pub apart : (i : ℕ) → copies_of i (ids_in_base b) ≤ 1
   -- connections are the idle ones and the lent ones; with the pending ones they are at most `max_size`
   pub counted : b.connections ≡ length b.idle + length b.lent
   pub fits : FitsIn limits.max_size b.connections b.pending

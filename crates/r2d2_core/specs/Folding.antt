@@ -3,20 +3,20 @@ use Rattle.std.specs.Prelude.{◌≡◌, ℕ, ◌+◌, ◌-◌, ◌≤◌, Bool,
 use Rattle.std.specs.Prelude.{option_map, unwrap_or}
 use Rattle.r2d2_core.specs.Limits.{SeenLimits, top_up, has_reached}
 use Rattle.r2d2_core.specs.Ids.{found, without, copies_of}
-use Rattle.r2d2_core.specs.Lending.{lent_next}
+use Rattle.r2d2_core.specs.Lending.{next_to_lend}
 use Rattle.r2d2_core.specs.Connections.{SeenLentConnection, idle_connection, lent_connection, id_of_idle, id_of_lent, birth_in, is_expired, is_kept}
 use Rattle.r2d2_core.specs.Records.{SeenRecord, Taken, Ordered, Admitted, Kept, Closed, Reaped, ClosedAll}
-use Rattle.r2d2_core.specs.Bases.{SeenBase, BareConnection, ids_of}
+use Rattle.r2d2_core.specs.Bases.{SeenBase, BareConnection, ids_in_base}
 
 -- the moment of a record
-abbrev pub moment_in : SeenRecord → ℕ
-moment_in (Taken at id n) = at
-moment_in (Ordered at n) = at
-moment_in (Admitted at id) = at
-moment_in (Kept at id) = at
-moment_in (Closed at id n) = at
-moment_in (Reaped at n) = at
-moment_in (ClosedAll at) = at
+abbrev pub moment_of_record : SeenRecord → ℕ
+moment_of_record (Taken at id n) = at
+moment_of_record (Ordered at n) = at
+moment_of_record (Admitted at id) = at
+moment_of_record (Kept at id) = at
+moment_of_record (Closed at id n) = at
+moment_of_record (Reaped at n) = at
+moment_of_record (ClosedAll at) = at
 
 -- the birth of the idle one with the id, and of the lent one
 abbrev pub birth_of_idle : ℕ → List BareConnection → ℕ
@@ -40,8 +40,8 @@ abbrev pub with_more : ℕ → SeenBase → SeenBase
 with_more n b = record b { pending = b.pending + n }
 
 -- the idle one with the id is lent
-abbrev pub lent_out : ℕ → SeenBase → SeenBase
-lent_out id b = record b {
+abbrev pub lent_in : ℕ → SeenBase → SeenBase
+lent_in id b = record b {
   idle = without id_of_idle id b.idle;
   lent = b.lent ++ lent_connection id (birth_of_idle id b.idle) ∷ [];
 }
@@ -73,8 +73,8 @@ swept_of limits b = record b {
 }
 
 -- the idle ones are gone, and nothing is pending
-abbrev pub closed_in : SeenBase → SeenBase
-closed_in b = record b {
+abbrev pub closed_all_in : SeenBase → SeenBase
+closed_all_in b = record b {
   idle = [];
   connections = b.connections - length b.idle;
   pending = 0;
@@ -85,13 +85,13 @@ closed_in b = record b {
 
 -- the base with a record
 abbrev pub folded : SeenLimits → SeenRecord → SeenBase → SeenBase
-folded limits (Taken at id n) b = with_more n (lent_out id (up_to at b))
+folded limits (Taken at id n) b = with_more n (lent_in id (up_to at b))
 folded limits (Ordered at n) b = with_more n (up_to at b)
 folded limits (Admitted at id) b = admitted_to id (up_to at b)
 folded limits (Kept at id) b = kept_in id (up_to at b)
 folded limits (Closed at id n) b = with_more n (parted_from id (up_to at b))
 folded limits (Reaped at n) b = with_more n (swept_of limits (up_to at b))
-folded limits (ClosedAll at) b = closed_in (up_to at b)
+folded limits (ClosedAll at) b = closed_all_in (up_to at b)
 
 -- the base with all of them
 abbrev pub replay : SeenLimits → List SeenRecord → SeenBase → SeenBase
@@ -102,7 +102,7 @@ replay limits (r ∷ rs) b = replay limits rs (folded limits r b)
 
 -- whether an id is that of the idle one that is lent next
 abbrev pub is_next : SeenLimits → ℕ → SeenBase → Bool
-is_next limits id b = unwrap_or (option_map (λ c. c.id == id) (lent_next limits.order b.idle)) false
+is_next limits id b = unwrap_or (option_map (λ c. c.id == id) (next_to_lend limits.order b.idle)) false
 
 -- what a top-up of a base orders
 abbrev pub top_up_in : SeenLimits → SeenBase → ℕ
@@ -111,7 +111,7 @@ top_up_in limits b = top_up limits b.closed (length b.idle) b.connections b.pend
 -- whether a record fits a base, but for its moment. Where a top-up follows, it orders what that orders
 abbrev pub fits : SeenLimits → SeenRecord → SeenBase → Bool
 -- the one taken is the idle one that is next
-fits limits (Taken at id n) b = is_next limits id b && (n == top_up_in limits (lent_out id b))
+fits limits (Taken at id n) b = is_next limits id b && (n == top_up_in limits (lent_in id b))
 -- one is ordered alone, where none is idle and there is room
 fits limits (Ordered at n) b =
     (length b.idle == 0) && ((n == 1) && (not b.closed && nat_lt (b.connections + b.pending) limits.max_size))
@@ -132,7 +132,7 @@ fits limits (ClosedAll at) b = not b.closed
 
 -- and moments never fall
 abbrev pub may_follow : SeenLimits → SeenRecord → SeenBase → Bool
-may_follow limits r b = nat_le b.at (moment_in r) && fits limits r b
+may_follow limits r b = nat_le b.at (moment_of_record r) && fits limits r b
 
 -- each may follow what those before it come to
 abbrev pub all_follow : SeenLimits → List SeenRecord → SeenBase → Bool
@@ -150,7 +150,7 @@ admitted_in (r ∷ rs) = admitted_by r ++ admitted_in rs
 
 -- the ids in a base, and those that records admit
 abbrev pub known_in : SeenBase → List SeenRecord → List ℕ
-known_in b rs = ids_of b ++ admitted_in rs
+known_in b rs = ids_in_base b ++ admitted_in rs
 
 -- records are legal from a base where each may follow, and none admits an id that was there before
 pub record AreLegalFrom (limits : SeenLimits) (b : SeenBase) (rs : List SeenRecord) : Type 0 where

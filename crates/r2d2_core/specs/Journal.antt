@@ -21,12 +21,12 @@ pub record SeenJournal : Type 0 where
   pub takes : ℕ
 
 -- one more; a count stops at the greatest number of 64 bits
-abbrev pub one_more : ℕ → ℕ
-one_more n = min (n + 1) (2 ^ 64 - 1)
+abbrev pub next_count : ℕ → ℕ
+next_count n = min (n + 1) (2 ^ 64 - 1)
 
 -- the takes that were noted, with a record more
 abbrev pub takes_with : SeenRecord → ℕ → ℕ
-takes_with r n = if is_take r then one_more n else n
+takes_with r n = if is_take r then next_count n else n
 
 -- the takes that were noted are those that the records tell of, where none was folded in
 abbrev pub CountsTakes : SeenJournal → Type 0
@@ -50,7 +50,7 @@ abbrev pub with_record : SeenRecord → SeenJournal → SeenJournal
 with_record r l =
     let all = l.records ++ r ∷ [] in
     if nat_lt (length l.records) l.room then record l { records = all; takes = takes_with r l.takes }
-    else record l { base = with_oldest l.limits all l.base; records = drop 1 all; lost = one_more l.lost; takes = takes_with r l.takes }
+    else record l { base = with_oldest l.limits all l.base; records = drop 1 all; lost = next_count l.lost; takes = takes_with r l.takes }
 
 -- some records with the one that a step made, if it made one
 abbrev pub added : Option SeenRecord → List SeenRecord → List SeenRecord

@@ -9,7 +9,7 @@ use Rattle.r2d2_core.specs.Limits.{wanted_of, later_by, has_reaps}
 use Rattle.r2d2_core.specs.Openings.{SeenOpening, opening, with_opening, with_many}
 use Rattle.r2d2_core.specs.Jobs.{SeenJob, Open, Reap, Closed as JobClosed, first_job}
 use Rattle.r2d2_core.specs.OnOrder.{SeenOnOrder}
-use Rattle.r2d2_core.specs.Seen.{SeenAnswer, Taken, Found, Empty, Begun, Numbered, Failed, CameBack, Closed, Reaped, CheckFailed}
+use Rattle.r2d2_core.specs.Seen.{SeenAnswer, Taken, Found, Empty, Begun, Numbered, Failed, PutBack, Closed, Reaped, CheckFailed}
 use Rattle.r2d2_core.specs.History.{History, Made, Then, limits_of, start_of, first_of, is_closed, moment_of}
 use Rattle.r2d2_core.specs.Deeds.{admits, admitted_count}
 
@@ -21,7 +21,7 @@ module _ {T : Type 0} where
   ordered_in (Taken (Found id birth value ordered)) = ordered
   ordered_in (Taken (Empty ordered)) = ordered
   ordered_in (CheckFailed (Ok gone)) = gone.ordered
-  ordered_in (CameBack (Ok (Closed value age ordered))) = ordered
+  ordered_in (PutBack (Ok (Closed value age ordered))) = ordered
   ordered_in (Reaped closed ordered) = ordered
   ordered_in _ = 0
 

@@ -7,7 +7,7 @@ use Rattle.r2d2_core.specs.declared.run.Answer.{Answer}
 use Rattle.r2d2_core.specs.declared.run.Answer.TheVariants as answer
 use Rattle.r2d2_core.specs.Jobs.{seen_job}
 use Rattle.r2d2_core.specs.Picture.{Picture}
-use Rattle.r2d2_core.specs.Seen.{SeenAnswer, Taken, Begun, Numbered, Admitted, Failed, CheckFailed, CameBack, Reaped, Told, Left, seen_take, seen_returned}
+use Rattle.r2d2_core.specs.Seen.{SeenAnswer, Taken, Begun, Numbered, Admitted, Failed, CheckFailed, PutBack, Reaped, TakeError, Close, seen_take, seen_returned}
 use Rattle.r2d2_core.specs.Seen.{seen_gone, seen_released, map_ok}
 use Rattle.r2d2_core.specs.Table as table
 use Rattle.r2d2_core.specs.Journal.{SeenJournal}
@@ -22,10 +22,10 @@ seen_answer (answer.Number r) = Numbered r
 seen_answer (answer.Admit r) = Admitted r
 seen_answer (answer.Fail r) = Failed (map_ok as_nanos r)
 seen_answer (answer.FailCheck r) = CheckFailed (map_ok seen_gone r)
-seen_answer (answer.PutBack r) = CameBack (map_ok seen_returned r)
+seen_answer (answer.PutBack r) = PutBack (map_ok seen_returned r)
 seen_answer (answer.Reap released ordered) = Reaped (map seen_released released.items) ordered
-seen_answer (answer.TakeError text) = Told (option_map string_bytes text)
-seen_answer (answer.Close left) = Left left
+seen_answer (answer.TakeError text) = TakeError (option_map string_bytes text)
+seen_answer (answer.Close left) = Close left
 
 module _ {T : Type 0} where
   -- the answer to the step, from that picture
@@ -36,10 +36,10 @@ module _ {T : Type 0} where
   step_answer (step.Admit now id value) p = Admitted (table.admit_answer id value p)
   step_answer (step.Fail now tries text) p = Failed (table.fail_answer (as_nanos now) tries p)
   step_answer (step.FailCheck now id text) p = CheckFailed (table.check_answer (as_nanos now) id p)
-  step_answer (step.PutBack now id value broken) p = CameBack (table.return_answer (as_nanos now) id value broken p)
+  step_answer (step.PutBack now id value broken) p = PutBack (table.return_answer (as_nanos now) id value broken p)
   step_answer (step.Reap now) p = Reaped (table.reap_closed (as_nanos now) p) (table.reap_orders (as_nanos now) p)
-  step_answer step.TakeError p = Told p.last_error
-  step_answer step.Close p = Left (table.close_answer p)
+  step_answer step.TakeError p = TakeError p.last_error
+  step_answer step.Close p = Close (table.close_answer p)
 
   -- the picture after it
   abbrev pub after_step : Step T → Picture T → Picture T

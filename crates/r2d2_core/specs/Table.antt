@@ -5,7 +5,7 @@ use Rattle.r2d2_core.specs.declared.machine.answers.Refusal.{Refusal}
 use Rattle.r2d2_core.specs.declared.machine.answers.Refusal.TheVariants as refusal
 use Rattle.r2d2_core.specs.Limits.{SeenLimits, has_reached}
 use Rattle.r2d2_core.specs.Ids.{without}
-use Rattle.r2d2_core.specs.Lending.{lent_next, still_idle}
+use Rattle.r2d2_core.specs.Lending.{next_to_lend, still_idle}
 use Rattle.r2d2_core.specs.Jobs.{SeenJob}
 use Rattle.r2d2_core.specs.Connections.{SeenIdleConnection, SeenReleased, idle_connection, lent_connection, id_of_lent, pair_of, birth_in, is_expired, is_kept}
 use Rattle.r2d2_core.specs.Connections.{closed_of}
@@ -52,7 +52,7 @@ module _ {T : Type 0} where
   -- TAKE: the idle one that is next is lent
 
   abbrev pub next_of : Picture T → Option (SeenIdleConnection T)
-  next_of p = lent_next p.on_order.limits.order p.idle
+  next_of p = next_to_lend p.on_order.limits.order p.idle
 
   abbrev pub lent_out : SeenIdleConnection T → Picture T → Picture T
   lent_out c p = record p { idle = still_idle p.on_order.limits.order p.idle; lent = p.lent ++ lent_connection c.id c.birth ∷ [] }

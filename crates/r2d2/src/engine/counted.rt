@@ -7,7 +7,7 @@ ghost use Rattle.r2d2_core.specs.Jobs.{seen_job};
 ghost use Rattle.r2d2_core.specs.Table as table;
 ghost use Rattle.r2d2_core.specs.Picture.{IsSound};
 ghost use Rattle.r2d2_core.specs.Noted.{noted_take, noted_return, noted_reap, noted_close};
-ghost use Rattle.r2d2_core.specs.Journal.{one_more};
+ghost use Rattle.r2d2_core.specs.Journal.{next_count};
 ghost use Rattle.r2d2_core.specs.Reports.{IsReportOf, DoesReplay, HasSoundCounts, CountsItsTakes};
 ghost use Rattle.r2d2_core.specs.Reports.{BeginsAtAMaking};
 ghost use Rattle.r2d2.specs.Wakes.{wakes_of_take, wakes_of_return, wakes_of_reap};
@@ -55,7 +55,7 @@ pub trait Counter: Ties {
         ensures amount { amount tally.new ≡ amount tally.old + per_take }
         ensures counts { counts self.old self.new }
         ensures stands { (takes : ℕ) → Self.stands_at self.old takes
-            → Self.stands_at self.new (one_more takes) };
+            → Self.stands_at self.new (next_count takes) };
 }
 
 /// Counts nothing.

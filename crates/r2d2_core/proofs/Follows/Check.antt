@@ -12,7 +12,7 @@ use Rattle.r2d2_core.specs.OnOrder.{top_up_beside}
 use Rattle.r2d2_core.specs.Picture.{Picture, IsSound}
 use Rattle.r2d2_core.specs.Table.{raised_to, ordered, topped_up, lent_refusal, lent_birth, gone_one, with_text, gone_with, check_answer, after_check}
 use Rattle.r2d2_core.specs.History.{History, Then, is_closed, now_of}
-use Rattle.r2d2_core.specs.Deeds.{Going, birth_of, idle_of, connections_of}
+use Rattle.r2d2_core.specs.Deeds.{Gone, birth_of, idle_of, connections_of}
 use Rattle.r2d2_core.specs.Pending.{on_order_of}
 use Rattle.r2d2_core.specs.Answers.{refusal_of, is_lent, orders_of, picture_of}
 use Rattle.r2d2_core.proofs.Histories.Kept.{IsKept, Follows}
@@ -72,7 +72,7 @@ module _ {T : Type 0} where
       let r = lost_reply h (as_nanos now) id n in
       let p = gone_one id (with_text text (raised_to (as_nanos now) (picture_of h))) in
       picture_of-ordered h s r p n (ordering_check h now id text n) kept refl none
-      refl (idle_of-check h now id text n lent kept.sound) (lent_of-back h s r id (max (now_of h) (as_nanos now)) Going refl (λ i. refl) (λ birth. refl)
+      refl (idle_of-check h now id text n lent kept.sound) (lent_of-back h s r id (max (now_of h) (as_nanos now)) Gone refl (λ i. refl) (λ birth. refl)
       (apart_in h kept.sound)) refl (connections_of-check h now id text n) refl
       ∙ ap (λ k. ordered k p) orders
 

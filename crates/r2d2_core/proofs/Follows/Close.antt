@@ -9,7 +9,7 @@ use Rattle.r2d2_core.specs.Connections.{SeenIdleConnection, SeenLentConnection, 
 use Rattle.r2d2_core.specs.OnOrder.{emptied, IsEmpty}
 use Rattle.r2d2_core.specs.Picture.{Picture, IsSound}
 use Rattle.r2d2_core.specs.Table.{close_answer, after_close}
-use Rattle.r2d2_core.specs.Seen.{SeenAnswer, Left}
+use Rattle.r2d2_core.specs.Seen.{SeenAnswer, Close}
 use Rattle.r2d2_core.specs.History.{History, Then, limits_of, start_of, now_of, is_closed, moment_of}
 use Rattle.r2d2_core.specs.Deeds.{deeds_in, idle_of, lent_of, connections_of}
 use Rattle.r2d2_core.specs.Pending.{pending_of, in_work_of, in_work_at, numbered_of, reaps_of, next_reap_of, next_id_of, on_order_of}
@@ -31,7 +31,7 @@ all_zero a (suc n) = ap (λ (l : List ℕ). 0 ∷ l) (all_zero (a + 1) n)
 
 module _ {T : Type 0} where
   abbrev left_by : History T → SeenAnswer T
-  left_by h = Left (map pair_of (idle_of h))
+  left_by h = Close (map pair_of (idle_of h))
 
   -- the deeds of a close: all that are idle go
   all_go : (h : History T) → deeds_in (moment_of h step.Close) step.Close (left_by h) ≡ going_deeds id_of_idle (moment_of h step.Close)
@@ -80,7 +80,7 @@ module _ {T : Type 0} where
     none_admitted_ahead = kept.none_admitted_ahead;
   }
 
-  pub follows_close : (h : History T) → IsKept h → Follows h step.Close (Left (close_answer (picture_of h))) (after_close (picture_of h))
+  pub follows_close : (h : History T) → IsKept h → Follows h step.Close (Close (close_answer (picture_of h))) (after_close (picture_of h))
   unfolding picture_of
   follows_close h kept = record {
     answer_is = refl;

@@ -3,7 +3,7 @@ use Rattle.std.proofs.Common.{◌≡◌, ℕ, Bool, true, cond, length, Option, 
 use Rattle.std.specs.Duration.{as_nanos}
 use Rattle.std.specs.declared.time.Duration.{Duration}
 use Rattle.r2d2_core.specs.declared.run.Step.TheVariants as step
-use Rattle.r2d2_core.specs.Lending.{lent_next, still_idle}
+use Rattle.r2d2_core.specs.Lending.{next_to_lend, still_idle}
 use Rattle.r2d2_core.specs.Connections.{SeenIdleConnection}
 use Rattle.r2d2_core.specs.Seen.{Taken, Found, Empty}
 use Rattle.r2d2_core.specs.Picture.{IsSound}
@@ -40,7 +40,7 @@ module _ {T : Type 0} where
       (none_go h now or_order m n)
 
   -- what a take orders
-  orders_of-take : (h : History T) (now : Duration) (or_order : Bool) (m : Option (SeenIdleConnection T)) → lent_next (limits_of h).order (idle_of h) ≡ m
+  orders_of-take : (h : History T) (now : Duration) (or_order : Bool) (m : Option (SeenIdleConnection T)) → next_to_lend (limits_of h).order (idle_of h) ≡ m
       → IsSound (picture_of h)
       → orders_of h (step.Take now or_order) ≡ take_orders m or_order (picture_of h)
   unfolding orders_of picture_of on_order_of
@@ -52,7 +52,7 @@ module _ {T : Type 0} where
       orders_of-top_up h s (length (still_idle (limits_of h).order (idle_of h))) (connections_of h)
       (rw e refl)
       (rw e (ap length (idle_of-found h s (Taken (Found c.id c.birth c.value 0)) _ (limits_of h).order c refl (λ i. refl) e (apart_in h sound))))
-      (connections_of-take h now or_order (lent_next (limits_of h).order (idle_of h)) 0)
+      (connections_of-take h now or_order (next_to_lend (limits_of h).order (idle_of h)) 0)
 
   ordering_take : (h : History T) (now : Duration) (or_order : Bool) (m : Option (SeenIdleConnection T)) (n : ℕ)
       → IsOrdering h (step.Take now or_order) (Taken (take_with m n))
@@ -69,7 +69,7 @@ module _ {T : Type 0} where
 
   -- the picture after a take
   picture_of-take : (h : History T) (now : Duration) (or_order : Bool) (m : Option (SeenIdleConnection T)) (n : ℕ)
-      → lent_next (limits_of h).order (idle_of h) ≡ m → IsKept h
+      → next_to_lend (limits_of h).order (idle_of h) ≡ m → IsKept h
       → n ≡ take_orders m or_order (picture_of h) → (is_closed h ≡ true → n ≡ 0)
       → picture_of (Then h (step.Take now or_order) (Taken (take_with m n))) ≡ taken m or_order (raised_to (as_nanos now) (picture_of h))
   unfolding picture_of on_order_of
@@ -98,7 +98,7 @@ module _ {T : Type 0} where
   unfolding picture_of on_order_of
   follows_take h now or_order kept =
       let s = step.Take now or_order in
-      let m = lent_next (limits_of h).order (idle_of h) in
+      let m = next_to_lend (limits_of h).order (idle_of h) in
       let n = orders_of h s in
       let orders : n ≡ take_orders m or_order (picture_of h) = orders_of-take h now or_order m refl kept.sound in
       let picture : picture_of (Then h s (Taken (take_with m n))) ≡ after_take (as_nanos now) or_order

@@ -7,7 +7,7 @@ use Rattle.std.proofs.lemmas.Bool.{eq-eqb, eqb-true}
 use Rattle.std.proofs.lemmas.Bool.Decides.{nat_tests}
 use Rattle.r2d2_core.specs.Limits.{SeenLimits, wanted_of}
 use Rattle.r2d2_core.specs.Ids.{found, without, same_id, copies_of}
-use Rattle.r2d2_core.specs.Lending.{lent_next, still_idle}
+use Rattle.r2d2_core.specs.Lending.{next_to_lend, still_idle}
 use Rattle.r2d2_core.specs.Connections.{SeenIdleConnection, idle_connection, lent_connection, id_of_idle}
 use Rattle.r2d2_core.specs.OnOrder.{room_beside}
 use Rattle.r2d2_core.specs.Picture.{Picture, IsSound}
@@ -44,12 +44,12 @@ module _ {T : Type 0} where
   -- TAKE
 
   -- a take that found
-  says_found : (m : ℕ) (p : Picture T) (c : SeenIdleConnection T) → lent_next p.on_order.limits.order p.idle ≡ Some c → IsSound p
+  says_found : (m : ℕ) (p : Picture T) (c : SeenIdleConnection T) → next_to_lend p.on_order.limits.order p.idle ≡ Some c → IsSound p
       → Says m p (Taken p.latest c.id (top_up_of (lent_out c p))) (topped_up (lent_out c p))
   says_found m p c e sound =
       let o = p.on_order.limits.order in
       let idle = map bare p.idle in
-      let next : lent_next o idle ≡ Some (bare c) = next-map bare o p.idle c e in
+      let next : next_to_lend o idle ≡ Some (bare c) = next-map bare o p.idle c e in
       let apart = idle_apart p sound in
       let there : found id_of_idle c.id idle ≡ Some (bare c) = found-next id_of_idle o idle (bare c) next apart in
       let born : birth_of_idle c.id idle ≡ c.birth = ap (λ o. unwrap_or (option_map (λ (c : BareConnection). c.birth) o) 0) there in
@@ -73,7 +73,7 @@ module _ {T : Type 0} where
       }
 
   -- a take that found none, and ordered
-  says_ordered : (m : ℕ) (p : Picture T) (o : Bool) → lent_next p.on_order.limits.order p.idle ≡ None → 1 ≤ miss_order_of o p
+  says_ordered : (m : ℕ) (p : Picture T) (o : Bool) → next_to_lend p.on_order.limits.order p.idle ≡ None → 1 ≤ miss_order_of o p
       → Says m p (Ordered p.latest (miss_order_of o p)) (ordered (miss_order_of o p) p)
   says_ordered m p o e some =
       let n = miss_order_of o p in
@@ -88,7 +88,7 @@ module _ {T : Type 0} where
         not_after = omega arith;
       }
 
-  miss_step : (limits : SeenLimits) (b : SeenBase) (rs : List SeenRecord) (p : Picture T) (o none : Bool) → lent_next p.on_order.limits.order p.idle ≡ None
+  miss_step : (limits : SeenLimits) (b : SeenBase) (rs : List SeenRecord) (p : Picture T) (o none : Bool) → next_to_lend p.on_order.limits.order p.idle ≡ None
       → (miss_order_of o p == 0) ≡ none → IsSound p → KeepReplaying limits b rs p
       → KeepReplaying limits b (added (cond none None (Some (Ordered p.latest (miss_order_of o p)))) rs) (ordered (miss_order_of o p) p)
   miss_step limits b rs p o true e n sound k =
@@ -101,7 +101,7 @@ module _ {T : Type 0} where
 
   -- a take, at its moment
   pub replaying_taken : (limits : SeenLimits) (b : SeenBase) (rs : List SeenRecord) (p : Picture T) (o : Bool) (m : Option (SeenIdleConnection T))
-      → lent_next p.on_order.limits.order p.idle ≡ m → IsSound p → KeepReplaying limits b rs p
+      → next_to_lend p.on_order.limits.order p.idle ≡ m → IsSound p → KeepReplaying limits b rs p
       → KeepReplaying limits b (added (record_of_take p.latest (take_with m (take_orders m o p))) rs) (taken m o p)
   replaying_taken limits b rs p o None e sound k = miss_step limits b rs p o (miss_order_of o p == 0) e refl sound k
   replaying_taken limits b rs p o (Some c) e sound k = with_one_more limits b rs _ p _ sound (λ m. says_found m p c e sound) refl refl (λ i. omega arith) k

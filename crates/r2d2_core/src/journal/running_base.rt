@@ -10,8 +10,8 @@ ghost use Rattle.r2d2_core.specs.Connections.{since_of};
 ghost use Rattle.r2d2_core.specs.Records.{seen_record};
 ghost use Rattle.r2d2_core.specs.Bases.{seen_bare, seen_lent, IsLegalBase};
 ghost use Rattle.r2d2_core.specs.Folding.{birth_of_lent, is_next, expired_in, may_follow, folded};
-ghost use Rattle.r2d2_core.specs.Folding.{with_more, lent_out, admitted_to, kept_in, parted_from};
-ghost use Rattle.r2d2_core.specs.Folding.{swept_of, closed_in, top_up_in};
+ghost use Rattle.r2d2_core.specs.Folding.{with_more, lent_in, admitted_to, kept_in, parted_from};
+ghost use Rattle.r2d2_core.specs.Folding.{swept_of, closed_all_in, top_up_in};
 ghost use Rattle.r2d2_core.specs.Reports.{seen_base};
 ghost use Rattle.r2d2_core.specs.RunningBase.{running_base, rooms_for, made_idle_by, made_lent_by};
 ghost use Rattle.r2d2_core.specs.RunningBase.{empty_base, with_one_idle};
@@ -196,7 +196,7 @@ impl<A: Allocator> RunningBase<A> {
         ensures is { result ≡ is_next (seen_limits limits.now) id self.old.base }
         ensures less { IsTrue result → length self.new.base.idle ≡ length self.old.base.idle - 1 }
         ensures lent { IsTrue result
-            → self.new ≡ running_base (lent_out id self.old.base) self.old.room }
+            → self.new ≡ running_base (lent_in id self.old.base) self.old.room }
     {
         match self.idle.take(limits.order()) {
             Some(entry) => {
@@ -288,7 +288,7 @@ impl<A: Allocator> RunningBase<A> {
     fn close(&mut self) -> bool
         ensures is { result ≡ not self.old.base.closed }
         ensures closed { IsTrue result
-            → self.new ≡ running_base (closed_in self.old.base) self.old.room }
+            → self.new ≡ running_base (closed_all_in self.old.base) self.old.room }
     {
         if self.closed {
             return false;
