@@ -1,5 +1,5 @@
 -- A failed opening follows the history.
-use Rattle.std.proofs.Common.{◌≡◌, ℕ, ◌+◌, ◌-◌, max, true, false, cond, not, Option, Some, None, Ok, String, Global, refl, sym, ◌∙◌, ap, subst, arith}
+use Rattle.std.proofs.Common.{◌≡◌, ℕ, ◌+◌, max, true, false, not, Option, Some, None, Ok, String, Global, refl, sym, ◌∙◌, ap, subst, arith}
 use Rattle.std.specs.Duration.{as_nanos}
 use Rattle.std.specs.declared.time.Duration.{Duration}
 use Rattle.r2d2_core.specs.declared.run.Step.{Step}
@@ -14,7 +14,7 @@ use Rattle.r2d2_core.specs.Picture.{Picture, IsSound}
 use Rattle.r2d2_core.specs.Table.{fail_answer, failed, after_fail}
 use Rattle.r2d2_core.specs.History.{History, Then, is_closed, now_of, limits_of}
 use Rattle.r2d2_core.specs.Deeds.{admitted_count, gone_count}
-use Rattle.r2d2_core.specs.Pending.{ordered_of, pending_of, numbered_of, next_reap_of, next_id_of, on_order_of}
+use Rattle.r2d2_core.specs.Pending.{pending_of, numbered_of, next_reap_of, next_id_of, on_order_of}
 use Rattle.r2d2_core.specs.Answers.{refusal_of, is_in_work, picture_of}
 use Rattle.r2d2_core.proofs.Histories.Kept.{IsKept, Follows}
 use Rattle.r2d2_core.proofs.Histories.Counts.{none_admitted, none_gone, connections_of-same}

@@ -1,10 +1,10 @@
 -- A reap as the history sees it: the expired ones go, and what is wanted is ordered again.
-use Rattle.std.proofs.Common.{◌≡◌, ℕ, ◌+◌, ◌-◌, ◌≤◌, max, true, List, length, refl, sym, ◌∙◌, ap, subst, arith}
+use Rattle.std.proofs.Common.{◌≡◌, ℕ, ◌-◌, ◌≤◌, max, true, List, length, refl, sym, ◌∙◌, ap, subst, arith}
 use Rattle.std.specs.Prelude.{filter}
 use Rattle.std.specs.Duration.{as_nanos}
 use Rattle.std.specs.declared.time.Duration.{Duration}
 use Rattle.r2d2_core.specs.declared.run.Step.TheVariants as step
-use Rattle.r2d2_core.specs.Connections.{SeenIdleConnection, id_of_idle, is_expired, is_kept, released_at, closed_of}
+use Rattle.r2d2_core.specs.Connections.{SeenIdleConnection, id_of_idle, is_expired, is_kept, closed_of}
 use Rattle.r2d2_core.specs.Picture.{IsSound}
 use Rattle.r2d2_core.specs.Table.{raised_to, ordered, swept, reap_closed, reap_orders, after_reap}
 use Rattle.r2d2_core.specs.Seen.{SeenAnswer, Reaped}
