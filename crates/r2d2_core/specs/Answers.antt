@@ -48,7 +48,8 @@ module _ {T : Type 0} where
   refused_with (step.Fail now tries text) why = Failed (Err why)
   refused_with (step.FailCheck now id text) why = CheckFailed (Err why)
   refused_with (step.PutBack now id value broken) why = PutBack (Err (why, value))
-  -- no other step is ever refused (`refusal_of`): this answer stands here because a function has one for each step, and is never given
+  -- no other step is ever refused (`refusal_of`), so this is never given: a function needs a clause
+  -- for each step
   refused_with _ why = TakeError None
 
   -- THE LAST ERROR
@@ -75,20 +76,25 @@ module _ {T : Type 0} where
   abbrev pub return_with : Bool → T → ℕ → ℕ → SeenReturned T
   return_with b value age n = if b then Closed value age n else Kept
 
-  -- the answer to a step that is accepted, were it to order n openings
-  abbrev pub reply_with : History T → ℕ → Step T → SeenAnswer T
-  reply_with h n (step.Take now or_order) = Taken (take_with (next_to_lend (limits_of h).order (idle_of h)) n)
-  reply_with h n (step.Begin now) = Begun (job_of h (moment_of h (step.Begin now)))
-  reply_with h n (step.Number tries) = Numbered (Ok (next_id_of h))
-  reply_with h n (step.Admit now id value) = Admitted (Ok tt)
-  reply_with h n (step.Fail now tries text) = Failed (Ok (later_by (moment_of h (step.Fail now tries text)) (delay_of (limits_of h) (tries + 1))))
-  reply_with h n (step.FailCheck now id text) = CheckFailed (Ok (record { age = age_of h (moment_of h (step.FailCheck now id text)) id; ordered = n }))
-  reply_with h n (step.PutBack now id value broken) =
-      let t = moment_of h (step.PutBack now id value broken) in
+  -- the answer to a step that is accepted, at the raised moment t, were it to order n openings
+  abbrev pub reply_at : History T → ℕ → ℕ → Step T → SeenAnswer T
+  reply_at h t n (step.Take now or_order) =
+      Taken (take_with (next_to_lend (limits_of h).order (idle_of h)) n)
+  reply_at h t n (step.Begin now) = Begun (job_of h t)
+  reply_at h t n (step.Number tries) = Numbered (Ok (next_id_of h))
+  reply_at h t n (step.Admit now id value) = Admitted (Ok tt)
+  reply_at h t n (step.Fail now tries text) =
+      Failed (Ok (later_by t (delay_of (limits_of h) (tries + 1))))
+  reply_at h t n (step.FailCheck now id text) =
+      CheckFailed (Ok (record { age = age_of h t id; ordered = n }))
+  reply_at h t n (step.PutBack now id value broken) =
       PutBack (Ok (return_with (closes h t id broken) value (age_of h t id) n))
-  reply_with h n (step.Reap now) = Reaped (closed_of (limits_of h) (moment_of h (step.Reap now)) (idle_of h)) n
-  reply_with h n step.TakeError = TakeError (last_error_of h)
-  reply_with h n step.Close = Close (map pair_of (idle_of h))
+  reply_at h t n (step.Reap now) = Reaped (closed_of (limits_of h) t (idle_of h)) n
+  reply_at h t n step.TakeError = TakeError (last_error_of h)
+  reply_at h t n step.Close = Close (map pair_of (idle_of h))
+
+  abbrev pub reply_with : History T → ℕ → Step T → SeenAnswer T
+  reply_with h n s = reply_at h (moment_of h s) n s
 
   -- ORDERS
 
