@@ -1,10 +1,13 @@
--- Which connections are idle and lent: each accepted step did something to ids, and the latest deed of an id says where its connection is.
-use Rattle.std.specs.Prelude.{ℕ, ◌-◌, Bool, true, false, ◌==◌, if◌then◌else◌, List, [], ◌∷◌, ◌++◌, map, filter_map, count_by, Option, Some, None, option_map}
+-- Which connections are idle and lent: each accepted step did something to ids, and the latest deed
+-- of an id says where its connection is.
+use Rattle.std.specs.Prelude.{ℕ, ◌-◌, Bool, true, false, ◌==◌, if◌then◌else◌, List, [], ◌∷◌, ◌++◌}
+use Rattle.std.specs.Prelude.{map, filter_map, count_by, Option, Some, None, option_map}
 use Rattle.std.specs.Prelude.{Ok}
 use Rattle.r2d2_core.specs.declared.run.Step.{Step}
 use Rattle.r2d2_core.specs.declared.run.Step.TheVariants as step
 use Rattle.r2d2_core.specs.Ids.{latest}
-use Rattle.r2d2_core.specs.Connections.{SeenIdleConnection, SeenLentConnection, idle_connection, lent_connection}
+use Rattle.r2d2_core.specs.Connections.{SeenIdleConnection, SeenLentConnection, idle_connection}
+use Rattle.r2d2_core.specs.Connections.{lent_connection}
 use Rattle.r2d2_core.specs.Seen as seen
 use Rattle.r2d2_core.specs.Seen.{SeenAnswer, Found, PutBack, Closed, Reaped, Close, CheckFailed}
 use Rattle.r2d2_core.specs.History.{History, Made, Then, moment_of}
@@ -30,11 +33,14 @@ module _ {T : Type 0} where
 
   -- the deeds of a step, by its answer
   abbrev pub deeds_in : ℕ → Step T → SeenAnswer T → List (Deed T)
-  deeds_in t (step.Take now or_order) (seen.Taken (Found id birth value ordered)) = deed id t Taken ∷ []
+  deeds_in t (step.Take now or_order) (seen.Taken (Found id birth value ordered)) =
+      deed id t Taken ∷ []
   deeds_in t (step.Admit now id value) r = deed id t (Admitted value) ∷ []
   deeds_in t (step.FailCheck now id text) r = deed id t Gone ∷ []
-  deeds_in t (step.PutBack now id value broken) (PutBack (Ok seen.Kept)) = deed id t (Kept value) ∷ []
-  deeds_in t (step.PutBack now id value broken) (PutBack (Ok (Closed v age ordered))) = deed id t Gone ∷ []
+  deeds_in t (step.PutBack now id value broken) (PutBack (Ok seen.Kept)) =
+      deed id t (Kept value) ∷ []
+  deeds_in t (step.PutBack now id value broken) (PutBack (Ok (Closed v age ordered))) =
+      deed id t Gone ∷ []
   deeds_in t (step.Reap now) (Reaped closed ordered) = map (λ c. deed c.id t Gone) closed
   deeds_in t step.Close (Close left) = map (λ p. deed p.0 t Gone) left
   deeds_in t s r = []

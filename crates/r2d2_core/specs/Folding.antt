@@ -1,11 +1,15 @@
--- What records come to from a base, and which are legal. They stand the oldest first, as in a book and in a report.
-use Rattle.std.specs.Prelude.{◌≡◌, ℕ, ◌+◌, ◌-◌, ◌≤◌, Bool, true, false, ◌==◌, ◌||◌, ◌&&◌, not, nat_lt, nat_le, List, [], ◌∷◌, ◌++◌, length, filter, is_some}
+-- What records come to from a base, and which are legal. They stand the oldest first, as in a book
+-- and in a report.
+use Rattle.std.specs.Prelude.{◌≡◌, ℕ, ◌+◌, ◌-◌, ◌≤◌, Bool, true, false, ◌==◌, ◌||◌, ◌&&◌, not}
+use Rattle.std.specs.Prelude.{nat_lt, nat_le, List, [], ◌∷◌, ◌++◌, length, filter, is_some}
 use Rattle.std.specs.Prelude.{option_map, unwrap_or}
 use Rattle.r2d2_core.specs.Limits.{SeenLimits, top_up, has_reached}
 use Rattle.r2d2_core.specs.Ids.{found, without, copies_of}
 use Rattle.r2d2_core.specs.Lending.{next_to_lend}
-use Rattle.r2d2_core.specs.Connections.{SeenLentConnection, idle_connection, lent_connection, id_of_idle, id_of_lent, birth_in, is_expired, is_kept}
-use Rattle.r2d2_core.specs.Records.{SeenRecord, Taken, Ordered, Admitted, Kept, Closed, Reaped, ClosedAll}
+use Rattle.r2d2_core.specs.Connections.{SeenLentConnection, idle_connection, lent_connection}
+use Rattle.r2d2_core.specs.Connections.{id_of_idle, id_of_lent, birth_in, is_expired, is_kept}
+use Rattle.r2d2_core.specs.Records.{SeenRecord, Taken, Ordered, Admitted, Kept, Closed, Reaped}
+use Rattle.r2d2_core.specs.Records.{ClosedAll}
 use Rattle.r2d2_core.specs.Bases.{SeenBase, BareConnection, ids_in_base}
 
 -- the moment of a record
@@ -74,12 +78,8 @@ swept_of limits b = record b {
 
 -- the idle ones are gone, and nothing is pending
 abbrev pub closed_all_in : SeenBase → SeenBase
-closed_all_in b = record b {
-  idle = [];
-  connections = b.connections - length b.idle;
-  pending = 0;
-  closed = true;
-}
+closed_all_in b =
+    record b { idle = []; connections = b.connections - length b.idle; pending = 0; closed = true }
 
 -- WHAT RECORDS COME TO
 
@@ -102,19 +102,22 @@ replay limits (r ∷ rs) b = replay limits rs (folded limits r b)
 
 -- whether an id is that of the idle one that is lent next
 abbrev pub is_next : SeenLimits → ℕ → SeenBase → Bool
-is_next limits id b = unwrap_or (option_map (λ c. c.id == id) (next_to_lend limits.order b.idle)) false
+is_next limits id b =
+    unwrap_or (option_map (λ c. c.id == id) (next_to_lend limits.order b.idle)) false
 
 -- what a top-up of a base orders
 abbrev pub top_up_in : SeenLimits → SeenBase → ℕ
 top_up_in limits b = top_up limits b.closed (length b.idle) b.connections b.pending
 
--- whether a record fits a base, but for its moment. Where a top-up follows, it orders what that orders
+-- whether a record fits a base, but for its moment. Where a top-up follows, it orders what that
+-- orders
 abbrev pub fits : SeenLimits → SeenRecord → SeenBase → Bool
 -- the one taken is the idle one that is next
 fits limits (Taken at id n) b = is_next limits id b && (n == top_up_in limits (lent_in id b))
 -- one is ordered alone, where none is idle and there is room
 fits limits (Ordered at n) b =
-    (length b.idle == 0) && ((n == 1) && (not b.closed && nat_lt (b.connections + b.pending) limits.max_size))
+    (length b.idle == 0)
+    && ((n == 1) && (not b.closed && nat_lt (b.connections + b.pending) limits.max_size))
 -- one is admitted where an opening is pending
 fits limits (Admitted at id) b = nat_lt 0 b.pending
 -- the one kept is lent, and not to be closed
@@ -122,7 +125,8 @@ fits limits (Kept at id) b =
     is_some (birth_in id b.lent)
     && (not b.closed && not (has_reached limits.max_lifetime (at - birth_of_lent id b.lent)))
 -- the one closed is lent
-fits limits (Closed at id n) b = is_some (birth_in id b.lent) && (n == top_up_in limits (parted_from id b))
+fits limits (Closed at id n) b =
+    is_some (birth_in id b.lent) && (n == top_up_in limits (parted_from id b))
 -- a reap closes or orders
 fits limits (Reaped at n) b =
     (n == top_up_in limits (swept_of limits (up_to at b)))

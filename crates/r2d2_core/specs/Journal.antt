@@ -1,5 +1,6 @@
 -- What a contract sees of the records that are kept.
-use Rattle.std.specs.Prelude.{◌≡◌, ℕ, ◌+◌, ◌-◌, ◌^◌, min, nat_lt, List, [], ◌∷◌, ◌++◌, length, drop, Option, Some, None, if◌then◌else◌}
+use Rattle.std.specs.Prelude.{◌≡◌, ℕ, ◌+◌, ◌-◌, ◌^◌, min, nat_lt, List, [], ◌∷◌, ◌++◌, length, drop}
+use Rattle.std.specs.Prelude.{Option, Some, None, if◌then◌else◌}
 use Rattle.r2d2_core.specs.Limits.{SeenLimits}
 use Rattle.r2d2_core.specs.Records.{SeenRecord, is_take, takes_in}
 use Rattle.r2d2_core.specs.Bases.{SeenBase, first_base}
@@ -38,19 +39,34 @@ BeginsAtTheMaking l = l.lost ≡ 0 → l.base ≡ first_base l.limits l.made
 
 -- at the making, at a moment
 abbrev pub first_journal : SeenLimits → ℕ → ℕ → SeenJournal
-first_journal limits now room = record { limits = limits; made = now; base = first_base limits now; records = []; room = room; lost = 0; takes = 0 }
+first_journal limits now room = record {
+  limits = limits;
+  made = now;
+  base = first_base limits now;
+  records = [];
+  room = room;
+  lost = 0;
+  takes = 0;
+}
 
 -- the base with the oldest of some records
 abbrev pub with_oldest : SeenLimits → List SeenRecord → SeenBase → SeenBase
 with_oldest limits [] b = b
 with_oldest limits (r ∷ rs) b = folded limits r b
 
--- one more record: where there is no room the oldest is folded into the base, which is the new one itself where there is room for none
+-- one more record: where there is no room the oldest is folded into the base, which is the new one
+-- itself where there is room for none
 abbrev pub with_record : SeenRecord → SeenJournal → SeenJournal
 with_record r l =
     let all = l.records ++ r ∷ [] in
-    if nat_lt (length l.records) l.room then record l { records = all; takes = takes_with r l.takes }
-    else record l { base = with_oldest l.limits all l.base; records = drop 1 all; lost = next_count l.lost; takes = takes_with r l.takes }
+    if nat_lt (length l.records) l.room
+    then record l { records = all; takes = takes_with r l.takes }
+    else record l {
+      base = with_oldest l.limits all l.base;
+      records = drop 1 all;
+      lost = next_count l.lost;
+      takes = takes_with r l.takes;
+    }
 
 -- some records with the one that a step made, if it made one
 abbrev pub added : Option SeenRecord → List SeenRecord → List SeenRecord

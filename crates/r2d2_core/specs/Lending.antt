@@ -1,4 +1,5 @@
--- Which of the idle connections is lent next. The list has the oldest first: the one that came to be idle before the others.
+-- Which of the idle connections is lent next. The list has the oldest first: the one that came to
+-- be idle before the others.
 use Rattle.std.specs.Prelude.{List, drop, slice_get, Option}
 use Rattle.r2d2_core.specs.declared.schedule.limits.LendingOrder.{LendingOrder}
 use Rattle.r2d2_core.specs.declared.schedule.limits.LendingOrder.TheVariants as lending

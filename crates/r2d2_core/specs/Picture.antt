@@ -5,7 +5,8 @@ use Rattle.std.specs.List.Sorted.{IsNonDecreasingBy}
 use Rattle.r2d2_core.specs.Limits.{wanted_of}
 use Rattle.r2d2_core.specs.Sums.{FitsIn, IsReplenished}
 use Rattle.r2d2_core.specs.Ids.{copies_of}
-use Rattle.r2d2_core.specs.Connections.{SeenIdleConnection, SeenLentConnection, id_of_idle, id_of_lent, since_of}
+use Rattle.r2d2_core.specs.Connections.{SeenIdleConnection, SeenLentConnection, id_of_idle}
+use Rattle.r2d2_core.specs.Connections.{id_of_lent, since_of}
 use Rattle.r2d2_core.specs.OnOrder.{SeenOnOrder, IsAccounted}
 
 pub record Picture (T : Type 0) : Type 0 where

@@ -14,7 +14,8 @@ use Rattle.r2d2_core.specs.Book.{SeenBook}
 module _ {B : Type 0} where
   -- a `Base`
   abbrev pub seen_base : Base B → SeenBase
-  seen_base b = base_of (as_nanos b.at) (map seen_bare b.idle.items) (map seen_lent b.lent.items) b.connections b.pending b.closed
+  seen_base b = base_of (as_nanos b.at) (map seen_bare b.idle.items) (map seen_lent b.lent.items)
+      b.connections b.pending b.closed
 
   -- the records of a `Report`
   abbrev pub seen_records : Report B → List SeenRecord
@@ -40,7 +41,8 @@ module _ {B : Type 0} where
 
   -- its base is that of a pool just made, where none was folded into it
   abbrev pub BeginsAtAMaking : Report B → Type 0
-  BeginsAtAMaking r = r.lost ≡ 0 → seen_base r.base ≡ first_base (seen_limits r.limits) (as_nanos r.base.at)
+  BeginsAtAMaking r =
+      r.lost ≡ 0 → seen_base r.base ≡ first_base (seen_limits r.limits) (as_nanos r.base.at)
 
   -- what keeps of the counts of each report of a book
   pub record HasSoundCounts (r : Report B) : Type 0 where

@@ -25,7 +25,8 @@ empty_base at pending = base_of at [] [] 0 pending false
 
 module _ {A : Type 0} where
   abbrev pub base_in : Inside A → SeenBase
-  base_in s = base_of (as_nanos s.at) s.idle.items s.lent.items (length s.idle.items + length s.lent.items) s.pending s.closed
+  base_in s = base_of (as_nanos s.at) s.idle.items s.lent.items
+      (length s.idle.items + length s.lent.items) s.pending s.closed
 
 -- how many come to be idle by a record, and how many come to be lent
 abbrev pub made_idle_by : SeenRecord → ℕ

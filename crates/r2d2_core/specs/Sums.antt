@@ -1,5 +1,6 @@
--- The two sums of the headline, each stated here alone. Each speaks of how many are wanted idle, how many there may be, how many are idle,
--- connected and pending, and whether the pool is closed, in this order.
+-- The two sums of the headline, each stated here alone. Each speaks of how many are wanted idle,
+-- how many there may be, how many are idle, connected and pending, and whether the pool is closed,
+-- in this order.
 use Rattle.std.specs.Prelude.{◌≡◌, ◌⊎◌, ℕ, ◌+◌, ◌≤◌, Bool, false}
 
 -- connections and pending openings are at most `max_size`
