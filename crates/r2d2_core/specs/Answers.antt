@@ -104,6 +104,7 @@ module _ {T : Type 0} where
   reply_at h t n step.TakeError = TakeError (last_error_of h)
   reply_at h t n step.Close = Close (map pair_of (idle_of h))
 
+  -- the same, at the step's own raised moment
   abbrev pub reply_with : History T → ℕ → Step T → SeenAnswer T
   reply_with h n s = reply_at h (moment_of h s) n s
 
