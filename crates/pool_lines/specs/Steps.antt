@@ -5,7 +5,7 @@ use Rattle.r2d2_core.specs.declared.run.Step.TheVariants as step
 use Rattle.r2d2_core.specs.OnOrder.{fail_refusal}
 use Rattle.r2d2_core.specs.Refusals.{unless_refused}
 use Rattle.r2d2_core.specs.Picture.{Picture}
-use Rattle.r2d2_core.specs.Seen.{SeenAnswer, Taken, Begun, Numbered, Admitted, Failed, CheckFailed, CameBack, Reaped, Told, Left}
+use Rattle.r2d2_core.specs.Seen.{SeenAnswer, Taken, Begun, Numbered, Admitted, Failed, CheckFailed, PutBack, Reaped, TakeError, Close}
 use Rattle.r2d2_core.specs.Table.{take_answer, begin_answer, number_answer, admit_answer, fail_answer, return_answer, check_answer, reap_closed, reap_orders}
 use Rattle.r2d2_core.specs.Table.{close_answer}
 use Rattle.r2d2_core.specs.Table.{after_take, after_begin, after_number, after_admit, after_fail, after_return, lent_refusal, after_check, after_reap}
@@ -63,7 +63,7 @@ reply_text id (Numbered r) = number_text r
 reply_text id (Admitted r) = admission_text r
 reply_text id (Failed r) = failure_text r
 reply_text id (CheckFailed r) = check_text id r
-reply_text id (CameBack r) = return_text id r
+reply_text id (PutBack r) = return_text id r
 reply_text id (Reaped closed n) = reap_text closed n
-reply_text id (Told text) = error_text text
-reply_text id (Left left) = close_text left
+reply_text id (TakeError text) = error_text text
+reply_text id (Close left) = close_text left

@@ -8,7 +8,7 @@ use Rattle.r2d2_core.specs.declared.schedule.limits.LendingOrder.TheVariants as 
 use Rattle.r2d2_core.specs.declared.machine.answers.Refusal.{Refusal}
 use Rattle.r2d2_core.specs.declared.machine.answers.Refusal.TheVariants as refusal
 use Rattle.r2d2_core.specs.Ids.{copies_of, last_of, front, without}
-use Rattle.r2d2_core.specs.Lending.{lent_next, still_idle}
+use Rattle.r2d2_core.specs.Lending.{next_to_lend, still_idle}
 use Rattle.r2d2_core.specs.Refusals.{refused_if, ok_or_back, unless_refused}
 use Rattle.r2d2_core.specs.Connections.{SeenIdleConnection, SeenLentConnection, SeenReleased, lent_connection, id_of_idle, id_of_lent, birth_in, released_at}
 use Rattle.r2d2_core.specs.Picture.{Picture, IsSound}
@@ -169,7 +169,7 @@ module _ {T : Type 0} where
   pub evicting : (t : ℕ) (p : Picture T) → Evicting t p p []
   evicting t p = record { handed = refl; left = omega arith; lent = refl; latest = refl; limits = refl; next_id = refl; closed = refl; last_error = refl }
 
-  next_first : (o : LendingOrder) (xs : List (SeenIdleConnection T)) (c : SeenIdleConnection T) → lent_next o xs ≡ Some c
+  next_first : (o : LendingOrder) (xs : List (SeenIdleConnection T)) (c : SeenIdleConnection T) → next_to_lend o xs ≡ Some c
       → in_lending_order o xs ≡ c ∷ in_lending_order o (still_idle o xs)
   next_first lending.NewestFirst xs c e = ap reverse (last_is xs c e) ∙ reverse-append (front xs) (c ∷ [])
   next_first lending.OldestFirst [] c e = absurd cc
@@ -177,7 +177,7 @@ module _ {T : Type 0} where
 
   -- the next one goes from those that are idle to what was handed over
   moved : (m : ℕ) (o : LendingOrder) (xs : List (SeenIdleConnection T)) (out : List (SeenReleased T)) (r : SeenReleased T) (c : SeenIdleConnection T)
-      → lent_next o xs ≡ Some c → r ≡ released_at m c
+      → next_to_lend o xs ≡ Some c → r ≡ released_at m c
       → (out ++ r ∷ []) ++ map (released_at m) (in_lending_order o (still_idle o xs)) ≡ out ++ map (released_at m) (in_lending_order o xs)
   moved m o xs out r c e is =
       append_assoc out (r ∷ []) (map (released_at m) (in_lending_order o (still_idle o xs)))
@@ -185,13 +185,13 @@ module _ {T : Type 0} where
       ∙ sym (ap (λ l. out ++ map (released_at m) l) (next_first o xs c e)))
 
   goes_on_by : (t : ℕ) (p q s : Picture T) (out : List (SeenReleased T)) (r : SeenReleased T) (n : Option (SeenIdleConnection T))
-      → lent_next q.on_order.limits.order q.idle ≡ n → Some r ≡ option_map (released_at (max q.latest t)) n
+      → next_to_lend q.on_order.limits.order q.idle ≡ n → Some r ≡ option_map (released_at (max q.latest t)) n
       → Evicting t p q out → EvictsNext t q s → Evicting t p s (out ++ r ∷ [])
   goes_on_by t p q s out r None e is v x = absurd cc
   goes_on_by t p q s out r (Some c) e is v x =
       let order : q.on_order.limits.order ≡ p.on_order.limits.order = ap (λ l. l.order) v.limits in
       let moment : r ≡ released_at (max p.latest t) c = some_same is ∙ ap (λ m. released_at m c) v.latest in
-      let next : lent_next p.on_order.limits.order q.idle ≡ Some c = ap (λ o. lent_next o q.idle) (sym order) ∙ e in
+      let next : next_to_lend p.on_order.limits.order q.idle ≡ Some c = ap (λ o. next_to_lend o q.idle) (sym order) ∙ e in
       let rest : s.idle ≡ still_idle p.on_order.limits.order q.idle = x.idle ∙ ap (λ o. still_idle o q.idle) order in
       record {
         handed = ap (λ l. (out ++ r ∷ []) ++ map (released_at (max p.latest t)) (in_lending_order p.on_order.limits.order l)) rest
@@ -206,21 +206,21 @@ module _ {T : Type 0} where
       }
 
   pub goes_on : (t : ℕ) (p q s : Picture T) (out : List (SeenReleased T)) (r : SeenReleased T)
-      → Some r ≡ option_map (released_at (max q.latest t)) (lent_next q.on_order.limits.order q.idle)
+      → Some r ≡ option_map (released_at (max q.latest t)) (next_to_lend q.on_order.limits.order q.idle)
       → Evicting t p q out → EvictsNext t q s → Evicting t p s (out ++ r ∷ [])
-  goes_on t p q s out r is v x = goes_on_by t p q s out r (lent_next q.on_order.limits.order q.idle) refl is v x
+  goes_on t p q s out r is v x = goes_on_by t p q s out r (next_to_lend q.on_order.limits.order q.idle) refl is v x
 
   more_by : (t : ℕ) (p q : Picture T) (out : List (SeenReleased T)) (r : SeenReleased T) (n : Option (SeenIdleConnection T))
-      → lent_next q.on_order.limits.order q.idle ≡ n → Some r ≡ option_map (released_at (max q.latest t)) n
+      → next_to_lend q.on_order.limits.order q.idle ≡ n → Some r ≡ option_map (released_at (max q.latest t)) n
       → Evicting t p q out → IsSound p → length out < p.on_order.limits.max_size
   more_by t p q out r None e is v s = absurd cc
   more_by t p q out r (Some c) e is v s = omega (arith, v.left, length-still_idle q.on_order.limits.order q.idle c e, s.steady.counted, s.steady.fits)
 
   -- there is room for it
   pub has_more : (t : ℕ) (p q : Picture T) (out : List (SeenReleased T)) (r : SeenReleased T)
-      → Some r ≡ option_map (released_at (max q.latest t)) (lent_next q.on_order.limits.order q.idle)
+      → Some r ≡ option_map (released_at (max q.latest t)) (next_to_lend q.on_order.limits.order q.idle)
       → Evicting t p q out → IsSound p → length out < p.on_order.limits.max_size
-  has_more t p q out r is v s = more_by t p q out r (lent_next q.on_order.limits.order q.idle) refl is v s
+  has_more t p q out r is v s = more_by t p q out r (next_to_lend q.on_order.limits.order q.idle) refl is v s
 
   -- and then fewer are left
   fewer_by : (m : ℕ) (q s : Picture T) (r : SeenReleased T) (n : Option (SeenIdleConnection T)) → next_of q ≡ n → Some r ≡ option_map (released_at m) n
@@ -237,8 +237,8 @@ module _ {T : Type 0} where
   none_by m None e = refl
   none_by m (Some c) e = absurd cc
 
-  pub none_left : (t : ℕ) (q : Picture T) → None ≡ option_map (released_at (max q.latest t)) (lent_next q.on_order.limits.order q.idle) → q.idle ≡ []
-  none_left t q e = none_is_next q.on_order.limits.order q.idle (none_by (max q.latest t) (lent_next q.on_order.limits.order q.idle) e)
+  pub none_left : (t : ℕ) (q : Picture T) → None ≡ option_map (released_at (max q.latest t)) (next_to_lend q.on_order.limits.order q.idle) → q.idle ≡ []
+  none_left t q e = none_is_next q.on_order.limits.order q.idle (none_by (max q.latest t) (next_to_lend q.on_order.limits.order q.idle) e)
 
   none_in_order : (o : LendingOrder) → in_lending_order {X = SeenIdleConnection T} o [] ≡ []
   none_in_order lending.NewestFirst = refl
@@ -262,7 +262,7 @@ module _ {T : Type 0} where
   }
 
   -- what is left to do from a book is what is left after the next one
-  rest_by : (t m : ℕ) (b s : SeenBook T) (o : LendingOrder) (r : SeenReleased T) (n : Option (SeenIdleConnection T)) → lent_next o b.picture.idle ≡ n
+  rest_by : (t m : ℕ) (b s : SeenBook T) (o : LendingOrder) (r : SeenReleased T) (n : Option (SeenIdleConnection T)) → next_to_lend o b.picture.idle ≡ n
       → Some r ≡ option_map (released_at m) n → s ≡ one_evicted t n b → s.picture.idle ≡ still_idle o b.picture.idle
       → each_evicted t (in_lending_order o s.picture.idle) s ≡ each_evicted t (in_lending_order o b.picture.idle) b
   rest_by t m b s o r None e is went left = absurd cc

@@ -3,7 +3,8 @@ use Rattle.std.specs.Prelude.{◌≡◌, ◌⊎◌, ℕ, List, ◌++◌, Option,
 use Rattle.r2d2.specs.declared.error.ErrorKind.{ErrorKind}
 use Rattle.r2d2.specs.declared.error.ErrorKind.TheVariants.{Timeout, Memory, Threads, Closed}
 
--- what a contract sees of an error: why the call failed, and the bytes of the latest error of an opening or a check, where one is known
+-- what a contract sees of an error: why the call failed, and the bytes of the latest error of an
+-- opening or a check, where one is known
 pub record Failure : Type 0 where
   pub kind : ErrorKind
   pub message : Option (List ℕ)

@@ -1,11 +1,12 @@
 -- What a pool promises of each status that it shows.
-use Rattle.std.specs.Prelude.{◌≡◌, ◌⊎◌, ◌+◌, ◌≤◌, false}
+use Rattle.std.specs.Prelude.{◌≡◌, ◌+◌}
+use Rattle.r2d2_core.specs.Sums.{FitsIn, IsReplenished}
 use Rattle.r2d2.specs.declared.pool.state.Status.{Status}
 
 pub record IsStatus (s : Status) : Type 0 where
   -- connections are the idle ones and the lent ones
   pub counted : s.connections ≡ s.idle + s.lent
   -- connections and those that are being opened are at most `max_size`
-  pub fits : s.connections + s.opening ≤ s.max_size
+  pub fits : FitsIn s.max_size s.connections s.opening
   -- unless closed, what is idle and being opened reaches what is wanted, or there is no more room
-  pub replenished : s.closed ≡ false → (s.wanted ≤ s.idle + s.opening) ⊎ (s.connections + s.opening ≡ s.max_size)
+  pub replenished : IsReplenished s.wanted s.max_size s.idle s.connections s.opening s.closed

@@ -6,5 +6,6 @@ pub mod InWork
 pub mod LentOnes
 pub mod Comings
 pub mod GoingOnes
+pub mod Counts
 pub mod Following
 pub mod Made

@@ -1,5 +1,6 @@
 -- Which steps are refused, what each step answers, and what a core shows.
-use Rattle.std.specs.Prelude.{ℕ, ◌+◌, ◌-◌, min, ◌^◌, Bool, false, ◌==◌, ◌||◌, not, nat_lt, if◌then◌else◌, List, [], ◌∷◌, map, length, Option, None, is_some}
+use Rattle.std.specs.Prelude.{ℕ, ◌+◌, ◌-◌, min, ◌^◌, Bool, false, ◌==◌, ◌||◌, not, nat_lt}
+use Rattle.std.specs.Prelude.{if◌then◌else◌, List, [], ◌∷◌, map, length, Option, None, is_some}
 use Rattle.std.specs.Prelude.{option_map, unwrap_or, Ok, Err}
 use Rattle.std.specs.List.{list_any}
 use Rattle.r2d2_core.specs.declared.run.Step.{Step}
@@ -7,17 +8,19 @@ use Rattle.r2d2_core.specs.declared.run.Step.TheVariants as step
 use Rattle.r2d2_core.specs.declared.machine.answers.Refusal.{Refusal}
 use Rattle.r2d2_core.specs.declared.machine.answers.Refusal.TheVariants as refusal
 use Rattle.r2d2_core.specs.Limits.{top_up, later_by, delay_of, has_reached}
-use Rattle.r2d2_core.specs.Lending.{lent_next}
+use Rattle.r2d2_core.specs.Lending.{next_to_lend}
 use Rattle.r2d2_core.specs.Connections.{closed_of, pair_of}
 use Rattle.r2d2_core.specs.Refusals.{refused_if}
-use Rattle.r2d2_core.specs.Seen.{SeenAnswer, Taken, Found, Empty, Begun, Numbered, Admitted, Failed, CheckFailed, CameBack, SeenReturned, Kept, Closed, Reaped}
-use Rattle.r2d2_core.specs.Seen.{Told, Left}
+use Rattle.r2d2_core.specs.Seen.{SeenAnswer, Taken, Found, Empty, Begun, Numbered, Admitted, Failed}
+use Rattle.r2d2_core.specs.Seen.{CheckFailed, PutBack, SeenReturned, Kept, Closed, Reaped}
+use Rattle.r2d2_core.specs.Seen.{TakeError, Close}
 use Rattle.r2d2_core.specs.Picture.{Picture}
 use Rattle.r2d2_core.specs.Seen.{take_with}
 use Rattle.r2d2_core.specs.Seen.{or_text}
 use Rattle.r2d2_core.specs.History.{History, Made, Then, limits_of, is_closed, now_of, moment_of}
 use Rattle.r2d2_core.specs.Deeds.{connections_of, idle_of, lent_of, birth_of}
-use Rattle.r2d2_core.specs.Pending.{pending_of, job_of, in_work_at, next_id_of, numbered_of, on_order_of}
+use Rattle.r2d2_core.specs.Pending.{pending_of, job_of, in_work_at, next_id_of, numbered_of}
+use Rattle.r2d2_core.specs.Pending.{on_order_of}
 
 module _ {T : Type 0} where
   -- REFUSALS
@@ -33,12 +36,19 @@ module _ {T : Type 0} where
 
   -- why a step after h is refused, if it is
   abbrev pub refusal_of : History T → Step T → Option Refusal
-  refusal_of h (step.Number tries) = refused_if (is_closed h) refusal.Closed (refused_if (not (is_in_work h tries)) refusal.NoOpening
+  refusal_of h (step.Number tries) =
+      refused_if (is_closed h) refusal.Closed
+      (refused_if (not (is_in_work h tries)) refusal.NoOpening
       (refused_if (next_id_of h == 2 ^ 64 - 1) refusal.IdsUsedUp None))
-  refusal_of h (step.Admit now id value) = refused_if (is_closed h) refusal.Closed (refused_if (not (is_numbered h id)) refusal.NotNumbered None)
-  refusal_of h (step.Fail now tries text) = refused_if (is_closed h) refusal.Closed (refused_if (not (is_in_work h tries)) refusal.NoOpening None)
+  refusal_of h (step.Admit now id value) =
+      refused_if (is_closed h) refusal.Closed
+      (refused_if (not (is_numbered h id)) refusal.NotNumbered None)
+  refusal_of h (step.Fail now tries text) =
+      refused_if (is_closed h) refusal.Closed
+      (refused_if (not (is_in_work h tries)) refusal.NoOpening None)
   refusal_of h (step.FailCheck now id text) = refused_if (not (is_lent h id)) refusal.NotLent None
-  refusal_of h (step.PutBack now id value broken) = refused_if (not (is_lent h id)) refusal.NotLent None
+  refusal_of h (step.PutBack now id value broken) =
+      refused_if (not (is_lent h id)) refusal.NotLent None
   refusal_of h _ = None
 
   -- the answer to a refused step: the payload comes back
@@ -47,9 +57,10 @@ module _ {T : Type 0} where
   refused_with (step.Admit now id value) why = Admitted (Err (why, value))
   refused_with (step.Fail now tries text) why = Failed (Err why)
   refused_with (step.FailCheck now id text) why = CheckFailed (Err why)
-  refused_with (step.PutBack now id value broken) why = CameBack (Err (why, value))
-  -- no other step is refused, so this never comes
-  refused_with _ why = Told None
+  refused_with (step.PutBack now id value broken) why = PutBack (Err (why, value))
+  -- no other step is ever refused (`refusal_of`), so this is never given: a function needs a clause
+  -- for each step
+  refused_with _ why = TakeError None
 
   -- THE LAST ERROR
 
@@ -70,54 +81,68 @@ module _ {T : Type 0} where
 
   -- one that comes back is closed where it is broken or too old, or the core is closed
   abbrev pub closes : History T → ℕ → ℕ → Bool → Bool
-  closes h t id broken = broken || (has_reached (limits_of h).max_lifetime (age_of h t id) || is_closed h)
+  closes h t id broken =
+      broken || (has_reached (limits_of h).max_lifetime (age_of h t id) || is_closed h)
 
   abbrev pub return_with : Bool → T → ℕ → ℕ → SeenReturned T
   return_with b value age n = if b then Closed value age n else Kept
 
-  -- the answer to a step that is accepted, were it to order n openings
+  -- the answer to a step that is accepted, at the raised moment t, were it to order n openings
+  abbrev pub reply_at : History T → ℕ → ℕ → Step T → SeenAnswer T
+  reply_at h t n (step.Take now or_order) =
+      Taken (take_with (next_to_lend (limits_of h).order (idle_of h)) n)
+  reply_at h t n (step.Begin now) = Begun (job_of h t)
+  reply_at h t n (step.Number tries) = Numbered (Ok (next_id_of h))
+  reply_at h t n (step.Admit now id value) = Admitted (Ok tt)
+  reply_at h t n (step.Fail now tries text) =
+      Failed (Ok (later_by t (delay_of (limits_of h) (tries + 1))))
+  reply_at h t n (step.FailCheck now id text) =
+      CheckFailed (Ok (record { age = age_of h t id; ordered = n }))
+  reply_at h t n (step.PutBack now id value broken) =
+      PutBack (Ok (return_with (closes h t id broken) value (age_of h t id) n))
+  reply_at h t n (step.Reap now) = Reaped (closed_of (limits_of h) t (idle_of h)) n
+  reply_at h t n step.TakeError = TakeError (last_error_of h)
+  reply_at h t n step.Close = Close (map pair_of (idle_of h))
+
+  -- the same, at the step's own raised moment
   abbrev pub reply_with : History T → ℕ → Step T → SeenAnswer T
-  reply_with h n (step.Take now or_order) = Taken (take_with (lent_next (limits_of h).order (idle_of h)) n)
-  reply_with h n (step.Begin now) = Begun (job_of h (moment_of h (step.Begin now)))
-  reply_with h n (step.Number tries) = Numbered (Ok (next_id_of h))
-  reply_with h n (step.Admit now id value) = Admitted (Ok tt)
-  reply_with h n (step.Fail now tries text) = Failed (Ok (later_by (moment_of h (step.Fail now tries text)) (delay_of (limits_of h) (tries + 1))))
-  reply_with h n (step.FailCheck now id text) = CheckFailed (Ok (record { age = age_of h (moment_of h (step.FailCheck now id text)) id; ordered = n }))
-  reply_with h n (step.PutBack now id value broken) =
-      let t = moment_of h (step.PutBack now id value broken) in
-      CameBack (Ok (return_with (closes h t id broken) value (age_of h t id) n))
-  reply_with h n (step.Reap now) = Reaped (closed_of (limits_of h) (moment_of h (step.Reap now)) (idle_of h)) n
-  reply_with h n step.TakeError = Told (last_error_of h)
-  reply_with h n step.Close = Left (map pair_of (idle_of h))
+  reply_with h n s = reply_at h (moment_of h s) n s
 
   -- ORDERS
 
   -- what a top-up orders after a step, where there was no close
   abbrev pub top_up_after : History T → History T → ℕ
-  top_up_after h after = top_up (limits_of h) false (length (idle_of after)) (connections_of after) (pending_of h)
+  top_up_after h after =
+      top_up (limits_of h) false (length (idle_of after)) (connections_of after) (pending_of h)
 
   -- one where a miss asks for it, as far as there is room
   abbrev pub order_on_miss : History T → Bool → ℕ
-  order_on_miss h or_order = if or_order then min 1 ((limits_of h).max_size - connections_of h - pending_of h) else 0
+  order_on_miss h or_order =
+      if or_order then min 1 ((limits_of h).max_size - connections_of h - pending_of h) else 0
 
   -- how many openings a step with that answer orders, where after is h and the step
   abbrev pub orders_by : History T → History T → Step T → SeenAnswer T → ℕ
   orders_by h after s (Taken (Found id birth value n)) = top_up_after h after
   orders_by h after (step.Take now or_order) (Taken (Empty n)) = order_on_miss h or_order
   orders_by h after s (CheckFailed (Ok gone)) = top_up_after h after
-  orders_by h after s (CameBack (Ok (Closed value age n))) = top_up_after h after
+  orders_by h after s (PutBack (Ok (Closed value age n))) = top_up_after h after
   orders_by h after s (Reaped closed n) = top_up_after h after
   orders_by h after s _ = 0
 
-  -- how many openings a step orders; neither what is idle nor the connections depend on the number that an answer names
+  -- how many openings a step orders. It is read off the history with the step, answered as if it
+  -- ordered none: what is idle and connected after a step does not depend on the number that its
+  -- answer names
   unfoldable pub orders_of : History T → Step T → ℕ
-  orders_of h s = if is_closed h then 0 else orders_by h (Then h s (reply_with h 0 s)) s (reply_with h 0 s)
+  orders_of h s =
+      let r = reply_with h 0 s in
+      if is_closed h then 0 else orders_by h (Then h s r) s r
 
   -- A STEP
 
   -- the answer to a step after h
   abbrev pub answer_of : History T → Step T → SeenAnswer T
-  answer_of h s = unwrap_or (option_map (refused_with s) (refusal_of h s)) (reply_with h (orders_of h s) s)
+  answer_of h s =
+      unwrap_or (option_map (refused_with s) (refusal_of h s)) (reply_with h (orders_of h s) s)
 
   -- the history with a step, if it is accepted
   abbrev pub after : History T → Step T → History T

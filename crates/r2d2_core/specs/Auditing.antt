@@ -1,19 +1,23 @@
 -- What a report's audit looks at, test by test.
-use Rattle.std.specs.Prelude.{◌≡◌, ℕ, ◌+◌, Bool, true, ◌==◌, ◌||◌, ◌&&◌, not, nat_le, List, [], ◌∷◌, length, map}
+use Rattle.std.specs.Prelude.{◌≡◌, ℕ, ◌+◌, Bool, true, ◌==◌, ◌||◌, ◌&&◌, not, nat_le, List, [], ◌∷◌}
+use Rattle.std.specs.Prelude.{length, map}
 use Rattle.r2d2_core.specs.Limits.{SeenLimits}
 use Rattle.r2d2_core.specs.Connections.{SeenLentConnection, id_of_idle, id_of_lent}
 use Rattle.r2d2_core.specs.Bases.{SeenBase, BareConnection}
 use Rattle.r2d2_core.specs.declared.journal.report.Report.{Report}
 
--- connections are the idle ones and the lent ones, with the pending ones at most `max_size`; once closed, nothing is idle or pending
+-- connections are the idle ones and the lent ones, with the pending ones at most `max_size`; once
+-- closed, nothing is idle or pending
 abbrev pub counts_fit : SeenLimits → SeenBase → Bool
-counts_fit limits b = (b.connections == length b.idle + length b.lent) && (nat_le (b.connections + b.pending) limits.max_size &&
+counts_fit limits b = (b.connections == length b.idle + length b.lent)
+    && (nat_le (b.connections + b.pending) limits.max_size &&
     (not b.closed || ((length b.idle == 0) && (b.pending == 0))))
 
 -- idle moments never fall, from one on, and none is after another; each was admitted before
 abbrev pub are_in_order : ℕ → ℕ → List BareConnection → Bool
 are_in_order at last [] = true
-are_in_order at last (c ∷ cs) = (nat_le c.birth c.since && (nat_le last c.since && nat_le c.since at)) && are_in_order at c.since cs
+are_in_order at last (c ∷ cs) = (nat_le c.birth c.since
+    && (nat_le last c.since && nat_le c.since at)) && are_in_order at c.since cs
 
 -- each lent one was admitted before
 abbrev pub are_born : ℕ → List SeenLentConnection → Bool

@@ -1,12 +1,15 @@
--- Bases: what stood before the oldest of some records. They tell no payload. Moments are in nanoseconds.
+-- Bases: what stood before the oldest of some records. They tell no payload. Moments are in
+-- nanoseconds.
 use Rattle.std.specs.Prelude.{◌≡◌, ℕ, ◌+◌, ◌≤◌, Bool, true, false, List, [], ◌++◌, length, map}
 use Rattle.std.specs.Duration.{as_nanos}
 use Rattle.std.specs.declared.time.Duration.{Duration}
 use Rattle.std.specs.List.{All}
 use Rattle.std.specs.List.Sorted.{IsNonDecreasingBy}
 use Rattle.r2d2_core.specs.Limits.{SeenLimits, wanted_of}
+use Rattle.r2d2_core.specs.Sums.{FitsIn}
 use Rattle.r2d2_core.specs.Ids.{copies_of}
-use Rattle.r2d2_core.specs.Connections.{SeenIdleConnection, SeenLentConnection, idle_connection, lent_connection, id_of_idle, id_of_lent, since_of}
+use Rattle.r2d2_core.specs.Connections.{SeenIdleConnection, SeenLentConnection, idle_connection}
+use Rattle.r2d2_core.specs.Connections.{lent_connection, id_of_idle, id_of_lent, since_of}
 
 -- an idle connection without its payload
 abbrev pub BareConnection : Type 0
@@ -33,23 +36,31 @@ pub record SeenBase : Type 0 where
 
 -- a base of these parts, in their order
 abbrev pub base_of : ℕ → List BareConnection → List SeenLentConnection → ℕ → ℕ → Bool → SeenBase
-base_of at idle lent connections pending closed = record { at = at; idle = idle; lent = lent; connections = connections; pending = pending; closed = closed }
+base_of at idle lent connections pending closed = record {
+  at = at;
+  idle = idle;
+  lent = lent;
+  connections = connections;
+  pending = pending;
+  closed = closed;
+}
 
 -- that of a pool just made, at a moment: what is wanted is pending
 abbrev pub first_base : SeenLimits → ℕ → SeenBase
 first_base limits now = base_of now [] [] 0 (wanted_of limits) false
 
 -- the ids of all that is idle or lent in it
-abbrev pub ids_of : SeenBase → List ℕ
-ids_of b = map id_of_idle b.idle ++ map id_of_lent b.lent
+abbrev pub ids_in_base : SeenBase → List ℕ
+ids_in_base b = map id_of_idle b.idle ++ map id_of_lent b.lent
 
 -- what holds of each base of a pool with these limits
 pub record IsLegalBase (limits : SeenLimits) (b : SeenBase) : Type 0 where
   -- no id stands twice
-  pub apart : (i : ℕ) → copies_of i (ids_of b) ≤ 1
-  -- connections are the idle ones and the lent ones; with the pending ones they are at most `max_size`
+  pub apart : (i : ℕ) → copies_of i (ids_in_base b) ≤ 1
+  -- connections are the idle ones and the lent ones; with the pending ones they are at most
+  -- `max_size`
   pub counted : b.connections ≡ length b.idle + length b.lent
-  pub fits : b.connections + b.pending ≤ limits.max_size
+  pub fits : FitsIn limits.max_size b.connections b.pending
   -- the idle ones stand in the order in which they came to be idle, none after its moment
   pub is_sorted : IsNonDecreasingBy since_of b.idle
   pub seen : All (λ c. c.since ≤ b.at) b.idle

@@ -29,7 +29,8 @@ pub record ComesTo {T : Type 0} (b : SeenBase) (p : Picture T) : Type 0 where
   pub closed : b.closed ≡ p.on_order.closed
 
 -- records are legal from a legal base, and what they come to from there is what a picture shows
-pub record ReplayTo {T : Type 0} (limits : SeenLimits) (b : SeenBase) (rs : List SeenRecord) (p : Picture T) : Type 0 where
+pub record ReplayTo {T : Type 0} (limits : SeenLimits) (b : SeenBase) (rs : List SeenRecord)
+    (p : Picture T) : Type 0 where
   pub base : IsLegalBase limits b
   pub legal : AreLegalFrom limits b rs
   pub shows : ComesTo (replay limits rs b) p

@@ -10,7 +10,8 @@ use Rattle.r2d2_core.specs.Journal.{SeenJournal, BeginsAtTheMaking}
 use Rattle.r2d2_core.specs.Book.{SeenBook, seen_book, bare, ReplayTo}
 
 -- records replay to what a picture shows, and will with the next one
-pub record KeepReplaying {T : Type 0} (limits : SeenLimits) (b : SeenBase) (rs : List SeenRecord) (p : Picture T) : Type 0 where
+pub record KeepReplaying {T : Type 0} (limits : SeenLimits) (b : SeenBase) (rs : List SeenRecord)
+    (p : Picture T) : Type 0 where
   pub same : limits ≡ p.on_order.limits
   pub replays : ReplayTo limits b rs p
   pub not_after : (let now = replay limits rs b in now.at) ≤ p.latest
@@ -21,9 +22,11 @@ pub record KeepReplaying {T : Type 0} (limits : SeenLimits) (b : SeenBase) (rs :
 module _ {T : Type 0} where
   -- what a picture shows, as a base that tells up to a moment
   abbrev pub shown_at : ℕ → Picture T → SeenBase
-  shown_at at p = base_of at (map bare p.idle) p.lent p.connections p.on_order.pending p.on_order.closed
+  shown_at at p =
+      base_of at (map bare p.idle) p.lent p.connections p.on_order.pending p.on_order.closed
 
-  -- a journal beside its machine: where it has no room, what is before its records is what the machine shows
+  -- a journal beside its machine: where it has no room, what is before its records is what the
+  -- machine shows
   abbrev pub beside : Picture T → SeenJournal → SeenJournal
   beside p l = record l { base = if l.room == 0 then shown_at l.base.at p else l.base }
 

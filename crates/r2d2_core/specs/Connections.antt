@@ -33,7 +33,8 @@ birth_in i lent = option_map (λ c. c.birth) (found id_of_lent i lent)
 
 module _ {T : Type 0} where
   abbrev pub idle_connection : ℕ → ℕ → ℕ → T → SeenIdleConnection T
-  idle_connection id birth since value = record { id = id; birth = birth; since = since; value = value }
+  idle_connection id birth since value =
+      record { id = id; birth = birth; since = since; value = value }
 
   abbrev pub id_of_idle : SeenIdleConnection T → ℕ
   id_of_idle c = c.id
@@ -46,7 +47,8 @@ module _ {T : Type 0} where
 
   -- a reap at the moment closes it: it is idle too long, or too old
   unfoldable pub is_expired : SeenLimits → ℕ → SeenIdleConnection T → Bool
-  is_expired limits now c = has_reached limits.idle_timeout (now - c.since) || has_reached limits.max_lifetime (now - c.birth)
+  is_expired limits now c = has_reached limits.idle_timeout (now - c.since)
+      || has_reached limits.max_lifetime (now - c.birth)
 
   -- or keeps it
   unfoldable pub is_kept : SeenLimits → ℕ → SeenIdleConnection T → Bool

@@ -1,19 +1,23 @@
--- Which connections are idle and lent: each accepted step did something to ids, and the latest deed of an id says where its connection is.
-use Rattle.std.specs.Prelude.{ℕ, ◌+◌, ◌-◌, Bool, true, false, ◌==◌, if◌then◌else◌, List, [], ◌∷◌, ◌++◌, map, length, filter_map, Option, Some, None, option_map}
+-- Which connections are idle and lent: each accepted step did something to ids, and the latest deed
+-- of an id says where its connection is.
+use Rattle.std.specs.Prelude.{ℕ, ◌-◌, Bool, true, false, ◌==◌, if◌then◌else◌, List, [], ◌∷◌, ◌++◌}
+use Rattle.std.specs.Prelude.{map, filter_map, count_by, Option, Some, None, option_map}
 use Rattle.std.specs.Prelude.{Ok}
 use Rattle.r2d2_core.specs.declared.run.Step.{Step}
 use Rattle.r2d2_core.specs.declared.run.Step.TheVariants as step
 use Rattle.r2d2_core.specs.Ids.{latest}
-use Rattle.r2d2_core.specs.Connections.{SeenIdleConnection, SeenLentConnection, idle_connection, lent_connection}
-use Rattle.r2d2_core.specs.Seen.{SeenAnswer, Taken, Found, CameBack, Kept, Closed, Reaped, Left, CheckFailed}
+use Rattle.r2d2_core.specs.Connections.{SeenIdleConnection, SeenLentConnection, idle_connection}
+use Rattle.r2d2_core.specs.Connections.{lent_connection}
+use Rattle.r2d2_core.specs.Seen as seen
+use Rattle.r2d2_core.specs.Seen.{SeenAnswer, Found, PutBack, Closed, Reaped, Close, CheckFailed}
 use Rattle.r2d2_core.specs.History.{History, Made, Then, moment_of}
 
 -- what was done to a connection; where it came to be idle, with the payload that was handed in
 pub data What (T : Type 0) : Type 0 where
-  Admission : (value : T) → What T
-  Taking_out : What T
-  Keeping : (value : T) → What T
-  Going : What T
+  Admitted : (value : T) → What T
+  Taken : What T
+  Kept : (value : T) → What T
+  Gone : What T
 
 pub record Deed (T : Type 0) : Type 0 where
   pub id : ℕ
@@ -29,13 +33,16 @@ module _ {T : Type 0} where
 
   -- the deeds of a step, by its answer
   abbrev pub deeds_in : ℕ → Step T → SeenAnswer T → List (Deed T)
-  deeds_in t (step.Take now or_order) (Taken (Found id birth value ordered)) = deed id t Taking_out ∷ []
-  deeds_in t (step.Admit now id value) r = deed id t (Admission value) ∷ []
-  deeds_in t (step.FailCheck now id text) r = deed id t Going ∷ []
-  deeds_in t (step.PutBack now id value broken) (CameBack (Ok Kept)) = deed id t (Keeping value) ∷ []
-  deeds_in t (step.PutBack now id value broken) (CameBack (Ok (Closed v age ordered))) = deed id t Going ∷ []
-  deeds_in t (step.Reap now) (Reaped closed ordered) = map (λ c. deed c.id t Going) closed
-  deeds_in t step.Close (Left left) = map (λ p. deed p.0 t Going) left
+  deeds_in t (step.Take now or_order) (seen.Taken (Found id birth value ordered)) =
+      deed id t Taken ∷ []
+  deeds_in t (step.Admit now id value) r = deed id t (Admitted value) ∷ []
+  deeds_in t (step.FailCheck now id text) r = deed id t Gone ∷ []
+  deeds_in t (step.PutBack now id value broken) (PutBack (Ok seen.Kept)) =
+      deed id t (Kept value) ∷ []
+  deeds_in t (step.PutBack now id value broken) (PutBack (Ok (Closed v age ordered))) =
+      deed id t Gone ∷ []
+  deeds_in t (step.Reap now) (Reaped closed ordered) = map (λ c. deed c.id t Gone) closed
+  deeds_in t step.Close (Close left) = map (λ p. deed p.0 t Gone) left
   deeds_in t s r = []
 
   -- all deeds, oldest first
@@ -59,12 +66,12 @@ module _ {T : Type 0} where
 
   -- the payload that an admission or a kept return handed in
   abbrev pub value_in : What T → Option T
-  value_in (Admission value) = Some value
-  value_in (Keeping value) = Some value
+  value_in (Admitted value) = Some value
+  value_in (Kept value) = Some value
   value_in _ = None
 
   abbrev pub is_taking : What T → Bool
-  is_taking Taking_out = true
+  is_taking Taken = true
   is_taking _ = false
 
   -- an idle connection, of this birth, where the deed leaves one
@@ -85,23 +92,21 @@ module _ {T : Type 0} where
 
   -- HOW MANY
 
+  abbrev pub has_come : What T → Bool
+  has_come (Admitted value) = true
+  has_come _ = false
+
+  abbrev pub is_gone : What T → Bool
+  is_gone Gone = true
+  is_gone _ = false
+
   -- how many ids were admitted
   abbrev pub admitted_count : History T → ℕ
-  admitted_count (Made limits moment first) = 0
-  admitted_count (Then h (step.Admit now id value) r) = admitted_count h + 1
-  admitted_count (Then h _ r) = admitted_count h
-
-  abbrev pub gone_count_after : ℕ → SeenAnswer T → ℕ
-  gone_count_after n (CheckFailed (Ok gone)) = n + 1
-  gone_count_after n (CameBack (Ok (Closed value age ordered))) = n + 1
-  gone_count_after n (Reaped closed ordered) = n + length closed
-  gone_count_after n (Left left) = n + length left
-  gone_count_after n _ = n
+  admitted_count h = count_by (λ d. has_come d.what) (deeds_of h)
 
   -- how many are gone
   abbrev pub gone_count : History T → ℕ
-  gone_count (Made limits moment first) = 0
-  gone_count (Then h s r) = gone_count_after (gone_count h) r
+  gone_count h = count_by (λ d. is_gone d.what) (deeds_of h)
 
   -- how many ids were admitted, less how many are gone; never more are gone than were admitted
   unfoldable pub connections_of : History T → ℕ

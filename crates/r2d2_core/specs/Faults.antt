@@ -21,8 +21,10 @@ module _ {B : Type 0} where
   pub record IsFirstWrong (r : Report B) (place : ℕ) : Type 0 where
     pub base : IsLegalBase (seen_limits r.limits) (seen_base r.base)
     pub here : place < length r.records.items
-    pub before : AreLegalFrom (seen_limits r.limits) (seen_base r.base) (take place (seen_records r))
-    pub wrong : AreLegalFrom (seen_limits r.limits) (seen_base r.base) (take (place + 1) (seen_records r)) → ⊥
+    pub before : AreLegalFrom (seen_limits r.limits) (seen_base r.base)
+        (take place (seen_records r))
+    pub wrong : AreLegalFrom (seen_limits r.limits) (seen_base r.base)
+        (take (place + 1) (seen_records r)) → ⊥
 
   -- all records are legal from the base, but what they come to is not what the report shows
   pub record ComesToOther (r : Report B) : Type 0 where
@@ -39,11 +41,16 @@ module _ {B : Type 0} where
   -- and what stood there: before the record at the place, or in the end
   abbrev pub IsFault : Fault B → Report B → Type 0
   IsFault fault.Base r = HasWrongBase r
-  IsFault (fault.Record place before) r = IsFirstWrong r place × (seen_base before ≡ replay (seen_limits r.limits) (take place (seen_records r)) (seen_base r.base))
+  IsFault (fault.Record place before) r =
+      IsFirstWrong r place × (seen_base before ≡ replay (seen_limits r.limits)
+      (take place (seen_records r)) (seen_base r.base))
   IsFault (fault.Counts end) r = ComesToOther r × (seen_base end ≡ told_in r)
 
   -- so many records admit no id that was there before, and the next one does, if there is one
   pub record AreApartUpTo (r : Report B) (count : ℕ) : Type 0 where
     pub within : count ≤ length r.records.items
-    pub apart : (i : ℕ) → copies_of i (known_in (seen_base r.base) (take count (seen_records r))) ≤ 1
-    pub stops : count < length r.records.items → ((i : ℕ) → copies_of i (known_in (seen_base r.base) (take (count + 1) (seen_records r))) ≤ 1) → ⊥
+    pub apart : (i : ℕ) → copies_of i (known_in (seen_base r.base) (take count (seen_records r)))
+        ≤ 1
+    pub stops : count < length r.records.items
+        → ((i : ℕ) → copies_of i (known_in (seen_base r.base) (take (count + 1) (seen_records r)))
+        ≤ 1) → ⊥

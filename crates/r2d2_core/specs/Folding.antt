@@ -1,22 +1,26 @@
--- What records come to from a base, and which are legal. They stand the oldest first, as in a book and in a report.
-use Rattle.std.specs.Prelude.{◌≡◌, ℕ, ◌+◌, ◌-◌, ◌≤◌, Bool, true, false, ◌==◌, ◌||◌, ◌&&◌, not, nat_lt, nat_le, List, [], ◌∷◌, ◌++◌, length, filter, is_some}
+-- What records come to from a base, and which are legal. They stand the oldest first, as in a book
+-- and in a report.
+use Rattle.std.specs.Prelude.{◌≡◌, ℕ, ◌+◌, ◌-◌, ◌≤◌, Bool, true, false, ◌==◌, ◌||◌, ◌&&◌, not}
+use Rattle.std.specs.Prelude.{nat_lt, nat_le, List, [], ◌∷◌, ◌++◌, length, filter, is_some}
 use Rattle.std.specs.Prelude.{option_map, unwrap_or}
 use Rattle.r2d2_core.specs.Limits.{SeenLimits, top_up, has_reached}
 use Rattle.r2d2_core.specs.Ids.{found, without, copies_of}
-use Rattle.r2d2_core.specs.Lending.{lent_next}
-use Rattle.r2d2_core.specs.Connections.{SeenLentConnection, idle_connection, lent_connection, id_of_idle, id_of_lent, birth_in, is_expired, is_kept}
-use Rattle.r2d2_core.specs.Records.{SeenRecord, Taken, Ordered, Admitted, Kept, Closed, Reaped, ClosedAll}
-use Rattle.r2d2_core.specs.Bases.{SeenBase, BareConnection, ids_of}
+use Rattle.r2d2_core.specs.Lending.{next_to_lend}
+use Rattle.r2d2_core.specs.Connections.{SeenLentConnection, idle_connection, lent_connection}
+use Rattle.r2d2_core.specs.Connections.{id_of_idle, id_of_lent, birth_in, is_expired, is_kept}
+use Rattle.r2d2_core.specs.Records.{SeenRecord, Taken, Ordered, Admitted, Kept, Closed, Reaped}
+use Rattle.r2d2_core.specs.Records.{ClosedAll}
+use Rattle.r2d2_core.specs.Bases.{SeenBase, BareConnection, ids_in_base}
 
 -- the moment of a record
-abbrev pub moment_in : SeenRecord → ℕ
-moment_in (Taken at id n) = at
-moment_in (Ordered at n) = at
-moment_in (Admitted at id) = at
-moment_in (Kept at id) = at
-moment_in (Closed at id n) = at
-moment_in (Reaped at n) = at
-moment_in (ClosedAll at) = at
+abbrev pub moment_of_record : SeenRecord → ℕ
+moment_of_record (Taken at id n) = at
+moment_of_record (Ordered at n) = at
+moment_of_record (Admitted at id) = at
+moment_of_record (Kept at id) = at
+moment_of_record (Closed at id n) = at
+moment_of_record (Reaped at n) = at
+moment_of_record (ClosedAll at) = at
 
 -- the birth of the idle one with the id, and of the lent one
 abbrev pub birth_of_idle : ℕ → List BareConnection → ℕ
@@ -25,43 +29,69 @@ birth_of_idle id idle = unwrap_or (option_map (λ c. c.birth) (found id_of_idle 
 abbrev pub birth_of_lent : ℕ → List SeenLentConnection → ℕ
 birth_of_lent id lent = unwrap_or (birth_in id lent) 0
 
--- the idle ones that a reap at the moment keeps, and how many it closes
-abbrev pub idle_after_reap : SeenLimits → ℕ → SeenBase → List BareConnection
-idle_after_reap limits at b = filter (is_kept limits at) b.idle
+-- how many a reap at the moment of a base closes
+abbrev pub expired_in : SeenLimits → SeenBase → ℕ
+expired_in limits b = length (filter (is_expired limits b.at) b.idle)
 
-abbrev pub expired_in : SeenLimits → ℕ → SeenBase → ℕ
-expired_in limits at b = length (filter (is_expired limits at) b.idle)
+-- WHAT IS DONE TO A BASE, at its moment
 
--- WHAT THEY COME TO
+-- the base that tells up to a moment
+abbrev pub up_to : ℕ → SeenBase → SeenBase
+up_to at b = record b { at = at }
 
--- the base with a record
-abbrev pub folded : SeenLimits → SeenRecord → SeenBase → SeenBase
-folded limits (Taken at id n) b = record b {
-  at = at;
+-- n more are pending
+abbrev pub with_more : ℕ → SeenBase → SeenBase
+with_more n b = record b { pending = b.pending + n }
+
+-- the idle one with the id is lent
+abbrev pub lent_in : ℕ → SeenBase → SeenBase
+lent_in id b = record b {
   idle = without id_of_idle id b.idle;
   lent = b.lent ++ lent_connection id (birth_of_idle id b.idle) ∷ [];
-  pending = b.pending + n;
 }
-folded limits (Ordered at n) b = record b { at = at; pending = b.pending + n }
-folded limits (Admitted at id) b = record b {
-  at = at;
-  idle = b.idle ++ idle_connection id at at tt ∷ [];
+
+-- a pending one is admitted, under the id
+abbrev pub admitted_to : ℕ → SeenBase → SeenBase
+admitted_to id b = record b {
+  idle = b.idle ++ idle_connection id b.at b.at tt ∷ [];
   connections = b.connections + 1;
   pending = b.pending - 1;
 }
-folded limits (Kept at id) b = record b {
-  at = at;
-  idle = b.idle ++ idle_connection id (birth_of_lent id b.lent) at tt ∷ [];
+
+-- the lent one with the id is idle again
+abbrev pub kept_in : ℕ → SeenBase → SeenBase
+kept_in id b = record b {
+  idle = b.idle ++ idle_connection id (birth_of_lent id b.lent) b.at tt ∷ [];
   lent = without id_of_lent id b.lent;
 }
-folded limits (Closed at id n) b = record b { at = at; lent = without id_of_lent id b.lent; connections = b.connections - 1; pending = b.pending + n }
-folded limits (Reaped at n) b = record b {
-  at = at;
-  idle = idle_after_reap limits at b;
-  connections = b.connections - expired_in limits at b;
-  pending = b.pending + n;
+
+-- the lent one with the id is gone
+abbrev pub parted_from : ℕ → SeenBase → SeenBase
+parted_from id b = record b { lent = without id_of_lent id b.lent; connections = b.connections - 1 }
+
+-- the expired ones are gone
+abbrev pub swept_of : SeenLimits → SeenBase → SeenBase
+swept_of limits b = record b {
+  idle = filter (is_kept limits b.at) b.idle;
+  connections = b.connections - expired_in limits b;
 }
-folded limits (ClosedAll at) b = record b { at = at; idle = []; connections = b.connections - length b.idle; pending = 0; closed = true }
+
+-- the idle ones are gone, and nothing is pending
+abbrev pub closed_all_in : SeenBase → SeenBase
+closed_all_in b =
+    record b { idle = []; connections = b.connections - length b.idle; pending = 0; closed = true }
+
+-- WHAT RECORDS COME TO
+
+-- the base with a record
+abbrev pub folded : SeenLimits → SeenRecord → SeenBase → SeenBase
+folded limits (Taken at id n) b = with_more n (lent_in id (up_to at b))
+folded limits (Ordered at n) b = with_more n (up_to at b)
+folded limits (Admitted at id) b = admitted_to id (up_to at b)
+folded limits (Kept at id) b = kept_in id (up_to at b)
+folded limits (Closed at id n) b = with_more n (parted_from id (up_to at b))
+folded limits (Reaped at n) b = with_more n (swept_of limits (up_to at b))
+folded limits (ClosedAll at) b = closed_all_in (up_to at b)
 
 -- the base with all of them
 abbrev pub replay : SeenLimits → List SeenRecord → SeenBase → SeenBase
@@ -72,24 +102,41 @@ replay limits (r ∷ rs) b = replay limits rs (folded limits r b)
 
 -- whether an id is that of the idle one that is lent next
 abbrev pub is_next : SeenLimits → ℕ → SeenBase → Bool
-is_next limits id b = unwrap_or (option_map (λ c. c.id == id) (lent_next limits.order b.idle)) false
+is_next limits id b =
+    unwrap_or (option_map (λ c. c.id == id) (next_to_lend limits.order b.idle)) false
 
--- whether a record fits a base, but for its moment. The one taken is the idle one that is next; one is ordered alone, where none is idle and
--- there is room; one is admitted where an opening is pending; what is kept or closed is lent, and what is kept is not to be closed; a reap
--- closes or orders; a pool is closed once; and all order what they have to
+-- what a top-up of a base orders
+abbrev pub top_up_in : SeenLimits → SeenBase → ℕ
+top_up_in limits b = top_up limits b.closed (length b.idle) b.connections b.pending
+
+-- whether a record fits a base, but for its moment. Where a top-up follows, it orders what that
+-- orders
 abbrev pub fits : SeenLimits → SeenRecord → SeenBase → Bool
-fits limits (Taken at id n) b = is_next limits id b && (n == top_up limits b.closed (length b.idle - 1) b.connections b.pending)
-fits limits (Ordered at n) b = (length b.idle == 0) && ((n == 1) && (not b.closed && nat_lt (b.connections + b.pending) limits.max_size))
+-- the one taken is the idle one that is next
+fits limits (Taken at id n) b = is_next limits id b && (n == top_up_in limits (lent_in id b))
+-- one is ordered alone, where none is idle and there is room
+fits limits (Ordered at n) b =
+    (length b.idle == 0)
+    && ((n == 1) && (not b.closed && nat_lt (b.connections + b.pending) limits.max_size))
+-- one is admitted where an opening is pending
 fits limits (Admitted at id) b = nat_lt 0 b.pending
-fits limits (Kept at id) b = is_some (birth_in id b.lent) && (not b.closed && not (has_reached limits.max_lifetime (at - birth_of_lent id b.lent)))
-fits limits (Closed at id n) b = is_some (birth_in id b.lent) && (n == top_up limits b.closed (length b.idle) (b.connections - 1) b.pending)
-fits limits (Reaped at n) b = (n == top_up limits b.closed (length (idle_after_reap limits at b)) (b.connections - expired_in limits at b) b.pending) &&
-    (nat_lt 0 n || nat_lt 0 (expired_in limits at b))
+-- the one kept is lent, and not to be closed
+fits limits (Kept at id) b =
+    is_some (birth_in id b.lent)
+    && (not b.closed && not (has_reached limits.max_lifetime (at - birth_of_lent id b.lent)))
+-- the one closed is lent
+fits limits (Closed at id n) b =
+    is_some (birth_in id b.lent) && (n == top_up_in limits (parted_from id b))
+-- a reap closes or orders
+fits limits (Reaped at n) b =
+    (n == top_up_in limits (swept_of limits (up_to at b)))
+    && (nat_lt 0 n || nat_lt 0 (expired_in limits (up_to at b)))
+-- a pool is closed once
 fits limits (ClosedAll at) b = not b.closed
 
 -- and moments never fall
 abbrev pub may_follow : SeenLimits → SeenRecord → SeenBase → Bool
-may_follow limits r b = nat_le b.at (moment_in r) && fits limits r b
+may_follow limits r b = nat_le b.at (moment_of_record r) && fits limits r b
 
 -- each may follow what those before it come to
 abbrev pub all_follow : SeenLimits → List SeenRecord → SeenBase → Bool
@@ -107,7 +154,7 @@ admitted_in (r ∷ rs) = admitted_by r ++ admitted_in rs
 
 -- the ids in a base, and those that records admit
 abbrev pub known_in : SeenBase → List SeenRecord → List ℕ
-known_in b rs = ids_of b ++ admitted_in rs
+known_in b rs = ids_in_base b ++ admitted_in rs
 
 -- records are legal from a base where each may follow, and none admits an id that was there before
 pub record AreLegalFrom (limits : SeenLimits) (b : SeenBase) (rs : List SeenRecord) : Type 0 where

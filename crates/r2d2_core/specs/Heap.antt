@@ -8,7 +8,8 @@ use Rattle.r2d2_core.specs.Jobs.{SeenJob, Open, Reap, Wait, Nothing, Closed}
 unfoldable pub binary_digits : ℕ → ℕ
 binary_digits n = length (digits_of 2 n)
 
--- a `next` with this answer may take so many, where n openings were held: none but for an opening that is handed out
+-- a `next` with this answer may take so many, where n openings were held: none but for an opening
+-- that is handed out
 abbrev pub steps_of_job : SeenJob → ℕ → ℕ
 steps_of_job (Open tries) n = 2 * binary_digits n
 steps_of_job Reap n = 0
@@ -22,12 +23,15 @@ parent k = (k - 1) / 2
 
 -- no opening comes before its parent
 abbrev pub IsHeap : List SeenOpening → Type 0
-IsHeap xs = (k : ℕ) (d : SeenOpening) → 0 < k → k < length xs → is_before (slice_index_or xs k d) (slice_index_or xs (parent k) d) ≡ false
+IsHeap xs = (k : ℕ) (d : SeenOpening) → 0 < k → k < length xs
+    → is_before (slice_index_or xs k d) (slice_index_or xs (parent k) d) ≡ false
 
 -- none but perhaps the last one
 abbrev pub IsHeapButTheLast : List SeenOpening → Type 0
-IsHeapButTheLast xs = (k : ℕ) (d : SeenOpening) → 0 < k → k < length xs - 1 → is_before (slice_index_or xs k d) (slice_index_or xs (parent k) d) ≡ false
+IsHeapButTheLast xs = (k : ℕ) (d : SeenOpening) → 0 < k → k < length xs - 1
+    → is_before (slice_index_or xs k d) (slice_index_or xs (parent k) d) ≡ false
 
 -- none but perhaps the children of the first one
 abbrev pub IsHeapButTheFirst : List SeenOpening → Type 0
-IsHeapButTheFirst xs = (k : ℕ) (d : SeenOpening) → 0 < parent k → k < length xs → is_before (slice_index_or xs k d) (slice_index_or xs (parent k) d) ≡ false
+IsHeapButTheFirst xs = (k : ℕ) (d : SeenOpening) → 0 < parent k → k < length xs
+    → is_before (slice_index_or xs k d) (slice_index_or xs (parent k) d) ≡ false

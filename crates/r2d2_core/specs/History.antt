@@ -1,4 +1,5 @@
--- What happened to a core: how it was made, and which steps were accepted. Each definition looks back.
+-- What happened to a core: how it was made, and which steps were accepted. Each definition looks
+-- back.
 use Rattle.std.specs.Prelude.{ℕ, max, Bool, true, false}
 use Rattle.std.specs.Duration.{as_nanos}
 use Rattle.r2d2_core.specs.declared.run.Step.{Step}
@@ -6,7 +7,8 @@ use Rattle.r2d2_core.specs.declared.run.Step.TheVariants as step
 use Rattle.r2d2_core.specs.Limits.{SeenLimits}
 use Rattle.r2d2_core.specs.Seen.{SeenAnswer}
 
--- A core was made, with limits, at a moment, its ids counted from a first one; then came accepted steps, each with its answer.
+-- A core was made, with limits, at a moment, its ids counted from a first one; then came accepted
+-- steps, each with its answer.
 pub data History (T : Type 0) : Type 0 where
   Made : (limits : SeenLimits) (moment first : ℕ) → History T
   Then : (before : History T) (step : Step T) (reply : SeenAnswer T) → History T

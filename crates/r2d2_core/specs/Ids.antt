@@ -1,5 +1,6 @@
 -- Lists of things with ids.
-use Rattle.std.specs.Prelude.{ℕ, ◌+◌, ◌-◌, ◌==◌, if◌then◌else◌, List, [], ◌∷◌, length, take, Option, Some, None}
+use Rattle.std.specs.Prelude.{ℕ, ◌+◌, ◌-◌, ◌==◌, if◌then◌else◌, List, [], ◌∷◌, length, take, Option}
+use Rattle.std.specs.Prelude.{Some, None}
 use Rattle.std.specs.List.{list_any}
 
 -- the last of a list
@@ -25,7 +26,8 @@ without id_of i (x ∷ xs) = if id_of x == i then xs else x ∷ without id_of i 
 -- those that no later one of the same id follows
 abbrev pub latest : {X : Type 0} → (X → ℕ) → List X → List X
 latest id_of [] = []
-latest id_of (x ∷ later) = if list_any (λ y. id_of y == id_of x) later then latest id_of later else x ∷ latest id_of later
+latest id_of (x ∷ later) =
+    if list_any (λ y. id_of y == id_of x) later then latest id_of later else x ∷ latest id_of later
 
 -- a number is its own id
 abbrev pub same_id : ℕ → ℕ

@@ -33,4 +33,5 @@ abbrev pub first_job : ℕ → List SeenOpening → Option ℕ → SeenJob
 first_job now [] None = Nothing
 first_job now [] (Some reap) = reap_or_wait now reap
 first_job now (x ∷ xs) None = open_or_wait now x
-first_job now (x ∷ xs) (Some reap) = if nat_le x.due reap then open_or_wait now x else reap_or_wait now reap
+first_job now (x ∷ xs) (Some reap) =
+    if nat_le x.due reap then open_or_wait now x else reap_or_wait now reap

@@ -1,4 +1,5 @@
 pub mod Limits
+pub mod Sums
 pub mod Ids
 pub mod Lending
 pub mod Openings

@@ -1,5 +1,6 @@
 -- What the limits of a pool say. Lengths of time are compared in nanoseconds.
-use Rattle.std.specs.Prelude.{ℕ, ◌+◌, ◌-◌, ◌*◌, ◌/◌, ◌^◌, ◌<◌, ◌≤◌, min, Bool, false, ◌||◌, nat_le, Option, Some, None, is_some, unwrap_or, if◌then◌else◌}
+use Rattle.std.specs.Prelude.{ℕ, ◌+◌, ◌-◌, ◌*◌, ◌/◌, ◌^◌, ◌<◌, ◌≤◌, min, Bool, false, ◌||◌, nat_le}
+use Rattle.std.specs.Prelude.{Option, Some, None, is_some, unwrap_or, if◌then◌else◌}
 use Rattle.std.specs.Option.{ForSome}
 use Rattle.std.specs.Duration.{as_nanos, max_nanos}
 use Rattle.std.specs.declared.time.Duration.{Duration}
@@ -16,8 +17,20 @@ pub record SeenLimits : Type 0 where
   pub reap_every : Duration
   pub order : LendingOrder
 
+abbrev pub seen_limits : Limits → SeenLimits
+seen_limits l = record {
+  max_size = l.max_size;
+  min_idle = l.min_idle;
+  max_lifetime = l.max_lifetime;
+  idle_timeout = l.idle_timeout;
+  connection_timeout = l.connection_timeout;
+  reap_every = l.reap_every;
+  order = l.order;
+}
+
 -- limits that lend the newest first
-abbrev pub settings : ℕ → Option ℕ → Option Duration → Option Duration → Duration → Duration → SeenLimits
+abbrev pub settings : ℕ → Option ℕ → Option Duration → Option Duration → Duration → Duration
+    → SeenLimits
 settings size least life idle timeout every = record {
   max_size = size;
   min_idle = least;
@@ -32,9 +45,6 @@ settings size least life idle timeout every = record {
 abbrev pub with_order : LendingOrder → SeenLimits → SeenLimits
 with_order order limits = record limits { order = order }
 
-abbrev pub seen_limits : Limits → SeenLimits
-seen_limits l = record (settings l.max_size l.min_idle l.max_lifetime l.idle_timeout l.connection_timeout l.reap_every) { order = l.order }
-
 -- sizes and lengths are positive, and no more are wanted idle than there may be
 pub record AreLegal (limits : SeenLimits) : Type 0 where
   pub has_size : 0 < limits.max_size
@@ -48,9 +58,11 @@ pub record AreLegal (limits : SeenLimits) : Type 0 where
 abbrev pub wanted_of : SeenLimits → ℕ
 wanted_of limits = unwrap_or limits.min_idle limits.max_size
 
--- what a top-up orders where so many are idle, connected and pending: what is wanted beside the idle ones, as far as there is room; none once closed
+-- what a top-up orders where so many are idle, connected and pending: what is wanted beside the
+-- idle ones, as far as there is room; none once closed
 abbrev pub top_up : SeenLimits → Bool → ℕ → ℕ → ℕ → ℕ
-top_up limits closed idle connections pending = if closed then 0 else min (wanted_of limits - idle) (limits.max_size - connections - pending)
+top_up limits closed idle connections pending =
+    if closed then 0 else min (wanted_of limits - idle) (limits.max_size - connections - pending)
 
 -- whether reaps are ever due: only where an age or an idle time is limited
 abbrev pub has_reaps : SeenLimits → Bool
@@ -65,6 +77,7 @@ has_reached (Some limit) length = nat_le (as_nanos limit) length
 abbrev pub later_by : ℕ → ℕ → ℕ
 later_by moment length = min (moment + length) max_nanos
 
--- the k-th delay in a row of one opening: 200 ms doubled k times, at most half the connection timeout
+-- the k-th delay in a row of one opening: 200 ms doubled k times, at most half the connection
+-- timeout
 abbrev pub delay_of : SeenLimits → ℕ → ℕ
 delay_of limits k = min (as_nanos limits.connection_timeout / 2) (200_000_000 * 2 ^ k)

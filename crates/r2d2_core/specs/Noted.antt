@@ -1,8 +1,10 @@
--- What a book notes at each call: its journal after the call, by the answer. A book notes the raised moment of a step.
+-- What a book notes at each call: its journal after the call, by the answer. A book notes the
+-- raised moment of a step.
 use Rattle.std.specs.Prelude.{ℕ, max, Result}
 use Rattle.r2d2_core.specs.declared.machine.answers.Refusal.{Refusal}
 use Rattle.r2d2_core.specs.Seen.{SeenTake, SeenReturned, SeenGone}
-use Rattle.r2d2_core.specs.Recorded.{record_of_take, record_of_admission, record_of_return, record_of_check, record_of_reap, record_of_close}
+use Rattle.r2d2_core.specs.Recorded.{record_of_take, record_of_admission, record_of_return}
+use Rattle.r2d2_core.specs.Recorded.{record_of_check, record_of_reap, record_of_close}
 use Rattle.r2d2_core.specs.Journal.{SeenJournal, with_noted}
 use Rattle.r2d2_core.specs.Book.{SeenBook}
 
@@ -17,7 +19,8 @@ module _ {T : Type 0} where
 
   -- after an admission of the id
   abbrev pub noted_admission : ℕ → ℕ → Result (Unit {0}) (Refusal × T) → SeenBook T → SeenJournal
-  noted_admission t id answer b = with_noted (record_of_admission (raised_in b t) id answer) b.journal
+  noted_admission t id answer b =
+      with_noted (record_of_admission (raised_in b t) id answer) b.journal
 
   -- after a return of the id
   abbrev pub noted_return : ℕ → ℕ → Result (SeenReturned T) (Refusal × T) → SeenBook T → SeenJournal
@@ -29,7 +32,8 @@ module _ {T : Type 0} where
 
   -- after a reap that closed and ordered so many
   abbrev pub noted_reap : ℕ → ℕ → ℕ → SeenBook T → SeenJournal
-  noted_reap t closed ordered b = with_noted (record_of_reap (raised_in b t) closed ordered) b.journal
+  noted_reap t closed ordered b =
+      with_noted (record_of_reap (raised_in b t) closed ordered) b.journal
 
   -- after a close
   abbrev pub noted_close : SeenBook T → SeenJournal

@@ -1,5 +1,6 @@
 -- What is on order: the openings that were ordered and not admitted, and what becomes of them.
-use Rattle.std.specs.Prelude.{◌≡◌, ℕ, ◌+◌, ◌-◌, ◌^◌, ◌≤◌, min, Bool, true, false, not, ◌==◌, nat_lt, if◌then◌else◌, List, [], ◌∷◌, ◌++◌, length, sum, drop}
+use Rattle.std.specs.Prelude.{◌≡◌, ℕ, ◌+◌, ◌-◌, ◌^◌, ◌≤◌, min, Bool, true, false, not, ◌==◌, nat_lt}
+use Rattle.std.specs.Prelude.{if◌then◌else◌, List, [], ◌∷◌, ◌++◌, length, sum, drop}
 use Rattle.std.specs.Prelude.{replicate, slice_index, Option, None, is_some}
 use Rattle.std.specs.List.{All}
 use Rattle.std.specs.Duration.{as_nanos}
@@ -7,7 +8,8 @@ use Rattle.r2d2_core.specs.declared.machine.answers.Refusal.{Refusal}
 use Rattle.r2d2_core.specs.declared.machine.answers.Refusal.TheVariants as refusal
 use Rattle.r2d2_core.specs.Limits.{SeenLimits, wanted_of, top_up, later_by, delay_of}
 use Rattle.r2d2_core.specs.Ids.{found, without, same_id}
-use Rattle.r2d2_core.specs.Openings.{SeenOpening, opening, with_opening, with_many, one_more, one_less}
+use Rattle.r2d2_core.specs.Openings.{SeenOpening, opening, with_opening, with_many, one_more}
+use Rattle.r2d2_core.specs.Openings.{one_less}
 use Rattle.r2d2_core.specs.Jobs.{SeenJob, Open, Reap, Wait, Nothing, Closed, first_job}
 use Rattle.r2d2_core.specs.Schedule.{first_reap, next_by}
 use Rattle.r2d2_core.specs.Refusals.{refused_if, unless_refused}
@@ -53,11 +55,13 @@ top_up_beside idle connections o = top_up o.limits o.closed idle connections o.p
 
 -- what a miss orders: one, where it is asked for and there is room
 abbrev pub miss_order : Bool → ℕ → SeenOnOrder → ℕ
-miss_order or_order connections o = if o.closed then 0 else (if or_order then min 1 (room_beside connections o) else 0)
+miss_order or_order connections o =
+    if o.closed then 0 else (if or_order then min 1 (room_beside connections o) else 0)
 
 -- n more, due at a moment
 abbrev pub with_orders : ℕ → ℕ → SeenOnOrder → SeenOnOrder
-with_orders n due o = record o { scheduled = with_many n (opening due 0) o.scheduled; pending = o.pending + n }
+with_orders n due o =
+    record o { scheduled = with_many n (opening due 0) o.scheduled; pending = o.pending + n }
 
 -- what is wanted is ordered at the making
 abbrev pub first_on_order : SeenLimits → ℕ → ℕ → SeenOnOrder
@@ -78,7 +82,8 @@ abbrev pub job_at : ℕ → SeenOnOrder → SeenJob
 job_at now o = if o.closed then Closed else first_job now o.scheduled o.next_reap
 
 abbrev pub begun_by : SeenJob → SeenOnOrder → SeenOnOrder
-begun_by (Open tries) o = record o { scheduled = drop 1 o.scheduled; in_work = one_more tries o.in_work }
+begun_by (Open tries) o =
+    record o { scheduled = drop 1 o.scheduled; in_work = one_more tries o.in_work }
 begun_by Reap o = record o { next_reap = next_by (as_nanos o.limits.reap_every) o.next_reap }
 begun_by (Wait due) o = o
 begun_by Nothing o = o
@@ -93,12 +98,17 @@ abbrev pub has_in_work : ℕ → SeenOnOrder → Bool
 has_in_work tries o = nat_lt 0 (slice_index o.in_work tries)
 
 abbrev pub number_refusal : ℕ → SeenOnOrder → Option Refusal
-number_refusal tries o = refused_if o.closed refusal.Closed (refused_if (not (has_in_work tries o)) refusal.NoOpening
+number_refusal tries o =
+    refused_if o.closed refusal.Closed (refused_if (not (has_in_work tries o)) refusal.NoOpening
     (refused_if (o.next_id == 2 ^ 64 - 1) refusal.IdsUsedUp None))
 
 -- one in work becomes a number
 abbrev pub numbered_one : ℕ → SeenOnOrder → SeenOnOrder
-numbered_one tries o = record o { in_work = one_less tries o.in_work; numbered = o.numbered ++ o.next_id ∷ []; next_id = o.next_id + 1 }
+numbered_one tries o = record o {
+  in_work = one_less tries o.in_work;
+  numbered = o.numbered ++ o.next_id ∷ [];
+  next_id = o.next_id + 1;
+}
 
 abbrev pub after_numbering : ℕ → SeenOnOrder → SeenOnOrder
 after_numbering tries o = unless_refused (number_refusal tries o) (numbered_one tries o) o
@@ -106,7 +116,8 @@ after_numbering tries o = unless_refused (number_refusal tries o) (numbered_one 
 -- ADMIT
 
 abbrev pub admit_refusal : ℕ → SeenOnOrder → Option Refusal
-admit_refusal id o = refused_if o.closed refusal.Closed (refused_if (not (is_some (found same_id id o.numbered))) refusal.NotNumbered None)
+admit_refusal id o = refused_if o.closed refusal.Closed
+    (refused_if (not (is_some (found same_id id o.numbered))) refusal.NotNumbered None)
 
 -- a numbered one is pending no more
 abbrev pub admitted_one : ℕ → SeenOnOrder → SeenOnOrder
@@ -115,7 +126,8 @@ admitted_one id o = record o { numbered = without same_id id o.numbered; pending
 -- FAIL
 
 abbrev pub fail_refusal : ℕ → SeenOnOrder → Option Refusal
-fail_refusal tries o = refused_if o.closed refusal.Closed (refused_if (not (has_in_work tries o)) refusal.NoOpening None)
+fail_refusal tries o = refused_if o.closed refusal.Closed
+    (refused_if (not (has_in_work tries o)) refusal.NoOpening None)
 
 -- when an opening that failed at a moment is due again
 abbrev pub due_again : ℕ → ℕ → SeenOnOrder → ℕ
@@ -132,4 +144,11 @@ failed_one now tries o = record o {
 -- CLOSE
 
 abbrev pub emptied : SeenOnOrder → SeenOnOrder
-emptied o = record o { scheduled = []; in_work = replicate 100 0; numbered = []; next_reap = None; pending = 0; closed = true }
+emptied o = record o {
+  scheduled = [];
+  in_work = replicate 100 0;
+  numbered = [];
+  next_reap = None;
+  pending = 0;
+  closed = true;
+}

@@ -1,5 +1,6 @@
 -- Openings that are ordered and not begun, the least first; and how many are in work.
-use Rattle.std.specs.Prelude.{ℕ, zero, suc, ◌+◌, ◌-◌, Bool, ◌&&◌, ◌||◌, ◌==◌, nat_lt, if◌then◌else◌, List, [], ◌∷◌, slice_index, slice_set}
+use Rattle.std.specs.Prelude.{ℕ, zero, suc, ◌+◌, ◌-◌, Bool, ◌&&◌, ◌||◌, ◌==◌, nat_lt, if◌then◌else◌}
+use Rattle.std.specs.Prelude.{List, [], ◌∷◌, slice_index, slice_set}
 
 -- when an opening is due, in nanoseconds, and how often it failed
 pub record SeenOpening : Type 0 where
@@ -28,7 +29,8 @@ abbrev pub sorted : List SeenOpening → List SeenOpening
 sorted [] = []
 sorted (x ∷ xs) = with_opening x (sorted xs)
 
--- one more in work that failed k times, where counts says how many there are for each number of tries
+-- one more in work that failed k times, where counts says how many there are for each number of
+-- tries
 abbrev pub one_more : ℕ → List ℕ → List ℕ
 one_more k counts = slice_set counts k (slice_index counts k + 1)
 

@@ -1,5 +1,7 @@
--- The openings of a history: ordered, scheduled, in work and numbered; its reaps, and what a worker is to do.
-use Rattle.std.specs.Prelude.{ℕ, ◌+◌, ◌-◌, ◌*◌, min, Bool, false, ◌==◌, ◌||◌, ◌&&◌, not, if◌then◌else◌, List, [], ◌∷◌, ◌++◌, map, length, filter, drop, Option}
+-- The openings of a history: ordered, scheduled, in work and numbered; its reaps, and what a worker
+-- is to do.
+use Rattle.std.specs.Prelude.{ℕ, ◌+◌, ◌-◌, ◌*◌, min, Bool, false, ◌==◌, ◌||◌, ◌&&◌, not}
+use Rattle.std.specs.Prelude.{if◌then◌else◌, List, [], ◌∷◌, ◌++◌, map, length, filter, drop, Option}
 use Rattle.std.specs.Prelude.{Some, None, Ok}
 use Rattle.std.specs.List.{range_with_len}
 use Rattle.std.specs.Duration.{as_nanos}
@@ -9,8 +11,10 @@ use Rattle.r2d2_core.specs.Limits.{wanted_of, later_by, has_reaps}
 use Rattle.r2d2_core.specs.Openings.{SeenOpening, opening, with_opening, with_many}
 use Rattle.r2d2_core.specs.Jobs.{SeenJob, Open, Reap, Closed as JobClosed, first_job}
 use Rattle.r2d2_core.specs.OnOrder.{SeenOnOrder}
-use Rattle.r2d2_core.specs.Seen.{SeenAnswer, Taken, Found, Empty, Begun, Numbered, Failed, CameBack, Closed, Reaped, CheckFailed}
-use Rattle.r2d2_core.specs.History.{History, Made, Then, limits_of, start_of, first_of, is_closed, moment_of}
+use Rattle.r2d2_core.specs.Seen.{SeenAnswer, Taken, Found, Empty, Begun, Numbered, Failed, PutBack}
+use Rattle.r2d2_core.specs.Seen.{Closed, Reaped, CheckFailed}
+use Rattle.r2d2_core.specs.History.{History, Made, Then, limits_of, start_of, first_of, is_closed}
+use Rattle.r2d2_core.specs.History.{moment_of}
 use Rattle.r2d2_core.specs.Deeds.{admits, admitted_count}
 
 module _ {T : Type 0} where
@@ -21,7 +25,7 @@ module _ {T : Type 0} where
   ordered_in (Taken (Found id birth value ordered)) = ordered
   ordered_in (Taken (Empty ordered)) = ordered
   ordered_in (CheckFailed (Ok gone)) = gone.ordered
-  ordered_in (CameBack (Ok (Closed value age ordered))) = ordered
+  ordered_in (PutBack (Ok (Closed value age ordered))) = ordered
   ordered_in (Reaped closed ordered) = ordered
   ordered_in _ = 0
 
@@ -30,7 +34,8 @@ module _ {T : Type 0} where
   ordered_of (Made limits moment first) = wanted_of limits
   ordered_of (Then h s r) = ordered_of h + ordered_in r
 
-  -- how many openings are ordered and not admitted; until the close never more are admitted than were ordered
+  -- how many openings are ordered and not admitted; until the close never more are admitted than
+  -- were ordered
   unfoldable pub pending_of : History T → ℕ
   pending_of h = if is_closed h then 0 else ordered_of h - admitted_count h
 
@@ -38,11 +43,13 @@ module _ {T : Type 0} where
 
   abbrev pub scheduled_after : ℕ → List SeenOpening → Step T → SeenAnswer T → List SeenOpening
   scheduled_after t xs step.Close r = []
-  scheduled_after t xs (step.Fail now tries text) (Failed (Ok due)) = with_opening (opening due (min (tries + 1) 99)) xs
+  scheduled_after t xs (step.Fail now tries text) (Failed (Ok due)) =
+      with_opening (opening due (min (tries + 1) 99)) xs
   scheduled_after t xs (step.Begin now) (Begun (Open tries)) = drop 1 xs
   scheduled_after t xs s r = with_many (ordered_in r) (opening t 0) xs
 
-  -- the openings made, less those handed out, each of which was the least one then; the least first. This one goes forward, with the list
+  -- the openings made, less those handed out, each of which was the least one then; the least
+  -- first. This one goes forward, with the list
   abbrev pub scheduled_of : History T → List SeenOpening
   scheduled_of (Made limits moment first) = with_many (wanted_of limits) (opening moment 0) []
   scheduled_of (Then h s r) = scheduled_after (moment_of h s) (scheduled_of h) s r

@@ -1,10 +1,12 @@
 -- What a core shows. A contract sees a core as its picture.
-use Rattle.std.specs.Prelude.{◌≡◌, ◌⊎◌, ℕ, ◌+◌, ◌≤◌, true, false, List, [], ◌++◌, length, map, Option}
+use Rattle.std.specs.Prelude.{◌≡◌, ℕ, ◌+◌, ◌≤◌, true, List, [], ◌++◌, length, map, Option}
 use Rattle.std.specs.List.{All}
 use Rattle.std.specs.List.Sorted.{IsNonDecreasingBy}
 use Rattle.r2d2_core.specs.Limits.{wanted_of}
+use Rattle.r2d2_core.specs.Sums.{FitsIn, IsReplenished}
 use Rattle.r2d2_core.specs.Ids.{copies_of}
-use Rattle.r2d2_core.specs.Connections.{SeenIdleConnection, SeenLentConnection, id_of_idle, id_of_lent, since_of}
+use Rattle.r2d2_core.specs.Connections.{SeenIdleConnection, SeenLentConnection, id_of_idle}
+use Rattle.r2d2_core.specs.Connections.{id_of_lent, since_of}
 use Rattle.r2d2_core.specs.OnOrder.{SeenOnOrder, IsAccounted}
 
 pub record Picture (T : Type 0) : Type 0 where
@@ -33,7 +35,7 @@ module _ {T : Type 0} where
     -- pending openings are scheduled, in work or numbered
     pub accounted : IsAccounted p.on_order
     -- connections and pending openings are at most `max_size`
-    pub fits : p.connections + p.on_order.pending ≤ p.on_order.limits.max_size
+    pub fits : FitsIn p.on_order.limits.max_size p.connections p.on_order.pending
     -- the idle ones stand in the order in which they came to be idle, none after the latest moment
     pub is_sorted : IsNonDecreasingBy since_of p.idle
     pub seen : All (λ c. c.since ≤ p.latest) p.idle
@@ -47,5 +49,5 @@ module _ {T : Type 0} where
   pub record IsSound (p : Picture T) : Type 0 where
     pub steady : IsSteady p
     -- unless closed, what is idle and pending reaches what is wanted, or there is no more room
-    pub replenished : p.on_order.closed ≡ false → (wanted_of p.on_order.limits ≤ length p.idle + p.on_order.pending)
-        ⊎ (p.connections + p.on_order.pending ≡ p.on_order.limits.max_size)
+    pub replenished : IsReplenished (wanted_of p.on_order.limits) p.on_order.limits.max_size
+        (length p.idle) p.connections p.on_order.pending p.on_order.closed

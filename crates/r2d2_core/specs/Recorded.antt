@@ -1,10 +1,12 @@
--- Which record each step makes, by its answer. A step that is refused makes none, nor does one that changes neither what is idle, lent,
--- connected or pending nor whether the pool is closed.
-use Rattle.std.specs.Prelude.{ℕ, Bool, ◌==◌, ◌&&◌, if◌then◌else◌, Option, Some, None, Result, Ok, Err}
+-- Which record each step makes, by its answer. A step that is refused makes none, nor does one that
+-- changes neither what is idle, lent, connected or pending nor whether the pool is closed.
+use Rattle.std.specs.Prelude.{ℕ, Bool, ◌==◌, ◌&&◌, if◌then◌else◌, Option, Some, None, Result, Ok}
+use Rattle.std.specs.Prelude.{Err}
 use Rattle.r2d2_core.specs.declared.machine.answers.Refusal.{Refusal}
 use Rattle.r2d2_core.specs.Seen.{SeenTake, Found, Empty, SeenReturned, SeenGone}
 use Rattle.r2d2_core.specs.Seen.{Kept as CameToBeIdle, Closed as CameToBeClosed}
-use Rattle.r2d2_core.specs.Records.{SeenRecord, Taken, Ordered, Admitted, Kept, Closed, Reaped, ClosedAll}
+use Rattle.r2d2_core.specs.Records.{SeenRecord, Taken, Ordered, Admitted, Kept, Closed, Reaped}
+use Rattle.r2d2_core.specs.Records.{ClosedAll}
 
 module _ {T : Type 0} where
   -- a take that found one, or that ordered one

@@ -1,9 +1,10 @@
 -- What a report says.
-use Rattle.std.specs.Prelude.{◌≡◌, ◌⊎◌, ◌+◌, ◌≤◌, false, List, length, map}
+use Rattle.std.specs.Prelude.{◌≡◌, ◌+◌, List, length, map}
 use Rattle.std.specs.Duration.{as_nanos}
 use Rattle.r2d2_core.specs.declared.journal.base.Base.{Base}
 use Rattle.r2d2_core.specs.declared.journal.report.Report.{Report}
 use Rattle.r2d2_core.specs.Limits.{seen_limits, wanted_of}
+use Rattle.r2d2_core.specs.Sums.{FitsIn, IsReplenished}
 use Rattle.r2d2_core.specs.Records.{SeenRecord, seen_record, takes_in}
 use Rattle.r2d2_core.specs.Connections.{id_of_idle, id_of_lent}
 use Rattle.r2d2_core.specs.Bases.{SeenBase, base_of, seen_bare, seen_lent, IsLegalBase, first_base}
@@ -13,7 +14,8 @@ use Rattle.r2d2_core.specs.Book.{SeenBook}
 module _ {B : Type 0} where
   -- a `Base`
   abbrev pub seen_base : Base B → SeenBase
-  seen_base b = base_of (as_nanos b.at) (map seen_bare b.idle.items) (map seen_lent b.lent.items) b.connections b.pending b.closed
+  seen_base b = base_of (as_nanos b.at) (map seen_bare b.idle.items) (map seen_lent b.lent.items)
+      b.connections b.pending b.closed
 
   -- the records of a `Report`
   abbrev pub seen_records : Report B → List SeenRecord
@@ -27,11 +29,11 @@ module _ {B : Type 0} where
   pub record DoesReplay (r : Report B) : Type 0 where
     pub base : IsLegalBase (seen_limits r.limits) (seen_base r.base)
     pub legal : AreLegalFrom (seen_limits r.limits) (seen_base r.base) (seen_records r)
-    pub idle : map id_of_idle (let b = told_in r in b.idle) ≡ r.idle.items
-    pub lent : map id_of_lent (let b = told_in r in b.lent) ≡ r.lent.items
-    pub connections : (let b = told_in r in b.connections) ≡ r.connections
-    pub pending : (let b = told_in r in b.pending) ≡ r.pending
-    pub closed : (let b = told_in r in b.closed) ≡ r.closed
+    pub idle : map id_of_idle (told_in r).idle ≡ r.idle.items
+    pub lent : map id_of_lent (told_in r).lent ≡ r.lent.items
+    pub connections : (told_in r).connections ≡ r.connections
+    pub pending : (told_in r).pending ≡ r.pending
+    pub closed : (told_in r).closed ≡ r.closed
 
   -- its takes are those that its records tell of, where none was folded into the base
   abbrev pub CountsItsTakes : Report B → Type 0
@@ -39,13 +41,15 @@ module _ {B : Type 0} where
 
   -- its base is that of a pool just made, where none was folded into it
   abbrev pub BeginsAtAMaking : Report B → Type 0
-  BeginsAtAMaking r = r.lost ≡ 0 → seen_base r.base ≡ first_base (seen_limits r.limits) (as_nanos r.base.at)
+  BeginsAtAMaking r =
+      r.lost ≡ 0 → seen_base r.base ≡ first_base (seen_limits r.limits) (as_nanos r.base.at)
 
   -- what keeps of the counts of each report of a book
   pub record HasSoundCounts (r : Report B) : Type 0 where
     pub counted : r.connections ≡ length r.idle.items + length r.lent.items
-    pub fits : r.connections + r.pending ≤ r.limits.max_size
-    pub replenished : r.closed ≡ false → (wanted_of (seen_limits r.limits) ≤ length r.idle.items + r.pending) ⊎ (r.connections + r.pending ≡ r.limits.max_size)
+    pub fits : FitsIn r.limits.max_size r.connections r.pending
+    pub replenished : IsReplenished (wanted_of (seen_limits r.limits)) r.limits.max_size
+        (length r.idle.items) r.connections r.pending r.closed
 
   -- all that a book, and a pool, promises of each of its reports
   pub record IsSoundReport (r : Report B) : Type 0 where

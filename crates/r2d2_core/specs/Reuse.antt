@@ -1,6 +1,8 @@
--- Newest-first and oldest-first beside any other choice of the connection to lend. Three idle lists start alike and live through
--- the same moves. Of a connection they hold the moment since which it is idle, the oldest first. Moments are in nanoseconds.
-use Rattle.std.specs.Prelude.{ℕ, ◌-◌, ◌≤◌, max, nat_le, nat_lt, if◌then◌else◌, List, [], ◌∷◌, ◌++◌, length, map, remove, count_by, slice_index_or, Option, Some}
+-- Newest-first and oldest-first beside any other choice of the connection to lend. Three idle lists
+-- start alike and live through the same moves. Of a connection they hold the moment since which it
+-- is idle, the oldest first. Moments are in nanoseconds.
+use Rattle.std.specs.Prelude.{ℕ, ◌-◌, ◌≤◌, max, nat_le, nat_lt, if◌then◌else◌, List, [], ◌∷◌, ◌++◌}
+use Rattle.std.specs.Prelude.{length, map, remove, count_by, slice_index_or, Option, Some}
 use Rattle.std.specs.Prelude.{None, option_and_then}
 use Rattle.std.specs.List.Sorted.{IsNonDecreasingBy}
 use Rattle.std.specs.Duration.{as_nanos}
@@ -34,7 +36,8 @@ last_seen seen (step ∷ steps) = last_seen (max seen (moment_in step)) steps
 
 -- TWO LISTS: one that lends in either order
 
--- what a move at a raised moment makes of it: a take removes the one that is lent next, if there is one; an add appends the moment
+-- what a move at a raised moment makes of it: a take removes the one that is lent next, if there is
+-- one; an add appends the moment
 abbrev pub order_after : LendingOrder → ℕ → List ℕ → Move → List ℕ
 order_after order moment kept (move.Take at) = still_idle order kept
 order_after order moment kept (move.Add at) = kept ++ moment ∷ []
@@ -42,7 +45,9 @@ order_after order moment kept (move.Add at) = kept ++ moment ∷ []
 -- what some moves leave of it
 abbrev pub order_left : LendingOrder → ℕ → List ℕ → List Move → List ℕ
 order_left order seen kept [] = kept
-order_left order seen kept (step ∷ steps) = order_left order (max seen (moment_in step)) (order_after order (max seen (moment_in step)) kept step) steps
+order_left order seen kept (step ∷ steps) =
+    order_left order (max seen (moment_in step))
+    (order_after order (max seen (moment_in step)) kept step) steps
 
 -- THE THIRD LIST: the choice by picks
 
@@ -54,12 +59,13 @@ pub record Picked : Type 0 where
 abbrev pub picked : List ℕ → List ℕ → Picked
 picked kept picks = record { kept = kept; picks = picks }
 
--- what a take makes of it: it removes the place that the next pick names, counted from 0; an empty list stays, and uses no
--- pick; none where no pick is left, or where it names no place
+-- what a take makes of it: it removes the place that the next pick names, counted from 0; an empty
+-- list stays, and uses no pick; none where no pick is left, or where it names no place
 abbrev pub after_pick : List ℕ → List ℕ → Option Picked
 after_pick [] picks = Some (picked [] picks)
 after_pick (first ∷ rest) [] = None
-after_pick (first ∷ rest) (pick ∷ picks) = if nat_lt pick (length (first ∷ rest)) then Some (picked (remove (first ∷ rest) pick) picks) else None
+after_pick (first ∷ rest) (pick ∷ picks) = if nat_lt pick (length (first ∷ rest))
+    then Some (picked (remove (first ∷ rest) pick) picks) else None
 
 -- what a move at a raised moment makes of it: a take as above; an add appends the moment
 abbrev pub other_after : ℕ → Picked → Move → Option Picked
@@ -69,7 +75,8 @@ other_after moment other (move.Add at) = Some (picked (other.kept ++ moment ∷ 
 -- what some moves leave of it, if the picks serve
 abbrev pub other_left : ℕ → Picked → List Move → Option (List ℕ)
 other_left seen other [] = Some other.kept
-other_left seen other (step ∷ steps) = option_and_then (λ after. other_left (max seen (moment_in step)) after steps)
+other_left seen other (step ∷ steps) =
+    option_and_then (λ after. other_left (max seen (moment_in step)) after steps)
     (other_after (max seen (moment_in step)) other step)
 
 -- WHAT IS COMPARED: each list starts as `idle`
@@ -80,7 +87,8 @@ moments_of idle = map as_nanos idle
 
 -- what all moves leave of a list that lends in an order
 abbrev pub order_list : LendingOrder → List Duration → List Move → List ℕ
-order_list order idle moves = order_left order (first_seen (moments_of idle)) (moments_of idle) moves
+order_list order idle moves =
+    order_left order (first_seen (moments_of idle)) (moments_of idle) moves
 
 abbrev pub newest_list : List Duration → List Move → List ℕ
 newest_list idle moves = order_list lending.NewestFirst idle moves
@@ -90,7 +98,8 @@ oldest_list idle moves = order_list lending.OldestFirst idle moves
 
 -- what all moves leave of the list that lends by picks, if the picks serve
 abbrev pub other_list : List Duration → List Move → List ℕ → Option (List ℕ)
-other_list idle moves picks = other_left (first_seen (moments_of idle)) (picked (moments_of idle) picks) moves
+other_list idle moves picks =
+    other_left (first_seen (moments_of idle)) (picked (moments_of idle) picks) moves
 
 -- the moment at which the expired ones are counted: `now`, raised as well
 abbrev pub raised_now : List Duration → List Move → Duration → ℕ
@@ -100,8 +109,9 @@ raised_now idle moves now = max (last_seen (first_seen (moments_of idle)) moves)
 abbrev pub expired : ℕ → Duration → List ℕ → ℕ
 expired now limit moments = count_by (λ moment. has_reached (Some limit) (now - moment)) moments
 
--- THE REASON: what is expired is what is not after a threshold, the moment less the limit; and at each threshold newest-first
--- has at least as many as the choice by picks, and that at least as many as oldest-first
+-- THE REASON: what is expired is what is not after a threshold, the moment less the limit; and at
+-- each threshold newest-first has at least as many as the choice by picks, and that at least as
+-- many as oldest-first
 
 -- how many of the moments are not after x
 abbrev pub not_after : ℕ → List ℕ → ℕ

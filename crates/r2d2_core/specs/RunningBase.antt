@@ -1,14 +1,11 @@
 -- What a contract sees of a base that is kept in place, and what keeps of its fields.
-use Rattle.std.specs.Prelude.{ℕ, ◌+◌, ◌-◌, true, false, List, [], ◌∷◌, ◌++◌, length}
+use Rattle.std.specs.Prelude.{ℕ, ◌+◌, false, List, [], ◌∷◌, ◌++◌, length}
 use Rattle.std.specs.Duration.{as_nanos}
 use Rattle.r2d2_core.specs.declared.journal.running_base.Rooms.{Rooms}
 use Rattle.r2d2_core.specs.declared.journal.running_base.RunningBase.TheInside.{Inside}
-use Rattle.r2d2_core.specs.Limits.{SeenLimits}
-use Rattle.r2d2_core.specs.Ids.{without}
-use Rattle.r2d2_core.specs.Connections.{SeenLentConnection, idle_connection, lent_connection, id_of_idle, id_of_lent}
+use Rattle.r2d2_core.specs.Connections.{SeenLentConnection}
 use Rattle.r2d2_core.specs.Records.{SeenRecord, Taken, Admitted, Kept}
 use Rattle.r2d2_core.specs.Bases.{SeenBase, BareConnection, base_of}
-use Rattle.r2d2_core.specs.Folding.{birth_of_idle, birth_of_lent, idle_after_reap, expired_in}
 
 -- how many may be idle, and how many lent
 abbrev pub rooms : ℕ → ℕ → Rooms
@@ -28,7 +25,8 @@ empty_base at pending = base_of at [] [] 0 pending false
 
 module _ {A : Type 0} where
   abbrev pub base_in : Inside A → SeenBase
-  base_in s = base_of (as_nanos s.at) s.idle.items s.lent.items (length s.idle.items + length s.lent.items) s.pending s.closed
+  base_in s = base_of (as_nanos s.at) s.idle.items s.lent.items
+      (length s.idle.items + length s.lent.items) s.pending s.closed
 
 -- how many come to be idle by a record, and how many come to be lent
 abbrev pub made_idle_by : SeenRecord → ℕ
@@ -52,10 +50,7 @@ made_lent_in (r ∷ rs) = made_lent_by r + made_lent_in rs
 abbrev pub rooms_for : SeenBase → List SeenRecord → Rooms
 rooms_for b rs = rooms (length b.idle + made_idle_in rs) (length b.lent + made_lent_in rs)
 
--- WHAT A RECORD DOES TO A BASE, part by part
-
-abbrev pub with_more : ℕ → SeenBase → SeenBase
-with_more n b = record b { pending = b.pending + n }
+-- PARTS OF A BASE, with the connections that go with them
 
 abbrev pub with_one_idle : BareConnection → SeenBase → SeenBase
 with_one_idle c b = record b { idle = b.idle ++ c ∷ []; connections = b.connections + 1 }
@@ -65,21 +60,3 @@ with_idle idle b = record b { idle = idle; connections = length idle + length b.
 
 abbrev pub with_lent : List SeenLentConnection → SeenBase → SeenBase
 with_lent lent b = record b { lent = lent; connections = length b.idle + length lent }
-
-abbrev pub lent_out : ℕ → SeenBase → SeenBase
-lent_out id b = record b { idle = without id_of_idle id b.idle; lent = b.lent ++ lent_connection id (birth_of_idle id b.idle) ∷ [] }
-
-abbrev pub admitted_to : ℕ → SeenBase → SeenBase
-admitted_to id b = record (with_one_idle (idle_connection id b.at b.at tt) b) { pending = b.pending - 1 }
-
-abbrev pub kept_in : ℕ → SeenBase → SeenBase
-kept_in id b = record b { idle = b.idle ++ idle_connection id (birth_of_lent id b.lent) b.at tt ∷ []; lent = without id_of_lent id b.lent }
-
-abbrev pub parted_from : ℕ → SeenBase → SeenBase
-parted_from id b = record b { lent = without id_of_lent id b.lent; connections = b.connections - 1 }
-
-abbrev pub swept_of : SeenLimits → SeenBase → SeenBase
-swept_of limits b = record b { idle = idle_after_reap limits b.at b; connections = b.connections - expired_in limits b.at b }
-
-abbrev pub closed_in : SeenBase → SeenBase
-closed_in b = record b { idle = []; connections = b.connections - length b.idle; pending = 0; closed = true }

@@ -1,5 +1,7 @@
--- What a schedule holds: openings in order and the next reap. Moments and lengths are in nanoseconds.
-use Rattle.std.specs.Prelude.{ℕ, Bool, if◌then◌else◌, nat_lt, false, List, [], drop, Option, Some, None}
+-- What a schedule holds: openings in order and the next reap. Moments and lengths are in
+-- nanoseconds.
+use Rattle.std.specs.Prelude.{ℕ, Bool, if◌then◌else◌, nat_lt, false, List, [], drop, Option, Some}
+use Rattle.std.specs.Prelude.{None}
 use Rattle.std.specs.Option.{option_map}
 use Rattle.std.specs.declared.time.Duration.{Duration}
 use Rattle.std.specs.Duration.{as_nanos}
@@ -15,11 +17,17 @@ pub record SeenSchedule : Type 0 where
 
 -- the first reap, where reaps are ever due
 abbrev pub first_reap : SeenLimits → ℕ → Option ℕ
-first_reap limits now = if has_reaps limits then Some (later_by now (as_nanos limits.reap_every)) else None
+first_reap limits now =
+    if has_reaps limits then Some (later_by now (as_nanos limits.reap_every)) else None
 
 -- no openings, and the first reap
 abbrev pub first_schedule : SeenLimits → ℕ → SeenSchedule
-first_schedule limits now = record { max_size = limits.max_size; reap_every = as_nanos limits.reap_every; openings = []; next_reap = first_reap limits now }
+first_schedule limits now = record {
+  max_size = limits.max_size;
+  reap_every = as_nanos limits.reap_every;
+  openings = [];
+  next_reap = first_reap limits now;
+}
 
 abbrev pub with_openings : List SeenOpening → SeenSchedule → SeenSchedule
 with_openings xs p = record p { openings = xs }

@@ -39,10 +39,10 @@ pub data SeenAnswer (T : Type 0) : Type 0 where
   Admitted : Result (Unit {0}) (Refusal × T) → SeenAnswer T
   Failed : Result ℕ Refusal → SeenAnswer T
   CheckFailed : Result SeenGone Refusal → SeenAnswer T
-  CameBack : Result (SeenReturned T) (Refusal × T) → SeenAnswer T
+  PutBack : Result (SeenReturned T) (Refusal × T) → SeenAnswer T
   Reaped : (closed : List (SeenReleased T)) (ordered : ℕ) → SeenAnswer T
-  Told : Option (List ℕ) → SeenAnswer T
-  Left : List (ℕ × T) → SeenAnswer T
+  TakeError : Option (List ℕ) → SeenAnswer T
+  Close : List (ℕ × T) → SeenAnswer T
 
 abbrev pub seen_take : {T : Type 0} → Take T → SeenTake T
 seen_take (take.Found id birth value ordered) = Found id (as_nanos birth) value ordered

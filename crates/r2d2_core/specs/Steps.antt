@@ -1,4 +1,5 @@
--- A step of any kind: what it answers, what it makes of the picture, and what a book notes of it. Each line is that of the step's own call.
+-- A step of any kind: what it answers, what it makes of the picture, and what a book notes of it.
+-- Each line is that of the step's own call.
 use Rattle.std.specs.Prelude.{Bool, true, false, length, map, option_map, string_bytes}
 use Rattle.std.specs.Duration.{as_nanos}
 use Rattle.r2d2_core.specs.declared.run.Step.{Step}
@@ -7,12 +8,14 @@ use Rattle.r2d2_core.specs.declared.run.Answer.{Answer}
 use Rattle.r2d2_core.specs.declared.run.Answer.TheVariants as answer
 use Rattle.r2d2_core.specs.Jobs.{seen_job}
 use Rattle.r2d2_core.specs.Picture.{Picture}
-use Rattle.r2d2_core.specs.Seen.{SeenAnswer, Taken, Begun, Numbered, Admitted, Failed, CheckFailed, CameBack, Reaped, Told, Left, seen_take, seen_returned}
+use Rattle.r2d2_core.specs.Seen.{SeenAnswer, Taken, Begun, Numbered, Admitted, Failed, CheckFailed}
+use Rattle.r2d2_core.specs.Seen.{PutBack, Reaped, TakeError, Close, seen_take, seen_returned}
 use Rattle.r2d2_core.specs.Seen.{seen_gone, seen_released, map_ok}
 use Rattle.r2d2_core.specs.Table as table
 use Rattle.r2d2_core.specs.Journal.{SeenJournal}
 use Rattle.r2d2_core.specs.Book.{SeenBook}
-use Rattle.r2d2_core.specs.Noted.{noted_take, noted_admission, noted_return, noted_check, noted_reap, noted_close}
+use Rattle.r2d2_core.specs.Noted.{noted_take, noted_admission, noted_return, noted_check}
+use Rattle.r2d2_core.specs.Noted.{noted_reap, noted_close}
 
 -- what a caller sees of an answer
 abbrev pub seen_answer : {T A : Type 0} → Answer T A → SeenAnswer T
@@ -22,10 +25,10 @@ seen_answer (answer.Number r) = Numbered r
 seen_answer (answer.Admit r) = Admitted r
 seen_answer (answer.Fail r) = Failed (map_ok as_nanos r)
 seen_answer (answer.FailCheck r) = CheckFailed (map_ok seen_gone r)
-seen_answer (answer.PutBack r) = CameBack (map_ok seen_returned r)
+seen_answer (answer.PutBack r) = PutBack (map_ok seen_returned r)
 seen_answer (answer.Reap released ordered) = Reaped (map seen_released released.items) ordered
-seen_answer (answer.TakeError text) = Told (option_map string_bytes text)
-seen_answer (answer.Close left) = Left left
+seen_answer (answer.TakeError text) = TakeError (option_map string_bytes text)
+seen_answer (answer.Close left) = Close left
 
 module _ {T : Type 0} where
   -- the answer to the step, from that picture
@@ -36,10 +39,12 @@ module _ {T : Type 0} where
   step_answer (step.Admit now id value) p = Admitted (table.admit_answer id value p)
   step_answer (step.Fail now tries text) p = Failed (table.fail_answer (as_nanos now) tries p)
   step_answer (step.FailCheck now id text) p = CheckFailed (table.check_answer (as_nanos now) id p)
-  step_answer (step.PutBack now id value broken) p = CameBack (table.return_answer (as_nanos now) id value broken p)
-  step_answer (step.Reap now) p = Reaped (table.reap_closed (as_nanos now) p) (table.reap_orders (as_nanos now) p)
-  step_answer step.TakeError p = Told p.last_error
-  step_answer step.Close p = Left (table.close_answer p)
+  step_answer (step.PutBack now id value broken) p =
+      PutBack (table.return_answer (as_nanos now) id value broken p)
+  step_answer (step.Reap now) p =
+      Reaped (table.reap_closed (as_nanos now) p) (table.reap_orders (as_nanos now) p)
+  step_answer step.TakeError p = TakeError p.last_error
+  step_answer step.Close p = Close (table.close_answer p)
 
   -- the picture after it
   abbrev pub after_step : Step T → Picture T → Picture T
@@ -49,20 +54,26 @@ module _ {T : Type 0} where
   after_step (step.Admit now id value) p = table.after_admit (as_nanos now) id value p
   after_step (step.Fail now tries text) p = table.after_fail (as_nanos now) tries text p
   after_step (step.FailCheck now id text) p = table.after_check (as_nanos now) id text p
-  after_step (step.PutBack now id value broken) p = table.after_return (as_nanos now) id value broken p
+  after_step (step.PutBack now id value broken) p =
+      table.after_return (as_nanos now) id value broken p
   after_step (step.Reap now) p = table.after_reap (as_nanos now) p
   after_step step.TakeError p = table.after_take_error p
   after_step step.Close p = table.after_close p
 
   -- what a book notes of it: its journal after it
   abbrev pub noted_step : Step T → SeenBook T → SeenJournal
-  noted_step (step.Take now or_order) b = noted_take (as_nanos now) (table.take_answer or_order b.picture) b
-  noted_step (step.Admit now id value) b = noted_admission (as_nanos now) id (table.admit_answer id value b.picture) b
-  noted_step (step.FailCheck now id text) b = noted_check (as_nanos now) id (table.check_answer (as_nanos now) id b.picture) b
+  noted_step (step.Take now or_order) b =
+      noted_take (as_nanos now) (table.take_answer or_order b.picture) b
+  noted_step (step.Admit now id value) b =
+      noted_admission (as_nanos now) id (table.admit_answer id value b.picture) b
+  noted_step (step.FailCheck now id text) b =
+      noted_check (as_nanos now) id (table.check_answer (as_nanos now) id b.picture) b
   noted_step (step.PutBack now id value broken) b =
-      noted_return (as_nanos now) id (table.return_answer (as_nanos now) id value broken b.picture) b
+      noted_return (as_nanos now) id (table.return_answer (as_nanos now) id value broken b.picture)
+      b
   noted_step (step.Reap now) b =
-      noted_reap (as_nanos now) (length (table.reap_closed (as_nanos now) b.picture)) (table.reap_orders (as_nanos now) b.picture) b
+      noted_reap (as_nanos now) (length (table.reap_closed (as_nanos now) b.picture))
+      (table.reap_orders (as_nanos now) b.picture) b
   noted_step step.Close b = noted_close b
   noted_step _ b = b.journal
 

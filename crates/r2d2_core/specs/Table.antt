@@ -1,17 +1,23 @@
--- What each step answers, and what it makes of the picture. A step's moment is raised to the latest so far.
-use Rattle.std.specs.Prelude.{ℕ, ◌+◌, ◌-◌, max, Bool, true, false, ◌||◌, not, List, [], ◌∷◌, ◌++◌, length, map, filter, Option, Some, None, is_some, unwrap_or}
+-- What each step answers, and what it makes of the picture. A step's moment is raised to the latest
+-- so far.
+use Rattle.std.specs.Prelude.{ℕ, ◌+◌, ◌-◌, max, Bool, true, false, ◌||◌, not, List, [], ◌∷◌, ◌++◌}
+use Rattle.std.specs.Prelude.{length, map, filter, Option, Some, None, is_some, unwrap_or}
 use Rattle.std.specs.Prelude.{Result, String}
 use Rattle.r2d2_core.specs.declared.machine.answers.Refusal.{Refusal}
 use Rattle.r2d2_core.specs.declared.machine.answers.Refusal.TheVariants as refusal
 use Rattle.r2d2_core.specs.Limits.{SeenLimits, has_reached}
 use Rattle.r2d2_core.specs.Ids.{without}
-use Rattle.r2d2_core.specs.Lending.{lent_next, still_idle}
+use Rattle.r2d2_core.specs.Lending.{next_to_lend, still_idle}
 use Rattle.r2d2_core.specs.Jobs.{SeenJob}
-use Rattle.r2d2_core.specs.Connections.{SeenIdleConnection, SeenReleased, idle_connection, lent_connection, id_of_lent, pair_of, birth_in, is_expired, is_kept}
+use Rattle.r2d2_core.specs.Connections.{SeenIdleConnection, SeenReleased, idle_connection}
+use Rattle.r2d2_core.specs.Connections.{lent_connection, id_of_lent, pair_of, birth_in, is_expired}
+use Rattle.r2d2_core.specs.Connections.{is_kept}
 use Rattle.r2d2_core.specs.Connections.{closed_of}
 use Rattle.r2d2_core.specs.Refusals.{refused_if, ok_unless, ok_or_back, unless_refused}
-use Rattle.r2d2_core.specs.OnOrder.{SeenOnOrder, top_up_beside, miss_order, with_orders, first_on_order, job_at, begun, number_refusal, after_numbering}
-use Rattle.r2d2_core.specs.OnOrder.{admit_refusal, admitted_one, fail_refusal, due_again, failed_one, emptied}
+use Rattle.r2d2_core.specs.OnOrder.{SeenOnOrder, top_up_beside, miss_order, with_orders}
+use Rattle.r2d2_core.specs.OnOrder.{first_on_order, job_at, begun, number_refusal, after_numbering}
+use Rattle.r2d2_core.specs.OnOrder.{admit_refusal, admitted_one, fail_refusal, due_again}
+use Rattle.r2d2_core.specs.OnOrder.{failed_one, emptied}
 use Rattle.r2d2_core.specs.Picture.{Picture}
 use Rattle.r2d2_core.specs.Seen.{SeenTake, SeenReturned, Kept, Closed, SeenGone, take_with, or_text}
 
@@ -52,10 +58,13 @@ module _ {T : Type 0} where
   -- TAKE: the idle one that is next is lent
 
   abbrev pub next_of : Picture T → Option (SeenIdleConnection T)
-  next_of p = lent_next p.on_order.limits.order p.idle
+  next_of p = next_to_lend p.on_order.limits.order p.idle
 
   abbrev pub lent_out : SeenIdleConnection T → Picture T → Picture T
-  lent_out c p = record p { idle = still_idle p.on_order.limits.order p.idle; lent = p.lent ++ lent_connection c.id c.birth ∷ [] }
+  lent_out c p = record p {
+    idle = still_idle p.on_order.limits.order p.idle;
+    lent = p.lent ++ lent_connection c.id c.birth ∷ [];
+  }
 
   abbrev pub take_orders : Option (SeenIdleConnection T) → Bool → Picture T → ℕ
   take_orders None or_order p = miss_order_of or_order p
@@ -103,18 +112,24 @@ module _ {T : Type 0} where
   admit_answer id value p = ok_or_back (admit_refusal id p.on_order) value tt
 
   abbrev pub after_admit : ℕ → ℕ → T → Picture T → Picture T
-  after_admit t id value p = unless_refused (admit_refusal id p.on_order) (admitted_at (max p.latest t) id value p) p
+  after_admit t id value p =
+      unless_refused (admit_refusal id p.on_order) (admitted_at (max p.latest t) id value p) p
 
   -- FAIL: an opening in work is scheduled again
 
   abbrev pub fail_answer : ℕ → ℕ → Picture T → Result ℕ Refusal
-  fail_answer t tries p = ok_unless (fail_refusal tries p.on_order) (due_again (max p.latest t) tries p.on_order)
+  fail_answer t tries p =
+      ok_unless (fail_refusal tries p.on_order) (due_again (max p.latest t) tries p.on_order)
 
   abbrev pub failed : {A : Type 0} → ℕ → ℕ → Option (String A) → Picture T → Picture T
-  failed t tries text p = record (raised_to t p) { on_order = failed_one (max p.latest t) tries p.on_order; last_error = or_text text p.last_error }
+  failed t tries text p = record (raised_to t p) {
+    on_order = failed_one (max p.latest t) tries p.on_order;
+    last_error = or_text text p.last_error;
+  }
 
   abbrev pub after_fail : {A : Type 0} → ℕ → ℕ → Option (String A) → Picture T → Picture T
-  after_fail t tries text p = unless_refused (fail_refusal tries p.on_order) (failed t tries text p) p
+  after_fail t tries text p =
+      unless_refused (fail_refusal tries p.on_order) (failed t tries text p) p
 
   -- RETURN: one that was lent is idle again, or gone
 
@@ -127,10 +142,14 @@ module _ {T : Type 0} where
 
   -- one that comes back is closed where it is broken or too old, or the core is closed
   abbrev pub is_closing : ℕ → Bool → Picture T → Bool
-  is_closing birth broken p = broken || (has_reached p.on_order.limits.max_lifetime (p.latest - birth) || p.on_order.closed)
+  is_closing birth broken p =
+      broken || (has_reached p.on_order.limits.max_lifetime (p.latest - birth) || p.on_order.closed)
 
   abbrev pub kept_one : ℕ → ℕ → T → Picture T → Picture T
-  kept_one id birth value p = record p { lent = without id_of_lent id p.lent; idle = p.idle ++ idle_connection id birth p.latest value ∷ [] }
+  kept_one id birth value p = record p {
+    lent = without id_of_lent id p.lent;
+    idle = p.idle ++ idle_connection id birth p.latest value ∷ [];
+  }
 
   abbrev pub gone_one : ℕ → Picture T → Picture T
   gone_one id p = record p { lent = without id_of_lent id p.lent; connections = p.connections - 1 }
@@ -150,10 +169,13 @@ module _ {T : Type 0} where
   returned id birth value broken p = returned_by (is_closing birth broken p) id birth value p
 
   abbrev pub return_answer : ℕ → ℕ → T → Bool → Picture T → Result (SeenReturned T) (Refusal × T)
-  return_answer t id value broken p = ok_or_back (lent_refusal id p) value (return_of id (lent_birth id p) value broken (raised_to t p))
+  return_answer t id value broken p =
+      ok_or_back (lent_refusal id p) value
+      (return_of id (lent_birth id p) value broken (raised_to t p))
 
   abbrev pub after_return : ℕ → ℕ → T → Bool → Picture T → Picture T
-  after_return t id value broken p = unless_refused (lent_refusal id p) (returned id (lent_birth id p) value broken (raised_to t p)) p
+  after_return t id value broken p = unless_refused (lent_refusal id p)
+      (returned id (lent_birth id p) value broken (raised_to t p)) p
 
   -- FAILED CHECK: one that was lent is gone
 
@@ -164,10 +186,12 @@ module _ {T : Type 0} where
   gone_with id birth p = record { age = p.latest - birth; ordered = top_up_of (gone_one id p) }
 
   abbrev pub check_answer : ℕ → ℕ → Picture T → Result SeenGone Refusal
-  check_answer t id p = ok_unless (lent_refusal id p) (gone_with id (lent_birth id p) (raised_to t p))
+  check_answer t id p =
+      ok_unless (lent_refusal id p) (gone_with id (lent_birth id p) (raised_to t p))
 
   abbrev pub after_check : {A : Type 0} → ℕ → ℕ → Option (String A) → Picture T → Picture T
-  after_check t id text p = unless_refused (lent_refusal id p) (topped_up (gone_one id (with_text text (raised_to t p)))) p
+  after_check t id text p = unless_refused (lent_refusal id p)
+      (topped_up (gone_one id (with_text text (raised_to t p)))) p
 
   -- REAP: the expired ones are gone
 
@@ -195,4 +219,8 @@ module _ {T : Type 0} where
   close_answer p = map pair_of p.idle
 
   abbrev pub after_close : Picture T → Picture T
-  after_close p = record p { idle = []; on_order = emptied p.on_order; connections = p.connections - length p.idle }
+  after_close p = record p {
+    idle = [];
+    on_order = emptied p.on_order;
+    connections = p.connections - length p.idle;
+  }

@@ -4,7 +4,7 @@ ghost use Rattle.std.specs.Prelude.{IfOk};
 ghost use Rattle.r2d2_core.specs.Seen.{seen_take, seen_returned, map_ok};
 ghost use Rattle.r2d2_core.specs.BookSteps.{IsTake, IsBegin, IsNumbering, IsReturn, IsReap};
 ghost use Rattle.r2d2_core.specs.BookSteps.{IsTelling, IsClose};
-ghost use Rattle.r2d2_core.specs.Journal.{one_more};
+ghost use Rattle.r2d2_core.specs.Journal.{next_count};
 ghost use Rattle.r2d2_core.specs.Reports.{IsReportOf, IsSoundReport};
 ghost use Rattle.r2d2.specs.Wakes.{wakes_of_take, wakes_of_return, wakes_of_reap};
 ghost use Rattle.r2d2.specs.Settled.{seen_settled, wakes_of_settled, IsSettling};
@@ -50,7 +50,7 @@ pub trait Counter: Ties {
         ensures amount { amount tally.new ≡ amount tally.old + per_take }
         ensures counts { counts self.old self.new }
         ensures stands { (takes : ℕ) → Self.stands_at self.old takes
-            → Self.stands_at self.new (one_more takes) };
+            → Self.stands_at self.new (next_count takes) };
 }
 
 /// Counts nothing.

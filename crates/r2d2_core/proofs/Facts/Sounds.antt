@@ -5,7 +5,7 @@ use Rattle.r2d2_core.specs.declared.machine.answers.Refusal.{Refusal}
 use Rattle.r2d2_core.specs.declared.machine.answers.Refusal.TheVariants as refusal
 use Rattle.r2d2_core.specs.Limits.{SeenLimits, wanted_of}
 use Rattle.r2d2_core.specs.Ids.{found}
-use Rattle.r2d2_core.specs.Lending.{lent_next}
+use Rattle.r2d2_core.specs.Lending.{next_to_lend}
 use Rattle.r2d2_core.specs.Jobs.{SeenJob, Open, Reap, Wait, Nothing, Closed}
 use Rattle.r2d2_core.specs.Refusals.{unless_refused}
 use Rattle.r2d2_core.specs.Connections.{SeenIdleConnection, SeenLentConnection, id_of_idle, id_of_lent, birth_in}
@@ -57,13 +57,13 @@ module _ {T : Type 0} where
 
   -- TAKE
 
-  sound_taken : (or_order : Bool) (p : Picture T) (o : Option (SeenIdleConnection T)) → lent_next p.on_order.limits.order p.idle ≡ o → IsSound p
+  sound_taken : (or_order : Bool) (p : Picture T) (o : Option (SeenIdleConnection T)) → next_to_lend p.on_order.limits.order p.idle ≡ o → IsSound p
       → IsSound (taken o or_order p)
   sound_taken or_order p None e s = sound_missed or_order s
   sound_taken or_order p (Some c) e s = sound_topped_up (steady_lent_out c e s.steady)
 
   pub sound_take : (t : ℕ) (or_order : Bool) {p : Picture T} → IsSound p → IsSound (after_take t or_order p)
-  sound_take t or_order {p} s = sound_taken or_order (raised_to t p) (lent_next p.on_order.limits.order p.idle) refl (sound_at t s)
+  sound_take t or_order {p} s = sound_taken or_order (raised_to t p) (next_to_lend p.on_order.limits.order p.idle) refl (sound_at t s)
 
   -- BEGIN, NUMBER, ADMIT, FAIL
 

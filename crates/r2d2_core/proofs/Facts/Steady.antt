@@ -10,7 +10,7 @@ use Rattle.std.proofs.lemmas.List.Sorted.{IsNonDecreasingBy-push}
 use Rattle.std.proofs.lemmas.Bool.{cases_lt, cases_eq}
 use Rattle.r2d2_core.specs.Limits.{wanted_of}
 use Rattle.r2d2_core.specs.Ids.{same_id, found, without, copies_of}
-use Rattle.r2d2_core.specs.Lending.{lent_next, still_idle}
+use Rattle.r2d2_core.specs.Lending.{next_to_lend, still_idle}
 use Rattle.r2d2_core.specs.Openings.{SeenOpening}
 use Rattle.r2d2_core.specs.Connections.{SeenIdleConnection, SeenLentConnection, idle_connection, lent_connection, id_of_idle, id_of_lent, since_of, is_expired}
 use Rattle.r2d2_core.specs.Connections.{is_kept}
@@ -174,7 +174,7 @@ module _ {T : Type 0} where
 
   -- TAKE
 
-  pub steady_lent_out : (c : SeenIdleConnection T) {p : Picture T} → lent_next p.on_order.limits.order p.idle ≡ Some c → IsSteady p → IsSteady (lent_out c p)
+  pub steady_lent_out : (c : SeenIdleConnection T) {p : Picture T} → next_to_lend p.on_order.limits.order p.idle ≡ Some c → IsSteady p → IsSteady (lent_out c p)
   steady_lent_out c {p} is s =
       let o = p.on_order.limits.order in
       let l = lent_connection c.id c.birth in

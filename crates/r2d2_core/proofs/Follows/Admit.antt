@@ -22,6 +22,7 @@ use Rattle.r2d2_core.specs.Deeds.{idle_of, lent_of, connections_of, admitted_cou
 use Rattle.r2d2_core.specs.Pending.{ordered_of, pending_of, ids_of, is_admitted, numbered_of, next_id_of, next_reap_of, on_order_of}
 use Rattle.r2d2_core.specs.Answers.{refusal_of, picture_of}
 use Rattle.r2d2_core.proofs.Histories.Kept.{IsKept, Follows}
+use Rattle.r2d2_core.proofs.Histories.Counts.{more_admitted, none_gone}
 use Rattle.r2d2_core.proofs.Lists.Ids.{copies_of-append3, copies_of-without}
 use Rattle.r2d2_core.proofs.Lists.Filters.{filter-once, filter-both}
 use Rattle.r2d2_core.proofs.Histories.Comings.{idle_of-admitted, lent_of-admitted}
@@ -92,14 +93,22 @@ module _ {T : Type 0} where
       ∙ (ap (filter (λ i. not (id == i))) (sym (numbered_of-open h is_open))
       ∙ filter-once same_id id (numbered_of h) (omega (arith, copies_in h id sound, ap (copies_of id) (map-id (numbered_of h))))))
 
+  one_admitted : (h : History T) (now : Duration) (id : ℕ) (value : T)
+      → admitted_count (Then h (step.Admit now id value) (Admitted (Ok tt))) ≡ admitted_count h + 1
+  one_admitted h now id value = more_admitted h (step.Admit now id value) (Admitted (Ok tt)) 1 refl
+
+  no_more_gone : (h : History T) (now : Duration) (id : ℕ) (value : T) → gone_count (Then h (step.Admit now id value) (Admitted (Ok tt))) ≡ gone_count h
+  no_more_gone h now id value = none_gone h (step.Admit now id value) (Admitted (Ok tt)) refl
+
   pending_of-admit : (h : History T) (now : Duration) (id : ℕ) (value : T) → pending_of (Then h (step.Admit now id value) (Admitted (Ok tt))) ≡ pending_of h - 1
   unfolding pending_of
-  pending_of-admit h now id value = pending_less (is_closed h) (ordered_of h) (admitted_count h)
+  pending_of-admit h now id value = ap (λ n. cond (is_closed h) 0 (ordered_of h + 0 - n)) (one_admitted h now id value)
+      ∙ pending_less (is_closed h) (ordered_of h) (admitted_count h)
 
   connections_of-admit : (h : History T) (now : Duration) (id : ℕ) (value : T) → gone_count h ≤ admitted_count h
       → connections_of (Then h (step.Admit now id value) (Admitted (Ok tt))) ≡ connections_of h + 1
   unfolding connections_of
-  connections_of-admit h now id value le = omega arith
+  connections_of-admit h now id value le = omega (arith, le, one_admitted h now id value, no_more_gone h now id value)
 
   picture_of-admit : (h : History T) (now : Duration) (id : ℕ) (value : T) → is_closed h ≡ false → found same_id id (numbered_of h) ≡ Some id → IsKept h
       → picture_of (Then h (step.Admit now id value) (Admitted (Ok tt))) ≡ admitted_at (max (now_of h) (as_nanos now)) id value (picture_of h)
@@ -127,8 +136,12 @@ module _ {T : Type 0} where
   unfolding next_id_of pending_of
   kept_admit h now id value is_open e kept sound = record {
     sound = sound;
-    gone_were_admitted = omega (arith, kept.gone_were_admitted);
-    admitted_were_ordered = λ still. omega (arith, admitted_fewer (is_closed h) (ordered_of h) (admitted_count h) is_open (pending_some h id e kept.sound));
+    gone_were_admitted = omega (arith, kept.gone_were_admitted, one_admitted h now id value, no_more_gone h now id value);
+    admitted_were_ordered = λ still. omega (
+      arith,
+      one_admitted h now id value,
+      admitted_fewer (is_closed h) (ordered_of h) (admitted_count h) is_open (pending_some h id e kept.sound),
+    );
     ended_were_begun = kept.ended_were_begun;
     few_tries = kept.few_tries;
     none_admitted_ahead = λ i ahead.

@@ -13,10 +13,11 @@ use Rattle.r2d2_core.specs.OnOrder.{begun_by}
 use Rattle.r2d2_core.specs.Picture.{IsSound}
 use Rattle.r2d2_core.specs.Table.{raised_to, with_on_order, begin_answer, after_begin}
 use Rattle.r2d2_core.specs.History.{History, Then, limits_of, start_of, is_closed, moment_of}
-use Rattle.r2d2_core.specs.Deeds.{connections_of}
+use Rattle.r2d2_core.specs.Deeds.{admitted_count, gone_count}
 use Rattle.r2d2_core.specs.Pending.{begun_of, scheduled_of, next_id_of, numbered_of, reaps_of, next_reap_of, job_of, on_order_of}
 use Rattle.r2d2_core.specs.Answers.{picture_of}
 use Rattle.r2d2_core.proofs.Histories.Kept.{IsKept, Follows}
+use Rattle.r2d2_core.proofs.Histories.Counts.{none_admitted, none_gone, connections_of-same}
 use Rattle.r2d2_core.proofs.Histories.Deeds.{idle_of-none, lent_of-none}
 use Rattle.r2d2_core.proofs.Facts.Accounted.{begins_within}
 use Rattle.r2d2_core.proofs.Histories.InWork.{in_work_of-one_more}
@@ -59,19 +60,19 @@ module _ {T : Type 0} where
     ended = λ k. refl;
     ids = refl;
     admitted = λ i. refl;
-    count = refl;
+    count = none_admitted h (step.Begin now) (Begun (Wait due)) refl;
     reaps = refl;
   }
 
   idling : (h : History T) (now : Duration) → IsOrdering h (step.Begin now) (Begun Nothing)
-  idling h now = record { closed = refl; scheduled = refl; begun = λ k. refl; ended = λ k. refl; ids = refl; admitted = λ i. refl; count = refl; reaps = refl }
+  idling h now = record { closed = refl; scheduled = refl; begun = λ k. refl; ended = λ k. refl; ids = refl; admitted = λ i. refl; count = none_admitted h (step.Begin now) (Begun Nothing) refl; reaps = refl }
 
   ending : (h : History T) (now : Duration) → IsOrdering h (step.Begin now) (Begun Closed)
-  ending h now = record { closed = refl; scheduled = refl; begun = λ k. refl; ended = λ k. refl; ids = refl; admitted = λ i. refl; count = refl; reaps = refl }
+  ending h now = record { closed = refl; scheduled = refl; begun = λ k. refl; ended = λ k. refl; ids = refl; admitted = λ i. refl; count = none_admitted h (step.Begin now) (Begun Closed) refl; reaps = refl }
 
   picture_of-begin : (h : History T) (now : Duration) (task : SeenJob) → job_of h (moment_of h (step.Begin now)) ≡ task → IsKept h
       → picture_of (Then h (step.Begin now) (Begun task)) ≡ with_on_order (begun_by task (on_order_of h)) (raised_to (as_nanos now) (picture_of h))
-  unfolding picture_of on_order_of connections_of numbered_of next_id_of
+  unfolding picture_of on_order_of numbered_of next_id_of
   picture_of-begin h now (Open tries) e kept =
       let s = step.Begin now in
       let r = Begun (Open tries) in
@@ -80,8 +81,8 @@ module _ {T : Type 0} where
       (idle_of-none h s r refl (λ i. refl)) (lent_of-none h s r refl (λ i. refl))
       (same_on_order (on_order_of h) refl
       (in_work_of-one_more h (Then h s r) tries opens.0 refl (kept.ended_were_begun tries) (λ k. refl) (λ k. refl))
-      refl (next_reap_of-same h s r refl refl) refl (pending_of-same h s r refl refl refl) refl)
-      refl refl
+      refl (next_reap_of-same h s r refl refl) refl (pending_of-same h s r refl refl (none_admitted h s r refl)) refl)
+      (connections_of-same h s r refl refl) refl
   picture_of-begin h now Reap e kept =
       let s = step.Begin now in
       let r = Begun Reap in
@@ -89,23 +90,29 @@ module _ {T : Type 0} where
       (idle_of-none h s r refl (λ i. refl)) (lent_of-none h s r refl (λ i. refl))
       (same_on_order (on_order_of h) refl
       (in_work_of-same h s r refl (λ k. refl) (λ k. refl))
-      refl (next_reap_of-reap h now) refl (pending_of-same h s r refl refl refl) refl)
-      refl refl
+      refl (next_reap_of-reap h now) refl (pending_of-same h s r refl refl (none_admitted h s r refl)) refl)
+      (connections_of-same h s r refl refl) refl
   picture_of-begin h now (Wait due) e kept =
       let s = step.Begin now in
       let r = Begun (Wait due) in
       picture_of-unordered h s r (raised_to (as_nanos now) (picture_of h)) (waiting h now due) kept refl refl (idle_of-none h s r refl (λ i. refl))
-      (lent_of-none h s r refl (λ i. refl)) refl refl refl
+      (lent_of-none h s r refl (λ i. refl)) refl (connections_of-same h s r refl refl) refl
   picture_of-begin h now Nothing e kept =
       let s = step.Begin now in
       let r = Begun Nothing in
       picture_of-unordered h s r (raised_to (as_nanos now) (picture_of h)) (idling h now) kept refl refl (idle_of-none h s r refl (λ i. refl))
-      (lent_of-none h s r refl (λ i. refl)) refl refl refl
+      (lent_of-none h s r refl (λ i. refl)) refl (connections_of-same h s r refl refl) refl
   picture_of-begin h now Closed e kept =
       let s = step.Begin now in
       let r = Begun Closed in
       picture_of-unordered h s r (raised_to (as_nanos now) (picture_of h)) (ending h now) kept refl refl (idle_of-none h s r refl (λ i. refl))
-      (lent_of-none h s r refl (λ i. refl)) refl refl refl
+      (lent_of-none h s r refl (λ i. refl)) refl (connections_of-same h s r refl refl) refl
+
+  gone_fewer : (h : History T) (now : Duration) (task : SeenJob) → IsKept h
+      → gone_count (Then h (step.Begin now) (Begun task)) ≤ admitted_count (Then h (step.Begin now) (Begun task))
+  gone_fewer h now task kept =
+      let s = step.Begin now in
+      omega (arith, kept.gone_were_admitted, none_gone h s (Begun task) refl, none_admitted h s (Begun task) refl)
 
   kept_begin : (h : History T) (now : Duration) (task : SeenJob) → job_of h (moment_of h (step.Begin now)) ≡ task → IsKept h
       → IsSound (picture_of (Then h (step.Begin now) (Begun task))) → IsKept (Then h (step.Begin now) (Begun task))
@@ -116,23 +123,26 @@ module _ {T : Type 0} where
       let few = begins_within (moment_of h s) tries (on_order_of h) opens.1 kept.sound.steady.accounted in
       record {
         sound = sound;
-        gone_were_admitted = kept.gone_were_admitted;
-        admitted_were_ordered = λ is_open. omega (arith, kept.admitted_were_ordered is_open);
+        gone_were_admitted = gone_fewer h now (Open tries) kept;
+        admitted_were_ordered = λ is_open. omega (arith, kept.admitted_were_ordered is_open, none_admitted h s (Begun (Open tries)) refl);
         ended_were_begun = λ k. omega (arith, kept.ended_were_begun k);
         few_tries = λ k many. begun_few tries k (begun_of h k) (omega (arith, few)) many (kept.few_tries k many);
         none_admitted_ahead = kept.none_admitted_ahead;
       }
   kept_begin h now Reap e kept sound = record {
     sound = sound;
-    gone_were_admitted = kept.gone_were_admitted;
-    admitted_were_ordered = λ is_open. omega (arith, kept.admitted_were_ordered is_open);
+    gone_were_admitted = gone_fewer h now Reap kept;
+    admitted_were_ordered = λ is_open. omega (arith, kept.admitted_were_ordered is_open, none_admitted h (step.Begin now) (Begun Reap) refl);
     ended_were_begun = kept.ended_were_begun;
     few_tries = kept.few_tries;
     none_admitted_ahead = kept.none_admitted_ahead;
   }
-  kept_begin h now (Wait due) e kept sound = kept_ordered h (step.Begin now) (Begun (Wait due)) (waiting h now due) kept sound kept.gone_were_admitted
-  kept_begin h now Nothing e kept sound = kept_ordered h (step.Begin now) (Begun Nothing) (idling h now) kept sound kept.gone_were_admitted
-  kept_begin h now Closed e kept sound = kept_ordered h (step.Begin now) (Begun Closed) (ending h now) kept sound kept.gone_were_admitted
+  kept_begin h now (Wait due) e kept sound = kept_ordered h (step.Begin now) (Begun (Wait due)) (waiting h now due) kept sound
+      (omega (arith, kept.gone_were_admitted, none_gone h (step.Begin now) (Begun (Wait due)) refl))
+  kept_begin h now Nothing e kept sound = kept_ordered h (step.Begin now) (Begun Nothing) (idling h now) kept sound
+      (omega (arith, kept.gone_were_admitted, none_gone h (step.Begin now) (Begun Nothing) refl))
+  kept_begin h now Closed e kept sound = kept_ordered h (step.Begin now) (Begun Closed) (ending h now) kept sound
+      (omega (arith, kept.gone_were_admitted, none_gone h (step.Begin now) (Begun Closed) refl))
 
   pub follows_begin : (h : History T) (now : Duration) → IsKept h → Follows h (step.Begin now) (Begun (begin_answer (as_nanos now) (picture_of h)))
       (after_begin (as_nanos now) (picture_of h))

@@ -12,10 +12,11 @@ use Rattle.r2d2_core.specs.OnOrder.{top_up_beside}
 use Rattle.r2d2_core.specs.Picture.{Picture, IsSound}
 use Rattle.r2d2_core.specs.Table.{raised_to, ordered, topped_up, lent_refusal, lent_birth, gone_one, with_text, gone_with, check_answer, after_check}
 use Rattle.r2d2_core.specs.History.{History, Then, is_closed, now_of}
-use Rattle.r2d2_core.specs.Deeds.{Going, birth_of, idle_of, connections_of}
+use Rattle.r2d2_core.specs.Deeds.{Gone, birth_of, idle_of, connections_of}
 use Rattle.r2d2_core.specs.Pending.{on_order_of}
 use Rattle.r2d2_core.specs.Answers.{refusal_of, is_lent, orders_of, picture_of}
 use Rattle.r2d2_core.proofs.Histories.Kept.{IsKept, Follows}
+use Rattle.r2d2_core.proofs.Histories.Counts.{more_gone, none_admitted, connections_of-less}
 use Rattle.r2d2_core.proofs.Facts.Accounted.{passes, not_false}
 use Rattle.r2d2_core.proofs.Histories.GoingOnes.{apart_in}
 use Rattle.r2d2_core.proofs.Histories.LentOnes.{lent_birth-is, lent_refusal-is, lent_of-back, idle_of-lost, lent_is_connected}
@@ -40,8 +41,7 @@ module _ {T : Type 0} where
 
   connections_of-check : (h : History T) (now : Duration) (id : ℕ) (text : Option (String Global)) (n : ℕ)
       → connections_of (then_lost h now id text n) ≡ connections_of h - 1
-  unfolding connections_of
-  connections_of-check h now id text n = omega arith
+  connections_of-check h now id text n = connections_of-less h (checking now id text) (lost_reply h (as_nanos now) id n) 1 refl refl
 
   -- what it orders
   orders_of-check : (h : History T) (now : Duration) (id : ℕ) (text : Option (String Global)) → is_lent h id ≡ true → IsSound (picture_of h)
@@ -59,7 +59,7 @@ module _ {T : Type 0} where
     ended = λ k. refl;
     ids = refl;
     admitted = λ i. refl;
-    count = refl;
+    count = none_admitted h (checking now id text) (lost_reply h (as_nanos now) id n) refl;
     reaps = refl;
   }
 
@@ -72,7 +72,7 @@ module _ {T : Type 0} where
       let r = lost_reply h (as_nanos now) id n in
       let p = gone_one id (with_text text (raised_to (as_nanos now) (picture_of h))) in
       picture_of-ordered h s r p n (ordering_check h now id text n) kept refl none
-      refl (idle_of-check h now id text n lent kept.sound) (lent_of-back h s r id (max (now_of h) (as_nanos now)) Going refl (λ i. refl) (λ birth. refl)
+      refl (idle_of-check h now id text n lent kept.sound) (lent_of-back h s r id (max (now_of h) (as_nanos now)) Gone refl (λ i. refl) (λ birth. refl)
       (apart_in h kept.sound)) refl (connections_of-check h now id text n) refl
       ∙ ap (λ k. ordered k p) orders
 
@@ -106,7 +106,11 @@ module _ {T : Type 0} where
         ∙ ap (λ k. lost_reply h (as_nanos now) id k) (sym orders)))
         (joins ∙ sym picture)
         (kept_ordered h s (lost_reply h (as_nanos now) id n) (ordering_check h now id text n) kept
-        (subst IsSound (sym picture) (subst IsSound joins (sound_check (as_nanos now) id text kept.sound))) (lent_is_connected h id lent kept.sound))
+        (subst IsSound (sym picture) (subst IsSound joins (sound_check (as_nanos now) id text kept.sound))) (omega (
+          arith,
+          lent_is_connected h id lent kept.sound,
+          more_gone h s (lost_reply h (as_nanos now) id n) 1 refl,
+        )))
     by (Some why) refused =
         let some : lent_refusal id (picture_of h) ≡ Some why = lent_refusal-is h id ∙ refused in
         follows_refused h s _ _ why refused

@@ -3,21 +3,21 @@ use Rattle.std.proofs.Common.{◌≡◌, ℕ, zero, suc, ◌+◌, ◌-◌, true,
 use Rattle.std.specs.Prelude.{filter, replicate, ◌*◌, ◌&&◌, if◌then◌else◌, Some}
 use Rattle.std.specs.List.{range_with_len}
 use Rattle.std.specs.Duration.{as_nanos}
-use Rattle.std.proofs.lemmas.List.{length-map}
 use Rattle.r2d2_core.specs.declared.run.Step.TheVariants as step
 use Rattle.r2d2_core.specs.Limits.{later_by, has_reaps}
 use Rattle.r2d2_core.specs.Connections.{SeenIdleConnection, SeenLentConnection, id_of_idle, pair_of}
 use Rattle.r2d2_core.specs.OnOrder.{emptied, IsEmpty}
 use Rattle.r2d2_core.specs.Picture.{Picture, IsSound}
 use Rattle.r2d2_core.specs.Table.{close_answer, after_close}
-use Rattle.r2d2_core.specs.Seen.{SeenAnswer, Left}
+use Rattle.r2d2_core.specs.Seen.{SeenAnswer, Close}
 use Rattle.r2d2_core.specs.History.{History, Then, limits_of, start_of, now_of, is_closed, moment_of}
-use Rattle.r2d2_core.specs.Deeds.{deeds_in, idle_of, lent_of, admitted_count, gone_count, connections_of}
+use Rattle.r2d2_core.specs.Deeds.{deeds_in, idle_of, lent_of, connections_of}
 use Rattle.r2d2_core.specs.Pending.{pending_of, in_work_of, in_work_at, numbered_of, reaps_of, next_reap_of, next_id_of, on_order_of}
 use Rattle.r2d2_core.specs.Answers.{picture_of}
 use Rattle.r2d2_core.proofs.Histories.Kept.{IsKept, Follows}
+use Rattle.r2d2_core.proofs.Histories.Counts.{come_in, gone_in, step_deeds, more_gone, none_admitted, connections_of-less, going_come, going_go}
 use Rattle.r2d2_core.proofs.Lists.Filters.{filter_true}
-use Rattle.r2d2_core.proofs.Histories.GoingOnes.{apart_in, pairs_go, going_deeds, less_gone, idle_of-going, lent_of-going, admitted_are}
+use Rattle.r2d2_core.proofs.Histories.GoingOnes.{apart_in, pairs_go, going_deeds, idle_of-going, lent_of-going, admitted_are}
 use Rattle.r2d2_core.proofs.Histories.Orders.{same_on_order, same_picture}
 use Rattle.r2d2_core.proofs.Facts.Sounds.{sound_close}
 
@@ -31,12 +31,18 @@ all_zero a (suc n) = ap (λ (l : List ℕ). 0 ∷ l) (all_zero (a + 1) n)
 
 module _ {T : Type 0} where
   abbrev left_by : History T → SeenAnswer T
-  left_by h = Left (map pair_of (idle_of h))
+  left_by h = Close (map pair_of (idle_of h))
 
   -- the deeds of a close: all that are idle go
   all_go : (h : History T) → deeds_in (moment_of h step.Close) step.Close (left_by h) ≡ going_deeds id_of_idle (moment_of h step.Close)
       (filter (λ c. true) (idle_of h))
   all_go h = pairs_go (now_of h) (idle_of h) ∙ ap (going_deeds id_of_idle (now_of h)) (sym (filter_true (idle_of h)))
+
+  none_come : (h : History T) → come_in (step_deeds h step.Close (left_by h)) ≡ 0
+  none_come h = ap come_in (pairs_go (now_of h) (idle_of h)) ∙ going_come T id_of_idle (now_of h) (idle_of h)
+
+  each_goes : (h : History T) → gone_in (step_deeds h step.Close (left_by h)) ≡ length (idle_of h)
+  each_goes h = ap gone_in (pairs_go (now_of h) (idle_of h)) ∙ going_go T id_of_idle (now_of h) (idle_of h)
 
   pub idle_of-close : (h : History T) → IsKept h → idle_of (Then h step.Close (left_by h)) ≡ []
   idle_of-close h kept = idle_of-going h step.Close (left_by h) (now_of h) (λ c. true) (all_go h) (λ i. refl) (apart_in h kept.sound) ∙ none_pass (idle_of h)
@@ -53,23 +59,28 @@ module _ {T : Type 0} where
 
   -- the picture after a close
   pub picture_of-close : (h : History T) → IsKept h → picture_of (Then h step.Close (left_by h)) ≡ after_close (picture_of h)
-  unfolding picture_of on_order_of connections_of pending_of in_work_of in_work_at numbered_of next_reap_of next_id_of
+  unfolding picture_of on_order_of pending_of in_work_of in_work_at numbered_of next_reap_of next_id_of
   picture_of-close h kept =
       same_close (picture_of h) (idle_of-close h kept) (lent_of-close h kept) (all_zero 0 100)
-      (less_gone (admitted_count h) (gone_count h) (length (map pair_of (idle_of h))) (length (idle_of h)) (length-map (idle_of h) pair_of))
+      (connections_of-less h step.Close (left_by h) (length (idle_of h)) (none_come h) (each_goes h))
 
   kept_close : (h : History T) → IsKept h → IsKept (Then h step.Close (left_by h))
   unfolding next_id_of
   kept_close h kept = record {
     sound = subst IsSound (sym (picture_of-close h kept)) (sound_close kept.sound);
-    gone_were_admitted = omega (arith, admitted_are h kept, length-map (idle_of h) pair_of);
+    gone_were_admitted = omega (
+      arith,
+      admitted_are h kept,
+      more_gone h step.Close (left_by h) (length (idle_of h)) (each_goes h),
+      none_admitted h step.Close (left_by h) (none_come h),
+    );
     admitted_were_ordered = λ not_closed. absurd (cc not_closed);
     ended_were_begun = kept.ended_were_begun;
     few_tries = kept.few_tries;
     none_admitted_ahead = kept.none_admitted_ahead;
   }
 
-  pub follows_close : (h : History T) → IsKept h → Follows h step.Close (Left (close_answer (picture_of h))) (after_close (picture_of h))
+  pub follows_close : (h : History T) → IsKept h → Follows h step.Close (Close (close_answer (picture_of h))) (after_close (picture_of h))
   unfolding picture_of
   follows_close h kept = record {
     answer_is = refl;

@@ -1,5 +1,5 @@
 -- A failed opening follows the history.
-use Rattle.std.proofs.Common.{◌≡◌, ℕ, ◌+◌, ◌-◌, max, true, false, cond, not, Option, Some, None, Ok, String, Global, refl, sym, ◌∙◌, ap, subst, arith}
+use Rattle.std.proofs.Common.{◌≡◌, ℕ, ◌+◌, max, true, false, not, Option, Some, None, Ok, String, Global, refl, sym, ◌∙◌, ap, subst, arith}
 use Rattle.std.specs.Duration.{as_nanos}
 use Rattle.std.specs.declared.time.Duration.{Duration}
 use Rattle.r2d2_core.specs.declared.run.Step.{Step}
@@ -13,14 +13,15 @@ use Rattle.r2d2_core.specs.OnOrder.{fail_refusal, failed_one}
 use Rattle.r2d2_core.specs.Picture.{Picture, IsSound}
 use Rattle.r2d2_core.specs.Table.{fail_answer, failed, after_fail}
 use Rattle.r2d2_core.specs.History.{History, Then, is_closed, now_of, limits_of}
-use Rattle.r2d2_core.specs.Deeds.{connections_of, admitted_count}
-use Rattle.r2d2_core.specs.Pending.{ordered_of, pending_of, numbered_of, next_reap_of, next_id_of, on_order_of}
+use Rattle.r2d2_core.specs.Deeds.{admitted_count, gone_count}
+use Rattle.r2d2_core.specs.Pending.{pending_of, numbered_of, next_reap_of, next_id_of, on_order_of}
 use Rattle.r2d2_core.specs.Answers.{refusal_of, is_in_work, picture_of}
 use Rattle.r2d2_core.proofs.Histories.Kept.{IsKept, Follows}
+use Rattle.r2d2_core.proofs.Histories.Counts.{none_admitted, none_gone, connections_of-same}
 use Rattle.r2d2_core.proofs.Histories.Deeds.{idle_of-none, lent_of-none}
 use Rattle.r2d2_core.proofs.Histories.InWork.{in_work_of-one_less, is_in_work-on_order, ended_fits}
 use Rattle.r2d2_core.proofs.Facts.Accounted.{passes, not_false}
-use Rattle.r2d2_core.proofs.Histories.Orders.{same_on_order, picture_of-is}
+use Rattle.r2d2_core.proofs.Histories.Orders.{same_on_order, picture_of-is, pending_of-same}
 use Rattle.r2d2_core.proofs.Histories.Following.{follows_accepted, follows_refused}
 use Rattle.r2d2_core.proofs.Facts.Sounds.{sound_fail}
 
@@ -45,27 +46,35 @@ module _ {T : Type 0} where
       → on_order_of (then_failed h now tries text) ≡ failed_one (max (now_of h) (as_nanos now)) tries (on_order_of h)
   unfolding on_order_of pending_of numbered_of next_reap_of next_id_of
   on_order_of-fail h now tries text =
-      let same : ordered_of h + 0 ≡ ordered_of h = omega arith in
       same_on_order (on_order_of h) refl
       (in_work_of-one_less h (then_failed h now tries text) tries refl (λ j. refl) (λ j. refl)) refl refl refl
-      (ap (λ n. cond (is_closed h) 0 (n - admitted_count h)) same) refl
+      (pending_of-same h (failing now tries text) (Failed (Ok (due h (as_nanos now) tries))) refl refl
+      (none_admitted h (failing now tries text) (Failed (Ok (due h (as_nanos now) tries))) refl)) refl
 
   picture_of-fail : (h : History T) (now : Duration) (tries : ℕ) (text : Option (String Global))
       → picture_of (then_failed h now tries text) ≡ failed (as_nanos now) tries text (picture_of h)
-  unfolding picture_of connections_of
+  unfolding picture_of
   picture_of-fail h now tries text =
       let s = failing now tries text in
       let r : SeenAnswer T = Failed (Ok (due h (as_nanos now) tries)) in
       picture_of-is (then_failed h now tries text) (failed (as_nanos now) tries text (picture_of h))
-      refl (idle_of-none h s r refl (λ i. refl)) (lent_of-none h s r refl (λ i. refl)) (on_order_of-fail h now tries text) refl refl
+      refl (idle_of-none h s r refl (λ i. refl)) (lent_of-none h s r refl (λ i. refl)) (on_order_of-fail h now tries text)
+      (connections_of-same h s r refl refl) refl
+
+  no_more_admitted : (h : History T) (now : Duration) (tries : ℕ) (text : Option (String Global))
+      → admitted_count (then_failed h now tries text) ≡ admitted_count h
+  no_more_admitted h now tries text = none_admitted h (failing now tries text) (Failed (Ok (due h (as_nanos now) tries))) refl
+
+  no_more_gone : (h : History T) (now : Duration) (tries : ℕ) (text : Option (String Global)) → gone_count (then_failed h now tries text) ≡ gone_count h
+  no_more_gone h now tries text = none_gone h (failing now tries text) (Failed (Ok (due h (as_nanos now) tries))) refl
 
   kept_fail : (h : History T) (now : Duration) (tries : ℕ) (text : Option (String Global)) → IsKept h → is_closed h ≡ false → is_in_work h tries ≡ true
       → IsSound (failed (as_nanos now) tries text (picture_of h)) → IsKept (then_failed h now tries text)
   unfolding next_id_of
   kept_fail h now tries text kept is_open working sound = record {
     sound = subst IsSound (sym (picture_of-fail h now tries text)) sound;
-    gone_were_admitted = kept.gone_were_admitted;
-    admitted_were_ordered = λ is_open. omega (arith, kept.admitted_were_ordered is_open);
+    gone_were_admitted = omega (arith, kept.gone_were_admitted, no_more_gone h now tries text, no_more_admitted h now tries text);
+    admitted_were_ordered = λ is_open. omega (arith, kept.admitted_were_ordered is_open, no_more_admitted h now tries text);
     ended_were_begun = ended_fits h tries is_open working kept;
     few_tries = kept.few_tries;
     none_admitted_ahead = kept.none_admitted_ahead;

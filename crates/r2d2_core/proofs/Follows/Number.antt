@@ -14,10 +14,10 @@ use Rattle.r2d2_core.specs.OnOrder.{number_refusal, numbered_one}
 use Rattle.r2d2_core.specs.Picture.{IsSound}
 use Rattle.r2d2_core.specs.Table.{with_on_order, number_answer, after_number}
 use Rattle.r2d2_core.specs.History.{History, Then, is_closed}
-use Rattle.r2d2_core.specs.Deeds.{connections_of}
 use Rattle.r2d2_core.specs.Pending.{begun_of, ended_of, in_work_at, ids_of, is_admitted, numbered_of, next_id_of, next_reap_of, on_order_of}
 use Rattle.r2d2_core.specs.Answers.{refusal_of, picture_of}
 use Rattle.r2d2_core.proofs.Histories.Kept.{IsKept, Follows}
+use Rattle.r2d2_core.proofs.Histories.Counts.{none_admitted, none_gone, connections_of-same}
 use Rattle.r2d2_core.proofs.Histories.Deeds.{idle_of-none, lent_of-none}
 use Rattle.r2d2_core.proofs.Facts.Accounted.{found_in_work}
 use Rattle.r2d2_core.proofs.Histories.InWork.{slice_index-in_work_of, in_work_of-one_less, is_in_work-on_order}
@@ -60,7 +60,7 @@ module _ {T : Type 0} where
 
   picture_of-number : (h : History T) (tries : ℕ) → is_closed h ≡ false → IsKept h
       → picture_of (Then h (step.Number tries) (Numbered (Ok (next_id_of h)))) ≡ with_on_order (numbered_one tries (on_order_of h)) (picture_of h)
-  unfolding picture_of on_order_of connections_of next_reap_of
+  unfolding picture_of on_order_of next_reap_of
   picture_of-number h tries is_open kept =
       let s = step.Number tries in
       let r = Numbered (Ok (next_id_of h)) in
@@ -71,9 +71,9 @@ module _ {T : Type 0} where
       (numbered_of-number h tries is_open kept)
       refl
       (next_id_of-number h tries)
-      (pending_of-same h s r refl refl refl)
+      (pending_of-same h s r refl refl (none_admitted h s r refl))
       refl)
-      refl refl
+      (connections_of-same h s r refl refl) refl
 
   kept_number : (h : History T) (tries : ℕ) → is_closed h ≡ false → 0 < in_work_at h tries → IsKept h
       → IsSound (picture_of (Then h (step.Number tries) (Numbered (Ok (next_id_of h)))))
@@ -81,8 +81,17 @@ module _ {T : Type 0} where
   unfolding in_work_at
   kept_number h tries is_open some kept sound = record {
     sound = sound;
-    gone_were_admitted = kept.gone_were_admitted;
-    admitted_were_ordered = λ is_open. omega (arith, kept.admitted_were_ordered is_open);
+    gone_were_admitted = omega (
+      arith,
+      kept.gone_were_admitted,
+      none_gone h (step.Number tries) (Numbered (Ok (next_id_of h))) refl,
+      none_admitted h (step.Number tries) (Numbered (Ok (next_id_of h))) refl,
+    );
+    admitted_were_ordered = λ is_open. omega (
+      arith,
+      kept.admitted_were_ordered is_open,
+      none_admitted h (step.Number tries) (Numbered (Ok (next_id_of h))) refl,
+    );
     ended_were_begun = λ k. ended_less (is_closed h) (tries == k) (begun_of h k) (ended_of h k) is_open
         (λ same. subst (λ k. 0 < in_work_at h k) (eqb-true tries k same) some) (kept.ended_were_begun k);
     few_tries = kept.few_tries;

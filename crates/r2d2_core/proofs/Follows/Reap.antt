@@ -1,11 +1,10 @@
 -- A reap as the history sees it: the expired ones go, and what is wanted is ordered again.
-use Rattle.std.proofs.Common.{◌≡◌, ℕ, ◌+◌, ◌-◌, ◌≤◌, max, true, List, length, refl, sym, ◌∙◌, ap, subst, arith}
+use Rattle.std.proofs.Common.{◌≡◌, ℕ, ◌-◌, ◌≤◌, max, true, List, length, refl, sym, ◌∙◌, ap, subst, arith}
 use Rattle.std.specs.Prelude.{filter}
 use Rattle.std.specs.Duration.{as_nanos}
 use Rattle.std.specs.declared.time.Duration.{Duration}
-use Rattle.std.proofs.lemmas.List.{length-map}
 use Rattle.r2d2_core.specs.declared.run.Step.TheVariants as step
-use Rattle.r2d2_core.specs.Connections.{SeenIdleConnection, id_of_idle, is_expired, is_kept, released_at, closed_of}
+use Rattle.r2d2_core.specs.Connections.{SeenIdleConnection, id_of_idle, is_expired, is_kept, closed_of}
 use Rattle.r2d2_core.specs.Picture.{IsSound}
 use Rattle.r2d2_core.specs.Table.{raised_to, ordered, swept, reap_closed, reap_orders, after_reap}
 use Rattle.r2d2_core.specs.Seen.{SeenAnswer, Reaped}
@@ -14,8 +13,9 @@ use Rattle.r2d2_core.specs.Deeds.{deeds_in, idle_of, lent_of, admitted_count, go
 use Rattle.r2d2_core.specs.Pending.{on_order_of}
 use Rattle.r2d2_core.specs.Answers.{orders_of, picture_of}
 use Rattle.r2d2_core.proofs.Histories.Kept.{IsKept, Follows}
+use Rattle.r2d2_core.proofs.Histories.Counts.{come_in, gone_in, step_deeds, more_gone, none_admitted, connections_of-less, going_come, going_go}
 use Rattle.std.proofs.lemmas.List.Filters.{length-filter_both}
-use Rattle.r2d2_core.proofs.Histories.GoingOnes.{less_gone, apart_in, closings_go, going_deeds, idle_of-going, lent_of-going, admitted_are}
+use Rattle.r2d2_core.proofs.Histories.GoingOnes.{apart_in, closings_go, going_deeds, idle_of-going, lent_of-going, admitted_are}
 use Rattle.r2d2_core.proofs.Histories.Orders.{IsOrdering, orders_if_closed, orders_of-top_up, picture_of-ordered, kept_ordered}
 use Rattle.r2d2_core.proofs.Histories.Following.{follows_accepted}
 use Rattle.r2d2_core.proofs.Facts.Sounds.{sound_reap}
@@ -45,22 +45,24 @@ module _ {T : Type 0} where
   lent_of-reap h now n kept = lent_of-going h (step.Reap now) (reaped_by h now n) (reaped_at h now) (is_expired (limits_of h) (reaped_at h now))
       (expired_go h now n) (λ i. refl) (apart_in h kept.sound)
 
-  length-closed_of : (h : History T) (now : Duration) → length (closed_of (limits_of h) (reaped_at h now) (idle_of h)) ≡ length (expired_of h now)
-  length-closed_of h now = length-map (expired_of h now) (released_at (reaped_at h now))
+  none_come : (h : History T) (now : Duration) (n : ℕ) → come_in (step_deeds h (step.Reap now) (reaped_by h now n)) ≡ 0
+  none_come h now n = ap come_in (expired_go h now n) ∙ going_come T id_of_idle (reaped_at h now) (expired_of h now)
+
+  all_go : (h : History T) (now : Duration) (n : ℕ) → gone_in (step_deeds h (step.Reap now) (reaped_by h now n)) ≡ length (expired_of h now)
+  all_go h now n = ap gone_in (expired_go h now n) ∙ going_go T id_of_idle (reaped_at h now) (expired_of h now)
 
   pub connections_of-reap : (h : History T) (now : Duration) (n : ℕ) → connections_of (Then h (step.Reap now) (reaped_by h now n)) ≡ connections_of h - length
       (expired_of h now)
-  unfolding connections_of
-  connections_of-reap h now n = less_gone (admitted_count h) (gone_count h) _ (length (expired_of h now)) (length-closed_of h now)
+  connections_of-reap h now n = connections_of-less h (step.Reap now) (reaped_by h now n) (length (expired_of h now)) (none_come h now n) (all_go h now n)
 
   -- the expired ones were admitted
-  gone_of-reap : (h : History T) (now : Duration) → IsKept h → gone_count h + length (closed_of (limits_of h) (reaped_at h now) (idle_of h)) ≤ admitted_count h
+  gone_of-reap : (h : History T) (now : Duration) (n : ℕ) → IsKept h → gone_count (Then h (step.Reap now) (reaped_by h now n)) ≤ admitted_count h
   unfolding is_expired is_kept
-  gone_of-reap h now kept =
+  gone_of-reap h now n kept =
       omega (
         arith,
         admitted_are h kept,
-        length-closed_of h now,
+        more_gone h (step.Reap now) (reaped_by h now n) (length (expired_of h now)) (all_go h now n),
         length-filter_both (is_expired (limits_of h) (reaped_at h now))
             (is_kept (limits_of h) (reaped_at h now)) (λ c. refl) (idle_of h),
       )
@@ -80,7 +82,7 @@ module _ {T : Type 0} where
     ended = λ k. refl;
     ids = refl;
     admitted = λ i. refl;
-    count = refl;
+    count = none_admitted h (step.Reap now) (reaped_by h now n) (none_come h now n);
     reaps = refl;
   }
 
@@ -109,4 +111,4 @@ module _ {T : Type 0} where
       (ap (λ k. reaped_by h now k) (sym orders))
       (sym picture)
       (kept_ordered h s (reaped_by h now n) (ordering_reap h now n) kept (subst IsSound (sym picture) (sound_reap (as_nanos now) kept.sound))
-      (gone_of-reap h now kept))
+      (gone_of-reap h now n kept))

@@ -7,16 +7,17 @@ use Rattle.r2d2_core.specs.declared.run.Step.TheVariants as step
 use Rattle.r2d2_core.specs.declared.machine.answers.Refusal.{Refusal}
 use Rattle.r2d2_core.specs.declared.machine.answers.Refusal.TheVariants as refusal
 use Rattle.r2d2_core.specs.Refusals.{ok_or_back, unless_refused}
-use Rattle.r2d2_core.specs.Seen.{SeenAnswer, Kept, CameBack}
+use Rattle.r2d2_core.specs.Seen.{SeenAnswer, Kept, PutBack}
 use Rattle.r2d2_core.specs.OnOrder.{top_up_beside}
 use Rattle.r2d2_core.specs.Picture.{Picture, IsSound}
 use Rattle.r2d2_core.specs.Table.{raised_to, ordered, lent_refusal, lent_birth, kept_one, gone_one, return_by, returned_by, return_of, returned, return_answer}
 use Rattle.r2d2_core.specs.Table.{after_return}
 use Rattle.r2d2_core.specs.History.{History, Then, is_closed, now_of}
-use Rattle.r2d2_core.specs.Deeds.{Going, Keeping, birth_of, idle_of, connections_of, admitted_count, gone_count}
+use Rattle.r2d2_core.specs.Deeds.{Gone, Kept as KeptDeed, birth_of, idle_of, connections_of, admitted_count, gone_count}
 use Rattle.r2d2_core.specs.Pending.{on_order_of}
 use Rattle.r2d2_core.specs.Answers.{refusal_of, is_lent, closes, return_with, reply_with, orders_of, orders_by, top_up_after, picture_of}
 use Rattle.r2d2_core.proofs.Histories.Kept.{IsKept, Follows}
+use Rattle.r2d2_core.proofs.Histories.Counts.{come_in, step_deeds, more_gone, none_admitted, none_gone, connections_of-same, connections_of-less}
 use Rattle.r2d2_core.proofs.Facts.Accounted.{passes, not_false}
 use Rattle.r2d2_core.proofs.Histories.GoingOnes.{apart_in}
 use Rattle.r2d2_core.proofs.Histories.LentOnes.{lent_birth-is, lent_refusal-is, lent_of-back, idle_of-lost, idle_of-kept, lent_is_connected}
@@ -31,7 +32,7 @@ none_ordered false = refl
 module _ {T : Type 0} where
   -- the answer to one that is closed, or kept
   abbrev back_reply : History T → ℕ → ℕ → T → ℕ → Bool → SeenAnswer T
-  back_reply h t id value n b = CameBack (Ok (return_with b value (max (now_of h) t - birth_of h id) n))
+  back_reply h t id value n b = PutBack (Ok (return_with b value (max (now_of h) t - birth_of h id) n))
 
   abbrev then_back : History T → Duration → ℕ → T → Bool → ℕ → Bool → History T
   then_back h now id value broken n b = Then h (step.PutBack now id value broken) (back_reply h (as_nanos now) id value n b)
@@ -43,20 +44,18 @@ module _ {T : Type 0} where
 
   connections_of-gone : (h : History T) (now : Duration) (id : ℕ) (value : T) (broken : Bool) (n : ℕ)
       → connections_of (then_back h now id value broken n true) ≡ connections_of h - 1
-  unfolding connections_of
-  connections_of-gone h now id value broken n = omega arith
+  connections_of-gone h now id value broken n = connections_of-less h (step.PutBack now id value broken) (back_reply h (as_nanos now) id value n true) 1 refl refl
 
   connections_of-kept : (h : History T) (now : Duration) (id : ℕ) (value : T) (broken : Bool) (n : ℕ)
       → connections_of (then_back h now id value broken n false) ≡ connections_of h
-  unfolding connections_of
-  connections_of-kept h now id value broken n = refl
+  connections_of-kept h now id value broken n = connections_of-same h (step.PutBack now id value broken) (back_reply h (as_nanos now) id value n false) refl refl
 
   -- what it orders: a top-up where one is closed, and else nothing
   abbrev back_orders : History T → Bool → ℕ
   back_orders h true = top_up_beside (length (idle_of h)) (connections_of h - 1) (on_order_of h)
   back_orders h false = 0
 
-  orders_of-kept : (h : History T) (s : Step T) → reply_with h 0 s ≡ CameBack (Ok Kept) → orders_of h s ≡ 0
+  orders_of-kept : (h : History T) (s : Step T) → reply_with h 0 s ≡ PutBack (Ok Kept) → orders_of h s ≡ 0
   unfolding orders_of
   orders_of-kept h s r = ap (λ r. cond (is_closed h) 0 (orders_by h (Then h s r) s r)) r ∙ none_ordered (is_closed h)
 
@@ -73,6 +72,11 @@ module _ {T : Type 0} where
   orders_of-return h now id value broken false e lent sound = orders_of-kept h (step.PutBack now id value broken)
       (ap (back_reply h (as_nanos now) id value 0) e)
 
+  none_come : (h : History T) (now : Duration) (id : ℕ) (value : T) (broken : Bool) (n : ℕ) (b : Bool)
+      → come_in (step_deeds h (step.PutBack now id value broken) (back_reply h (as_nanos now) id value n b)) ≡ 0
+  none_come h now id value broken n true = refl
+  none_come h now id value broken n false = refl
+
   ordering_return : (h : History T) (now : Duration) (id : ℕ) (value : T) (broken : Bool) (n : ℕ) (b : Bool)
       → IsOrdering h (step.PutBack now id value broken) (back_reply h (as_nanos now) id value n b)
   ordering_return h now id value broken n b = record {
@@ -82,7 +86,7 @@ module _ {T : Type 0} where
     ended = λ k. refl;
     ids = refl;
     admitted = λ i. refl;
-    count = refl;
+    count = none_admitted h (step.PutBack now id value broken) (back_reply h (as_nanos now) id value n b) (none_come h now id value broken n b);
     reaps = refl;
   }
 
@@ -95,7 +99,7 @@ module _ {T : Type 0} where
       let r = back_reply h (as_nanos now) id value n true in
       let p = gone_one id (raised_to (as_nanos now) (picture_of h)) in
       picture_of-ordered h s r p n (ordering_return h now id value broken n true) kept refl none
-      refl (idle_of-gone h now id value broken n lent kept.sound) (lent_of-back h s r id (max (now_of h) (as_nanos now)) Going refl (λ i. refl) (λ birth. refl)
+      refl (idle_of-gone h now id value broken n lent kept.sound) (lent_of-back h s r id (max (now_of h) (as_nanos now)) Gone refl (λ i. refl) (λ birth. refl)
       (apart_in h kept.sound)) refl (connections_of-gone h now id value broken n) refl
       ∙ ap (λ k. ordered k p) orders
   picture_of-return h now id value broken n false lent kept orders none =
@@ -104,17 +108,27 @@ module _ {T : Type 0} where
       let t = max (now_of h) (as_nanos now) in
       picture_of-unordered h s r (kept_one id (birth_of h id) value (raised_to (as_nanos now) (picture_of h)))
       (ordering_return h now id value broken n false) kept refl
-      refl (idle_of-kept h s r id t value refl (λ i. refl) lent (apart_in h kept.sound)) (lent_of-back h s r id t (Keeping value) refl (λ i. refl)
+      refl (idle_of-kept h s r id t value refl (λ i. refl) lent (apart_in h kept.sound)) (lent_of-back h s r id t (KeptDeed value) refl (λ i. refl)
       (λ birth. refl) (apart_in h kept.sound)) refl (connections_of-kept h now id value broken n) refl
 
   gone_of-return : (h : History T) (now : Duration) (id : ℕ) (value : T) (broken : Bool) (n : ℕ) (b : Bool) → is_lent h id ≡ true → IsKept h
       → gone_count (then_back h now id value broken n b) ≤ admitted_count h
-  gone_of-return h now id value broken n true lent kept = lent_is_connected h id lent kept.sound
-  gone_of-return h now id value broken n false lent kept = kept.gone_were_admitted
+  gone_of-return h now id value broken n true lent kept =
+      omega (
+        arith,
+        lent_is_connected h id lent kept.sound,
+        more_gone h (step.PutBack now id value broken) (back_reply h (as_nanos now) id value n true) 1 refl,
+      )
+  gone_of-return h now id value broken n false lent kept =
+      omega (
+        arith,
+        kept.gone_were_admitted,
+        none_gone h (step.PutBack now id value broken) (back_reply h (as_nanos now) id value n false) refl,
+      )
 
   -- the answer of the table, where it orders as many
   return_by-is : (h : History T) (now : Duration) (id : ℕ) (value : T) (n : ℕ) (b : Bool) → n ≡ back_orders h b
-      → CameBack (Ok (return_by b id (birth_of h id) value (raised_to (as_nanos now) (picture_of h)))) ≡ back_reply h (as_nanos now) id value n b
+      → PutBack (Ok (return_by b id (birth_of h id) value (raised_to (as_nanos now) (picture_of h)))) ≡ back_reply h (as_nanos now) id value n b
   unfolding picture_of
   return_by-is h now id value n true orders = ap (λ k. back_reply h (as_nanos now) id value k true) (sym orders)
   return_by-is h now id value n false orders = refl
@@ -123,7 +137,7 @@ module _ {T : Type 0} where
   follows_back : (h : History T) (now : Duration) (id : ℕ) (value : T) (broken b : Bool) → IsKept h → is_lent h id ≡ true
       → closes h (max (now_of h) (as_nanos now)) id broken ≡ b → refusal_of h (step.PutBack now id value broken) ≡ None
       → IsSound (returned_by b id (birth_of h id) value (raised_to (as_nanos now) (picture_of h)))
-      → Follows h (step.PutBack now id value broken) (CameBack (Ok (return_by b id (birth_of h id) value (raised_to (as_nanos now) (picture_of h)))))
+      → Follows h (step.PutBack now id value broken) (PutBack (Ok (return_by b id (birth_of h id) value (raised_to (as_nanos now) (picture_of h)))))
       (returned_by b id (birth_of h id) value (raised_to (as_nanos now) (picture_of h)))
   follows_back h now id value broken b kept lent e accepted sound =
       let s : Step T = step.PutBack now id value broken in
@@ -140,7 +154,7 @@ module _ {T : Type 0} where
       (gone_of-return h now id value broken n b lent kept)))
 
   pub follows_return : (h : History T) (now : Duration) (id : ℕ) (value : T) (broken : Bool) → IsKept h
-      → Follows h (step.PutBack now id value broken) (CameBack (return_answer (as_nanos now) id value broken (picture_of h)))
+      → Follows h (step.PutBack now id value broken) (PutBack (return_answer (as_nanos now) id value broken (picture_of h)))
       (after_return (as_nanos now) id value broken (picture_of h))
   unfolding picture_of on_order_of
   follows_return h now id value broken kept = by (refusal_of h s) refl where
@@ -150,7 +164,7 @@ module _ {T : Type 0} where
     p : Picture T
     p = raised_to (as_nanos now) (picture_of h)
 
-    by : (why : Option Refusal) → refusal_of h s ≡ why → Follows h s (CameBack (return_answer (as_nanos now) id value broken (picture_of h)))
+    by : (why : Option Refusal) → refusal_of h s ≡ why → Follows h s (PutBack (return_answer (as_nanos now) id value broken (picture_of h)))
         (after_return (as_nanos now) id value broken (picture_of h))
     by None accepted =
         let none : lent_refusal id (picture_of h) ≡ None = lent_refusal-is h id ∙ accepted in
@@ -165,13 +179,13 @@ module _ {T : Type 0} where
         let follows = follows_back h now id value broken (closes h (max (now_of h) (as_nanos now)) id broken) kept lent refl accepted
         (subst IsSound new (sound_return (as_nanos now) id value broken kept.sound)) in
         record {
-          answer_is = ap CameBack reply ∙ follows.answer_is;
+          answer_is = ap PutBack reply ∙ follows.answer_is;
           picture_is = new ∙ follows.picture_is;
           kept = follows.kept;
         }
     by (Some why) refused =
         let some : lent_refusal id (picture_of h) ≡ Some why = lent_refusal-is h id ∙ refused in
         follows_refused h s _ _ why refused
-        (ap (λ o. CameBack (ok_or_back o value (return_of id (lent_birth id (picture_of h)) value broken p))) some)
+        (ap (λ o. PutBack (ok_or_back o value (return_of id (lent_birth id (picture_of h)) value broken p))) some)
         (ap (λ o. unless_refused o (returned id (lent_birth id (picture_of h)) value broken p) (picture_of h)) some)
         kept

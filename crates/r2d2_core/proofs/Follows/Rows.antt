@@ -9,7 +9,7 @@ use Rattle.r2d2_core.specs.Limits.{SeenLimits, settings, delay_of}
 use Rattle.r2d2_core.specs.Openings.{opening, is_before}
 use Rattle.r2d2_core.specs.Jobs.{Open, Reap, Wait, Nothing, Closed as JobClosed}
 use Rattle.r2d2_core.specs.Connections.{SeenReleased, lent_connection, is_expired, is_kept, released_at}
-use Rattle.r2d2_core.specs.Seen.{SeenAnswer, Taken, Found, Empty, Begun, Numbered, Admitted, Failed, CheckFailed, CameBack, Kept, Closed, Reaped, Told, Left}
+use Rattle.r2d2_core.specs.Seen.{SeenAnswer, Taken, Found, Empty, Begun, Numbered, Admitted, Failed, CheckFailed, PutBack, Kept, Closed, Reaped, TakeError, Close}
 use Rattle.r2d2_core.specs.History.{History, Made, now_of}
 use Rattle.r2d2_core.specs.Deeds.{connections_of, idle_of, lent_of}
 use Rattle.r2d2_core.specs.Pending.{pending_of, in_work_of, in_work_at, numbered_of, next_reap_of, next_id_of, on_order_of}
@@ -98,19 +98,19 @@ abbrev lost : ℕ → ℕ → SeenAnswer ℕ
 lost age ordered = CheckFailed (Ok (record { age = age * 1_000_000; ordered = ordered }))
 
 abbrev kept : SeenAnswer ℕ
-kept = CameBack (Ok Kept)
+kept = PutBack (Ok Kept)
 
 abbrev closed : ℕ → ℕ → ℕ → SeenAnswer ℕ
-closed value age ordered = CameBack (Ok (Closed value (age * 1_000_000) ordered))
+closed value age ordered = PutBack (Ok (Closed value (age * 1_000_000) ordered))
 
 abbrev not_lent : ℕ → SeenAnswer ℕ
-not_lent value = CameBack (Err (refusal.NotLent, value))
+not_lent value = PutBack (Err (refusal.NotLent, value))
 
 abbrev gone : ℕ → ℕ → ℕ → SeenReleased ℕ
 gone id age value = record { id = id; age = age * 1_000_000; value = value }
 
 abbrev told : String Global → SeenAnswer ℕ
-told text = Told (Some (string_bytes text))
+told text = TakeError (Some (string_bytes text))
 
 -- HISTORIES: of a new core, and of one with one or two idle connections, whose values are 70 and 71
 
@@ -346,21 +346,21 @@ no_id_at_all = refl
 
 closed_for_good : run (new (sized 1)) (step.Close ∷ number 3 ∷ admit 0 9 1 ∷ fail 0 9 ∷ bad 0 9 ∷ broken 0 9 1 ∷ reap 0 ∷ want 0 ∷ begin 0 ∷ step.TakeError ∷
     step.Close ∷ [])
-    ≡ ends 0 0 0 (Left [] ∷ Numbered (Err refusal.Closed) ∷ Admitted (Err (refusal.Closed, 1)) ∷ Failed (Err refusal.Closed) ∷ CheckFailed (Err refusal.NotLent)
-    ∷ not_lent 1 ∷ Reaped [] 0 ∷ empty 0 ∷ Begun JobClosed ∷ Told None ∷ Left [] ∷ [])
+    ≡ ends 0 0 0 (Close [] ∷ Numbered (Err refusal.Closed) ∷ Admitted (Err (refusal.Closed, 1)) ∷ Failed (Err refusal.Closed) ∷ CheckFailed (Err refusal.NotLent)
+    ∷ not_lent 1 ∷ Reaped [] 0 ∷ empty 0 ∷ Begun JobClosed ∷ TakeError None ∷ Close [] ∷ [])
 unfolding connections_of idle_of lent_of pending_of in_work_of in_work_at numbered_of next_reap_of next_id_of orders_of is_before is_expired is_kept released_at
 closed_for_good = refl
 
 closing_hands_out_the_oldest_first : run (opened_two (sized 2)) (step.Close ∷ [])
-    ≡ ends 0 0 0 (Left ((0, 70) ∷ (1, 71) ∷ []) ∷ [])
+    ≡ ends 0 0 0 (Close ((0, 70) ∷ (1, 71) ∷ []) ∷ [])
 unfolding connections_of idle_of lent_of pending_of in_work_of in_work_at numbered_of next_reap_of next_id_of orders_of is_before is_expired is_kept released_at
 closing_hands_out_the_oldest_first = refl
 
 closing_amid_openings : run (new (sized 2)) (begin 0 ∷ begin 0 ∷ number 0 ∷ admit 0 0 7 ∷ take 1 ∷ number 0 ∷ step.Close ∷ admit 2 1 8 ∷ fail 3 0 ∷ take 4 ∷
     begin 4
     ∷ return 5 0 7 ∷ step.Close ∷ [])
-    ≡ ends 0 0 0 (opens 0 ∷ opens 0 ∷ numbered 0 ∷ admitted ∷ taken 0 0 7 0 ∷ numbered 1 ∷ Left [] ∷ Admitted (Err (refusal.Closed, 8))
-    ∷ Failed (Err refusal.Closed) ∷ empty 0 ∷ Begun JobClosed ∷ closed 7 5 0 ∷ Left [] ∷ [])
+    ≡ ends 0 0 0 (opens 0 ∷ opens 0 ∷ numbered 0 ∷ admitted ∷ taken 0 0 7 0 ∷ numbered 1 ∷ Close [] ∷ Admitted (Err (refusal.Closed, 8))
+    ∷ Failed (Err refusal.Closed) ∷ empty 0 ∷ Begun JobClosed ∷ closed 7 5 0 ∷ Close [] ∷ [])
 unfolding connections_of idle_of lent_of pending_of in_work_of in_work_at numbered_of next_reap_of next_id_of orders_of is_before is_expired is_kept released_at
 closing_amid_openings = refl
 
@@ -411,18 +411,18 @@ the_last_error : (blammo first second : String Global) → run (new (sized 1)) (
     fail_by 400 1 first
     ∷ begin 1200 ∷ fail 1200 2 ∷ step.TakeError ∷ begin 2800 ∷ fail_by 2800 3 second ∷ begin 6000 ∷ number 4 ∷ admit 6000 0 7 ∷ step.TakeError ∷ step.Close ∷
     [])
-    ≡ ends 0 0 0 (opens 0 ∷ retry 400 ∷ told blammo ∷ Told None ∷ opens 1 ∷ retry 1200 ∷ opens 2 ∷ retry 2800 ∷ told first ∷ opens 3 ∷ retry 6000 ∷ opens 4
-    ∷ numbered 0 ∷ admitted ∷ Told None ∷ Left ((0, 7) ∷ []) ∷ [])
+    ≡ ends 0 0 0 (opens 0 ∷ retry 400 ∷ told blammo ∷ TakeError None ∷ opens 1 ∷ retry 1200 ∷ opens 2 ∷ retry 2800 ∷ told first ∷ opens 3 ∷ retry 6000 ∷ opens 4
+    ∷ numbered 0 ∷ admitted ∷ TakeError None ∷ Close ((0, 7) ∷ []) ∷ [])
 unfolding connections_of idle_of lent_of pending_of in_work_of in_work_at numbered_of next_reap_of next_id_of orders_of is_before is_expired is_kept released_at
 the_last_error blammo first second = refl
 
 a_failed_check_is_told : (sick : String Global) → run (opened_two (sized 2)) (take 1 ∷ bad_by 2 1 sick ∷ take 3 ∷ step.TakeError ∷ step.TakeError ∷ [])
-    ≡ ends 1 0 1 (taken 1 0 71 0 ∷ lost 2 1 ∷ taken 0 0 70 0 ∷ told sick ∷ Told None ∷ [])
+    ≡ ends 1 0 1 (taken 1 0 71 0 ∷ lost 2 1 ∷ taken 0 0 70 0 ∷ told sick ∷ TakeError None ∷ [])
 unfolding connections_of idle_of lent_of pending_of in_work_of in_work_at numbered_of next_reap_of next_id_of orders_of is_before is_expired is_kept released_at
 a_failed_check_is_told sick = refl
 
 told_once_closed : (sick worse : String Global) → run (opened_two (sized 2)) (take 1 ∷ take 1 ∷ bad_by 2 1 sick ∷ step.Close ∷ step.TakeError ∷ bad_by 3 0 worse
     ∷ step.TakeError ∷ [])
-    ≡ ends 0 0 0 (taken 1 0 71 0 ∷ taken 0 0 70 0 ∷ lost 2 1 ∷ Left [] ∷ told sick ∷ lost 3 0 ∷ told worse ∷ [])
+    ≡ ends 0 0 0 (taken 1 0 71 0 ∷ taken 0 0 70 0 ∷ lost 2 1 ∷ Close [] ∷ told sick ∷ lost 3 0 ∷ told worse ∷ [])
 unfolding connections_of idle_of lent_of pending_of in_work_of in_work_at numbered_of next_reap_of next_id_of orders_of is_before is_expired is_kept released_at
 told_once_closed sick worse = refl

@@ -6,10 +6,10 @@ use Rattle.std.specs.Option.{MatchOption}
 use Rattle.r2d2_core.specs.declared.schedule.limits.LendingOrder.{LendingOrder}
 use Rattle.r2d2_core.specs.declared.schedule.limits.LendingOrder.TheVariants as lending
 use Rattle.r2d2_core.specs.Ids.{latest, last_of}
-use Rattle.r2d2_core.specs.Lending.{lent_next}
+use Rattle.r2d2_core.specs.Lending.{next_to_lend}
 use Rattle.r2d2_core.specs.Connections.{SeenIdleConnection}
 use Rattle.r2d2_core.specs.History.{History}
-use Rattle.r2d2_core.specs.Deeds.{What, Admission, Taking_out, Keeping, Going, deeds_of, id_of_deed, birth_of, as_idle, idle_of}
+use Rattle.r2d2_core.specs.Deeds.{What, Admitted, Taken, Kept, Gone, deeds_of, id_of_deed, birth_of, as_idle, idle_of}
 
 -- what is so of each is so of the last
 last_holds : {Y : Type 0} (P : Y → Type 0) (xs : List Y) (c : Y) → AllByRecursion P xs → last_of xs ≡ Some c → P c
@@ -18,7 +18,7 @@ last_holds P (x ∷ []) c all e = let same : x ≡ c = cc in subst P same all.0
 last_holds P (x ∷ y ∷ ys) c all e = last_holds P (y ∷ ys) c all.1 e
 
 -- and of the one that is lent next
-next_holds : {Y : Type 0} (P : Y → Type 0) (o : LendingOrder) (xs : List Y) (c : Y) → AllByRecursion P xs → lent_next o xs ≡ Some c → P c
+next_holds : {Y : Type 0} (P : Y → Type 0) (o : LendingOrder) (xs : List Y) (c : Y) → AllByRecursion P xs → next_to_lend o xs ≡ Some c → P c
 next_holds P lending.NewestFirst xs c all e = last_holds P xs c all e
 next_holds P lending.OldestFirst [] c all e = absurd cc
 next_holds P lending.OldestFirst (x ∷ xs) c all e = let same : x ≡ c = cc in subst P same all.0
@@ -36,10 +36,10 @@ shown_all P f p (x ∷ xs) = shown_step P f (f x) x xs refl (p x) (shown_all P f
 
 birth_shown : {T : Type 0} (birth : ℕ → ℕ) (i at : ℕ) (w : What T) → MatchOption (as_idle (birth i) (record { id = i; at = at; what = w })) (Unit {0})
     (λ c. c.birth ≡ birth c.id)
-birth_shown birth i at (Admission v) = refl
-birth_shown birth i at (Keeping v) = refl
-birth_shown birth i at Taking_out = tt
-birth_shown birth i at Going = tt
+birth_shown birth i at (Admitted v) = refl
+birth_shown birth i at (Kept v) = refl
+birth_shown birth i at Taken = tt
+birth_shown birth i at Gone = tt
 
 pub births_of-idle : {T : Type 0} (h : History T) → AllByRecursion (λ c. c.birth ≡ birth_of h c.id) (idle_of h)
 unfolding idle_of
@@ -47,5 +47,5 @@ births_of-idle h = shown_all (λ c. c.birth ≡ birth_of h c.id) (λ d. as_idle 
     (latest id_of_deed (deeds_of h))
 
 -- the one that is lent next too
-pub birth_of-next : {T : Type 0} (h : History T) (o : LendingOrder) (c : SeenIdleConnection T) → lent_next o (idle_of h) ≡ Some c → c.birth ≡ birth_of h c.id
+pub birth_of-next : {T : Type 0} (h : History T) (o : LendingOrder) (c : SeenIdleConnection T) → next_to_lend o (idle_of h) ≡ Some c → c.birth ≡ birth_of h c.id
 birth_of-next h o c e = next_holds (λ c. c.birth ≡ birth_of h c.id) o (idle_of h) c (births_of-idle h) e

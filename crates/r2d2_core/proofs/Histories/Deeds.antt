@@ -9,7 +9,7 @@ use Rattle.r2d2_core.specs.declared.run.Step.{Step}
 use Rattle.r2d2_core.specs.Ids.{latest, copies_of}
 use Rattle.r2d2_core.specs.Connections.{id_of_idle, id_of_lent}
 use Rattle.r2d2_core.specs.History.{History, Then, moment_of}
-use Rattle.r2d2_core.specs.Deeds.{Deed, What, Admission, Taking_out, Keeping, Going, deeds_of, deeds_in, id_of_deed, birth_of, admits, as_idle, as_lent}
+use Rattle.r2d2_core.specs.Deeds.{Deed, What, Admitted, Taken, Kept, Gone, deeds_of, deeds_in, id_of_deed, birth_of, admits, as_idle, as_lent}
 use Rattle.r2d2_core.specs.Deeds.{idle_of, lent_of}
 use Rattle.r2d2_core.specs.Seen.{SeenAnswer}
 use Rattle.r2d2_core.proofs.Lists.Filters.{filter_true}
@@ -36,17 +36,17 @@ filter_map-filter f p q h (x ∷ xs) = keeps_step (p x) (f x) q f x (filter p xs
 -- a test of ids sees what is shown as it sees the deed
 pub idle_keeps : {T : Type 0} (q : ℕ → Bool) (birth i at : ℕ) (w : What T)
     → MatchOption (as_idle birth (record { id = i; at = at; what = w })) (Unit {0}) (λ c. q c.id ≡ q i)
-idle_keeps q birth i at (Admission v) = refl
-idle_keeps q birth i at (Keeping v) = refl
-idle_keeps q birth i at Taking_out = tt
-idle_keeps q birth i at Going = tt
+idle_keeps q birth i at (Admitted v) = refl
+idle_keeps q birth i at (Kept v) = refl
+idle_keeps q birth i at Taken = tt
+idle_keeps q birth i at Gone = tt
 
 pub lent_keeps : {T : Type 0} (q : ℕ → Bool) (birth i at : ℕ) (w : What T)
     → MatchOption (as_lent birth (record { id = i; at = at; what = w })) (Unit {0}) (λ c. q c.id ≡ q i)
-lent_keeps q birth i at (Admission v) = tt
-lent_keeps q birth i at (Keeping v) = tt
-lent_keeps q birth i at Taking_out = refl
-lent_keeps q birth i at Going = tt
+lent_keeps q birth i at (Admitted v) = tt
+lent_keeps q birth i at (Kept v) = tt
+lent_keeps q birth i at Taken = refl
+lent_keeps q birth i at Gone = tt
 
 births_step : {X Y : Type 0} (b : Bool) (f g : X → Option Y) (x : X) (xs : List X) → (b ≡ true → f x ≡ g x) → filter_map f xs ≡ filter_map g xs
     → filter_map f (cond b (x ∷ xs) xs) ≡ filter_map g (cond b (x ∷ xs) xs)

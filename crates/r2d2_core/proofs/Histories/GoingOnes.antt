@@ -1,5 +1,5 @@
 -- Many connections that go in one step: what stays idle, and what stays lent.
-use Rattle.std.proofs.Common.{◌≡◌, ℕ, ◌+◌, ◌-◌, Bool, false, not, ◌==◌, List, [], ◌∷◌, ◌++◌, map, length, refl, ◌∙◌, ap, arith}
+use Rattle.std.proofs.Common.{◌≡◌, ℕ, ◌+◌, Bool, false, not, ◌==◌, List, [], ◌∷◌, ◌++◌, map, length, refl, ◌∙◌, ap, arith}
 use Rattle.std.specs.Prelude.{filter, filter_map}
 use Rattle.std.specs.List.{list_any}
 use Rattle.std.proofs.lemmas.List.{append-nil}
@@ -9,7 +9,7 @@ use Rattle.r2d2_core.specs.Connections.{SeenIdleConnection, SeenLentConnection, 
 use Rattle.r2d2_core.specs.Ids.{latest}
 use Rattle.r2d2_core.specs.Seen.{SeenAnswer}
 use Rattle.r2d2_core.specs.History.{History, Then, moment_of}
-use Rattle.r2d2_core.specs.Deeds.{Deed, Going, deed, deeds_in, id_of_deed, birth_of, admits, as_idle, as_lent, idle_of, lent_of, connections_of, admitted_count}
+use Rattle.r2d2_core.specs.Deeds.{Deed, Gone, deed, deeds_in, id_of_deed, birth_of, admits, as_idle, as_lent, idle_of, lent_of, connections_of, admitted_count}
 use Rattle.r2d2_core.specs.Deeds.{gone_count}
 use Rattle.r2d2_core.specs.Picture.{IsSound}
 use Rattle.r2d2_core.specs.Pending.{numbered_of, on_order_of}
@@ -20,30 +20,25 @@ use Rattle.r2d2_core.proofs.Lists.Filters.{copies_of-filter, filter-outside, fil
 use Rattle.r2d2_core.proofs.Lists.Ids.{copies_of-append3}
 use Rattle.r2d2_core.proofs.Facts.Latest.{is_other, any_id, none_left}
 
--- HOW MANY GO
-
-pub less_gone : (admitted gone n m : ℕ) → n ≡ m → admitted - (gone + n) ≡ admitted - gone - m
-less_gone admitted gone n m e = omega (arith, e)
-
 -- DEEDS BY WHICH MANY GO
 
 module _ {T : Type 0} where
   abbrev pub going : {Y : Type 0} → (Y → ℕ) → ℕ → Y → Deed T
-  going of t c = deed (of c) t Going
+  going of t c = deed (of c) t Gone
 
   abbrev pub going_deeds : {Y : Type 0} → (Y → ℕ) → ℕ → List Y → List (Deed T)
   going_deeds of t cs = map (going of t) cs
 
   -- the deeds of those that a reap closed, and of those that a close left
-  pub closings_go : (t now : ℕ) (cs : List (SeenIdleConnection T)) → map (λ c. deed {T = T} c.id t Going)
+  pub closings_go : (t now : ℕ) (cs : List (SeenIdleConnection T)) → map (λ c. deed {T = T} c.id t Gone)
       (map (released_at now) cs) ≡ going_deeds id_of_idle t cs
   unfolding released_at
   closings_go t now [] = refl
-  closings_go t now (c ∷ cs) = ap (λ l. deed c.id t Going ∷ l) (closings_go t now cs)
+  closings_go t now (c ∷ cs) = ap (λ l. deed c.id t Gone ∷ l) (closings_go t now cs)
 
-  pub pairs_go : (t : ℕ) (cs : List (SeenIdleConnection T)) → map (λ p. deed {T = T} p.0 t Going) (map pair_of cs) ≡ going_deeds id_of_idle t cs
+  pub pairs_go : (t : ℕ) (cs : List (SeenIdleConnection T)) → map (λ p. deed {T = T} p.0 t Gone) (map pair_of cs) ≡ going_deeds id_of_idle t cs
   pairs_go t [] = refl
-  pairs_go t (c ∷ cs) = ap (λ l. deed c.id t Going ∷ l) (pairs_go t cs)
+  pairs_go t (c ∷ cs) = ap (λ l. deed c.id t Gone ∷ l) (pairs_go t cs)
 
   -- the ids of a sound picture are apart
   pub apart_in : (h : History T) → IsSound (picture_of h) → AreApart h

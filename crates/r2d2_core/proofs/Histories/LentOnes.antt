@@ -15,7 +15,7 @@ use Rattle.r2d2_core.specs.Seen.{SeenAnswer}
 use Rattle.r2d2_core.specs.Picture.{IsSound}
 use Rattle.r2d2_core.specs.Table.{lent_refusal, lent_birth}
 use Rattle.r2d2_core.specs.History.{History, Then, moment_of}
-use Rattle.r2d2_core.specs.Deeds.{Deed, What, Admission, Taking_out, Keeping, Going, deed, deeds_of, deeds_in, id_of_deed, birth_of, admits, as_lent, idle_of}
+use Rattle.r2d2_core.specs.Deeds.{Deed, What, Admitted, Taken, Kept, Gone, deed, deeds_of, deeds_in, id_of_deed, birth_of, admits, as_lent, idle_of}
 use Rattle.r2d2_core.specs.Deeds.{lent_of, connections_of, admitted_count, gone_count}
 use Rattle.r2d2_core.specs.Answers.{is_lent, picture_of}
 use Rattle.r2d2_core.proofs.Histories.Births.{shown_all}
@@ -64,10 +64,10 @@ some-found p (x ∷ xs) e = omega arith
 
 birth_shown : {T : Type 0} (birth_at : ℕ → ℕ) (i at : ℕ) (w : What T) → MatchOption (as_lent (birth_at i) (record { id = i; at = at; what = w })) (Unit {0})
     (λ c. c.birth ≡ birth_at c.id)
-birth_shown birth_at i at (Admission v) = tt
-birth_shown birth_at i at (Keeping v) = tt
-birth_shown birth_at i at Taking_out = refl
-birth_shown birth_at i at Going = tt
+birth_shown birth_at i at (Admitted v) = tt
+birth_shown birth_at i at (Kept v) = tt
+birth_shown birth_at i at Taken = refl
+birth_shown birth_at i at Gone = tt
 
 module _ {T : Type 0} where
   -- OF A HISTORY
@@ -107,22 +107,22 @@ module _ {T : Type 0} where
       ∙ filter-once id_of_lent id (lent_of h) (omega (arith, apart id)))))
 
   -- what is idle stays where it is gone
-  pub idle_of-lost : (h : History T) (s : Step T) (r : SeenAnswer T) (id t : ℕ) → deeds_in (moment_of h s) s r ≡ deed id t Going ∷ []
+  pub idle_of-lost : (h : History T) (s : Step T) (r : SeenAnswer T) (id t : ℕ) → deeds_in (moment_of h s) s r ≡ deed id t Gone ∷ []
       → ((i : ℕ) → admits s i ≡ false)
       → is_lent h id ≡ true → AreApart h → idle_of (Then h s r) ≡ idle_of h
   idle_of-lost h s r id t e none lent apart =
-      let d : Deed T = deed id t Going in
+      let d : Deed T = deed id t Gone in
       idle_of-then h s r (d ∷ []) e (λ i other. none i)
       ∙ (append-nil _
       ∙ (one_other id_of_deed d id_of_idle (idle_of h)
       ∙ filter-absent id_of_idle id (idle_of h) (lent_not_idle h id lent apart)))
 
   -- where it is kept, it is the last
-  pub idle_of-kept : (h : History T) (s : Step T) (r : SeenAnswer T) (id t : ℕ) (value : T) → deeds_in (moment_of h s) s r ≡ deed id t (Keeping value) ∷ []
+  pub idle_of-kept : (h : History T) (s : Step T) (r : SeenAnswer T) (id t : ℕ) (value : T) → deeds_in (moment_of h s) s r ≡ deed id t (Kept value) ∷ []
       → ((i : ℕ) → admits s i ≡ false)
       → is_lent h id ≡ true → AreApart h → idle_of (Then h s r) ≡ idle_of h ++ idle_connection id (birth_of h id) t value ∷ []
   idle_of-kept h s r id t value e none lent apart =
-      let d : Deed T = deed id t (Keeping value) in
+      let d : Deed T = deed id t (Kept value) in
       idle_of-then h s r (d ∷ []) e (λ i other. none i)
       ∙ (ap (λ l. l ++ idle_connection id (birth_of (Then h s r) id) t value ∷ []) (one_other id_of_deed d id_of_idle (idle_of h)
       ∙ filter-absent id_of_idle id (idle_of h) (lent_not_idle h id lent apart))

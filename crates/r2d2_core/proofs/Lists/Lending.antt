@@ -11,7 +11,7 @@ use Rattle.std.proofs.lemmas.Bool.{eq-eqb}
 use Rattle.r2d2_core.specs.declared.schedule.limits.LendingOrder.{LendingOrder}
 use Rattle.r2d2_core.specs.declared.schedule.limits.LendingOrder.TheVariants as lending
 use Rattle.r2d2_core.specs.Ids.{last_of, front, found, without, copies_of}
-use Rattle.r2d2_core.specs.Lending.{lent_next, still_idle}
+use Rattle.r2d2_core.specs.Lending.{next_to_lend, still_idle}
 use Rattle.r2d2_core.proofs.Lists.Ids.{last_of-push, front-push, last_is, length-front, copies_of-last, All-last}
 use Rattle.r2d2_core.proofs.Lists.Filters.{filter-absent, filter-last, filter-once}
 
@@ -25,22 +25,22 @@ copies_self i = ap (λ b. cond b 1 0 + 0) (eq-eqb i i refl)
 
 module _ {X : Type 0} where
   -- none is lent next where none is idle, and there alone
-  pub none_next : (o : LendingOrder) (xs : List X) (x : X) → xs ≡ [] → lent_next o xs ≡ Some x → ⊥
+  pub none_next : (o : LendingOrder) (xs : List X) (x : X) → xs ≡ [] → next_to_lend o xs ≡ Some x → ⊥
   none_next lending.NewestFirst xs x e is = cc (ap last_of e)
   none_next lending.OldestFirst [] x e is = cc
   none_next lending.OldestFirst (y ∷ ys) x e is = cc
 
-  pub none_is_next : (o : LendingOrder) (xs : List X) → lent_next o xs ≡ None → xs ≡ []
+  pub none_is_next : (o : LendingOrder) (xs : List X) → next_to_lend o xs ≡ None → xs ≡ []
   none_is_next lending.NewestFirst xs e = none_is_last xs e
   none_is_next lending.OldestFirst [] e = refl
   none_is_next lending.OldestFirst (x ∷ xs) e = absurd cc
 
-  pub length-still_idle : (o : LendingOrder) (xs : List X) (c : X) → lent_next o xs ≡ Some c → length xs ≡ length (still_idle o xs) + 1
+  pub length-still_idle : (o : LendingOrder) (xs : List X) (c : X) → next_to_lend o xs ≡ Some c → length xs ≡ length (still_idle o xs) + 1
   length-still_idle lending.NewestFirst xs c e = length-front xs c e
   length-still_idle lending.OldestFirst [] c e = absurd cc
   length-still_idle lending.OldestFirst (x ∷ xs) c e = omega arith
 
-  pub copies_of-next : (id_of : X → ℕ) (i : ℕ) (o : LendingOrder) (xs : List X) (c : X) → lent_next o xs ≡ Some c
+  pub copies_of-next : (id_of : X → ℕ) (i : ℕ) (o : LendingOrder) (xs : List X) (c : X) → next_to_lend o xs ≡ Some c
       → copies_of i (map id_of xs) ≡ copies_of i (map id_of (still_idle o xs)) + copies_of i (id_of c ∷ [])
   copies_of-next id_of i lending.NewestFirst xs c e = copies_of-last id_of i xs c e
   copies_of-next id_of i lending.OldestFirst [] c e = absurd cc
@@ -49,7 +49,7 @@ module _ {X : Type 0} where
       subst (λ y. cond (id_of x == i) 1 0 + copies_of i (map id_of xs) ≡ copies_of i (map id_of xs) + (cond (id_of y == i) 1 0 + 0)) same (omega arith)
 
   -- what holds of all holds of the one, and of the others
-  pub All-next : (P : X → Type 0) (o : LendingOrder) (xs : List X) (c : X) → All P xs → lent_next o xs ≡ Some c → P c
+  pub All-next : (P : X → Type 0) (o : LendingOrder) (xs : List X) (c : X) → All P xs → next_to_lend o xs ≡ Some c → P c
   All-next P lending.NewestFirst xs c all e = All-last P xs c all e
   All-next P lending.OldestFirst [] c all e = absurd cc
   All-next P lending.OldestFirst (x ∷ xs) c all e = let same : x ≡ c = cc in subst P same (all 0 x (omega arith))
@@ -64,7 +64,7 @@ module _ {X : Type 0} where
   IsNonDecreasingBy-still_idle f lending.OldestFirst xs rises = IsNonDecreasingBy-drop f 1 xs rises
 
   -- leaving out the id of the one leaves the others, where no other has it
-  pub filter-next : (id_of : X → ℕ) (o : LendingOrder) (xs : List X) (c : X) → lent_next o xs ≡ Some c → copies_of (id_of c) (map id_of (still_idle o xs)) ≡ 0
+  pub filter-next : (id_of : X → ℕ) (o : LendingOrder) (xs : List X) (c : X) → next_to_lend o xs ≡ Some c → copies_of (id_of c) (map id_of (still_idle o xs)) ≡ 0
       → filter (λ y. not (id_of c == id_of y)) xs ≡ still_idle o xs
   filter-next id_of lending.NewestFirst xs c e once = ap (filter (λ y. not (id_of c == id_of y))) (last_is xs c e) ∙ filter-last id_of (front xs) c once
   filter-next id_of lending.OldestFirst [] c e once = absurd cc
@@ -84,11 +84,11 @@ module _ {X : Type 0} where
       (found-push id_of xs x)
 
   -- no other has the id of the one, where ids are apart
-  once_next : (id_of : X → ℕ) (o : LendingOrder) (xs : List X) (c : X) → lent_next o xs ≡ Some c → ((i : ℕ) → copies_of i (map id_of xs) ≤ 1)
+  once_next : (id_of : X → ℕ) (o : LendingOrder) (xs : List X) (c : X) → next_to_lend o xs ≡ Some c → ((i : ℕ) → copies_of i (map id_of xs) ≤ 1)
       → copies_of (id_of c) (map id_of (still_idle o xs)) ≡ 0
   once_next id_of o xs c e apart = omega (arith, apart (id_of c), copies_of-next id_of (id_of c) o xs c e, copies_self (id_of c))
 
-  found_next_by : (id_of : X → ℕ) (o : LendingOrder) (xs : List X) (c : X) → lent_next o xs ≡ Some c → copies_of (id_of c) (map id_of (still_idle o xs)) ≡ 0
+  found_next_by : (id_of : X → ℕ) (o : LendingOrder) (xs : List X) (c : X) → next_to_lend o xs ≡ Some c → copies_of (id_of c) (map id_of (still_idle o xs)) ≡ 0
       → found id_of (id_of c) xs ≡ Some c
   found_next_by id_of lending.NewestFirst xs c e once = ap (found id_of (id_of c)) (last_is xs c e) ∙ found-push id_of (front xs) c once
   found_next_by id_of lending.OldestFirst [] c e once = absurd cc
@@ -97,26 +97,26 @@ module _ {X : Type 0} where
       ap (λ b. cond b (Some x) (found id_of (id_of c) xs)) (eq-eqb (id_of x) (id_of c) (ap id_of same)) ∙ ap Some same
 
   -- the one is found by its id, and leaves the others
-  pub found-next : (id_of : X → ℕ) (o : LendingOrder) (xs : List X) (c : X) → lent_next o xs ≡ Some c → ((i : ℕ) → copies_of i (map id_of xs) ≤ 1)
+  pub found-next : (id_of : X → ℕ) (o : LendingOrder) (xs : List X) (c : X) → next_to_lend o xs ≡ Some c → ((i : ℕ) → copies_of i (map id_of xs) ≤ 1)
       → found id_of (id_of c) xs ≡ Some c
   found-next id_of o xs c e apart = found_next_by id_of o xs c e (once_next id_of o xs c e apart)
 
-  pub without-next : (id_of : X → ℕ) (o : LendingOrder) (xs : List X) (c : X) → lent_next o xs ≡ Some c → ((i : ℕ) → copies_of i (map id_of xs) ≤ 1)
+  pub without-next : (id_of : X → ℕ) (o : LendingOrder) (xs : List X) (c : X) → next_to_lend o xs ≡ Some c → ((i : ℕ) → copies_of i (map id_of xs) ≤ 1)
       → without id_of (id_of c) xs ≡ still_idle o xs
   without-next id_of o xs c e apart = sym (filter-once id_of (id_of c) xs (apart (id_of c))) ∙ filter-next id_of o xs c e (once_next id_of o xs c e apart)
 
 module _ {X Y : Type 0} where
-  pub next-map : (f : X → Y) (o : LendingOrder) (xs : List X) (c : X) → lent_next o xs ≡ Some c → lent_next o (map f xs) ≡ Some (f c)
+  pub next-map : (f : X → Y) (o : LendingOrder) (xs : List X) (c : X) → next_to_lend o xs ≡ Some c → next_to_lend o (map f xs) ≡ Some (f c)
   next-map f lending.NewestFirst xs c e = ap last_of (ap (map f) (last_is xs c e) ∙ map-append f (front xs) (c ∷ [])) ∙ last_of-push (map f (front xs)) (f c)
   next-map f lending.OldestFirst [] c e = absurd cc
   next-map f lending.OldestFirst (x ∷ xs) c e = let same : x ≡ c = cc in ap (λ y. Some (f y)) same
 
-  pub still_idle-map : (f : X → Y) (o : LendingOrder) (xs : List X) (c : X) → lent_next o xs ≡ Some c → still_idle o (map f xs) ≡ map f (still_idle o xs)
+  pub still_idle-map : (f : X → Y) (o : LendingOrder) (xs : List X) (c : X) → next_to_lend o xs ≡ Some c → still_idle o (map f xs) ≡ map f (still_idle o xs)
   still_idle-map f lending.NewestFirst xs c e = ap front (ap (map f) (last_is xs c e) ∙ map-append f (front xs) (c ∷ [])) ∙ front-push (map f (front xs)) (f c)
   still_idle-map f lending.OldestFirst [] c e = refl
   still_idle-map f lending.OldestFirst (x ∷ xs) c e = refl
 
-  pub none_next-map : (f : X → Y) (o : LendingOrder) (xs : List X) → lent_next o xs ≡ None → lent_next o (map f xs) ≡ None
+  pub none_next-map : (f : X → Y) (o : LendingOrder) (xs : List X) → next_to_lend o xs ≡ None → next_to_lend o (map f xs) ≡ None
   none_next-map f lending.NewestFirst xs e = ap (λ l. last_of (map f l)) (none_is_last xs e)
   none_next-map f lending.OldestFirst [] e = refl
   none_next-map f lending.OldestFirst (x ∷ xs) e = absurd cc

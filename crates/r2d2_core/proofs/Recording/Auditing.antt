@@ -18,7 +18,7 @@ use Rattle.r2d2_core.specs.Limits.{SeenLimits}
 use Rattle.r2d2_core.specs.Ids.{copies_of, without}
 use Rattle.r2d2_core.specs.Connections.{SeenLentConnection, idle_connection, lent_connection, id_of_idle, id_of_lent, since_of, is_kept}
 use Rattle.r2d2_core.specs.Records.{seen_record, SeenRecord, Taken, Ordered, Admitted, Kept, Closed, Reaped, ClosedAll}
-use Rattle.r2d2_core.specs.Bases.{SeenBase, BareConnection, ids_of, IsLegalBase}
+use Rattle.r2d2_core.specs.Bases.{SeenBase, BareConnection, ids_in_base, IsLegalBase}
 use Rattle.r2d2_core.specs.Folding.{birth_of_idle, birth_of_lent, folded, replay, may_follow, all_follow, admitted_by, admitted_in, known_in, AreLegalFrom}
 use Rattle.r2d2_core.specs.declared.journal.report.Report.{Report}
 use Rattle.r2d2_core.specs.Limits.{seen_limits}
@@ -122,7 +122,7 @@ born_by at (l ∷ ls) e = let f = split _ _ e in all_more (λ l. l.birth ≤ at)
 
 -- THE BASE
 
-pub legal_by : (limits : SeenLimits) (b : SeenBase) → counts_fit limits b ≡ true → ((i : ℕ) → copies_of i (ids_of b) ≤ 1)
+pub legal_by : (limits : SeenLimits) (b : SeenBase) → counts_fit limits b ≡ true → ((i : ℕ) → copies_of i (ids_in_base b) ≤ 1)
     → (are_in_order b.at 0 b.idle && are_born b.at b.lent) ≡ true → IsLegalBase limits b
 legal_by limits b counts apart order =
     let c = split _ _ counts in
@@ -425,7 +425,7 @@ abbrev pub IsStart : SeenLimits → SeenBase → Rooms → Option SeenRunningBas
 IsStart limits b room made = MatchOption made (IsLegalBase limits b → ⊥) (λ there. IsLegalBase limits b × (there ≡ running_base b room))
 
 pub starts : (limits : SeenLimits) (b : SeenBase) (room : Rooms) (made : Option SeenRunningBase) → counts_fit limits b ≡ true
-    → ((i : ℕ) → copies_of i (ids_of b) ≤ 1) → IsPut b room made → IsStart limits b room made
+    → ((i : ℕ) → copies_of i (ids_in_base b) ≤ 1) → IsPut b room made → IsStart limits b room made
 starts limits b room None counts apart none = λ legal. cc (none, order_in limits b legal)
 starts limits b room (Some there) counts apart put = (legal_by limits b counts apart put.0, put.1)
 
@@ -441,8 +441,8 @@ pub start_none : (limits : SeenLimits) (b : SeenBase) (room : Rooms) (made : Opt
 start_none limits b room made is h = subst (IsStart limits b room) is h
 
 -- the ids of a base are apart where those that are known are
-pub base_apart : (b : SeenBase) (rs : List SeenRecord) → ((i : ℕ) → copies_of i (known_in b rs) ≤ 1) → (i : ℕ) → copies_of i (ids_of b) ≤ 1
-base_apart b rs apart i = omega (arith, apart i, copies_of-append i (ids_of b) (admitted_in rs))
+pub base_apart : (b : SeenBase) (rs : List SeenRecord) → ((i : ℕ) → copies_of i (known_in b rs) ≤ 1) → (i : ℕ) → copies_of i (ids_in_base b) ≤ 1
+base_apart b rs apart i = omega (arith, apart i, copies_of-append i (ids_in_base b) (admitted_in rs))
 
 -- fewer records admit no more
 admitted_before : (i k : ℕ) (rs : List SeenRecord) → copies_of i (admitted_in (take k rs)) ≤ copies_of i (admitted_in rs)
@@ -455,8 +455,8 @@ pub known_before : (i k : ℕ) (b : SeenBase) (rs : List SeenRecord) → copies_
 known_before i k b rs = omega (
   arith,
   admitted_before i k rs,
-  copies_of-append i (ids_of b) (admitted_in (take k rs)),
-  copies_of-append i (ids_of b) (admitted_in rs),
+  copies_of-append i (ids_in_base b) (admitted_in (take k rs)),
+  copies_of-append i (ids_in_base b) (admitted_in rs),
 )
 
 follow_before : (limits : SeenLimits) (k : ℕ) (rs : List SeenRecord) (b : SeenBase) → all_follow limits rs b ≡ true → all_follow limits (take k rs) b ≡ true

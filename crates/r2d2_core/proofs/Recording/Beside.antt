@@ -9,7 +9,7 @@ use Rattle.r2d2_core.specs.Table.{first_picture}
 use Rattle.r2d2_core.specs.Records.{SeenRecord}
 use Rattle.r2d2_core.specs.Bases.{SeenBase, first_base}
 use Rattle.r2d2_core.specs.Folding.{folded}
-use Rattle.r2d2_core.specs.Journal.{SeenJournal, first_journal, with_oldest, with_noted, one_more, takes_with, BeginsAtTheMaking}
+use Rattle.r2d2_core.specs.Journal.{SeenJournal, first_journal, with_oldest, with_noted, next_count, takes_with, BeginsAtTheMaking}
 use Rattle.r2d2_core.specs.JournalParts.{MayNote, passed, kept_alone}
 use Rattle.r2d2_core.specs.Book.{seen_book}
 use Rattle.r2d2_core.specs.BookParts.{shown_at, beside, book_in, IsFaithful}
@@ -40,7 +40,7 @@ begins_by : (l : SeenJournal) (r : SeenRecord) (has_room : Bool) → BeginsAtThe
     (record l {
       base = with_oldest l.limits (l.records ++ r ∷ []) l.base;
       records = drop 1 (l.records ++ r ∷ []);
-      lost = one_more l.lost;
+      lost = next_count l.lost;
       takes = takes_with r l.takes;
     }))
 begins_by l r true begins = begins
@@ -56,7 +56,7 @@ room_by : (l : SeenJournal) (r : SeenRecord) (has_room : Bool)
     (record l {
       base = with_oldest l.limits (l.records ++ r ∷ []) l.base;
       records = drop 1 (l.records ++ r ∷ []);
-      lost = one_more l.lost;
+      lost = next_count l.lost;
       takes = takes_with r l.takes;
     }) in
     n.room ≡ l.room)
@@ -99,7 +99,7 @@ module _ {T : Type 0} where
       ap (beside p') is ∙ ap (λ (x : SeenBase). journal limits since x [] 0 lost takes) (sym (is_shown (shown_at b.at p) p' k.replays.shows))
   noted_bare limits since b lost takes (Some r) p p' m k is =
       ap (beside p') is
-      ∙ ap (λ (x : SeenBase). journal limits since x [] 0 (one_more lost) (takes_with r takes))
+      ∙ ap (λ (x : SeenBase). journal limits since x [] 0 (next_count lost) (takes_with r takes))
       (sym (is_shown (folded limits r (shown_at b.at p)) p' k.replays.shows ∙ ap (λ n. shown_at n p') (at_folded limits r (shown_at b.at p))))
 
   noted_at : (limits : SeenLimits) (since : ℕ) (b : SeenBase) (rs : List SeenRecord) (room lost takes : ℕ) (made : Option SeenRecord) (p p' : Picture T)

@@ -8,7 +8,7 @@ use Rattle.r2d2_core.specs.declared.machine.answers.Refusal.{Refusal}
 use Rattle.r2d2_core.specs.declared.machine.answers.Refusal.TheVariants as refusal
 use Rattle.r2d2_core.specs.Limits.{SeenLimits, wanted_of}
 use Rattle.r2d2_core.specs.Ids.{copies_of}
-use Rattle.r2d2_core.specs.Lending.{lent_next}
+use Rattle.r2d2_core.specs.Lending.{next_to_lend}
 use Rattle.r2d2_core.specs.Connections.{SeenIdleConnection, id_of_idle, id_of_lent, released_at, is_expired, birth_in}
 use Rattle.r2d2_core.specs.Jobs.{SeenJob, Open, Reap, Wait, Nothing, Closed}
 use Rattle.r2d2_core.specs.Refusals.{ok_unless, ok_or_back, unless_refused}
@@ -22,7 +22,7 @@ use Rattle.r2d2_core.specs.Seen.{take_with, or_text}
 use Rattle.r2d2_core.specs.Records.{SeenRecord}
 use Rattle.r2d2_core.specs.Recorded.{record_of_take, record_of_admission, record_of_return, record_of_check, record_of_reap, record_of_close}
 use Rattle.r2d2_core.specs.Bases.{SeenBase, first_base}
-use Rattle.r2d2_core.specs.Journal.{SeenJournal, with_oldest, added, with_noted, one_more, takes_with}
+use Rattle.r2d2_core.specs.Journal.{SeenJournal, with_oldest, added, with_noted, next_count, takes_with}
 use Rattle.r2d2_core.specs.Book.{SeenBook, bare}
 use Rattle.r2d2_core.specs.BookParts.{KeepReplaying, IsRecorded}
 use Rattle.r2d2_core.proofs.Facts.Accounted.{passes, not_false, found_numbered}
@@ -51,7 +51,7 @@ module _ {T : Type 0} where
       (record l {
         base = with_oldest l.limits (l.records ++ r ∷ []) l.base;
         records = drop 1 (l.records ++ r ∷ []);
-        lost = one_more l.lost;
+        lost = next_count l.lost;
         takes = takes_with r l.takes;
       })
       → KeepReplaying m.limits m.base m.records p
@@ -109,7 +109,7 @@ module _ {T : Type 0} where
   keeps_take t o a sound old =
       let p = a.picture in
       let l = a.journal in
-      let m = lent_next p.on_order.limits.order p.idle in
+      let m = next_to_lend p.on_order.limits.order p.idle in
       subst (λ n. KeepsWith l (record_of_take (max p.latest t) (take_with m n)) (after_take t o p)) (take_orders-at t o m p)
       (replaying_taken l.limits l.base l.records (raised_to t p) o m refl (sound_at t sound) (replaying_at t l.limits l.base l.records p old))
 

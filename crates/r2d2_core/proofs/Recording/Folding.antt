@@ -13,11 +13,11 @@ use Rattle.std.proofs.lemmas.Bool.{eqb-true}
 use Rattle.std.proofs.lemmas.Bool.Decides.{nat_tests}
 use Rattle.r2d2_core.specs.Limits.{SeenLimits, wanted_of, top_up}
 use Rattle.r2d2_core.specs.Ids.{found, without, copies_of}
-use Rattle.r2d2_core.specs.Lending.{lent_next, still_idle}
+use Rattle.r2d2_core.specs.Lending.{next_to_lend, still_idle}
 use Rattle.r2d2_core.specs.Connections.{SeenLentConnection, idle_connection, lent_connection, birth_in, id_of_idle, id_of_lent, since_of, is_expired, is_kept}
 use Rattle.r2d2_core.specs.Records.{SeenRecord, Taken, Ordered, Admitted, Kept, Closed, Reaped, ClosedAll}
-use Rattle.r2d2_core.specs.Bases.{SeenBase, BareConnection, ids_of, IsLegalBase}
-use Rattle.r2d2_core.specs.Folding.{moment_in, birth_of_idle, birth_of_lent, idle_after_reap, expired_in, folded, replay, is_next, fits, may_follow, all_follow}
+use Rattle.r2d2_core.specs.Bases.{SeenBase, BareConnection, ids_in_base, IsLegalBase}
+use Rattle.r2d2_core.specs.Folding.{moment_of_record, birth_of_idle, birth_of_lent, expired_in, up_to, folded, replay, is_next, fits, may_follow, all_follow}
 use Rattle.r2d2_core.specs.Folding.{admitted_by, admitted_in, known_in, AreLegalFrom}
 use Rattle.r2d2_core.proofs.Lists.Filters.{copies_of-filter}
 use Rattle.r2d2_core.proofs.Lists.Ids.{copies_of-append, copies_of-push, copies_of-without, length-without, All-without, All-found, All-push, All-weaker}
@@ -57,16 +57,16 @@ ordered_fits false n wanted size idle connections pending le e = omega (arith, l
 
 pub record NextIs (limits : SeenLimits) (id : ℕ) (b : SeenBase) : Type 0 where
   pub c : BareConnection
-  pub next : lent_next limits.order b.idle ≡ Some c
+  pub next : next_to_lend limits.order b.idle ≡ Some c
   pub same : c.id ≡ id
 
-next_by : (limits : SeenLimits) (id : ℕ) (b : SeenBase) (o : Option BareConnection) → lent_next limits.order b.idle ≡ o
+next_by : (limits : SeenLimits) (id : ℕ) (b : SeenBase) (o : Option BareConnection) → next_to_lend limits.order b.idle ≡ o
     → unwrap_or (option_map (λ c. c.id == id) o) false ≡ true → NextIs limits id b
 next_by limits id b None e is = absurd cc
 next_by limits id b (Some c) e is = record { c = c; next = e; same = eqb-true c.id id is }
 
 pub next_is : (limits : SeenLimits) (id : ℕ) (b : SeenBase) → is_next limits id b ≡ true → NextIs limits id b
-next_is limits id b is = next_by limits id b (lent_next limits.order b.idle) refl is
+next_is limits id b is = next_by limits id b (next_to_lend limits.order b.idle) refl is
 
 -- it is the one with the id
 pub record StandsNext (limits : SeenLimits) (id : ℕ) (b : SeenBase) : Type 0 where
@@ -98,15 +98,15 @@ is_there id b is = there_by id b (found id_of_lent id b.lent) refl is
 
 -- IDS
 
-pub idle_apart : (b : SeenBase) → ((i : ℕ) → copies_of i (ids_of b) ≤ 1) → (i : ℕ) → copies_of i (map id_of_idle b.idle) ≤ 1
+pub idle_apart : (b : SeenBase) → ((i : ℕ) → copies_of i (ids_in_base b) ≤ 1) → (i : ℕ) → copies_of i (map id_of_idle b.idle) ≤ 1
 idle_apart b apart i = omega (arith, apart i, copies_of-append i (map id_of_idle b.idle) (map id_of_lent b.lent))
 
-pub lent_apart : (b : SeenBase) → ((i : ℕ) → copies_of i (ids_of b) ≤ 1) → (i : ℕ) → copies_of i (map id_of_lent b.lent) ≤ 1
+pub lent_apart : (b : SeenBase) → ((i : ℕ) → copies_of i (ids_in_base b) ≤ 1) → (i : ℕ) → copies_of i (map id_of_lent b.lent) ≤ 1
 lent_apart b apart i = omega (arith, apart i, copies_of-append i (map id_of_idle b.idle) (map id_of_lent b.lent))
 
 -- a record that fits brings no ids but those that it admits
-pub ids_folded : (limits : SeenLimits) (r : SeenRecord) (b : SeenBase) → ((i : ℕ) → copies_of i (ids_of b) ≤ 1) → fits limits r b ≡ true → (i : ℕ)
-    → copies_of i (ids_of (folded limits r b)) ≤ copies_of i (ids_of b) + copies_of i (admitted_by r)
+pub ids_folded : (limits : SeenLimits) (r : SeenRecord) (b : SeenBase) → ((i : ℕ) → copies_of i (ids_in_base b) ≤ 1) → fits limits r b ≡ true → (i : ℕ)
+    → copies_of i (ids_in_base (folded limits r b)) ≤ copies_of i (ids_in_base b) + copies_of i (admitted_by r)
 ids_folded limits (Taken at id n) b apart fit i =
     let l = lent_connection id (birth_of_idle id b.idle) in
     let s = stands_next limits id b (idle_apart b apart) ((split _ _ fit).0) in
@@ -147,7 +147,7 @@ ids_folded limits (Reaped at n) b apart fit i =
     omega (
       arith,
       copies_of-append i (map id_of_idle b.idle) (map id_of_lent b.lent),
-      copies_of-append i (map id_of_idle (idle_after_reap limits at b)) (map id_of_lent b.lent),
+      copies_of-append i (map id_of_idle (filter (is_kept limits at) b.idle)) (map id_of_lent b.lent),
       copies_of-filter (is_kept limits at) id_of_idle i b.idle,
     )
 ids_folded limits (ClosedAll at) b apart fit i = omega (arith, copies_of-append i (map id_of_idle b.idle) (map id_of_lent b.lent))
@@ -168,20 +168,20 @@ module _ (limits : SeenLimits) (b : SeenBase) (legal : IsLegalBase limits b) whe
       IsNonDecreasingBy-push since_of b.idle c legal.is_sorted
       (λ d some. omega (arith, legal.seen (length b.idle - 1) d (omega (arith, some)), later))
 
-  legal_taken : (at id n : ℕ) → b.at ≤ at → fits limits (Taken at id n) b ≡ true → ((i : ℕ) → copies_of i (ids_of (folded limits (Taken at id n) b)) ≤ 1)
+  legal_taken : (at id n : ℕ) → b.at ≤ at → fits limits (Taken at id n) b ≡ true → ((i : ℕ) → copies_of i (ids_in_base (folded limits (Taken at id n) b)) ≤ 1)
       → IsLegalBase limits (folded limits (Taken at id n) b)
   legal_taken at id n later fit apart =
       let f = split _ _ fit in
       let s = stands_next limits id b (idle_apart b legal.apart) f.0 in
       let l = lent_connection id (birth_of_idle id b.idle) in
-      let is : n ≡ top_up limits b.closed (length b.idle - 1) b.connections b.pending = eqb-true n _ f.1 in
+      let is : n ≡ top_up limits b.closed (length (without id_of_idle id b.idle)) b.connections b.pending = eqb-true n _ f.1 in
       let since : s.c.since ≤ b.at = All-found (λ c. c.since ≤ b.at) id_of_idle id b.idle s.c legal.seen s.there in
       let birth : s.c.birth ≤ s.c.since = All-found (λ c. c.birth ≤ c.since) id_of_idle id b.idle s.c legal.born s.there in
       let born : birth_of_idle id b.idle ≡ s.c.birth = ap (λ o. unwrap_or (option_map (λ (c : BareConnection). c.birth) o) 0) s.there in
       record {
         apart = apart;
         counted = omega (arith, legal.counted, length-without id_of_idle id b.idle s.c s.there, length_push b.lent l);
-        fits = ordered_fits b.closed n (wanted_of limits) limits.max_size (length b.idle - 1) b.connections b.pending legal.fits is;
+        fits = ordered_fits b.closed n (wanted_of limits) limits.max_size (length (without id_of_idle id b.idle)) b.connections b.pending legal.fits is;
         is_sorted = subst (IsNonDecreasingBy since_of) (sym s.others) (IsNonDecreasingBy-still_idle since_of limits.order b.idle legal.is_sorted);
         seen = All-without (λ c. c.since ≤ at) id_of_idle id b.idle (seen_at at later);
         born = All-without (λ c. c.birth ≤ c.since) id_of_idle id b.idle legal.born;
@@ -190,7 +190,7 @@ module _ (limits : SeenLimits) (b : SeenBase) (legal : IsLegalBase limits b) whe
         none_pending = λ closed. omega (arith, legal.none_pending closed, closed_none b.closed n _ is closed);
       }
 
-  legal_ordered : (at n : ℕ) → b.at ≤ at → fits limits (Ordered at n) b ≡ true → ((i : ℕ) → copies_of i (ids_of (folded limits (Ordered at n) b)) ≤ 1)
+  legal_ordered : (at n : ℕ) → b.at ≤ at → fits limits (Ordered at n) b ≡ true → ((i : ℕ) → copies_of i (ids_in_base (folded limits (Ordered at n) b)) ≤ 1)
       → IsLegalBase limits (folded limits (Ordered at n) b)
   legal_ordered at n later fit apart =
       let f = split _ _ ((split _ _ fit).1) in
@@ -209,7 +209,7 @@ module _ (limits : SeenLimits) (b : SeenBase) (legal : IsLegalBase limits b) whe
         none_pending = λ closed. absurd (let still = is_false b.closed g.0 in cc (closed, still));
       }
 
-  legal_admitted : (at id : ℕ) → b.at ≤ at → fits limits (Admitted at id) b ≡ true → ((i : ℕ) → copies_of i (ids_of (folded limits (Admitted at id) b)) ≤ 1)
+  legal_admitted : (at id : ℕ) → b.at ≤ at → fits limits (Admitted at id) b ≡ true → ((i : ℕ) → copies_of i (ids_in_base (folded limits (Admitted at id) b)) ≤ 1)
       → IsLegalBase limits (folded limits (Admitted at id) b)
   legal_admitted at id later fit apart =
       let some : 0 < b.pending = is_lt _ _ fit in
@@ -226,7 +226,7 @@ module _ (limits : SeenLimits) (b : SeenBase) (legal : IsLegalBase limits b) whe
         none_pending = λ closed. absurd (omega (arith, some, legal.none_pending closed));
       }
 
-  legal_kept : (at id : ℕ) → b.at ≤ at → fits limits (Kept at id) b ≡ true → ((i : ℕ) → copies_of i (ids_of (folded limits (Kept at id) b)) ≤ 1)
+  legal_kept : (at id : ℕ) → b.at ≤ at → fits limits (Kept at id) b ≡ true → ((i : ℕ) → copies_of i (ids_in_base (folded limits (Kept at id) b)) ≤ 1)
       → IsLegalBase limits (folded limits (Kept at id) b)
   legal_kept at id later fit apart =
       let f = split _ _ fit in
@@ -247,7 +247,7 @@ module _ (limits : SeenLimits) (b : SeenBase) (legal : IsLegalBase limits b) whe
         none_pending = legal.none_pending;
       }
 
-  legal_closed : (at id n : ℕ) → b.at ≤ at → fits limits (Closed at id n) b ≡ true → ((i : ℕ) → copies_of i (ids_of (folded limits (Closed at id n) b)) ≤ 1)
+  legal_closed : (at id n : ℕ) → b.at ≤ at → fits limits (Closed at id n) b ≡ true → ((i : ℕ) → copies_of i (ids_in_base (folded limits (Closed at id n) b)) ≤ 1)
       → IsLegalBase limits (folded limits (Closed at id n) b)
   legal_closed at id n later fit apart =
       let f = split _ _ fit in
@@ -265,17 +265,17 @@ module _ (limits : SeenLimits) (b : SeenBase) (legal : IsLegalBase limits b) whe
         none_pending = λ closed. omega (arith, legal.none_pending closed, closed_none b.closed n _ is closed);
       }
 
-  legal_reaped : (at n : ℕ) → b.at ≤ at → fits limits (Reaped at n) b ≡ true → ((i : ℕ) → copies_of i (ids_of (folded limits (Reaped at n) b)) ≤ 1)
+  legal_reaped : (at n : ℕ) → b.at ≤ at → fits limits (Reaped at n) b ≡ true → ((i : ℕ) → copies_of i (ids_in_base (folded limits (Reaped at n) b)) ≤ 1)
       → IsLegalBase limits (folded limits (Reaped at n) b)
   unfolding is_kept is_expired
   legal_reaped at n later fit apart =
       let f = split _ _ fit in
-      let is : n ≡ top_up limits b.closed (length (idle_after_reap limits at b)) (b.connections - expired_in limits at b) b.pending = eqb-true n _ f.0 in
+      let is : n ≡ top_up limits b.closed (length (filter (is_kept limits at) b.idle)) (b.connections - expired_in limits (up_to at b)) b.pending = eqb-true n _ f.0 in
       record {
         apart = apart;
         counted = omega (arith, legal.counted, length-filter_both (is_expired limits at) (is_kept limits at) (λ c. refl) b.idle);
-        fits = ordered_fits b.closed n (wanted_of limits) limits.max_size (length (idle_after_reap limits at b))
-            (b.connections - expired_in limits at b) b.pending (omega (arith, legal.fits)) is;
+        fits = ordered_fits b.closed n (wanted_of limits) limits.max_size (length (filter (is_kept limits at) b.idle))
+            (b.connections - expired_in limits (up_to at b)) b.pending (omega (arith, legal.fits)) is;
         is_sorted = IsNonDecreasingBy-filter since_of (is_kept limits at) b.idle legal.is_sorted;
         seen = All-filter (is_kept limits at) (λ c. c.since ≤ at) b.idle (seen_at at later);
         born = All-filter (is_kept limits at) (λ c. c.birth ≤ c.since) b.idle legal.born;
@@ -284,7 +284,7 @@ module _ (limits : SeenLimits) (b : SeenBase) (legal : IsLegalBase limits b) whe
         none_pending = λ closed. omega (arith, legal.none_pending closed, closed_none b.closed n _ is closed);
       }
 
-  legal_closed_all : (at : ℕ) → b.at ≤ at → ((i : ℕ) → copies_of i (ids_of (folded limits (ClosedAll at) b)) ≤ 1)
+  legal_closed_all : (at : ℕ) → b.at ≤ at → ((i : ℕ) → copies_of i (ids_in_base (folded limits (ClosedAll at) b)) ≤ 1)
       → IsLegalBase limits (folded limits (ClosedAll at) b)
   legal_closed_all at later apart = record {
     apart = apart;
@@ -298,7 +298,7 @@ module _ (limits : SeenLimits) (b : SeenBase) (legal : IsLegalBase limits b) whe
     none_pending = λ closed. refl;
   }
 
-  legal_by : (r : SeenRecord) → b.at ≤ moment_in r → fits limits r b ≡ true → ((i : ℕ) → copies_of i (ids_of (folded limits r b)) ≤ 1)
+  legal_by : (r : SeenRecord) → b.at ≤ moment_of_record r → fits limits r b ≡ true → ((i : ℕ) → copies_of i (ids_in_base (folded limits r b)) ≤ 1)
       → IsLegalBase limits (folded limits r b)
   legal_by (Taken at id n) later fit apart = legal_taken at id n later fit apart
   legal_by (Ordered at n) later fit apart = legal_ordered at n later fit apart
@@ -310,7 +310,7 @@ module _ (limits : SeenLimits) (b : SeenBase) (legal : IsLegalBase limits b) whe
 
 -- a base with a record that may follow it is legal
 pub legal_folded : (limits : SeenLimits) (r : SeenRecord) (b : SeenBase) → IsLegalBase limits b → may_follow limits r b ≡ true
-    → ((i : ℕ) → copies_of i (ids_of b) + copies_of i (admitted_by r) ≤ 1) → IsLegalBase limits (folded limits r b)
+    → ((i : ℕ) → copies_of i (ids_in_base b) + copies_of i (admitted_by r) ≤ 1) → IsLegalBase limits (folded limits r b)
 legal_folded limits r b legal may apart =
     let f = split _ _ may in
     legal_by limits b legal r (is_le _ _ f.0) f.1 (λ i. omega (arith, apart i, ids_folded limits r b legal.apart f.1 i))
@@ -324,15 +324,15 @@ pub record FoldsFirst (limits : SeenLimits) (r : SeenRecord) (rs : List SeenReco
   pub same : replay limits (r ∷ rs) b ≡ replay limits rs (folded limits r b)
 
 pub known_first : (i : ℕ) (b : SeenBase) (r : SeenRecord) (rs : List SeenRecord)
-    → copies_of i (known_in b (r ∷ rs)) ≡ copies_of i (ids_of b) + (copies_of i (admitted_by r) + copies_of i (admitted_in rs))
-known_first i b r rs = omega (arith, copies_of-append i (ids_of b) (admitted_in (r ∷ rs)), copies_of-append i (admitted_by r) (admitted_in rs))
+    → copies_of i (known_in b (r ∷ rs)) ≡ copies_of i (ids_in_base b) + (copies_of i (admitted_by r) + copies_of i (admitted_in rs))
+known_first i b r rs = omega (arith, copies_of-append i (ids_in_base b) (admitted_in (r ∷ rs)), copies_of-append i (admitted_by r) (admitted_in rs))
 
 -- and no more ids are known
-pub known_folded : (limits : SeenLimits) (r : SeenRecord) (rs : List SeenRecord) (b : SeenBase) → ((i : ℕ) → copies_of i (ids_of b) ≤ 1)
+pub known_folded : (limits : SeenLimits) (r : SeenRecord) (rs : List SeenRecord) (b : SeenBase) → ((i : ℕ) → copies_of i (ids_in_base b) ≤ 1)
     → may_follow limits r b ≡ true → (i : ℕ)
     → copies_of i (known_in (folded limits r b) rs) ≤ copies_of i (known_in b (r ∷ rs))
 known_folded limits r rs b apart may i =
-    omega (arith, ids_folded limits r b apart ((split _ _ may).1) i, known_first i b r rs, copies_of-append i (ids_of (folded limits r b)) (admitted_in rs))
+    omega (arith, ids_folded limits r b apart ((split _ _ may).1) i, known_first i b r rs, copies_of-append i (ids_in_base (folded limits r b)) (admitted_in rs))
 
 pub folds_first : (limits : SeenLimits) (r : SeenRecord) (rs : List SeenRecord) (b : SeenBase) → IsLegalBase limits b → AreLegalFrom limits b (r ∷ rs)
     → FoldsFirst limits r rs b
@@ -375,17 +375,17 @@ pub known-push : (i : ℕ) (b : SeenBase) (rs : List SeenRecord) (r : SeenRecord
 known-push i b rs r = omega (
   arith,
   admitted-push i rs r,
-  copies_of-append i (ids_of b) (admitted_in (rs ++ r ∷ [])),
-  copies_of-append i (ids_of b) (admitted_in rs),
+  copies_of-append i (ids_in_base b) (admitted_in (rs ++ r ∷ [])),
+  copies_of-append i (ids_in_base b) (admitted_in rs),
 )
 
 -- records that are legal from a legal base come to a legal one, with no more ids
 pub record ComeToLegal (limits : SeenLimits) (rs : List SeenRecord) (b : SeenBase) : Type 0 where
   pub legal : IsLegalBase limits (replay limits rs b)
-  pub ids : (i : ℕ) → copies_of i (ids_of (replay limits rs b)) ≤ copies_of i (known_in b rs)
+  pub ids : (i : ℕ) → copies_of i (ids_in_base (replay limits rs b)) ≤ copies_of i (known_in b rs)
 
 pub comes_to_legal : (limits : SeenLimits) (rs : List SeenRecord) (b : SeenBase) → IsLegalBase limits b → AreLegalFrom limits b rs → ComeToLegal limits rs b
-comes_to_legal limits [] b legal are = record { legal = legal; ids = λ i. omega (arith, copies_of-append i (ids_of b) []) }
+comes_to_legal limits [] b legal are = record { legal = legal; ids = λ i. omega (arith, copies_of-append i (ids_in_base b) []) }
 comes_to_legal limits (r ∷ rs) b legal are =
     let first = folds_first limits r rs b legal are in
     let rest = comes_to_legal limits rs (folded limits r b) first.legal first.rest in

@@ -12,7 +12,7 @@ use Rattle.r2d2_core.specs.Bases.{SeenBase, IsLegalBase}
 use Rattle.r2d2_core.specs.Connections.{SeenLentConnection, birth_in}
 use Rattle.r2d2_core.specs.Folding.{is_next, folded, may_follow, all_follow, AreLegalFrom}
 use Rattle.r2d2_core.specs.RunningBase.{made_idle_by, made_lent_by}
-use Rattle.r2d2_core.specs.Journal.{SeenJournal, one_more, takes_with, with_oldest, with_record}
+use Rattle.r2d2_core.specs.Journal.{SeenJournal, next_count, takes_with, with_oldest, with_record}
 use Rattle.r2d2_core.proofs.Recording.Folding.{split, is_lt, next_is}
 use Rattle.r2d2_core.proofs.Lists.Lending.{length-still_idle}
 
@@ -98,14 +98,14 @@ without_first f (x ∷ xs) = refl
 full_by : (limits : SeenLimits) (b b' : SeenBase) (rs rs' : List SeenRecord) (r : SeenRecord) (made room lost takes takes' : ℕ) (has_room : Bool)
     → nat_lt (length rs) room ≡ has_room → has_room ≡ false
     → b' ≡ with_oldest limits (rs ++ r ∷ []) b → rs' ≡ drop 1 (rs ++ r ∷ []) → takes' ≡ takes_with r takes
-    → ◌≡◌ {A = SeenJournal} (record { limits = limits; made = made; base = b'; records = rs'; room = room; lost = one_more lost; takes = takes' })
+    → ◌≡◌ {A = SeenJournal} (record { limits = limits; made = made; base = b'; records = rs'; room = room; lost = next_count lost; takes = takes' })
     (with_record r (record { limits = limits; made = made; base = b; records = rs; room = room; lost = lost; takes = takes }))
 full_by limits b b' rs rs' r made room lost takes takes' has_room e none e1 e2 e3 = rw (e1, e2, e3, e, none) refl
 
 pub full_noted : (limits : SeenLimits) (b b' : SeenBase) (items : List Record) (now : Buffer Record) (made : Record)
     (since capacity lost lost' takes takes' : ℕ) → length items ≤ capacity → nat_lt (length items) capacity ≡ false
     → now ≡ buffer (keep_last capacity (items ++ made ∷ [])) capacity → b' ≡ with_oldest limits (map seen_record items ++ seen_record made ∷ []) b
-    → lost' ≡ one_more lost → takes' ≡ takes_with (seen_record made) takes
+    → lost' ≡ next_count lost → takes' ≡ takes_with (seen_record made) takes
     → ◌≡◌ {A = SeenJournal} (record {
       limits = limits;
       made = since;
@@ -147,5 +147,5 @@ kept_within items made now capacity is =
     let room : now.capacity ≡ capacity = ap (λ (l : Buffer Record). l.capacity) is in
     (omega (arith, size, room), room)
 
-pub none_lost : (n : ℕ) → one_more n ≡ 0 → ⊥
+pub none_lost : (n : ℕ) → next_count n ≡ 0 → ⊥
 none_lost n e = omega (arith, e)

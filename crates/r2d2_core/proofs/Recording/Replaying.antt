@@ -8,7 +8,7 @@ use Rattle.r2d2_core.specs.Connections.{SeenIdleConnection, SeenLentConnection, 
 use Rattle.r2d2_core.specs.Picture.{Picture, IsSound}
 use Rattle.r2d2_core.specs.Records.{SeenRecord, Taken, Ordered, Admitted, Kept, Closed, Reaped, ClosedAll}
 use Rattle.r2d2_core.specs.Bases.{SeenBase, BareConnection}
-use Rattle.r2d2_core.specs.Folding.{moment_in, folded, replay, fits, may_follow, all_follow, admitted_by, known_in}
+use Rattle.r2d2_core.specs.Folding.{moment_of_record, folded, replay, fits, may_follow, all_follow, admitted_by, known_in}
 use Rattle.r2d2_core.specs.Book.{ComesTo, bare}
 use Rattle.r2d2_core.specs.BookParts.{KeepReplaying, shown_at}
 use Rattle.r2d2_core.specs.Journal.{with_oldest}
@@ -21,7 +21,7 @@ le_is a b x = grind (arith, nat_tests)
 pub lt_is : (a b : ℕ) → a + 1 ≤ b → nat_lt a b ≡ true
 lt_is a b h = grind (arith, nat_tests)
 
-pub at_folded : (limits : SeenLimits) (r : SeenRecord) (b : SeenBase) → (let now = folded limits r b in now.at) ≡ moment_in r
+pub at_folded : (limits : SeenLimits) (r : SeenRecord) (b : SeenBase) → (let now = folded limits r b in now.at) ≡ moment_of_record r
 at_folded limits (Taken at id n) b = refl
 at_folded limits (Ordered at n) b = refl
 at_folded limits (Admitted at id) b = refl
@@ -60,8 +60,8 @@ module _ {T : Type 0} where
   pub record Says (m : ℕ) (p : Picture T) (r : SeenRecord) (p' : Picture T) : Type 0 where
     pub fit : fits p.on_order.limits r (shown_at m p) ≡ true
     pub comes : ComesTo (folded p.on_order.limits r (shown_at m p)) p'
-    pub later : p.latest ≤ moment_in r
-    pub not_after : moment_in r ≤ p'.latest
+    pub later : p.latest ≤ moment_of_record r
+    pub not_after : moment_of_record r ≤ p'.latest
 
   -- then the records with it are legal, and replay to the picture after it
   pub with_one_more : (limits : SeenLimits) (b : SeenBase) (rs : List SeenRecord) (r : SeenRecord) (p p' : Picture T) → IsSound p → ((m : ℕ) → Says m p r p')
@@ -76,7 +76,7 @@ module _ {T : Type 0} where
       (subst (λ (x : SeenBase). fits p.on_order.limits r x ≡ true) (sym is) s.fit) in
       let comes : ComesTo (folded limits r now) p' = subst (λ (l : SeenLimits). ComesTo (folded l r now) p') (sym k.same)
       (subst (λ (x : SeenBase). ComesTo (folded p.on_order.limits r x) p') (sym is) s.comes) in
-      let late : nat_le now.at (moment_in r) ≡ true = le_is now.at (moment_in r) (omega (arith, k.not_after, s.later)) in
+      let late : nat_le now.at (moment_of_record r) ≡ true = le_is now.at (moment_of_record r) (omega (arith, k.not_after, s.later)) in
       let numbered = λ (i : ℕ). copies_of-append3 i (map id_of_idle p.idle) (map id_of_lent p.lent) p.on_order.numbered in
       let fresh : (i : ℕ) → copies_of i (known_in b (rs ++ r ∷ [])) + copies_of i p'.on_order.numbered ≤ 1 = λ i. omega
       (arith, known-push i b rs r, numbers i, k.fresh i) in
@@ -86,7 +86,7 @@ module _ {T : Type 0} where
           base = k.replays.base;
           legal = record {
             follow = follow-push limits rs r b ∙ both (all_follow limits rs b) (may_follow limits r now) k.replays.legal.follow
-                (both (nat_le now.at (moment_in r)) (fits limits r now) late fit);
+                (both (nat_le now.at (moment_of_record r)) (fits limits r now) late fit);
             apart = λ i. omega (arith, fresh i);
           };
           shows = subst (λ (x : SeenBase). ComesTo x p') (sym (replay-push limits rs r b)) comes;

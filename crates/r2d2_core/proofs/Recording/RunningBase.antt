@@ -6,13 +6,13 @@ use Rattle.r2d2_core.specs.declared.schedule.limits.LendingOrder.{LendingOrder}
 use Rattle.r2d2_core.specs.Limits.{SeenLimits}
 use Rattle.r2d2_core.specs.Roster.{SeenRoster, roster}
 use Rattle.r2d2_core.specs.Ids.{found, without, copies_of}
-use Rattle.r2d2_core.specs.Lending.{lent_next, still_idle}
+use Rattle.r2d2_core.specs.Lending.{next_to_lend, still_idle}
 use Rattle.r2d2_core.specs.Connections.{SeenLentConnection, lent_connection, id_of_idle, is_expired, is_kept}
 use Rattle.r2d2_core.specs.Bases.{BareConnection, base_of}
 use Rattle.r2d2_core.specs.Book.{bare}
-use Rattle.r2d2_core.specs.Folding.{birth_of_idle}
+use Rattle.r2d2_core.specs.Folding.{birth_of_idle, lent_in, swept_of}
 use Rattle.r2d2_core.specs.declared.journal.running_base.Rooms.{Rooms}
-use Rattle.r2d2_core.specs.RunningBase.{running_base, rooms, lent_out, swept_of}
+use Rattle.r2d2_core.specs.RunningBase.{running_base, rooms}
 use Rattle.r2d2_core.proofs.Lists.Lending.{found-next, without-next, length-still_idle}
 
 pub same_base : (at pending : ℕ) (closed : Bool) (i i' : List BareConnection) (l l' : List SeenLentConnection) (n n' : ℕ) → i ≡ i' → l ≡ l' → n ≡ n'
@@ -25,10 +25,10 @@ birth_of c = c.birth
 -- the next one is lent
 pub lends : (o : LendingOrder) (at pending : ℕ) (closed : Bool) (idle : List BareConnection) (lent : List SeenLentConnection) (room : Rooms) (id birth : ℕ)
     (c : BareConnection) → ((i : ℕ) → copies_of i (map id_of_idle idle) ≤ 1)
-    → lent_next o idle ≡ Some c → c.id ≡ id → birth ≡ c.birth
+    → next_to_lend o idle ≡ Some c → c.id ≡ id → birth ≡ c.birth
     → (let l = lent_connection id birth in running_base (base_of at (still_idle o idle) (lent ++ l ∷ [])
     (length (still_idle o idle) + length (lent ++ l ∷ [])) pending closed) room
-    ≡ running_base (lent_out id (base_of at idle lent (length idle + length lent) pending closed)) room)
+    ≡ running_base (lent_in id (base_of at idle lent (length idle + length lent) pending closed)) room)
 lends o at pending closed idle lent room id birth c apart next is born_then =
     let l = lent_connection id birth in
     let others : still_idle o idle ≡ without id_of_idle id idle = sym (subst (λ i. without id_of_idle i idle ≡ still_idle o idle) is

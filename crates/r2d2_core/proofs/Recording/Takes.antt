@@ -7,7 +7,7 @@ use Rattle.std.proofs.lemmas.Bool.{eq-eqb, eqb-true}
 use Rattle.std.proofs.lemmas.Bool.Decides.{nat_tests}
 use Rattle.r2d2_core.specs.Limits.{SeenLimits, wanted_of}
 use Rattle.r2d2_core.specs.Ids.{found, without, same_id, copies_of}
-use Rattle.r2d2_core.specs.Lending.{lent_next, still_idle}
+use Rattle.r2d2_core.specs.Lending.{next_to_lend, still_idle}
 use Rattle.r2d2_core.specs.Connections.{SeenIdleConnection, idle_connection, lent_connection, id_of_idle}
 use Rattle.r2d2_core.specs.OnOrder.{room_beside}
 use Rattle.r2d2_core.specs.Picture.{Picture, IsSound}
@@ -21,7 +21,7 @@ use Rattle.r2d2_core.specs.Journal.{added}
 use Rattle.r2d2_core.specs.Book.{bare}
 use Rattle.r2d2_core.specs.BookParts.{KeepReplaying}
 use Rattle.r2d2_core.proofs.Lists.Ids.{copies_of-without, length-without}
-use Rattle.r2d2_core.proofs.Lists.Lending.{none_is_next, next-map, still_idle-map, length-still_idle, found-next, without-next}
+use Rattle.r2d2_core.proofs.Lists.Lending.{none_is_next, next-map, still_idle-map, found-next, without-next}
 use Rattle.r2d2_core.proofs.Recording.Folding.{both}
 use Rattle.r2d2_core.proofs.Recording.Replaying.{lt_is, idle_apart, Says, with_one_more, with_none_more}
 
@@ -44,23 +44,25 @@ module _ {T : Type 0} where
   -- TAKE
 
   -- a take that found
-  says_found : (m : ℕ) (p : Picture T) (c : SeenIdleConnection T) → lent_next p.on_order.limits.order p.idle ≡ Some c → IsSound p
+  says_found : (m : ℕ) (p : Picture T) (c : SeenIdleConnection T) → next_to_lend p.on_order.limits.order p.idle ≡ Some c → IsSound p
       → Says m p (Taken p.latest c.id (top_up_of (lent_out c p))) (topped_up (lent_out c p))
   says_found m p c e sound =
       let o = p.on_order.limits.order in
       let idle = map bare p.idle in
-      let next : lent_next o idle ≡ Some (bare c) = next-map bare o p.idle c e in
+      let next : next_to_lend o idle ≡ Some (bare c) = next-map bare o p.idle c e in
       let apart = idle_apart p sound in
       let there : found id_of_idle c.id idle ≡ Some (bare c) = found-next id_of_idle o idle (bare c) next apart in
       let born : birth_of_idle c.id idle ≡ c.birth = ap (λ o. unwrap_or (option_map (λ (c : BareConnection). c.birth) o) 0) there in
-      let less : length idle - 1 ≡ length (still_idle o p.idle) = omega (arith, length-map p.idle bare, length-still_idle o p.idle c e) in
+      let others : without id_of_idle c.id idle ≡ map bare (still_idle o p.idle) = without-next id_of_idle o idle (bare c) next apart
+      ∙ still_idle-map bare o p.idle c e in
+      let left : length (without id_of_idle c.id idle) ≡ length (still_idle o p.idle) = ap length others ∙ length-map (still_idle o p.idle) bare in
       record {
         fit = both _ _
             (ap (λ o. unwrap_or (option_map (λ (x : BareConnection). x.id == c.id) o) false) next ∙ eq-eqb c.id c.id refl)
-            (orders_alike p.on_order.closed (length idle - 1) (length (still_idle o p.idle)) (wanted_of p.on_order.limits)
-            (room_beside p.connections p.on_order) less);
+            (orders_alike p.on_order.closed (length (without id_of_idle c.id idle)) (length (still_idle o p.idle)) (wanted_of p.on_order.limits)
+            (room_beside p.connections p.on_order) left);
         comes = record {
-          idle = without-next id_of_idle o idle (bare c) next apart ∙ still_idle-map bare o p.idle c e;
+          idle = others;
           lent = ap (λ b. p.lent ++ lent_connection c.id b ∷ []) born;
           connections = refl;
           pending = refl;
@@ -71,7 +73,7 @@ module _ {T : Type 0} where
       }
 
   -- a take that found none, and ordered
-  says_ordered : (m : ℕ) (p : Picture T) (o : Bool) → lent_next p.on_order.limits.order p.idle ≡ None → 1 ≤ miss_order_of o p
+  says_ordered : (m : ℕ) (p : Picture T) (o : Bool) → next_to_lend p.on_order.limits.order p.idle ≡ None → 1 ≤ miss_order_of o p
       → Says m p (Ordered p.latest (miss_order_of o p)) (ordered (miss_order_of o p) p)
   says_ordered m p o e some =
       let n = miss_order_of o p in
@@ -86,7 +88,7 @@ module _ {T : Type 0} where
         not_after = omega arith;
       }
 
-  miss_step : (limits : SeenLimits) (b : SeenBase) (rs : List SeenRecord) (p : Picture T) (o none : Bool) → lent_next p.on_order.limits.order p.idle ≡ None
+  miss_step : (limits : SeenLimits) (b : SeenBase) (rs : List SeenRecord) (p : Picture T) (o none : Bool) → next_to_lend p.on_order.limits.order p.idle ≡ None
       → (miss_order_of o p == 0) ≡ none → IsSound p → KeepReplaying limits b rs p
       → KeepReplaying limits b (added (cond none None (Some (Ordered p.latest (miss_order_of o p)))) rs) (ordered (miss_order_of o p) p)
   miss_step limits b rs p o true e n sound k =
@@ -99,7 +101,7 @@ module _ {T : Type 0} where
 
   -- a take, at its moment
   pub replaying_taken : (limits : SeenLimits) (b : SeenBase) (rs : List SeenRecord) (p : Picture T) (o : Bool) (m : Option (SeenIdleConnection T))
-      → lent_next p.on_order.limits.order p.idle ≡ m → IsSound p → KeepReplaying limits b rs p
+      → next_to_lend p.on_order.limits.order p.idle ≡ m → IsSound p → KeepReplaying limits b rs p
       → KeepReplaying limits b (added (record_of_take p.latest (take_with m (take_orders m o p))) rs) (taken m o p)
   replaying_taken limits b rs p o None e sound k = miss_step limits b rs p o (miss_order_of o p == 0) e refl sound k
   replaying_taken limits b rs p o (Some c) e sound k = with_one_more limits b rs _ p _ sound (λ m. says_found m p c e sound) refl refl (λ i. omega arith) k

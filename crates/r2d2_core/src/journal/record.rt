@@ -30,7 +30,7 @@ pub enum Record {
 impl Record {
     ghost use Rattle.r2d2_core.specs.Seen.{seen_take, seen_returned, seen_gone, map_ok};
     ghost use Rattle.r2d2_core.specs.Records.{seen_record};
-    ghost use Rattle.r2d2_core.specs.Folding.{moment_in, admitted_by};
+    ghost use Rattle.r2d2_core.specs.Folding.{moment_of_record, admitted_by};
     ghost use Rattle.r2d2_core.specs.RunningBase.{made_idle_by, made_lent_by};
     ghost use Rattle.r2d2_core.specs.Recorded.{record_of_take, record_of_admission};
     ghost use Rattle.r2d2_core.specs.Recorded.{record_of_return, record_of_check, record_of_reap};
@@ -38,7 +38,7 @@ impl Record {
 
     /// The moment of the record: that of its step, or the latest one before it where that is later.
     pub fn at(&self) -> Duration
-        ensures { as_nanos result ≡ moment_in (seen_record self.now) }
+        ensures { as_nanos result ≡ moment_of_record (seen_record self.now) }
     {
         match self {
             Record::Taken { at, .. }

@@ -5,7 +5,7 @@ ghost use Rattle.r2d2_core.specs.Limits.{seen_limits};
 ghost use Rattle.r2d2_core.specs.Ids.{copies_of};
 ghost use Rattle.r2d2_core.specs.Connections.{id_of_idle, id_of_lent};
 ghost use Rattle.r2d2_core.specs.Records.{seen_record};
-ghost use Rattle.r2d2_core.specs.Bases.{seen_bare, seen_lent, ids_of, IsLegalBase};
+ghost use Rattle.r2d2_core.specs.Bases.{seen_bare, seen_lent, ids_in_base, IsLegalBase};
 ghost use Rattle.r2d2_core.specs.Folding.{admitted_in, known_in};
 ghost use Rattle.r2d2_core.specs.Reports.{seen_base, DoesReplay};
 ghost use Rattle.r2d2_core.specs.Auditing.{counts_fit, ShowsCounts};
@@ -119,7 +119,7 @@ impl<A: Allocator> Report<A> {
     pub(crate) fn start(&self, records: &[Record]) -> Result<Option<RunningBase<A>>, AllocError>
     where
         A: Copy,
-        requires apart { (i : ℕ) → copies_of i (ids_of (seen_base self.now.base)) ≤ 1 }
+        requires apart { (i : ℕ) → copies_of i (ids_in_base (seen_base self.now.base)) ≤ 1 }
         ensures { IfOk result
             (λ made. MatchOption made (HasWrongBase self.now)
             (λ there. IsLegalBase (seen_limits self.now.limits) (seen_base self.now.base)

@@ -3,18 +3,18 @@ ghost use Rattle.std.specs.Prelude.{◌≡◌, ℕ, ◌+◌, ◌-◌, ◌^◌, �
 ghost use Rattle.std.specs.Prelude.{is_some, length, map, IsTrue, IfOk};
 ghost use Rattle.std.specs.Duration.{as_nanos};
 ghost use Rattle.std.specs.List.Sorted.{IsNonDecreasingBy};
-ghost use Rattle.r2d2_core.specs.Limits.{seen_limits, top_up, has_reached};
+ghost use Rattle.r2d2_core.specs.Limits.{seen_limits, has_reached};
 ghost use Rattle.r2d2_core.specs.Ids.{copies_of};
 ghost use Rattle.r2d2_core.specs.Connections.{idle_connection, birth_in, id_of_idle, id_of_lent};
 ghost use Rattle.r2d2_core.specs.Connections.{since_of};
 ghost use Rattle.r2d2_core.specs.Records.{seen_record};
 ghost use Rattle.r2d2_core.specs.Bases.{seen_bare, seen_lent, IsLegalBase};
 ghost use Rattle.r2d2_core.specs.Folding.{birth_of_lent, is_next, expired_in, may_follow, folded};
+ghost use Rattle.r2d2_core.specs.Folding.{with_more, lent_in, admitted_to, kept_in, parted_from};
+ghost use Rattle.r2d2_core.specs.Folding.{swept_of, closed_all_in, top_up_in};
 ghost use Rattle.r2d2_core.specs.Reports.{seen_base};
 ghost use Rattle.r2d2_core.specs.RunningBase.{running_base, rooms_for, made_idle_by, made_lent_by};
-ghost use Rattle.r2d2_core.specs.RunningBase.{empty_base, with_more, lent_out, admitted_to};
-ghost use Rattle.r2d2_core.specs.RunningBase.{kept_in, with_one_idle, parted_from, swept_of};
-ghost use Rattle.r2d2_core.specs.RunningBase.{closed_in};
+ghost use Rattle.r2d2_core.specs.RunningBase.{empty_base, with_one_idle};
 
 use super::base::{Base, copied_idle, copied_lent};
 use super::record::Record;
@@ -152,8 +152,7 @@ impl<A: Allocator> RunningBase<A> {
         requires fits { self.old.base.connections + self.old.base.pending
             ≤ (seen_limits limits.now).max_size }
         ensures is { result
-            ≡ (ordered == top_up (seen_limits limits.now) self.old.base.closed
-            (length self.old.base.idle) self.old.base.connections self.old.base.pending) }
+            ≡ (ordered == top_up_in (seen_limits limits.now) self.old.base) }
         ensures more { IsTrue result
             → self.new ≡ running_base (with_more ordered self.old.base) self.old.room }
     {
@@ -197,7 +196,7 @@ impl<A: Allocator> RunningBase<A> {
         ensures is { result ≡ is_next (seen_limits limits.now) id self.old.base }
         ensures less { IsTrue result → length self.new.base.idle ≡ length self.old.base.idle - 1 }
         ensures lent { IsTrue result
-            → self.new ≡ running_base (lent_out id self.old.base) self.old.room }
+            → self.new ≡ running_base (lent_in id self.old.base) self.old.room }
     {
         match self.idle.take(limits.order()) {
             Some(entry) => {
@@ -276,7 +275,7 @@ impl<A: Allocator> RunningBase<A> {
     fn sweep(&mut self, limits: &Limits) -> usize
         requires in_order { IsNonDecreasingBy since_of self.old.base.idle }
         ensures closed { result
-            ≡ expired_in (seen_limits limits.now) self.old.base.at self.old.base }
+            ≡ expired_in (seen_limits limits.now) self.old.base }
         ensures swept { self.new
             ≡ running_base (swept_of (seen_limits limits.now) self.old.base) self.old.room }
     {
@@ -289,7 +288,7 @@ impl<A: Allocator> RunningBase<A> {
     fn close(&mut self) -> bool
         ensures is { result ≡ not self.old.base.closed }
         ensures closed { IsTrue result
-            → self.new ≡ running_base (closed_in self.old.base) self.old.room }
+            → self.new ≡ running_base (closed_all_in self.old.base) self.old.room }
     {
         if self.closed {
             return false;

@@ -6,7 +6,7 @@ ghost use Rattle.std.specs.Duration.{as_nanos};
 ghost use Rattle.std.specs.List.Sorted.{IsNonDecreasingBy};
 ghost use Rattle.circular_buffer.specs.Buffer.{buffer};
 ghost use Rattle.r2d2_core.specs.Limits.{seen_limits, has_reached};
-ghost use Rattle.r2d2_core.specs.Lending.{lent_next, still_idle};
+ghost use Rattle.r2d2_core.specs.Lending.{next_to_lend, still_idle};
 ghost use Rattle.r2d2_core.specs.Connections.{id_of_idle, since_of, is_expired, is_kept, closed_of};
 ghost use Rattle.r2d2_core.specs.Connections.{pair_of};
 ghost use Rattle.r2d2_core.specs.Roster.{roster};
@@ -85,7 +85,7 @@ impl<T, A: Allocator> Idle<T, A> {
 
     /// The one that is lent next, which is idle no more.
     pub(crate) fn take(&mut self, order: LendingOrder) -> Option<IdleConnection<T>>
-        ensures next { result ≡ lent_next order self.old.items }
+        ensures next { result ≡ next_to_lend order self.old.items }
         ensures others { self.new ≡ roster (still_idle order self.old.items) self.old.room }
         ensures same { IfNone result (self.new ≡ self.old) }
     {

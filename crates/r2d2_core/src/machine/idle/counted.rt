@@ -5,7 +5,7 @@ ghost use Rattle.std.specs.Prelude.{option_copied, map, IfOk, IfNone};
 ghost use Rattle.std.specs.Duration.{as_nanos};
 ghost use Rattle.circular_buffer.specs.Buffer.{buffer};
 ghost use Rattle.r2d2_core.specs.Limits.{seen_limits};
-ghost use Rattle.r2d2_core.specs.Lending.{lent_next, still_idle};
+ghost use Rattle.r2d2_core.specs.Lending.{next_to_lend, still_idle};
 ghost use Rattle.r2d2_core.specs.Connections.{idle_connection, is_expired, released_at};
 ghost use Rattle.r2d2_core.specs.Seen.{seen_released};
 
@@ -111,7 +111,7 @@ impl<T, A: Allocator> Ring<T, A> {
 
     /// Takes out the one that is lent next.
     pub(super) fn pop_next(&mut self, order: LendingOrder) -> Option<IdleConnection<T>>
-        ensures next { result ≡ lent_next order self.old.items }
+        ensures next { result ≡ next_to_lend order self.old.items }
         ensures others { self.new ≡ buffer (still_idle order self.old.items) self.old.capacity }
         ensures same { IfNone result (self.new ≡ self.old) }
     {

@@ -7,7 +7,7 @@ use Rattle.r2d2_core.specs.Records.{seen_record}
 use Rattle.r2d2_core.specs.Bases.{IsLegalBase}
 use Rattle.r2d2_core.specs.Folding.{AreLegalFrom}
 use Rattle.r2d2_core.specs.Journal.{SeenJournal, added, with_noted, with_record}
-use Rattle.r2d2_core.specs.JournalParts.{MayNote, HasRoom, base_before, journal_in, kept_alone}
+use Rattle.r2d2_core.specs.JournalParts.{MayNote, BaseHasRoom, base_before, journal_in, kept_alone}
 use Rattle.r2d2_core.specs.RunningBase.{SeenRunningBase}
 use Rattle.r2d2_core.proofs.Recording.Beside.{kept_with_room}
 use Rattle.r2d2_core.proofs.Recording.Keeping.{gives_up, full_noted, kept_within, none_lost}
@@ -19,7 +19,7 @@ invariant_of-self-in-Some-push_back g c =
     let limits = seen_limits s.limits in
     let made = c.in-Some.made in
     let base = c.in-Folded.running_base.base in
-    let room = subst (λ (b : Before _). HasRoom limits s.records.capacity b) c.in-Folded.is c.self.invariant.has_room in
+    let room = subst (λ (b : Before _). BaseHasRoom limits s.records.capacity b) c.in-Folded.is c.self.invariant.has_room in
     let may = subst (λ (l : SeenJournal). 0 < l.room → MayNote (option_map seen_record c.args.made) l) (sym c.self.view_is) c.requires room.0 in
     let legal : IsLegalBase limits base = subst (λ (b : Before _). IsLegalBase limits (base_before limits b)) c.in-Folded.is may.legal in
     let are : AreLegalFrom limits base (map seen_record s.records.items ++ seen_record made ∷ []) =
@@ -42,7 +42,7 @@ returns-in-Some-push_back g c =
     let limits = seen_limits s.limits in
     let made = c.in-Some.made in
     let base = c.in-Folded.running_base.base in
-    let room = subst (λ (b : Before _). HasRoom limits s.records.capacity b) c.in-Folded.is c.self.invariant.has_room in
+    let room = subst (λ (b : Before _). BaseHasRoom limits s.records.capacity b) c.in-Folded.is c.self.invariant.has_room in
     let may = subst (λ (l : SeenJournal). 0 < l.room → MayNote (option_map seen_record c.args.made) l) (sym c.self.view_is) c.requires room.0 in
     let legal : IsLegalBase limits base = subst (λ (b : Before _). IsLegalBase limits (base_before limits b)) c.in-Folded.is may.legal in
     let are : AreLegalFrom limits base (map seen_record s.records.items ++ seen_record made ∷ []) =
