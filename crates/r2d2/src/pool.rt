@@ -30,12 +30,13 @@ mod building;
 mod call_time;
 mod closing;
 mod counting;
+mod evicting;
 mod lending;
 mod lent;
 mod locking;
-mod opening;
 mod state;
 mod waiting;
+mod worker;
 
 /// What a pool needs of the runtime that it is made with, and keeps: a clock, threads, waiting and
 /// memory. The runtime that `main` is given is one; nobody has to implement it.
