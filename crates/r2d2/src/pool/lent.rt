@@ -7,7 +7,7 @@ use crate::engine::{Outcome, Settled, Ties};
 use crate::hooks::Hooks;
 use crate::payload::{Payload, PayloadOf};
 use crate::{Extensions, ManageConnection};
-use r2d2_core::{Returned, Take};
+use r2d2_core::Returned;
 use std::alloc::{Allocator, Global};
 use std::fmt;
 use std::marker::Model;
@@ -20,23 +20,6 @@ use std::time::Duration;
 pub struct Lent<P> {
     pub(super) id: u64,
     pub(super) payload: P,
-}
-
-impl<P> Lent<P> {
-    ghost use Rattle.std.specs.Prelude.{MatchOption};
-    ghost use Rattle.r2d2_core.specs.Seen.{seen_take};
-    ghost use Rattle.r2d2.specs.Counted.{found_by};
-
-    /// What a take found.
-    pub(super) fn of(taken: Take<P>) -> Option<Lent<P>>
-        ensures { MatchOption result (found_by (seen_take taken) ≡ 0)
-            (λ _. found_by (seen_take taken) ≡ 1) }
-    {
-        match taken {
-            Take::Found { id, value, .. } => Some(Lent { id, payload: value }),
-            Take::Empty { .. } => None,
-        }
-    }
 }
 
 /// A connection that a pool lent, whatever counts its takes.
@@ -184,15 +167,15 @@ impl<C: Ties, M: ManageConnection, K: Hooks<M>, R: PoolRuntime> Drop for AnyConn
         let AnyConnection {
             closer,
             lent_at,
-            mut lent,
+            lent,
         } = self;
-        let id = lent.id;
+        let Lent { id, mut payload } = lent;
         let shared = &closer.shared;
         if shared.listens {
             shared.hooks.check_in(id, lent_at, shared.moment());
         }
-        let broken = shared.manager.has_broken(&mut lent.payload.connection);
-        let returned = shared.put_back(lent, broken);
+        let broken = shared.manager.has_broken(&mut payload.connection);
+        let returned = shared.step(|guarded, now| guarded.give_back(now, id, payload, broken));
         if let Ok(Returned::Closed { value, age, .. }) = returned {
             let Payload { connection, .. } = value;
             shared.hooks.release(id, age, connection);

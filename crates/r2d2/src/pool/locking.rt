@@ -4,7 +4,6 @@ ghost use Rattle.std.specs.Prelude.{vec_capacity, IfOk};
 ghost use Rattle.r2d2_core.specs.Reports.{DoesReplay, HasSoundCounts, CountsItsTakes};
 ghost use Rattle.r2d2_core.specs.Reports.{BeginsAtAMaking};
 
-use super::lent::Lent;
 use super::{State, Status};
 use crate::engine::{Counter, Outcome, Settled, Tied, Ties, Wakes};
 use crate::payload::PayloadOf;
@@ -221,10 +220,10 @@ impl<B, M, K, R> Shared<B, M, K, R> {
         self.guarded.lock(&self.rt)
     }
 
-    // Makes a step: takes the lock, reads the moment, calls, lets the lock go, wakes. What the call
-    // did to the book, nobody can say after it.
+    /// Makes a step: takes the lock, reads the moment, calls, lets the lock go, wakes. What the call
+    /// did to the book, nobody can say after it.
     #[inline(always)]
-    fn step<X, F: FnOnce(&mut Guarded<B>, Duration) -> (X, Wakes)>(&self, call: F) -> X
+    pub(super) fn step<X, F: FnOnce(&mut Guarded<B>, Duration) -> (X, Wakes)>(&self, call: F) -> X
     where
         R: Clock + Wait,
         requires { (g : _) (now : _) → F.pre call g now }
@@ -265,17 +264,6 @@ impl<P: Drop, C: Ties, M, K, R: Clock + Wait> Shared<Tied<P, C>, M, K, R> {
         ensures whole { IfOk result BeginsAtAMaking }
     {
         self.step(|guarded, _now| (guarded.book.report(), Wakes::nobody()))
-    }
-
-    /// Puts a lent connection back. One that is closed, or refused, comes back.
-    #[inline(always)]
-    pub(super) fn put_back(
-        &self,
-        lent: Lent<P>,
-        broken: bool,
-    ) -> Result<Returned<P>, (Refusal, P)> {
-        let Lent { id, payload } = lent;
-        self.step(|guarded, now| guarded.give_back(now, id, payload, broken))
     }
 
     /// Gives an opened connection its id.

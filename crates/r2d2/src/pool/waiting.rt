@@ -9,6 +9,7 @@ use super::call_time::CallTime;
 use super::lent::Lent;
 use super::locking::{Guarded, Shared};
 use crate::engine::{Counter, Tied, Ties, Wakes};
+use r2d2_core::Take;
 use std::rt::Clock;
 use std::sync::{MutexGuard, Wait};
 use std::time::Duration;
@@ -50,7 +51,10 @@ impl<P: Drop, C: Counter, M, K, R: Clock + Wait> Shared<Tied<P, C>, M, K, R> {
             let now = self.moment();
             time.look(now);
             let (taken, wakes) = guarded.book.lend(now, timeout.is_some(), tally);
-            let found = Lent::of(taken);
+            let found = match taken {
+                Take::Found { id, value, .. } => Some(Lent { id, payload: value }),
+                Take::Empty { .. } => None,
+            };
             let (Some(timeout), None) = (timeout, &found) else {
                 drop(guarded);
                 self.wake(wakes);

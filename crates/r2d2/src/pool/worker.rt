@@ -2,7 +2,7 @@
 
 use super::PoolRuntime;
 use super::evicting::has_room;
-use super::locking::SharedOf;
+use super::locking::{Guarded, SharedOf};
 use crate::ManageConnection;
 use crate::engine::{Outcome, Tied, Ties, Wakes};
 use crate::error::text_of;
@@ -27,7 +27,7 @@ impl<C: Ties, M: ManageConnection, K: Hooks<M>, R: PoolRuntime> SharedOf<C, M, K
                     self.open(tries);
                 }
                 Job::Reap => {
-                    let wakes = guarded.book.reap(self.moment(), &mut expired);
+                    let wakes = guarded.reap(self.moment(), &mut expired);
                     let wakes = guarded.who_waits(wakes);
                     drop(guarded);
                     self.wake(wakes);
@@ -81,13 +81,13 @@ impl<C: Ties, M: ManageConnection, K: Hooks<M>, R: PoolRuntime> SharedOf<C, M, K
     }
 }
 
-impl<P: Drop, C: Ties> Tied<P, C> {
+impl<P: Drop, C: Ties> Guarded<Tied<P, C>> {
     // Closes what is expired, into the list.
     fn reap(&mut self, now: Duration, expired: &mut Vec<Released<P>>) -> Wakes {
-        if !has_room(self.book(), expired) {
+        if !has_room(self.book.book(), expired) {
             return Wakes::nobody();
         }
-        let (_ordered, wakes) = self.sweep(now, expired);
+        let (_ordered, wakes) = self.book.sweep(now, expired);
         wakes
     }
 }
