@@ -3,42 +3,36 @@ ghost use Rattle.std.specs.Prelude.{◌≡◌, ◌<◌, ◌+◌, IsSome, MatchOp
 ghost use Rattle.std.specs.Option.{IsNone};
 ghost use Rattle.std.specs.Result.{IsOk};
 ghost use Rattle.r2d2.specs.Status.{IsStatus};
+ghost use Rattle.r2d2.specs.Failures.{IsOfAGet};
 
 use super::Status;
 use super::call_time::CallTime;
 use super::lent::Lent;
 use super::locking::{Guarded, Shared};
+use crate::Error;
 use crate::engine::{Counter, Tied, Ties, Wakes};
 use r2d2_core::Take;
 use std::rt::Clock;
 use std::sync::{MutexGuard, Wait};
 use std::time::Duration;
 
-/// Why a caller who waited is lent nothing.
-#[derive(Drop)]
-pub enum Vain {
-    /// Its time ran out: the latest error of an opening or a check, where one is known.
-    Late(Option<String>),
-    /// The pool was closed.
-    Closed,
-}
-
 impl<P: Drop, C: Counter, M, K, R: Clock + Wait> Shared<Tied<P, C>, M, K, R> {
     /// Takes the idle connection that is lent next. Where there is none it orders one and waits,
-    /// until the call's timeout has passed, or until the pool is closed. With no timeout it neither
-    /// orders nor waits, and answers None.
+    /// until the call's timeout has passed, or until the pool is closed: each is an error. With no
+    /// timeout it neither orders nor waits, and answers None.
     pub(super) fn lend_until(
         &self,
         timeout: Option<Duration>,
         time: &mut CallTime,
         tally: &mut C::Tally,
-    ) -> Result<Option<Lent<P>>, Vain>
+    ) -> Result<Option<Lent<P>>, Error>
         requires { 0 < C.parts tally.old }
         ensures parts { C.parts tally.new ≡ C.parts tally.old }
         ensures lent { IfOk result
             (λ found. MatchOption found (C.amount tally.new ≡ C.amount tally.old)
             (λ _. C.amount tally.new ≡ C.amount tally.old + C.per_take)) }
         ensures refused { OnErr result (C.amount tally.new ≡ C.amount tally.old) }
+        ensures error { IfErr result IsOfAGet }
         ensures waits { IsSome timeout → IfOk result IsSome }
         ensures at_once { IsNone timeout → IsOk result }
     {
@@ -62,7 +56,7 @@ impl<P: Drop, C: Counter, M, K, R: Clock + Wait> Shared<Tied<P, C>, M, K, R> {
             };
             if guarded.book.book().is_closed() {
                 // So nothing was ordered, and there is nobody to wake.
-                return Err(Vain::Closed);
+                return Err(Error::closed());
             }
             // Before the wait, which lets the lock go.
             self.wake(wakes);
@@ -78,7 +72,7 @@ impl<P: Drop, C: Counter, M, K, R: Clock + Wait> Shared<Tied<P, C>, M, K, R> {
                 let wakes = guarded.who_waits(Wakes::a_caller());
                 drop(guarded);
                 self.wake(wakes);
-                return Err(Vain::Late(error));
+                return Err(Error::timeout(error));
             }
         }
         unreachable!()
