@@ -179,7 +179,7 @@ inline end_wait() {
   if :: waits -> waits = false; counted-- :: else fi
 }
 
-/* Guarded::who_waits, under the lock: whether there is a caller to be woken once it is free. */
+/* Guarded::needed_wakes, under the lock: whether there is a caller to be woken once it is free. */
 #ifdef WAKES_ONLY_WHERE_TWO_WAIT
 #define somebody_waits (counted > 1)
 #else
@@ -226,7 +226,7 @@ calls: /* between two calls */
 evicts: /* Shared::evict: what is lent then is closed as it comes back, as each that comes back may be here anyway */
   atomic {
     do
-    :: idle > 0 -> idle--; lent++; top_up(); lent--; top_up()       /* Tied::evict_next */
+    :: idle > 0 -> idle--; lent++; top_up(); lent--; top_up()       /* CountingBook::evict_next */
     :: else -> break
     od
   };
@@ -342,7 +342,7 @@ gone:
 active [WORKERS] proctype worker() {
   bool orders, closes;    /* what the reap just made has done */
   bool wakes;             /* the step just made is to wake a caller, and one waits */
-begins: /* Tied::begin; what is closed has nothing due any more */
+begins: /* CountingBook::begin; what is closed has nothing due any more */
   atomic {
     if
     :: closed -> goto ended

@@ -5,13 +5,13 @@ ghost use Rattle.std.specs.Prelude.{vec_len, vec_capacity};
 use super::PoolRuntime;
 use super::locking::SharedOf;
 use crate::ManageConnection;
-use crate::engine::{Counter, Ties};
+use crate::engine::{CountTakes, TakeCounter};
 use crate::hooks::Hooks;
 use crate::payload::{Payload, PayloadOf};
 use r2d2_core::{Book, Released};
 use std::alloc::AllocError;
 
-impl<C: Counter, M: ManageConnection, K: Hooks<M>, R: PoolRuntime> SharedOf<C, M, K, R> {
+impl<C: CountTakes, M: ManageConnection, K: Hooks<M>, R: PoolRuntime> SharedOf<C, M, K, R> {
     /// Closes what is idle now, and has what is lent now closed as it comes back. It answers how
     /// many were idle. The error is lack of memory for the list of those; then nothing has changed.
     pub(super) fn evict(&self, tally: &mut C::Tally) -> Result<usize, AllocError>
@@ -37,7 +37,7 @@ impl<C: Counter, M: ManageConnection, K: Hooks<M>, R: PoolRuntime> SharedOf<C, M
     }
 }
 
-impl<C: Ties, M: ManageConnection, K: Hooks<M>, R: PoolRuntime> SharedOf<C, M, K, R> {
+impl<C: TakeCounter, M: ManageConnection, K: Hooks<M>, R: PoolRuntime> SharedOf<C, M, K, R> {
     /// Releases what was closed under the lock, and empties the list.
     pub(super) fn release_all(&self, closed: &mut Vec<Released<PayloadOf<M>>>) {
         for released in closed.drain(..) {

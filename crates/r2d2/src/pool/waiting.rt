@@ -10,13 +10,13 @@ use super::call_time::CallTime;
 use super::lent::Lent;
 use super::locking::{Guarded, Shared};
 use crate::Error;
-use crate::engine::{Counter, Tied, Ties, Wakes};
+use crate::engine::{CountTakes, CountingBook, TakeCounter, Wakes};
 use r2d2_core::Take;
 use std::rt::Clock;
 use std::sync::{MutexGuard, Wait};
 use std::time::Duration;
 
-impl<P: Drop, C: Counter, M, K, R: Clock + Wait> Shared<Tied<P, C>, M, K, R> {
+impl<P: Drop, C: CountTakes, M, K, R: Clock + Wait> Shared<CountingBook<P, C>, M, K, R> {
     /// Takes the idle connection that is lent next. Where there is none it orders one and waits,
     /// until the call's timeout has passed, or until the pool is closed: each is an error. With no
     /// timeout it neither orders nor waits, and answers None.
@@ -69,7 +69,7 @@ impl<P: Drop, C: Counter, M, K, R: Clock + Wait> Shared<Tied<P, C>, M, K, R> {
                 let error = guarded.book.take_error();
                 // A wait tells a timeout by the clock after it woke: the wake may have been this
                 // caller's, and is another's now.
-                let wakes = guarded.who_waits(Wakes::a_caller());
+                let wakes = guarded.needed_wakes(Wakes::a_caller());
                 drop(guarded);
                 self.wake(wakes);
                 return Err(Error::timeout(error));
@@ -79,10 +79,10 @@ impl<P: Drop, C: Counter, M, K, R: Clock + Wait> Shared<Tied<P, C>, M, K, R> {
     }
 }
 
-impl<P: Drop, C: Ties, M, K, R: Clock + Wait> Shared<Tied<P, C>, M, K, R> {
+impl<P: Drop, C: TakeCounter, M, K, R: Clock + Wait> Shared<CountingBook<P, C>, M, K, R> {
     // Takes the lock for a call. One that has to wait for it, and looked at no clock before, does
     // so first.
-    fn lock_for(&self, time: &mut CallTime) -> MutexGuard<'_, Guarded<Tied<P, C>>> {
+    fn lock_for(&self, time: &mut CallTime) -> MutexGuard<'_, Guarded<CountingBook<P, C>>> {
         if let Some(guarded) = self.guarded.try_lock() {
             return guarded;
         }
@@ -129,7 +129,7 @@ impl<P: Drop, C: Ties, M, K, R: Clock + Wait> Shared<Tied<P, C>, M, K, R> {
         let status = guarded.status();
         // The wake of the last return may have been this caller's, and others wait for that return
         // too.
-        let wakes = guarded.who_waits(Wakes::a_caller());
+        let wakes = guarded.needed_wakes(Wakes::a_caller());
         drop(guarded);
         self.wake(wakes);
         if status.lent > 0 {

@@ -4,14 +4,14 @@ use super::PoolRuntime;
 use super::evicting::has_room;
 use super::locking::{Guarded, SharedOf};
 use crate::ManageConnection;
-use crate::engine::{Outcome, Tied, Ties, Wakes};
+use crate::engine::{CountingBook, Outcome, TakeCounter, Wakes};
 use crate::error::text_of;
 use crate::hooks::Hooks;
 use crate::payload::{Payload, PayloadOf, open};
 use r2d2_core::{Job, Refusal, Released};
 use std::time::Duration;
 
-impl<C: Ties, M: ManageConnection, K: Hooks<M>, R: PoolRuntime> SharedOf<C, M, K, R> {
+impl<C: TakeCounter, M: ManageConnection, K: Hooks<M>, R: PoolRuntime> SharedOf<C, M, K, R> {
     /// Does what is due, and waits where nothing is, until the pool is closed. The list is for the
     /// connections that a reap closes.
     pub(super) fn work(&self, mut expired: Vec<Released<PayloadOf<M>>>) {
@@ -28,7 +28,7 @@ impl<C: Ties, M: ManageConnection, K: Hooks<M>, R: PoolRuntime> SharedOf<C, M, K
                 }
                 Job::Reap => {
                     let wakes = guarded.reap(self.moment(), &mut expired);
-                    let wakes = guarded.who_waits(wakes);
+                    let wakes = guarded.needed_wakes(wakes);
                     drop(guarded);
                     self.wake(wakes);
                     self.release_all(&mut expired);
@@ -81,7 +81,7 @@ impl<C: Ties, M: ManageConnection, K: Hooks<M>, R: PoolRuntime> SharedOf<C, M, K
     }
 }
 
-impl<P: Drop, C: Ties> Guarded<Tied<P, C>> {
+impl<P: Drop, C: TakeCounter> Guarded<CountingBook<P, C>> {
     // Closes what is expired, into the list.
     fn reap(&mut self, now: Duration, expired: &mut Vec<Released<P>>) -> Wakes {
         if !has_room(self.book.book(), expired) {
