@@ -67,8 +67,7 @@ impl<P: Drop, C: CountTakes, M, K, R: Clock + Wait> Shared<CountingBook<P, C>, M
             guarded.end_wait();
             if outcome.timed_out() {
                 let error = guarded.book.take_error();
-                // A wait tells a timeout by the clock after it woke: the wake may have been this
-                // caller's, and is another's now.
+                // It is late by the clock, and may have been woken: that wake is another's now.
                 let wakes = guarded.needed_wakes(Wakes::a_caller());
                 drop(guarded);
                 self.wake(wakes);
