@@ -179,7 +179,7 @@ inline end_wait() {
   if :: waits -> waits = false; counted-- :: else fi
 }
 
-/* Guarded::who_waits, under the lock: whether there is a caller to be woken once it is free. */
+/* Guarded::needed_wakes, under the lock: whether there is a caller to be woken once it is free. */
 #ifdef WAKES_ONLY_WHERE_TWO_WAIT
 #define somebody_waits (counted > 1)
 #else
@@ -226,7 +226,7 @@ calls: /* between two calls */
 evicts: /* Shared::evict: what is lent then is closed as it comes back, as each that comes back may be here anyway */
   atomic {
     do
-    :: idle > 0 -> idle--; lent++; top_up(); lent--; top_up()       /* Tied::evict_next */
+    :: idle > 0 -> idle--; lent++; top_up(); lent--; top_up()       /* CountingBook::evict_next */
     :: else -> break
     od
   };
@@ -306,9 +306,9 @@ has: /* Shared::if_sound, then the caller's own use, then AnyConnection::drop */
      if :: orders -> atomic { orders = false; wake_workers(CHECK) } :: else fi;
      if :: MAY_STAY -> goto stays :: true fi;                       /* Hooks::release */
      goto look
-  :: atomic { !closed -> lent--; idle++; sound(); wakes = somebody_waits };     /* Shared::put_back, kept */
+  :: atomic { !closed -> lent--; idle++; sound(); wakes = somebody_waits };     /* Guarded::give_back, kept */
      if :: wakes -> atomic { wakes = false; wake_caller(KEPT) } :: else fi
-  :: atomic { lent--; top_up(); orders = ordered > 0; wakes = somebody_waits };  /* Shared::put_back, closed; or AnyConnection::detach */
+  :: atomic { lent--; top_up(); orders = ordered > 0; wakes = somebody_waits };  /* Guarded::give_back, closed; or AnyConnection::detach */
      if :: wakes -> atomic { wakes = false; wake_caller(CLOSED) } :: else fi;
      if :: orders -> atomic { orders = false; wake_workers(CLOSED) } :: else fi;
      if :: MAY_STAY -> goto stays :: true fi                        /* Hooks::release */
@@ -342,12 +342,12 @@ gone:
 active [WORKERS] proctype worker() {
   bool orders, closes;    /* what the reap just made has done */
   bool wakes;             /* the step just made is to wake a caller, and one waits */
-begins: /* Tied::begin; what is closed has nothing due any more */
+begins: /* CountingBook::begin; what is closed has nothing due any more */
   atomic {
     if
     :: closed -> goto ended
     :: due > 0 -> due--; in_work++; goto opens
-    :: reap_due ->                                                  /* Tied::reap, under the same lock */
+    :: reap_due ->                                                  /* Guarded::reap, under the same lock */
        reap_due = false;
        do
        :: idle > 0 -> idle--; closes = true

@@ -3,15 +3,15 @@ use Rattle.std.proofs.Common.{◌≡◌, ℕ, ◌+◌, ◌-◌, ◌<◌, ◌≤�
 use Rattle.std.specs.Prelude.{slice_index_or}
 use Rattle.std.specs.List.Sorted.{IsNonDecreasingBy}
 use Rattle.std.proofs.lemmas.List.{get_or-map, length-map}
-use Rattle.pool_metrics.specs.declared.roll.Overdue.{Overdue}
-use Rattle.pool_metrics.specs.declared.roll.Entry.{Entry}
+use Rattle.pool_metrics.specs.declared.loans.LongLoan.{LongLoan}
+use Rattle.pool_metrics.specs.declared.loans.Loan.{Loan}
 use Rattle.pool_metrics.specs.Longest.{IsLongestFirst}
 
-pub longest_first : (now : ℕ) (xs : List Entry) → IsNonDecreasingBy (λ (e : Entry). e.since) xs
-    → IsLongestFirst (map (λ (e : Entry). record { id = e.id; nanos = now - e.since }) xs)
+pub longest_first : (now : ℕ) (xs : List Loan) → IsNonDecreasingBy (λ (e : Loan). e.since) xs
+    → IsLongestFirst (map (λ (e : Loan). record { id = e.id; nanos = now - e.since }) xs)
 longest_first now xs in_order i j d before within =
-    let f : Entry → Overdue = λ e. record { id = e.id; nanos = now - e.since } in
-    let e : Entry = record { id = 0; since = 0 } in
+    let f : Loan → LongLoan = λ e. record { id = e.id; nanos = now - e.since } in
+    let e : Loan = record { id = 0; since = 0 } in
     let later : j < length xs = rw length-map at within in
     let sooner : i < length xs = omega arith in
     rw (get_or-map f xs j e d later, get_or-map f xs i e d sooner) (omega (arith, in_order i j e before later))

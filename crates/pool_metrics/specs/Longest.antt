@@ -1,12 +1,12 @@
 -- Who is lent for long.
 use Rattle.std.specs.Prelude.{ℕ, ◌-◌, ◌<◌, ◌≤◌, List, length, filter, map, nat_lt, slice_index_or}
-use Rattle.pool_metrics.specs.declared.roll.Entry.{Entry}
-use Rattle.pool_metrics.specs.declared.roll.Overdue.{Overdue}
+use Rattle.pool_metrics.specs.declared.loans.Loan.{Loan}
+use Rattle.pool_metrics.specs.declared.loans.LongLoan.{LongLoan}
 
 -- of what is lent, in that order, all that is lent for more than so many nanoseconds
-abbrev pub longer_than : ℕ → ℕ → List Entry → List Overdue
+abbrev pub longer_than : ℕ → ℕ → List Loan → List LongLoan
 longer_than nanos now entries = map (λ e. record { id = e.id; nanos = now - e.since }) (filter (λ e. nat_lt nanos (now - e.since)) entries)
 
 -- nobody stands behind one who is lent for less
-abbrev pub IsLongestFirst : List Overdue → Type 0
-IsLongestFirst xs = (i j : ℕ) (d : Overdue) → i ≤ j → j < length xs → (slice_index_or xs j d).nanos ≤ (slice_index_or xs i d).nanos
+abbrev pub IsLongestFirst : List LongLoan → Type 0
+IsLongestFirst xs = (i j : ℕ) (d : LongLoan) → i ≤ j → j < length xs → (slice_index_or xs j d).nanos ≤ (slice_index_or xs i d).nanos

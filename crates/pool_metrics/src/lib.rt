@@ -24,14 +24,14 @@
 
 mod buckets;
 mod histogram;
+mod loans;
 mod recording;
-mod roll;
 mod text;
 mod timed;
 
 pub use buckets::{BOUNDS, BUCKETS, Scale, bucket_of};
 pub use histogram::{Bucket, Distribution, UpTo};
+pub use loans::LongLoan;
 pub use recording::{Metrics, Snapshot};
-pub use roll::Overdue;
 pub use text::{Reading, write};
 pub use timed::Timed;

@@ -4,7 +4,7 @@ ghost use Rattle.pool_metrics.specs.Longest.{IsLongestFirst};
 
 use crate::buckets::{Scale, nanos_of};
 use crate::histogram::{Distribution, Histogram};
-use crate::roll::{Overdue, Roll};
+use crate::loans::{Loans, LongLoan};
 use r2d2::event::{AcquireEvent, CheckinEvent, CheckoutEvent, ReleaseEvent, TimeoutEvent};
 use r2d2::{HandleEvent, PoolRuntime};
 use std::alloc::{AllocError, AllocGlobal};
@@ -36,7 +36,7 @@ struct Records<R> {
     openings: Histogram,
     /// Whether a manager tells how long its openings take.
     is_timed: AtomicBool,
-    lent: Mutex<Roll>,
+    lent: Mutex<Loans>,
     /// When the metrics were made; None where the clock could not be read.
     made: Option<Instant>,
     rt: R,
@@ -75,7 +75,7 @@ impl<R> Metrics<R> {
             ages: Histogram::new(Scale::Long),
             openings: Histogram::new(Scale::Short),
             is_timed: AtomicBool::new(false),
-            lent: Mutex::new(Roll::new(alloc, max_size as usize)?),
+            lent: Mutex::new(Loans::new(alloc, max_size as usize)?),
             made: Instant::now(&rt).ok(),
             rt,
         };
@@ -113,7 +113,7 @@ impl<R> Metrics<R> {
     /// its checkin event; the moment is read while the first is told, so it is never said to be
     /// lent for longer than it is. Where the clock can't be read, the latest moment that could be
     /// read counts as now. The error is lack of memory for the list.
-    pub fn lent_longer_than(&self, length: Duration) -> Result<Vec<Overdue>, AllocError>
+    pub fn lent_longer_than(&self, length: Duration) -> Result<Vec<LongLoan>, AllocError>
     where
         R: Clock + Wait + AllocGlobal,
         ensures longest_first { IfOk result (λ list. IsLongestFirst list.items) }
@@ -178,12 +178,12 @@ impl<R: Clock + Wait> Records<R> {
         // The moment is read under the lock, so that those in the list are in the order of their
         // moments.
         let mut lent = self.lent.lock(&self.rt);
-        lent.enter(id, self.moment());
+        lent.add(id, self.moment());
     }
 
     fn take_back(&self, id: u64, used: Duration) {
         self.uses.observe(used);
-        self.lent.lock(&self.rt).strike(id);
+        self.lent.lock(&self.rt).remove(id);
     }
 }
 

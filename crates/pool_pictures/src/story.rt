@@ -14,9 +14,9 @@ mod telling;
 #[derive(Clone, Copy, PartialEq, Eq, Debug)]
 pub enum Coming {
     /// It was idle in the base.
-    Resting,
+    WasIdle,
     /// It was lent in the base.
-    Away,
+    WasLent,
     /// It was admitted by a record.
     Admitted,
 }

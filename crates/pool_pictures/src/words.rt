@@ -200,7 +200,7 @@ pub(crate) fn since(alloc: Global, life: &Life) -> Result<Option<String>, AllocE
         return Ok(None);
     };
     let since = Length(last.from);
-    let was_lent_before = life.coming == Coming::Away && life.stretches.len() == 1;
+    let was_lent_before = life.coming == Coming::WasLent && life.stretches.len() == 1;
     let sign = if was_lent_before { "before " } else { "" };
     Ok(Some(format!(in alloc; "since {sign}{since}")?))
 }

@@ -51,4 +51,4 @@ module _ {T : Type 0} where
 
 -- a connection that comes back is to be closed: it is broken, or was opened before the latest eviction, from which on ids begin with this one
 abbrev pub is_to_close : Bool → ℕ → ℕ → Bool
-is_to_close broken id first_kept = broken || nat_lt id first_kept
+is_to_close broken id evicted_below = broken || nat_lt id evicted_below

@@ -24,8 +24,8 @@ abbrev pub caller_and_workers_for : ℕ → Wakes
 caller_and_workers_for n = wakes true (is_some_number n)
 
 -- of those to be woken, who is there: no caller where none waits
-abbrev pub who_waits : ℕ → Wakes → Wakes
-who_waits waiting w = wakes (w.caller && is_some_number waiting) w.workers
+abbrev pub needed_wakes : ℕ → Wakes → Wakes
+needed_wakes waiting w = wakes (w.caller && is_some_number waiting) w.workers
 
 module _ {T : Type 0} where
   -- after a take, that found or not, the workers where it ordered

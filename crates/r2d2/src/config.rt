@@ -164,6 +164,23 @@ impl<M, H, V, Z> Model for Builder<M, H, V, Z> {
     ghost invariant = { λ b. ArePositive b.config };
 }
 
+impl<M, H, V, Z> Builder<M, H, V, Z> {
+    ghost use Rattle.r2d2.specs.Settings.{ArePositive};
+
+    // A builder with these settings.
+    fn over(config: Config<H, V, Z>, first_id: u64, listens: bool) -> Builder<M, H, V, Z>
+        requires { ArePositive config }
+        ensures { result ≡ config }
+    {
+        Builder {
+            config,
+            first_id,
+            listens,
+            manager: PhantomData,
+        }
+    }
+}
+
 impl<M: ManageConnection> Builder<M> {
     ghost use Rattle.r2d2.specs.Settings.{AreDefaults};
 
@@ -358,18 +375,8 @@ impl<
     pub fn error_handler<G: HandleError<M::Error>>(self, handler: G) -> Builder<M, G, V, Z>
         ensures { result ≡ with_error_handler handler self }
     {
-        let Builder {
-            config,
-            first_id,
-            listens,
-            manager,
-        } = self;
-        Builder {
-            config: config.with_error_handler(handler),
-            first_id,
-            listens,
-            manager,
-        }
+        let config = self.config.with_error_handler(handler);
+        Builder::over(config, self.first_id, self.listens)
     }
 
     /// What is told of each event. The default, `NopEventHandler`, ignores them. A pool where none
@@ -377,18 +384,8 @@ impl<
     pub fn event_handler<W: HandleEvent + 'static>(self, handler: W) -> Builder<M, H, W, Z>
         ensures { result ≡ with_event_handler handler self }
     {
-        let Builder {
-            config,
-            first_id,
-            manager,
-            ..
-        } = self;
-        Builder {
-            config: config.with_event_handler(handler),
-            first_id,
-            listens: true,
-            manager,
-        }
+        let config = self.config.with_event_handler(handler);
+        Builder::over(config, self.first_id, true)
     }
 
     /// What changes connections as they come and go. The default, `NopConnectionCustomizer`, leaves
@@ -399,18 +396,8 @@ impl<
     ) -> Builder<M, H, V, Y>
         ensures { result ≡ with_customizer customizer self }
     {
-        let Builder {
-            config,
-            first_id,
-            listens,
-            manager,
-        } = self;
-        Builder {
-            config: config.with_customizer(customizer),
-            first_id,
-            listens,
-            manager,
-        }
+        let config = self.config.with_customizer(customizer);
+        Builder::over(config, self.first_id, self.listens)
     }
 
     /// The id that the first connection gets.

@@ -8,7 +8,7 @@ use self::lent::AnyConnection;
 use self::locking::SharedOf;
 pub use self::state::{State, Status};
 use crate::config::{Builder, Config};
-use crate::engine::{Counter, NoCount, Takes, Ties};
+use crate::engine::{CountTakes, LedgerCounter, TakeCounter, Uncounted};
 use crate::event::{HandleEvent, NopEventHandler};
 use crate::hooks::Hooks;
 use crate::payload::PayloadOf;
@@ -29,12 +29,13 @@ mod building;
 mod call_time;
 mod closing;
 mod counting;
+mod evicting;
 mod lending;
 mod lent;
 mod locking;
-mod opening;
 mod state;
 mod waiting;
+mod worker;
 
 /// What a pool needs of the runtime that it is made with, and keeps: a clock, threads, waiting and
 /// memory. The runtime that `main` is given is one; nobody has to implement it.
@@ -49,19 +50,24 @@ impl<R: Clock + Threads + Wait + AllocGlobal + Copy + Send + Sync + 'static> Poo
 /// `M` opens connections, `H` handles errors, `V` events, `Z` changes connections as they come and
 /// go, and `R` is the runtime; a `PlainPool<M, R>` is one without handlers. The pool closes when
 /// the last `Pool` over its state and the last lent connection are dropped.
-pub type Pool<M, H, V, Z, R> = AnyPool<NoCount, M, Config<H, V, Z>, R>;
+pub type Pool<M, H, V, Z, R> = AnyPool<Uncounted, M, Config<H, V, Z>, R>;
 
 /// A connection that a pool lent: it derefs to yours. It goes back to the pool when it is dropped,
 /// and keeps the pool alive until then.
-pub type PooledConnection<M, H, V, Z, R> = AnyConnection<NoCount, M, Config<H, V, Z>, R>;
+pub type PooledConnection<M, H, V, Z, R> = AnyConnection<Uncounted, M, Config<H, V, Z>, R>;
 
 /// A pool that counts its takes: each take adds one to the share of a ledger that its caller
 /// brings. It is made by `Builder::build_counted`, and `audit` says how many takes all shares
 /// counted.
-pub type CountedPool<M, H, V, Z, R, L> = AnyPool<Takes<L>, M, Config<H, V, Z>, R>;
+pub type CountedPool<M, H, V, Z, R, L> = AnyPool<LedgerCounter<L>, M, Config<H, V, Z>, R>;
 
 /// A connection that a counted pool lent, otherwise as a `PooledConnection`.
-pub type CountedConnection<M, H, V, Z, R, L> = AnyConnection<Takes<L>, M, Config<H, V, Z>, R>;
+pub type CountedConnection<M, H, V, Z, R, L> = AnyConnection<
+    LedgerCounter<L>,
+    M,
+    Config<H, V, Z>,
+    R,
+>;
 
 /// A pool whose handlers and customizer do nothing: what `Builder::new()` builds, unless one of
 /// them is set.
@@ -69,18 +75,19 @@ pub type PlainPool<M, R> = Pool<M, NopErrorHandler, NopEventHandler, NopConnecti
 
 /// A pool of connections, whatever counts its takes.
 #[derive(Drop)]
-pub struct AnyPool<C: Ties, M: ManageConnection, K: Hooks<M>, R: PoolRuntime> {
+pub struct AnyPool<C: TakeCounter, M: ManageConnection, K: Hooks<M>, R: PoolRuntime> {
     closer: Arc<Closer<PayloadOf<M>, C, M, K, R>>,
 }
 
 // Contracts see a pool as its settings: what its lock holds, other threads change.
-impl<C: Ties, M: ManageConnection, K: Hooks<M>, R: PoolRuntime> Model for AnyPool<C, M, K, R> {
+impl<C: TakeCounter, M: ManageConnection, K: Hooks<M>, R: PoolRuntime> Model
+    for AnyPool<C, M, K, R> {
     ghost Value = { K };
 
     ghost view = { λ p. (arc_value (arc_value p.closer).shared).hooks };
 }
 
-impl<C: Ties, M: ManageConnection, K: Hooks<M>, R: PoolRuntime> AnyPool<C, M, K, R> {
+impl<C: TakeCounter, M: ManageConnection, K: Hooks<M>, R: PoolRuntime> AnyPool<C, M, K, R> {
     ghost use Rattle.r2d2.specs.Failures.{IsOfMemory};
     ghost use Rattle.r2d2.specs.Status.{IsStatus};
 
@@ -141,7 +148,7 @@ impl<C: Ties, M: ManageConnection, K: Hooks<M>, R: PoolRuntime> AnyPool<C, M, K,
     // As `Pool::evict`, with what its takes are counted with.
     fn evict_with(&self, tally: &mut C::Tally) -> Result<usize, Error>
     where
-        C: Counter,
+        C: CountTakes,
         requires { 0 < C.parts tally.old }
         ensures parts { C.parts tally.new ≡ C.parts tally.old }
         ensures amount { IfOk result
@@ -164,7 +171,7 @@ impl<C: Ties, M: ManageConnection, K: Hooks<M>, R: PoolRuntime> AnyPool<C, M, K,
 
 // What the settings say.
 impl<
-    C: Ties,
+    C: TakeCounter,
     M: ManageConnection,
     H: HandleError<M::Error>,
     V: HandleEvent + 'static,
@@ -296,8 +303,12 @@ impl<M: ManageConnection, R: PoolRuntime> PlainPool<M, R> {
     }
 }
 
-impl<C: Ties, M: ManageConnection + fmt::Debug, K: Hooks<M> + fmt::Debug, R: PoolRuntime> fmt::Debug
-    for AnyPool<C, M, K, R> {
+impl<
+    C: TakeCounter,
+    M: ManageConnection + fmt::Debug,
+    K: Hooks<M> + fmt::Debug,
+    R: PoolRuntime,
+> fmt::Debug for AnyPool<C, M, K, R> {
     fn fmt<W: fmt::Write>(&self, f: &mut fmt::Formatter<W>) -> fmt::Result {
         let shared = &self.closer.shared;
         f.debug_struct("Pool")

@@ -57,7 +57,7 @@ const KEYS: [Key; 11] = [
     Key::Opening,
     Key::Exhausted,
     Key::Came(Coming::Admitted),
-    Key::Came(Coming::Resting),
+    Key::Came(Coming::WasIdle),
     Key::Went(Cause::Closed),
     Key::Went(Cause::Reaped),
     Key::Went(Cause::ClosedAll),

@@ -59,7 +59,7 @@ pub(super) fn came(
                 "<circle class=\"hollow\" cx=\"{x}\" cy=\"{y}\" r=\"{reach}\"/>"
             )
         }
-        Coming::Resting | Coming::Away => {
+        Coming::WasIdle | Coming::WasLent => {
             begin(out, "mark", x, top)?;
             let (left, y, reach) = (Tenths(left), Tenths(y), Tenths(reach));
             writeln!(out, "L{left} {y}l{reach} {reach}\"/>")

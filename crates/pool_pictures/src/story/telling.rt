@@ -52,14 +52,14 @@ impl Teller {
     fn meet_resting<A: Allocator>(&mut self, base: &Base<A>) -> Result<(), AllocError> {
         for (id, birth, since) in &base.idle {
             let from = (*since).min(base.at);
-            self.meet(*id, (*birth).min(from), Coming::Resting, from)?;
+            self.meet(*id, (*birth).min(from), Coming::WasIdle, from)?;
         }
         Ok(())
     }
 
     fn meet_away<A: Allocator>(&mut self, base: &Base<A>) -> Result<(), AllocError> {
         for (id, birth) in &base.lent {
-            self.meet(*id, (*birth).min(base.at), Coming::Away, base.at)?;
+            self.meet(*id, (*birth).min(base.at), Coming::WasLent, base.at)?;
         }
         Ok(())
     }
@@ -76,8 +76,8 @@ impl Teller {
             return Ok(());
         }
         let what = match coming {
-            Coming::Away => Use::Lent,
-            Coming::Resting | Coming::Admitted => Use::Idle,
+            Coming::WasLent => Use::Lent,
+            Coming::WasIdle | Coming::Admitted => Use::Idle,
         };
         let place = self.lives.len();
         let first = Stretch {

@@ -45,7 +45,7 @@ impl Cell {
 
     fn of_coming(coming: Coming) -> Cell {
         match coming {
-            Coming::Resting | Coming::Away => Cell::Before,
+            Coming::WasIdle | Coming::WasLent => Cell::Before,
             Coming::Admitted => Cell::Opened,
         }
     }

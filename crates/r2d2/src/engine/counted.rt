@@ -19,17 +19,17 @@ use std::sync::ledger;
 use std::sync::ledger::{Ledger, Share};
 use std::time::Duration;
 
-/// What stands beside a book, and is tied to the count of its takes.
+/// What counts the takes of a book that found: it stands at their number.
 ///
-/// It is public as far as the types of `Pool` and `Counted` ask, and so are `Counter`, `NoCount`,
-/// `Takes` and `Tied`: no user names or implements them.
-pub trait Ties: Drop {
+/// It is public as far as the types of `Pool` and `Counted` ask, and so are `CountTakes`,
+/// `Uncounted`, `LedgerCounter` and `CountingBook`: no user names or implements them.
+pub trait TakeCounter: Drop {
     // Whether it stands at a count of takes.
     ghost stands_at: { Self → ℕ → Type 0 };
 }
 
-/// What counts the takes of a book that found, each with a tally.
-pub trait Counter: Ties {
+/// A counter that is told of each take that found, with a tally.
+pub trait CountTakes: TakeCounter {
     /// What a take is counted with.
     type Tally;
 
@@ -55,13 +55,13 @@ pub trait Counter: Ties {
 
 /// Counts nothing.
 #[derive(Drop)]
-pub struct NoCount;
+pub struct Uncounted;
 
-impl Ties for NoCount {
+impl TakeCounter for Uncounted {
     ghost stands_at = { λ _ _. ⊤ };
 }
 
-impl Counter for NoCount {
+impl CountTakes for Uncounted {
     type Tally = ();
 
     ghost parts = { λ _. 1 };
@@ -78,12 +78,12 @@ impl Counter for NoCount {
 /// Counts in the book of a ledger: a take adds one to the share that it brings, and to the ledger's
 /// total.
 #[derive(Drop)]
-pub struct Takes<L: Ledger> {
+pub struct LedgerCounter<L: Ledger> {
     book: ledger::Book<L>,
 }
 
 // Contracts see it as the ledger's total.
-impl<L: Ledger> Model for Takes<L> {
+impl<L: Ledger> Model for LedgerCounter<L> {
     ghost use Rattle.std.specs.Prelude.{ℕ};
 
     ghost Value = { ℕ };
@@ -91,11 +91,11 @@ impl<L: Ledger> Model for Takes<L> {
     ghost view = { λ t. t.book.total };
 }
 
-impl<L: Ledger> Ties for Takes<L> {
+impl<L: Ledger> TakeCounter for LedgerCounter<L> {
     ghost stands_at = { λ total takes. takes ≡ counted_up_to total };
 }
 
-impl<L: Ledger> Counter for Takes<L> {
+impl<L: Ledger> CountTakes for LedgerCounter<L> {
     type Tally = Share<L>;
 
     ghost parts = { λ share. share.parts };
@@ -117,12 +117,12 @@ impl<L: Ledger> Counter for Takes<L> {
 /// Outside of this crate it has no name but `Counted`, whose one take is `lend_counted`. All else
 /// is the book's, and leaves the counter.
 #[derive(Drop)]
-pub struct Tied<T, C: Ties> {
+pub struct CountingBook<T, C: TakeCounter> {
     book: Book<T>,
     total: C,
 }
 
-impl<T, C: Ties> Model for Tied<T, C> {
+impl<T, C: TakeCounter> Model for CountingBook<T, C> {
     ghost use Rattle.r2d2.specs.Counted.{SeenCounted, seen_counted};
 
     ghost Value = { SeenCounted T C };
@@ -134,16 +134,16 @@ impl<T, C: Ties> Model for Tied<T, C> {
 
 /// A book beside the book of a ledger. The ledger's total is the number of the book's takes that
 /// found, up to `u64::MAX`.
-pub type Counted<T, L> = Tied<T, Takes<L>>;
+pub type Counted<T, L> = CountingBook<T, LedgerCounter<L>>;
 
-impl<T> Tied<T, NoCount> {
+impl<T> CountingBook<T, Uncounted> {
     /// A book whose takes nothing counts.
-    pub(crate) fn plain(book: Book<T>) -> Tied<T, NoCount>
+    pub(crate) fn plain(book: Book<T>) -> CountingBook<T, Uncounted>
         ensures book { result.book ≡ book }
     {
-        Tied {
+        CountingBook {
             book,
-            total: NoCount,
+            total: Uncounted,
         }
     }
 }
@@ -156,9 +156,9 @@ impl<T, L: Ledger> Counted<T, L> {
         ensures book { result.book ≡ book }
         ensures total { result.total ≡ 0 }
     {
-        Tied {
+        CountingBook {
             book,
-            total: Takes { book: total },
+            total: LedgerCounter { book: total },
         }
     }
 
@@ -179,7 +179,7 @@ impl<T, L: Ledger> Counted<T, L> {
     }
 }
 
-impl<T, C: Ties> Tied<T, C> {
+impl<T, C: TakeCounter> CountingBook<T, C> {
     /// The book, to be read.
     pub fn book(&self) -> &Book<T>
         ensures value { result.now ≡ self.now.book }
@@ -264,7 +264,7 @@ impl<T, C: Ties> Tied<T, C> {
     }
 }
 
-impl<T, C: Counter> Tied<T, C> {
+impl<T, C: CountTakes> CountingBook<T, C> {
     /// As `lend` of a book. A take that found is counted with the tally, which has a part at least.
     #[inline(always)]
     pub(crate) fn lend(

@@ -8,7 +8,7 @@ use super::closing::Closer;
 use super::locking::{Guarded, Shared, SharedOf};
 use super::{AnyPool, CountedPool, Pool, PoolRuntime};
 use crate::config::{Builder, Config};
-use crate::engine::{Counted, Tied, Ties};
+use crate::engine::{Counted, CountingBook, TakeCounter};
 use crate::event::HandleEvent;
 use crate::hooks::Hooks;
 use crate::payload::PayloadOf;
@@ -59,7 +59,8 @@ impl<
     {
         let listens = self.listens();
         let (config, book, lists) = self.prepare(rt.alloc()).map_err(|_| Error::memory())?;
-        open_pool(rt, Tied::plain(book), config, listens, manager, lists)
+        let book = CountingBook::plain(book);
+        open_pool(rt, book, config, listens, manager, lists)
     }
 
     /// Makes a pool whose takes are counted, and is otherwise as `build_unchecked`.
@@ -110,9 +111,9 @@ type Prepared<M, H, V, Z> = (
 );
 
 // The pool over what its lock is to guard, with a worker for each list.
-fn open_pool<C: Ties + Send + 'static, M: ManageConnection, K: Hooks<M>, R: PoolRuntime>(
+fn open_pool<C: TakeCounter + Send + 'static, M: ManageConnection, K: Hooks<M>, R: PoolRuntime>(
     rt: R,
-    book: Tied<PayloadOf<M>, C>,
+    book: CountingBook<PayloadOf<M>, C>,
     hooks: K,
     listens: bool,
     manager: M,
@@ -156,9 +157,9 @@ fn reap_lists<P: Drop>(
 }
 
 // The state that workers, pools and lent connections share.
-fn shared_state<P: Drop, C: Ties, M: Drop, K: Drop, R: PoolRuntime>(
+fn shared_state<P: Drop, C: TakeCounter, M: Drop, K: Drop, R: PoolRuntime>(
     rt: R,
-    book: Tied<P, C>,
+    book: CountingBook<P, C>,
     hooks: K,
     listens: bool,
     manager: M,
@@ -183,7 +184,7 @@ fn shared_state<P: Drop, C: Ties, M: Drop, K: Drop, R: PoolRuntime>(
 }
 
 // Starts a worker for each list, in a thread of its own.
-fn start_workers<C: Ties + Send + 'static, M: ManageConnection, K: Hooks<M>, R: PoolRuntime>(
+fn start_workers<C: TakeCounter + Send + 'static, M: ManageConnection, K: Hooks<M>, R: PoolRuntime>(
     closer: &Arc<Closer<PayloadOf<M>, C, M, K, R>>,
     lists: Vec<Vec<Released<PayloadOf<M>>>>,
 ) -> Result<(), Error>
@@ -199,7 +200,7 @@ fn start_workers<C: Ties + Send + 'static, M: ManageConnection, K: Hooks<M>, R: 
 }
 
 // Starts a worker; false where its thread can't be started.
-fn start<C: Ties + Send + 'static, M: ManageConnection, K: Hooks<M>, R: PoolRuntime>(
+fn start<C: TakeCounter + Send + 'static, M: ManageConnection, K: Hooks<M>, R: PoolRuntime>(
     shared: Arc<SharedOf<C, M, K, R>>,
     expired: Vec<Released<PayloadOf<M>>>,
 ) -> bool {
@@ -208,7 +209,7 @@ fn start<C: Ties + Send + 'static, M: ManageConnection, K: Hooks<M>, R: PoolRunt
 }
 
 // The whole life of a worker.
-fn work<C: Ties, M: ManageConnection, K: Hooks<M>, R: PoolRuntime>(
+fn work<C: TakeCounter, M: ManageConnection, K: Hooks<M>, R: PoolRuntime>(
     shared: Arc<SharedOf<C, M, K, R>>,
     expired: Vec<Released<PayloadOf<M>>>,
 ) {

@@ -1,11 +1,17 @@
 // The calls of a pool that counts its takes.
 ghost use Rattle.std.specs.Prelude.{◌≡◌, ◌≤◌, ◌<◌, ◌+◌, IfOk, IfErr, IfSome, OnErr};
 ghost use Rattle.r2d2_core.specs.Reports.{IsSoundReport};
+ghost use Rattle.r2d2.specs.Counted.{counted_up_to};
 
+use super::locking::Shared;
 use super::{CountedConnection, CountedPool, PoolRuntime};
+use crate::engine::Counted;
 use crate::event::HandleEvent;
 use crate::{CustomizeConnection, Error, HandleError, ManageConnection};
 use r2d2_core::Report;
+use std::alloc::AllocError;
+use std::rt::Clock;
+use std::sync::Wait;
 use std::sync::ledger::{Ledger, Share};
 use std::time::Duration;
 
@@ -18,7 +24,6 @@ impl<
     L: Ledger + Send + Sync + 'static,
 > CountedPool<M, H, V, Z, R, L> {
     ghost use Rattle.r2d2.specs.Failures.{IsOfMemory, IsOfAGet};
-    ghost use Rattle.r2d2.specs.Counted.{counted_up_to};
 
     /// As `Pool::get`. Each take adds one to the share, which has a part at least: one where a
     /// connection is lent, and one for each that was found before it and failed its check, also
@@ -92,5 +97,18 @@ impl<
         ensures parts { all.new.parts ≡ all.old.parts }
     {
         self.shared().audit(all).map_err(|_| Error::memory())
+    }
+}
+
+impl<P: Drop, L: Ledger, M, K, R: Clock + Wait> Shared<Counted<P, L>, M, K, R> {
+    /// What the book reports, beside the share with all parts.
+    pub(super) fn audit(&self, all: &mut Share<L>) -> Result<Report, AllocError>
+        requires { all.old.parts ≡ L.parts }
+        ensures takes { IfOk result (λ report. report.takes ≡ counted_up_to all.old.amount) }
+        ensures sound { IfOk result IsSoundReport }
+        ensures amount { all.new.amount ≡ all.old.amount }
+        ensures parts { all.new.parts ≡ all.old.parts }
+    {
+        self.guarded.lock(&self.rt).book.audit(all)
     }
 }

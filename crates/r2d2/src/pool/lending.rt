@@ -5,17 +5,16 @@ ghost use Rattle.std.specs.Option.{IsNone};
 use super::call_time::CallTime;
 use super::lent::{AnyConnection, Lent};
 use super::locking::SharedOf;
-use super::waiting::Vain;
 use super::{AnyPool, PoolRuntime};
-use crate::engine::{Counter, Outcome, Settled, Ties};
+use crate::engine::{CountTakes, Outcome, Settled, TakeCounter};
 use crate::error::text_of;
 use crate::hooks::Hooks;
 use crate::payload::{Payload, PayloadOf};
-use crate::{Error, ManageConnection};
+use crate::{Error, ErrorKind, ManageConnection};
 use std::sync::Arc;
 use std::time::Duration;
 
-impl<C: Counter, M: ManageConnection, K: Hooks<M>, R: PoolRuntime> AnyPool<C, M, K, R> {
+impl<C: CountTakes, M: ManageConnection, K: Hooks<M>, R: PoolRuntime> AnyPool<C, M, K, R> {
     ghost use Rattle.r2d2.specs.Failures.{IsOfMemory, IsOfAGet};
 
     /// Lends a connection that passed its check, and waits for one at most so long. With no timeout
@@ -52,11 +51,12 @@ impl<C: Counter, M: ManageConnection, K: Hooks<M>, R: PoolRuntime> AnyPool<C, M,
                     }
                 }
                 Ok(None) => return Ok(None),
-                Err(Vain::Closed) => return Err(Error::closed()),
-                Err(Vain::Late(message)) => {
-                    // Who brings no timeout never waited.
-                    shared.hooks.timeout(timeout.unwrap_or(Duration::ZERO));
-                    return Err(Error::timeout(message));
+                Err(error) => {
+                    if error.kind() == ErrorKind::Timeout {
+                        // Who brings no timeout never waited.
+                        shared.hooks.timeout(timeout.unwrap_or(Duration::ZERO));
+                    }
+                    return Err(error);
                 }
             }
         }
@@ -64,7 +64,7 @@ impl<C: Counter, M: ManageConnection, K: Hooks<M>, R: PoolRuntime> AnyPool<C, M,
     }
 }
 
-impl<C: Ties, M: ManageConnection, K: Hooks<M>, R: PoolRuntime> SharedOf<C, M, K, R> {
+impl<C: TakeCounter, M: ManageConnection, K: Hooks<M>, R: PoolRuntime> SharedOf<C, M, K, R> {
     // The moment at which a call begins, where somebody sees it.
     fn start_of_call(&self) -> Option<Duration> {
         if !self.listens {

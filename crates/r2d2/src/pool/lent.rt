@@ -3,11 +3,11 @@ ghost use Rattle.std.specs.Prelude.{◌≡◌};
 
 use super::PoolRuntime;
 use super::closing::Closer;
-use crate::engine::{Outcome, Settled, Ties};
+use crate::engine::{Outcome, Settled, TakeCounter};
 use crate::hooks::Hooks;
 use crate::payload::{Payload, PayloadOf};
 use crate::{Extensions, ManageConnection};
-use r2d2_core::{Returned, Take};
+use r2d2_core::Returned;
 use std::alloc::{Allocator, Global};
 use std::fmt;
 use std::marker::Model;
@@ -22,25 +22,8 @@ pub struct Lent<P> {
     pub(super) payload: P,
 }
 
-impl<P> Lent<P> {
-    ghost use Rattle.std.specs.Prelude.{MatchOption};
-    ghost use Rattle.r2d2_core.specs.Seen.{seen_take};
-    ghost use Rattle.r2d2.specs.Counted.{found_by};
-
-    /// What a take found.
-    pub(super) fn of(taken: Take<P>) -> Option<Lent<P>>
-        ensures { MatchOption result (found_by (seen_take taken) ≡ 0)
-            (λ _. found_by (seen_take taken) ≡ 1) }
-    {
-        match taken {
-            Take::Found { id, value, .. } => Some(Lent { id, payload: value }),
-            Take::Empty { .. } => None,
-        }
-    }
-}
-
 /// A connection that a pool lent, whatever counts its takes.
-pub struct AnyConnection<C: Ties, M: ManageConnection, K: Hooks<M>, R: PoolRuntime> {
+pub struct AnyConnection<C: TakeCounter, M: ManageConnection, K: Hooks<M>, R: PoolRuntime> {
     pub(super) closer: Arc<Closer<PayloadOf<M>, C, M, K, R>>,
     /// When it was lent.
     pub(super) lent_at: Duration,
@@ -49,7 +32,7 @@ pub struct AnyConnection<C: Ties, M: ManageConnection, K: Hooks<M>, R: PoolRunti
 
 // Contracts see a lent connection as what can be reached through it, the settings of its pool, and
 // how it was lent.
-impl<C: Ties, M: ManageConnection, K: Hooks<M>, R: PoolRuntime> Model
+impl<C: TakeCounter, M: ManageConnection, K: Hooks<M>, R: PoolRuntime> Model
     for AnyConnection<C, M, K, R> {
     ghost use Rattle.std.specs.Arc.{arc_value};
     ghost use Rattle.r2d2.specs.Lent.{SeenConnection};
@@ -66,7 +49,7 @@ impl<C: Ties, M: ManageConnection, K: Hooks<M>, R: PoolRuntime> Model
     } };
 }
 
-impl<C: Ties, M: ManageConnection, K: Hooks<M>, R: PoolRuntime> AnyConnection<C, M, K, R> {
+impl<C: TakeCounter, M: ManageConnection, K: Hooks<M>, R: PoolRuntime> AnyConnection<C, M, K, R> {
     ghost use Rattle.std.specs.Borrow.{sem, Lends};
     ghost use Rattle.r2d2.specs.contracts.extensions.Extensions.{the_row as extensions_row};
     ghost use Rattle.r2d2.specs.contracts.pool.lent.AnyConnection.{the_row};
@@ -125,7 +108,7 @@ impl<C: Ties, M: ManageConnection, K: Hooks<M>, R: PoolRuntime> AnyConnection<C,
     pub fn extensions_mut(this: &mut Self) -> &mut Extensions<M::Extension>
         ensures value { result.now ≡ this.old.extensions }
         ensures* writes_back { sem 𝓛 (Lends (the_row C.row M.row K.row R.row M.Connection.row
-            M.Error.row M.Extension.row M.Extension.Kind.row K.Customizer.row C.Ties M.Error.Display
+            M.Error.row M.Extension.row M.Extension.Kind.row K.Customizer.row C.TakeCounter M.Error.Display
             M.Extension.Extension M.Extension.Kind.PartialEq K.Customizer.Debug
             ⟦<Global as Allocator>⟧ ⟦<Global as Clone>⟧)
             (extensions_row M.Extension.row M.Extension.Kind.row
@@ -136,7 +119,7 @@ impl<C: Ties, M: ManageConnection, K: Hooks<M>, R: PoolRuntime> AnyConnection<C,
     }
 }
 
-impl<C: Ties, M: ManageConnection, K: Hooks<M>, R: PoolRuntime> Deref
+impl<C: TakeCounter, M: ManageConnection, K: Hooks<M>, R: PoolRuntime> Deref
     for AnyConnection<C, M, K, R> {
     type Target = M::Connection;
 
@@ -147,7 +130,7 @@ impl<C: Ties, M: ManageConnection, K: Hooks<M>, R: PoolRuntime> Deref
     }
 }
 
-impl<C: Ties, M: ManageConnection, K: Hooks<M>, R: PoolRuntime> DerefMut
+impl<C: TakeCounter, M: ManageConnection, K: Hooks<M>, R: PoolRuntime> DerefMut
     for AnyConnection<C, M, K, R> {
     ghost use Rattle.std.specs.Borrow.{sem, Lends};
     ghost use Rattle.r2d2.specs.contracts.pool.lent.AnyConnection.{the_row};
@@ -157,7 +140,7 @@ impl<C: Ties, M: ManageConnection, K: Hooks<M>, R: PoolRuntime> DerefMut
     fn deref_mut(&mut self) -> &mut M::Connection
         ensures value { result.now ≡ self.old.connection }
         ensures* writes_back { sem 𝓛 (Lends (the_row C.row M.row K.row R.row M.Connection.row
-            M.Error.row M.Extension.row M.Extension.Kind.row K.Customizer.row C.Ties M.Error.Display
+            M.Error.row M.Extension.row M.Extension.Kind.row K.Customizer.row C.TakeCounter M.Error.Display
             M.Extension.Extension M.Extension.Kind.PartialEq K.Customizer.Debug
             ⟦<Global as Allocator>⟧ ⟦<Global as Clone>⟧) M.Connection.row
             self.entry result
@@ -167,7 +150,7 @@ impl<C: Ties, M: ManageConnection, K: Hooks<M>, R: PoolRuntime> DerefMut
     }
 }
 
-impl<C: Ties, M: ManageConnection, K: Hooks<M>, R: PoolRuntime> fmt::Debug
+impl<C: TakeCounter, M: ManageConnection, K: Hooks<M>, R: PoolRuntime> fmt::Debug
     for AnyConnection<C, M, K, R>
 where
     M::Connection: fmt::Debug,
@@ -177,22 +160,23 @@ where
     }
 }
 
-impl<C: Ties, M: ManageConnection, K: Hooks<M>, R: PoolRuntime> Drop for AnyConnection<C, M, K, R> {
+impl<C: TakeCounter, M: ManageConnection, K: Hooks<M>, R: PoolRuntime> Drop
+    for AnyConnection<C, M, K, R> {
     // Puts the connection back, and only then lets the pool go.
     fn drop(self) {
         // Modelled in model/waiting.pml: keep both alike.
         let AnyConnection {
             closer,
             lent_at,
-            mut lent,
+            lent,
         } = self;
-        let id = lent.id;
+        let Lent { id, mut payload } = lent;
         let shared = &closer.shared;
         if shared.listens {
             shared.hooks.check_in(id, lent_at, shared.moment());
         }
-        let broken = shared.manager.has_broken(&mut lent.payload.connection);
-        let returned = shared.put_back(lent, broken);
+        let broken = shared.manager.has_broken(&mut payload.connection);
+        let returned = shared.step(|guarded, now| guarded.give_back(now, id, payload, broken));
         if let Ok(Returned::Closed { value, age, .. }) = returned {
             let Payload { connection, .. } = value;
             shared.hooks.release(id, age, connection);

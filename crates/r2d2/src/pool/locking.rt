@@ -3,9 +3,8 @@ ghost use Rattle.std.specs.Prelude.{◌≡◌, ◌≤◌, ◌<◌, ◌+◌, ◌-
 ghost use Rattle.std.specs.Prelude.{vec_capacity, IfOk};
 ghost use Rattle.r2d2_core.specs.Reports.{IsSoundReport};
 
-use super::lent::Lent;
 use super::{State, Status};
-use crate::engine::{Counter, Outcome, Settled, Tied, Ties, Wakes};
+use crate::engine::{CountTakes, CountingBook, Outcome, Settled, TakeCounter, Wakes};
 use crate::payload::PayloadOf;
 use r2d2_core::machine::Leftover;
 use r2d2_core::{Refusal, Released, Report, Returned};
@@ -26,20 +25,20 @@ pub struct Guarded<B> {
     /// wake can reach.
     waiting: u64,
     /// The least id that no eviction has reached: those below it are closed as they come back.
-    first_kept: u64,
+    evicted_below: u64,
 }
 
 impl<B> Guarded<B> {
-    ghost use Rattle.r2d2.specs.Wakes.{who_waits};
+    ghost use Rattle.r2d2.specs.Wakes.{needed_wakes};
 
     /// A book for which nobody waits yet, and of which nothing was evicted.
     pub(super) fn new(book: B) -> Guarded<B>
-        ensures { result ≡ record { book = book; waiting = 0; first_kept = 0 } }
+        ensures { result ≡ record { book = book; waiting = 0; evicted_below = 0 } }
     {
         Guarded {
             book,
             waiting: 0,
-            first_kept: 0,
+            evicted_below: 0,
         }
     }
 
@@ -58,8 +57,8 @@ impl<B> Guarded<B> {
     }
 
     /// Of those to be woken, who is there: no caller where none waits.
-    pub(super) fn who_waits(&self, wakes: Wakes) -> Wakes
-        ensures { result ≡ who_waits self.now.waiting wakes }
+    pub(super) fn needed_wakes(&self, wakes: Wakes) -> Wakes
+        ensures { result ≡ needed_wakes self.now.waiting wakes }
     {
         Wakes {
             caller: wakes.caller && self.waiting > 0,
@@ -68,7 +67,7 @@ impl<B> Guarded<B> {
     }
 }
 
-impl<P, C: Ties> Guarded<Tied<P, C>> {
+impl<P, C: TakeCounter> Guarded<CountingBook<P, C>> {
     ghost use Rattle.r2d2.specs.Status.{IsStatus};
 
     /// The counts, with those of the callers who wait.
@@ -79,7 +78,7 @@ impl<P, C: Ties> Guarded<Tied<P, C>> {
     }
 }
 
-impl<P: Drop, C: Ties> Guarded<Tied<P, C>> {
+impl<P: Drop, C: TakeCounter> Guarded<CountingBook<P, C>> {
     ghost use Rattle.std.specs.Duration.{as_nanos};
     ghost use Rattle.r2d2_core.specs.Seen.{seen_returned, seen_released, map_ok};
     ghost use Rattle.r2d2_core.specs.Table.{return_answer, after_return};
@@ -97,16 +96,16 @@ impl<P: Drop, C: Ties> Guarded<Tied<P, C>> {
         broken: bool,
     ) -> (Result<Returned<P>, (Refusal, P)>, Wakes)
         ensures answer { map_ok seen_returned result.0
-            ≡ return_answer (as_nanos now) id value (is_to_close broken id self.old.first_kept)
+            ≡ return_answer (as_nanos now) id value (is_to_close broken id self.old.evicted_below)
             self.old.book.book.picture }
         ensures after { self.new.book.book.picture
-            ≡ after_return (as_nanos now) id value (is_to_close broken id self.old.first_kept)
+            ≡ after_return (as_nanos now) id value (is_to_close broken id self.old.evicted_below)
             self.old.book.book.picture }
         ensures wakes { result.1 ≡ wakes_of_return (map_ok seen_returned result.0) }
-        ensures kept { self.new.first_kept ≡ self.old.first_kept }
+        ensures kept { self.new.evicted_below ≡ self.old.evicted_below }
         ensures waiting { self.new.waiting ≡ self.old.waiting }
     {
-        let is_evicted = id < self.first_kept;
+        let is_evicted = id < self.evicted_below;
         self.book.give_back(now, id, value, broken || is_evicted)
     }
 
@@ -119,7 +118,7 @@ impl<P: Drop, C: Ties> Guarded<Tied<P, C>> {
         evicted: &mut Vec<Released<P>>,
     )
     where
-        C: Counter,
+        C: CountTakes,
         requires parts { 0 < C.parts tally.old }
         requires empty { vec_len evicted.old ≡ 0 }
         requires room { self.old.book.book.picture.on_order.limits.max_size
@@ -129,14 +128,14 @@ impl<P: Drop, C: Ties> Guarded<Tied<P, C>> {
         ensures after { self.new.book.book ≡ after_eviction (as_nanos now) self.old.book.book }
         ensures comes_to { IsEvicted (as_nanos now) self.old.book.book.picture
             self.new.book.book.picture }
-        ensures kept { self.new.first_kept ≡ self.old.book.book.picture.on_order.next_id }
+        ensures kept { self.new.evicted_below ≡ self.old.book.book.picture.on_order.next_id }
         ensures waiting { self.new.waiting ≡ self.old.waiting }
         ensures parts { C.parts tally.new ≡ C.parts tally.old }
         ensures amount { C.amount tally.new
             ≡ C.amount tally.old + length evicted.new.items * C.per_take }
     {
         self.book.evict(now, tally, evicted);
-        self.first_kept = self.book.book().next_id();
+        self.evicted_below = self.book.book().next_id();
     }
 }
 
@@ -161,7 +160,7 @@ pub struct Shared<B, M, K, R> {
 }
 
 /// What a pool shares, whose payload is its manager's.
-pub type SharedOf<C, M, K, R> = Shared<Tied<PayloadOf<M>, C>, M, K, R>;
+pub type SharedOf<C, M, K, R> = Shared<CountingBook<PayloadOf<M>, C>, M, K, R>;
 
 impl<B, M, K, R> Shared<B, M, K, R> {
     /// The time since the pool was made; zero where the clock can't be read.
@@ -220,10 +219,10 @@ impl<B, M, K, R> Shared<B, M, K, R> {
         self.guarded.lock(&self.rt)
     }
 
-    // Makes a step: takes the lock, reads the moment, calls, lets the lock go, wakes. What the call
-    // did to the book, nobody can say after it.
+    /// Makes a step: takes the lock, reads the moment, calls, lets the lock go, wakes. What the call
+    /// did to the book, nobody can say after it.
     #[inline(always)]
-    fn step<X, F: FnOnce(&mut Guarded<B>, Duration) -> (X, Wakes)>(&self, call: F) -> X
+    pub(super) fn step<X, F: FnOnce(&mut Guarded<B>, Duration) -> (X, Wakes)>(&self, call: F) -> X
     where
         R: Clock + Wait,
         requires { (g : _) (now : _) → F.pre call g now }
@@ -232,14 +231,14 @@ impl<B, M, K, R> Shared<B, M, K, R> {
         // Modelled in model/waiting.pml: keep both alike.
         let mut guarded = self.lock();
         let (answer, wakes) = call(&mut guarded, self.moment());
-        let wakes = guarded.who_waits(wakes);
+        let wakes = guarded.needed_wakes(wakes);
         drop(guarded);
         self.wake(wakes);
         answer
     }
 }
 
-impl<P: Drop, C: Ties, M, K, R: Clock + Wait> Shared<Tied<P, C>, M, K, R> {
+impl<P: Drop, C: TakeCounter, M, K, R: Clock + Wait> Shared<CountingBook<P, C>, M, K, R> {
     ghost use Rattle.r2d2.specs.Status.{IsStatus};
 
     /// The counts.
@@ -261,17 +260,6 @@ impl<P: Drop, C: Ties, M, K, R: Clock + Wait> Shared<Tied<P, C>, M, K, R> {
         ensures sound { IfOk result IsSoundReport }
     {
         self.step(|guarded, _now| (guarded.book.report(), Wakes::nobody()))
-    }
-
-    /// Puts a lent connection back. One that is closed, or refused, comes back.
-    #[inline(always)]
-    pub(super) fn put_back(
-        &self,
-        lent: Lent<P>,
-        broken: bool,
-    ) -> Result<Returned<P>, (Refusal, P)> {
-        let Lent { id, payload } = lent;
-        self.step(|guarded, now| guarded.give_back(now, id, payload, broken))
     }
 
     /// Gives an opened connection its id.

@@ -5,7 +5,7 @@ use Rattle.r2d2_core.specs.Seen.{seen_released}
 use Rattle.r2d2_core.specs.Picture.{IsSound}
 use Rattle.r2d2.specs.Evicted.{in_lending_order, each_evicted, after_eviction}
 use Rattle.r2d2.proofs.Evicting.{Evicting}
-use Rattle.r2d2.proofs.engine.counted.Tied.evict.Given as goal
+use Rattle.r2d2.proofs.engine.counted.CountingBook.evict.Given as goal
 
 abbrev pub invariant-loop-released : goal.invariant-loop-released
 invariant-loop-released g l = record {
@@ -14,8 +14,8 @@ invariant-loop-released g l = record {
       ≡ after_eviction (as_nanos l.now) l.fn.self.book;
   sound : IsSound l.fn.self.book.picture;
   room : vec_capacity l.out ≡ vec_capacity l.fn.out;
-  parts : g.C.Counter.parts l.tally ≡ g.C.Counter.parts l.fn.tally;
-  amount : g.C.Counter.amount l.tally ≡ g.C.Counter.amount l.fn.tally + length l.out.items * g.C.Counter.per_take;
+  parts : g.C.CountTakes.parts l.tally ≡ g.C.CountTakes.parts l.fn.tally;
+  amount : g.C.CountTakes.amount l.tally ≡ g.C.CountTakes.amount l.fn.tally + length l.out.items * g.C.CountTakes.per_take;
 }
 
 -- how many are left

@@ -2,7 +2,7 @@ use Rattle.std.proofs.Common.{◌-◌, max, Ok, sym, ◌∙◌, ap}
 use Rattle.std.specs.Duration.{as_nanos}
 use Rattle.r2d2_core.specs.Seen.{seen_take, seen_returned, map_ok}
 use Rattle.r2d2.proofs.Evicting.{next, idle_of_none, lent_after, closing, lent_then, released_next, never_refused, same_age, same_value, latest_after, taken_is, broken_is, one_went, none_went}
-use Rattle.r2d2.proofs.engine.counted.Tied.evict_next.Goals as goal
+use Rattle.r2d2.proofs.engine.counted.CountingBook.evict_next.Goals as goal
 
 pub returns-in_default-clause-idle : goal.returns-in_default-clause-idle
 returns-in_default-clause-idle g c =

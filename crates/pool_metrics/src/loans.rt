@@ -10,13 +10,13 @@ use std::time::Duration;
 
 /// A connection that is lent for long.
 #[derive(Clone, Copy, PartialEq, Eq, Debug)]
-pub struct Overdue {
+pub struct LongLoan {
     /// Its id.
     pub id: u64,
     nanos: u64,
 }
 
-impl Overdue {
+impl LongLoan {
     /// For how long it is lent.
     pub fn lent_for(&self) -> Duration
         ensures { as_nanos result ≡ self.now.nanos }
@@ -25,31 +25,31 @@ impl Overdue {
     }
 }
 
-/// A line of the roll. Moments are nanoseconds.
+/// A connection that is lent. Moments are nanoseconds.
 #[derive(Clone, Copy, PartialEq, Eq, Debug)]
-pub(crate) struct Entry {
+pub(crate) struct Loan {
     id: u64,
     since: u64,
 }
 
 /// Who is lent, in the order of lending. It asks for memory when it is made, and never again.
 #[derive(Drop)]
-pub(crate) struct Roll {
-    entries: Vec<Entry>,
+pub(crate) struct Loans {
+    entries: Vec<Loan>,
     latest: u64,
     unlisted: u64,
     ghost in_order: { IsNonDecreasingBy (λ e. e.since) entries.items },
     ghost until_now: { All (λ e. e.since ≤ latest) entries.items },
 }
 
-impl Roll {
+impl Loans {
     /// With room for so many.
-    pub(crate) fn new(alloc: Global, room: usize) -> Result<Roll, AllocError>
-        ensures none { IfOk result (λ roll. roll.entries.items ≡ []) }
-        ensures room { IfOk result (λ roll. vec_capacity roll.entries ≡ room) }
-        ensures all_listed { IfOk result (λ roll. roll.unlisted ≡ 0) }
+    pub(crate) fn new(alloc: Global, room: usize) -> Result<Loans, AllocError>
+        ensures none { IfOk result (λ loans. loans.entries.items ≡ []) }
+        ensures room { IfOk result (λ loans. vec_capacity loans.entries ≡ room) }
+        ensures all_listed { IfOk result (λ loans. loans.unlisted ≡ 0) }
     {
-        Ok(Roll {
+        Ok(Loans {
             entries: Vec::with_capacity(alloc, room)?,
             latest: 0,
             unlisted: 0,
@@ -57,7 +57,7 @@ impl Roll {
     }
 
     /// One is lent now. Where there is no more room, it is counted, and not listed.
-    pub(crate) fn enter(&mut self, id: u64, now: u64)
+    pub(crate) fn add(&mut self, id: u64, now: u64)
         ensures listed { vec_len self.old.entries < vec_capacity self.old.entries
             → self.new.entries.items
             ≡ self.old.entries.items ++ record { id = id; since = max self.old.latest now } ∷ [] }
@@ -69,15 +69,15 @@ impl Roll {
         self.latest = self.latest.max(now);
         if self.entries.len() < self.entries.capacity() {
             let since = self.latest;
-            self.entries.push_reserved(Entry { id, since });
+            self.entries.push_reserved(Loan { id, since });
         } else {
             self.unlisted = self.unlisted.saturating_add(1);
         }
     }
 
     /// One is not lent any more.
-    pub(crate) fn strike(&mut self, id: u64)
-        ensures struck { self.new.entries.items
+    pub(crate) fn remove(&mut self, id: u64)
+        ensures removed { self.new.entries.items
             ≡ filter (λ e. not (e.id == id)) self.old.entries.items }
         ensures room { vec_capacity self.new.entries ≡ vec_capacity self.old.entries }
         ensures unlisted { self.new.unlisted ≡ self.old.unlisted }
@@ -99,7 +99,7 @@ impl Roll {
         alloc: Global,
         nanos: u64,
         now: u64,
-    ) -> Result<Vec<Overdue>, AllocError>
+    ) -> Result<Vec<LongLoan>, AllocError>
         ensures all { IfOk result
             (λ v. v.items ≡ longer_than nanos (max self.now.latest now) self.now.entries.items) }
         ensures longest_first { IfOk result (λ v. IsLongestFirst v.items) }
@@ -108,19 +108,19 @@ impl Roll {
         self.in_order_of_lending(alloc, nanos, now)
     }
 
-    // The same. That the longest come first follows from the order of the roll.
+    // The same. That the longest come first follows from the order of the list.
     fn in_order_of_lending(
         &self,
         alloc: Global,
         nanos: u64,
         now: u64,
-    ) -> Result<Vec<Overdue>, AllocError>
+    ) -> Result<Vec<LongLoan>, AllocError>
         ensures { IfOk result (λ v. v.items ≡ longer_than nanos now self.now.entries.items) }
     {
         self.entries
             .iter()
             .filter(|entry| now.saturating_sub(entry.since) > nanos)
-            .map(|entry| Overdue {
+            .map(|entry| LongLoan {
                 id: entry.id,
                 nanos: now.saturating_sub(entry.since),
             })

@@ -4,7 +4,7 @@ use Rattle.std.proofs.lemmas.List.{nil_from_length, map-append, length-map, leng
 use Rattle.r2d2_core.specs.Seen.{seen_released}
 use Rattle.r2d2_core.specs.Picture.{IsSound}
 use Rattle.r2d2.proofs.Evicting.{EvictsNext, evicting, goes_on, has_more, fewer, none_left, all_handed, evicted, rest_after, rest_of_none, one_more_counted}
-use Rattle.r2d2.proofs.engine.counted.Tied.evict.Goals as goal
+use Rattle.r2d2.proofs.engine.counted.CountingBook.evict.Goals as goal
 
 pub loop-released-init : goal.loop-released-init
 loop-released-init g c =

@@ -1,0 +1,59 @@
+// What closes many connections at once: an eviction, and what it shares with a worker's reap.
+ghost use Rattle.std.specs.Prelude.{◌≡◌, ◌≤◌, ◌<◌, ◌+◌, ◌*◌, IsTrue, IfOk, OnErr};
+ghost use Rattle.std.specs.Prelude.{vec_len, vec_capacity};
+
+use super::PoolRuntime;
+use super::locking::SharedOf;
+use crate::ManageConnection;
+use crate::engine::{CountTakes, TakeCounter};
+use crate::hooks::Hooks;
+use crate::payload::{Payload, PayloadOf};
+use r2d2_core::{Book, Released};
+use std::alloc::AllocError;
+
+impl<C: CountTakes, M: ManageConnection, K: Hooks<M>, R: PoolRuntime> SharedOf<C, M, K, R> {
+    /// Closes what is idle now, and has what is lent now closed as it comes back. It answers how
+    /// many were idle. The error is lack of memory for the list of those; then nothing has changed.
+    pub(super) fn evict(&self, tally: &mut C::Tally) -> Result<usize, AllocError>
+        requires { 0 < C.parts tally.old }
+        ensures parts { C.parts tally.new ≡ C.parts tally.old }
+        ensures amount { IfOk result
+            (λ n. C.amount tally.new ≡ C.amount tally.old + n * C.per_take) }
+        ensures refused { OnErr result (C.amount tally.new ≡ C.amount tally.old) }
+    {
+        // Modelled in model/waiting.pml: keep both alike.
+        let max_size = self.status().max_size as usize;
+        let mut evicted = Vec::with_capacity(self.rt.alloc(), max_size)?;
+        let mut guarded = self.guarded.lock(&self.rt);
+        let now = self.moment();
+        if has_room(guarded.book.book(), &evicted) {
+            guarded.evict(now, tally, &mut evicted);
+        }
+        drop(guarded);
+        self.wake_all();
+        let count = evicted.len();
+        self.release_all(&mut evicted);
+        Ok(count)
+    }
+}
+
+impl<C: TakeCounter, M: ManageConnection, K: Hooks<M>, R: PoolRuntime> SharedOf<C, M, K, R> {
+    /// Releases what was closed under the lock, and empties the list.
+    pub(super) fn release_all(&self, closed: &mut Vec<Released<PayloadOf<M>>>) {
+        for released in closed.drain(..) {
+            let Released { id, age, value } = released;
+            let Payload { connection, .. } = value;
+            self.hooks.release(id, age, connection);
+        }
+    }
+}
+
+/// Whether a reap or an eviction can use the list. It has room from the making on; but of a locked
+/// book its type alone is known, so this asks.
+pub(super) fn has_room<P>(book: &Book<P>, expired: &Vec<Released<P>>) -> bool
+    ensures { IsTrue result
+        → (vec_len expired.now ≡ 0)
+        × (book.now.picture.on_order.limits.max_size ≤ vec_capacity expired.now) }
+{
+    expired.is_empty() && expired.capacity() >= book.limits().max_size() as usize
+}

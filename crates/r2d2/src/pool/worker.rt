@@ -1,0 +1,93 @@
+// What a worker does: it opens connections, closes expired ones, and waits for either.
+
+use super::PoolRuntime;
+use super::evicting::has_room;
+use super::locking::{Guarded, SharedOf};
+use crate::ManageConnection;
+use crate::engine::{CountingBook, Outcome, TakeCounter, Wakes};
+use crate::error::text_of;
+use crate::hooks::Hooks;
+use crate::payload::{Payload, PayloadOf, open};
+use r2d2_core::{Job, Refusal, Released};
+use std::time::Duration;
+
+impl<C: TakeCounter, M: ManageConnection, K: Hooks<M>, R: PoolRuntime> SharedOf<C, M, K, R> {
+    /// Does what is due, and waits where nothing is, until the pool is closed. The list is for the
+    /// connections that a reap closes.
+    pub(super) fn work(&self, mut expired: Vec<Released<PayloadOf<M>>>) {
+        // Modelled in model/waiting.pml: keep both alike.
+        let mut seen = Duration::ZERO;
+        for _ in self.rt.forever() {
+            let mut guarded = self.lock();
+            let now = self.moment();
+            seen = seen.max(now);
+            match guarded.book.begin(now) {
+                Job::Open { tries } => {
+                    drop(guarded);
+                    self.open(tries);
+                }
+                Job::Reap => {
+                    let wakes = guarded.reap(self.moment(), &mut expired);
+                    let wakes = guarded.needed_wakes(wakes);
+                    drop(guarded);
+                    self.wake(wakes);
+                    self.release_all(&mut expired);
+                }
+                Job::Wait(due) => {
+                    // Not from `now`, which is zero where the clock can't be read.
+                    let left = due.saturating_sub(seen);
+                    let _woken = self.workers.wait_timeout(&self.rt, guarded, left);
+                }
+                Job::Nothing => {
+                    let _woken = self.workers.wait(&self.rt, guarded);
+                }
+                Job::Closed => return,
+            }
+        }
+    }
+
+    // One opening, after so many failures. The lock is not held while the manager and the
+    // customizer are called.
+    fn open(&self, tries: u32) {
+        // Modelled in model/waiting.pml: keep both alike.
+        match open(&self.manager, self.hooks.customizer()) {
+            Ok(connection) => self.admit(tries, connection),
+            Err(error) => {
+                let text = text_of(self.rt.alloc(), &error);
+                self.settle(Outcome::Failed { tries, text });
+                self.hooks.error(error);
+            }
+        }
+    }
+
+    // Gives an opened connection its id, tells of it, and admits it.
+    fn admit(&self, tries: u32, connection: M::Connection) {
+        // Modelled in model/waiting.pml: keep both alike.
+        match self.number(tries) {
+            Ok(id) => {
+                self.hooks.acquire(id);
+                let value = Payload::new(self.rt.alloc(), connection);
+                self.settle(Outcome::Opened { id, value });
+            }
+            Err(Refusal::IdsUsedUp) => {
+                drop(connection);
+                self.settle(Outcome::Failed { tries, text: None });
+            }
+            // A pool that was closed meanwhile has no use for it.
+            Err(Refusal::Closed) => drop(connection),
+            // None other comes, since the opening is in work.
+            Err(_) => {}
+        }
+    }
+}
+
+impl<P: Drop, C: TakeCounter> Guarded<CountingBook<P, C>> {
+    // Closes what is expired, into the list.
+    fn reap(&mut self, now: Duration, expired: &mut Vec<Released<P>>) -> Wakes {
+        if !has_room(self.book.book(), expired) {
+            return Wakes::nobody();
+        }
+        let (_ordered, wakes) = self.book.sweep(now, expired);
+        wakes
+    }
+}
