@@ -33,5 +33,6 @@ pub mod BookParts
 pub mod Noted
 pub mod Steps
 pub mod Reports
+pub mod Loads
 pub mod Auditing
 pub mod Faults
