@@ -7,7 +7,7 @@ ghost use Rattle.pool_reports.specs.Summaries.{opened_in, closed_in};
 
 use crate::counting::{admissions, closings};
 use crate::nanoseconds::Nanoseconds;
-use r2d2_core::{Record, Report};
+use r2d2_core::{Load, Record, Report};
 use serde::{Described, Serialize, Serializer};
 use std::alloc::{AllocError, Allocator, Global};
 use std::time::Duration;
@@ -72,10 +72,12 @@ pub fn summarize<A: Allocator>(alloc: Global, report: &Report<A>) -> Result<Summ
     let left = closed as u128 + report.connections as u128;
     let lent = loans(alloc, report.lent.as_slice(), records)?;
     let mut now = Now::at_base(report);
-    now.follow(records);
+    for record in records {
+        now.follow(record);
+    }
     Ok(Summary {
         from: report.base.at,
-        until: now.at,
+        until: now.load.at,
         most_lent: now.most_lent,
         exhausted: now.exhausted,
         opened,
@@ -131,67 +133,29 @@ fn dates(
 // What stands after some records, and what was seen up to there.
 #[derive(Clone, Copy)]
 struct Now {
-    at: Duration,
-    max_size: u64,
-    lent: usize,
-    pending: u64,
-    closed: bool,
+    load: Load,
     most_lent: usize,
     exhausted: Duration,
 }
 
 impl Now {
     fn at_base<A: Allocator>(report: &Report<A>) -> Now {
-        let lent = report.base.lent.len();
+        let load = Load::of(report.limits, &report.base);
         Now {
-            at: report.base.at,
-            max_size: report.limits.max_size() as u64,
-            lent,
-            pending: report.base.pending as u64,
-            closed: report.base.closed,
-            most_lent: lent,
+            load,
+            most_lent: load.lent,
             exhausted: Duration::ZERO,
         }
     }
 
-    fn follow(&mut self, records: &[Record]) {
-        for record in records {
-            self.wait_until(record.at());
-            self.step(record);
-            self.most_lent = self.most_lent.max(self.lent);
-        }
-    }
-
-    // Lets the time pass until the next record.
-    fn wait_until(&mut self, at: Duration) {
-        if !self.closed && (self.lent as u64).saturating_add(self.pending) >= self.max_size {
-            let passed = at.saturating_sub(self.at);
+    fn follow(&mut self, record: &Record) {
+        let before = self.load;
+        self.load.follow(record);
+        if before.is_exhausted() {
+            let passed = self.load.at.saturating_sub(before.at);
             self.exhausted = self.exhausted.saturating_add(passed);
         }
-        self.at = at;
-    }
-
-    fn step(&mut self, record: &Record) {
-        match record {
-            Record::Taken { ordered, .. } => {
-                self.lent = self.lent.saturating_add(1);
-                self.order(*ordered);
-            }
-            Record::Ordered { ordered, .. } | Record::Reaped { ordered, .. } => {
-                self.order(*ordered);
-            }
-            Record::Admitted { .. } => self.pending = self.pending.saturating_sub(1),
-            Record::Kept { .. } => self.lent = self.lent.saturating_sub(1),
-            Record::Closed { ordered, .. } => {
-                self.lent = self.lent.saturating_sub(1);
-                self.order(*ordered);
-            }
-            Record::ClosedAll { .. } => (self.pending, self.closed) = (0, true),
-        }
-    }
-
-    fn order(&mut self, ordered: u32) {
-        self.pending = self.pending.saturating_add(ordered as u64);
+        self.most_lent = self.most_lent.max(self.load.lent);
     }
 }
 

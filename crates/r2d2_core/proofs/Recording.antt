@@ -13,3 +13,4 @@ pub mod Beside
 pub mod Books
 pub mod Listing
 pub mod Reporting
+pub mod Loads

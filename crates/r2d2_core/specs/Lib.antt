@@ -36,5 +36,6 @@ pub mod Noted
 pub mod BookSteps
 pub mod Steps
 pub mod Reports
+pub mod Loads
 pub mod Auditing
 pub mod Faults

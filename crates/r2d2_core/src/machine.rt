@@ -7,7 +7,7 @@ use crate::schedule::Job;
 pub use crate::schedule::{LimitSettings, Limits};
 use crate::steps::Steps;
 pub use answers::{Gone, Refusal, Released, Returned, Take};
-use idle::{Idle, IdleConnection, reached};
+use idle::{Idle, IdleConnection};
 pub use leftover::Leftover;
 use lent::LentConnection;
 use on_order::OnOrder;
@@ -328,7 +328,7 @@ impl<T, A: Allocator> Core<T, A> {
                 let birth = loan.birth();
                 let age = latest.saturating_sub(birth);
                 let limits = self.on_order.limits();
-                if broken || reached(limits.max_lifetime(), age) || self.on_order.is_closed() {
+                if broken || limits.is_too_old(age) || self.on_order.is_closed() {
                     let ordered = self
                         .on_order
                         .top_up(self.idle.len(), self.lent.len(), latest);

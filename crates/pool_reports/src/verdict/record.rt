@@ -1,7 +1,4 @@
 // Why a record may not follow what stood before it.
-ghost use Rattle.std.specs.Prelude.{◌≡◌};
-ghost use Rattle.std.specs.Duration.{as_nanos};
-ghost use Rattle.r2d2_core.specs.Limits.{seen_limits, top_up, has_reached};
 
 use r2d2_core::{Base, LendingOrder, Limits, Record};
 use std::alloc::Allocator;
@@ -228,31 +225,10 @@ fn of_reaped<A: Allocator>(
 }
 
 fn is_expired(limits: &Limits, at: Duration, birth: Duration, since: Duration) -> bool {
-    reached(limits.idle_timeout(), at.saturating_sub(since))
-        || reached(limits.max_lifetime(), at.saturating_sub(birth))
-}
-
-fn reached(limit: Option<Duration>, length: Duration) -> bool
-    ensures { result ≡ has_reached limit (as_nanos length) }
-{
-    match limit {
-        Some(limit) => limit.as_nanos() <= length.as_nanos(),
-        None => false,
-    }
+    limits.is_idle_too_long(at.saturating_sub(since)) || limits.is_too_old(at.saturating_sub(birth))
 }
 
 // What is to be ordered where so many are idle, and so many connected.
-fn due<A: Allocator>(limits: &Limits, before: &Base<A>, idle: usize, connections: u32) -> u32
-    ensures { result
-        ≡ top_up (seen_limits limits.now) before.now.closed idle connections before.now.pending }
-{
-    if before.closed {
-        return 0;
-    }
-    let room = limits
-        .max_size()
-        .saturating_sub(connections)
-        .saturating_sub(before.pending);
-    let wanted = (limits.wanted() as usize).saturating_sub(idle);
-    wanted.min(room as usize) as u32
+fn due<A: Allocator>(limits: &Limits, before: &Base<A>, idle: usize, connections: u32) -> u32 {
+    limits.top_up(before.closed, idle, connections as usize, before.pending)
 }

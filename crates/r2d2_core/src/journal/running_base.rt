@@ -18,7 +18,7 @@ ghost use Rattle.r2d2_core.specs.RunningBase.{empty_base, with_one_idle};
 
 use super::base::{Base, copied_idle, copied_lent};
 use super::record::Record;
-use crate::machine::idle::{Idle, IdleConnection, reached};
+use crate::machine::idle::{Idle, IdleConnection};
 use crate::machine::is_before;
 use crate::machine::lent::LentConnection;
 use crate::machine::roster::{HasId, Roster};
@@ -156,11 +156,9 @@ impl<A: Allocator> RunningBase<A> {
         ensures more { IsTrue result
             → self.new ≡ running_base (with_more ordered self.old.base) self.old.room }
     {
-        let connections = (self.idle.len() + self.lent.len()) as u32;
-        let room = limits.max_size() - connections - self.pending;
-        let wanted = limits.wanted().saturating_sub(self.idle.len() as u32);
-        let due = if self.closed { 0 } else { wanted.min(room) };
-        if ordered != due {
+        let idle = self.idle.len();
+        let connections = idle + self.lent.len();
+        if ordered != limits.top_up(self.closed, idle, connections, self.pending) {
             return false;
         }
         self.pending += ordered;
@@ -241,7 +239,7 @@ impl<A: Allocator> RunningBase<A> {
             Some(loan) => {
                 let birth = loan.birth();
                 let age = self.at.saturating_sub(birth);
-                if self.closed || reached(limits.max_lifetime(), age) {
+                if self.closed || limits.is_too_old(age) {
                     return false;
                 }
                 self.rest(id, birth);

@@ -5,7 +5,7 @@ ghost use Rattle.std.specs.Prelude.{option_copied, slice_get};
 ghost use Rattle.std.specs.Duration.{as_nanos};
 ghost use Rattle.std.specs.List.Sorted.{IsNonDecreasingBy};
 ghost use Rattle.circular_buffer.specs.Buffer.{buffer};
-ghost use Rattle.r2d2_core.specs.Limits.{seen_limits, has_reached};
+ghost use Rattle.r2d2_core.specs.Limits.{seen_limits};
 ghost use Rattle.r2d2_core.specs.Lending.{next_to_lend, still_idle};
 ghost use Rattle.r2d2_core.specs.Connections.{id_of_idle, since_of, is_expired, is_kept, closed_of};
 ghost use Rattle.r2d2_core.specs.Connections.{pair_of};
@@ -13,7 +13,6 @@ ghost use Rattle.r2d2_core.specs.Roster.{roster};
 ghost use Rattle.r2d2_core.specs.Seen.{seen_released};
 
 use super::answers::Released;
-use super::is_before;
 use super::leftover::Leftover;
 use super::reaping::{reap_each, reap_front};
 use crate::schedule::{LendingOrder, Limits};
@@ -185,15 +184,5 @@ impl<T, A: Allocator> Idle<T, A> {
             Some(ring) => Leftover::of(Some(ring.into_held())),
             None => Leftover::of(None),
         }
-    }
-}
-
-/// The limit is set, and the length of time has reached it.
-pub(crate) fn reached(limit: Option<Duration>, length: Duration) -> bool
-    ensures { result ≡ has_reached limit (as_nanos length) }
-{
-    match limit {
-        Some(limit) => !is_before(length, limit),
-        None => false,
     }
 }

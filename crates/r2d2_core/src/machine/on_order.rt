@@ -105,10 +105,9 @@ impl<A: Allocator> OnOrder<A> {
         ensures answer { result ≡ on_order.top_up_beside idle (idle + lent) self.old }
         ensures after { self.new ≡ on_order.with_orders result (as_nanos due) self.old }
     {
-        let _max_size = self.limits.max_size();
-        let room = self.room_beside(idle + lent);
-        let wanted = self.limits.wanted().saturating_sub(idle as u32);
-        let ordered = if self.closed { 0 } else { wanted.min(room) };
+        let ordered = self
+            .limits
+            .top_up(self.closed, idle, idle + lent, self.pending);
         self.order(ordered, due);
         ordered
     }

@@ -9,7 +9,6 @@ ghost use Rattle.r2d2_core.specs.Lending.{next_to_lend, still_idle};
 ghost use Rattle.r2d2_core.specs.Connections.{idle_connection, is_expired, released_at};
 ghost use Rattle.r2d2_core.specs.Seen.{seen_released};
 
-use super::reached;
 use crate::machine::answers::Released;
 use crate::schedule::{LendingOrder, Limits};
 use crate::steps::Steps;
@@ -208,8 +207,8 @@ pub(crate) fn move_in<T, A: Allocator, L: Ledger>(
 pub(crate) fn is_expired<T>(entry: &IdleConnection<T>, limits: &Limits, now: Duration) -> bool
     ensures { result ≡ is_expired (seen_limits limits.now) (as_nanos now) entry.now }
 {
-    reached(limits.idle_timeout(), now.saturating_sub(entry.since))
-        || reached(limits.max_lifetime(), now.saturating_sub(entry.birth))
+    limits.is_idle_too_long(now.saturating_sub(entry.since))
+        || limits.is_too_old(now.saturating_sub(entry.birth))
 }
 
 #[tactic(auto, unfolding(crate::specs::Connections::released_at))]

@@ -1,0 +1,33 @@
+-- How much of a pool is in use.
+use Rattle.std.specs.Prelude.{◌≡◌, ℕ, ◌+◌, ◌-◌, ◌^◌, min, Bool, true, false, length}
+use Rattle.std.specs.Duration.{as_nanos}
+use Rattle.r2d2_core.specs.declared.journal.load.Load.{Load}
+use Rattle.r2d2_core.specs.Records.{SeenRecord, Taken, Ordered, Admitted, Kept, Closed, Reaped, ClosedAll}
+use Rattle.r2d2_core.specs.Bases.{SeenBase}
+
+-- it tells what a base does, but for which connections those are
+pub record IsLoadOf (b : SeenBase) (load : Load) : Type 0 where
+  pub at : as_nanos load.at ≡ b.at
+  pub lent : load.lent ≡ length b.lent
+  pub pending : load.pending ≡ b.pending
+  pub closed : load.closed ≡ b.closed
+
+-- how many a record leaves lent and pending, as far as the numbers of the program go, and whether it closes the pool
+abbrev pub lent_after : SeenRecord → ℕ → ℕ
+lent_after (Taken at id n) lent = min (lent + 1) (2 ^ 64 - 1)
+lent_after (Kept at id) lent = lent - 1
+lent_after (Closed at id n) lent = lent - 1
+lent_after r lent = lent
+
+abbrev pub pending_after : SeenRecord → ℕ → ℕ
+pending_after (Taken at id n) pending = min (pending + n) (2 ^ 32 - 1)
+pending_after (Ordered at n) pending = min (pending + n) (2 ^ 32 - 1)
+pending_after (Admitted at id) pending = pending - 1
+pending_after (Kept at id) pending = pending
+pending_after (Closed at id n) pending = min (pending + n) (2 ^ 32 - 1)
+pending_after (Reaped at n) pending = min (pending + n) (2 ^ 32 - 1)
+pending_after (ClosedAll at) pending = 0
+
+abbrev pub is_close : SeenRecord → Bool
+is_close (ClosedAll at) = true
+is_close r = false
