@@ -8,7 +8,7 @@ use Rattle.r2d2_core.specs.Limits.{SeenLimits, wanted_of}
 use Rattle.r2d2_core.specs.Connections.{lent_connection, id_of_lent}
 use Rattle.r2d2_core.specs.Records.{SeenRecord, Taken, Ordered, Admitted, Kept, Closed, Reaped, ClosedAll}
 use Rattle.r2d2_core.specs.Bases.{SeenBase, IsLegalBase}
-use Rattle.r2d2_core.specs.Folding.{moment_in, birth_of_idle, idle_after_reap, expired_in, folded, fits, may_follow}
+use Rattle.r2d2_core.specs.Folding.{moment_of_record, birth_of_idle, idle_after_reap, expired_in, folded, fits, may_follow}
 use Rattle.r2d2_core.specs.Loads.{IsLoadOf, lent_after, pending_after, is_close}
 use Rattle.r2d2_core.proofs.Lists.Ids.{length-without}
 use Rattle.r2d2_core.proofs.Recording.Folding.{split, is_le, is_lt, is_there}
@@ -71,12 +71,12 @@ closed_follows limits (Reaped at n) b = sym (or_false b.closed)
 closed_follows limits (ClosedAll at) b = sym (or_true b.closed)
 
 pub load_follows : (limits : SeenLimits) (r : SeenRecord) (b : SeenBase) (old now : Load) → limits.max_size < 2 ^ 32 → IsLegalBase limits b
-    → may_follow limits r b ≡ true → IsLoadOf b old → as_nanos now.at ≡ max (as_nanos old.at) (moment_in r) → now.lent ≡ lent_after r old.lent
+    → may_follow limits r b ≡ true → IsLoadOf b old → as_nanos now.at ≡ max (as_nanos old.at) (moment_of_record r) → now.lent ≡ lent_after r old.lent
     → now.pending ≡ pending_after r old.pending → now.closed ≡ (old.closed || is_close r) → IsLoadOf (folded limits r b) now
 load_follows limits r b old now small legal may load at lent pending closed =
     let f = split _ _ may in
     record {
-      at = omega (arith, at, load.at, is_le b.at (moment_in r) f.0, at_folded limits r b);
+      at = omega (arith, at, load.at, is_le b.at (moment_of_record r) f.0, at_folded limits r b);
       lent = lent ∙ (ap (lent_after r) load.lent ∙ sym (lent_follows limits b small legal r f.1));
       pending = pending ∙ (ap (pending_after r) load.pending ∙ sym (pending_follows limits b small legal r f.1));
       closed = closed ∙ (ap (λ c. c || is_close r) load.closed ∙ sym (closed_follows limits r b));
