@@ -4,6 +4,7 @@
 tests/NAME/ is the source of a crate NAME, whose line tests/libraries.txt has. tests/inside_NAME/ is laid over the source of the crate
 NAME of crates/, for what only that crate can see; each `tests.rs` in it becomes a module of the file that it is named for. The
 files end in .rs here and in .rt in the copy, since `rt ci` takes each .rt file for one that a check reads."""
+import collections
 import contextlib
 import os
 import re
@@ -63,6 +64,45 @@ def count_of(files):
 def count_in(folder):
     """How many tests its files have."""
     return count_of(sources(folder))
+
+
+def needed_by(copy, crate, module):
+    """The modules at the top of a crate of tests that a module of it stands on, itself among them."""
+    source, needed, left = os.path.join(copy, "crates", crate, "src"), set(), [module]
+    while left:
+        name = left.pop()
+        file = os.path.join(source, name + ".rt")
+        if name in needed or not os.path.exists(file):
+            continue
+        needed.add(name)
+        for file in [file, *sources(os.path.join(source, name))]:
+            left += re.findall(r"\bcrate::(\w+)", open(file, encoding="utf-8").read())
+    return needed
+
+
+@contextlib.contextmanager
+def only_what_it_needs(copy, name, test):
+    """Leaves of a crate of tests what one test needs: the whole of it takes several times as long to compile."""
+    root, (module, _, rest) = os.path.join(copy, place_of(name, "lib.rs")), test.partition("::")
+    if name.startswith(INSIDE) or not rest or not os.path.exists(root):
+        yield
+        return
+    text, needed = open(root, encoding="utf-8").read(), needed_by(copy, crate_of(name), module)
+    write(root, re.sub(r"^#\[cfg\(test\)\]\nmod (\w+);\n", lambda it: it[0] * (it[1] in needed), text, flags=re.M))
+    unused = [file for file in sources(os.path.dirname(root)) if top_of(os.path.dirname(root), file) not in needed | {"lib"}]
+    for file in unused:
+        os.rename(file, file + ".unused")
+    try:
+        yield
+    finally:
+        write(root, text)
+        for file in unused:
+            os.rename(file + ".unused", file)
+
+
+def top_of(source, file):
+    """The module at the top that a file belongs to."""
+    return os.path.relpath(file, source).split(os.sep)[0].removesuffix(".rt")
 
 
 def files_of(name):
@@ -171,6 +211,7 @@ class Copy:
         # What `rt` puts aside while it works.
         self.aside = os.path.join(folder, "aside")
         self.runs = Runs()
+        self.locks = collections.defaultdict(threading.Lock)
         os.makedirs(self.folder)
         os.makedirs(self.aside)
         fill(self.folder)
@@ -193,7 +234,8 @@ class Copy:
     def run_tests(self, name, flags=(), only=None):
         """The tests of a folder, or one of them, without proof: the status, and what was said."""
         words = [RT, "try", "--test", "--seconds", SECONDS, *flags, *(["--", only] if only else [])]
-        return self.runs.run(words, end_the_look_at_names, cwd=self.crate(name), env={**os.environ, "TMPDIR": self.aside})
+        with self.locks[name], only_what_it_needs(self.folder, name, only or ""):
+            return self.runs.run(words, end_the_look_at_names, cwd=self.crate(name), env={**os.environ, "TMPDIR": self.aside})
 
 
 def end_the_look_at_names(process):
