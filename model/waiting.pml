@@ -286,7 +286,7 @@ woken:
 #endif
   goto look;
 
-gives_up: /* Shared::lend_until, which has the lock again and takes the latest error */
+gives_up: /* Shared::give_up, which has the lock and takes the latest error */
 #ifdef PASSES_ON_ONLY_WHERE_ONE_IS_IDLE
   atomic { end_wait(); wakes = somebody_waits && idle > 0 };
 #else
@@ -305,7 +305,11 @@ has: /* Shared::if_sound, then the caller's own use, then AnyConnection::drop */
      if :: wakes -> atomic { wakes = false; wake_caller(CHECK) } :: else fi;
      if :: orders -> atomic { orders = false; wake_workers(CHECK) } :: else fi;
      if :: MAY_STAY -> goto stays :: true fi;                       /* Hooks::release */
-     goto look
+     if
+     :: goto look
+     :: IS_IMPATIENT -> goto gives_up                               /* Shared::give_up_if_late */
+     :: IS_TRYING -> goto calls                                     /* CallTime::may_take */
+     fi
   :: atomic { !closed -> lent--; idle++; sound(); wakes = somebody_waits };     /* Guarded::give_back, kept */
      if :: wakes -> atomic { wakes = false; wake_caller(KEPT) } :: else fi
   :: atomic { lent--; top_up(); orders = ordered > 0; wakes = somebody_waits };  /* Guarded::give_back, closed; or AnyConnection::detach */

@@ -29,6 +29,8 @@ mod journal;
 #[cfg(test)]
 mod kind;
 #[cfg(test)]
+mod late;
+#[cfg(test)]
 mod lending;
 #[cfg(test)]
 mod listening;

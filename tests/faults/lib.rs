@@ -15,6 +15,8 @@ mod in_turn;
 #[cfg(test)]
 mod kind;
 #[cfg(test)]
+mod late;
+#[cfg(test)]
 mod lives;
 #[cfg(test)]
 mod moments;

@@ -132,9 +132,9 @@ impl Plan {
         self.closers > 0 || self.drainers > 0
     }
 
-    /// How many seconds a caller's own checks take at most past its timeout, or None where no
-    /// moment can be told, since a handler of its own call is slow.
-    pub(crate) fn own_seconds(&self) -> Option<u64> {
+    /// How many seconds a caller's own checks take at most, if it makes no more than so many. None
+    /// where no moment can be told, since a handler of its own call is slow.
+    pub(crate) fn seconds_of_checks(&self, checks: u64) -> Option<u64> {
         if !self.checks {
             return Some(0);
         }
@@ -142,7 +142,7 @@ impl Plan {
             return None;
         }
         Some(if self.slow_checks {
-            self.bad.saturating_add(1).saturating_mul(2)
+            checks.saturating_mul(2)
         } else {
             0
         })

@@ -187,7 +187,8 @@ fn gets<R: Host>(rt: R, plan: &Plan, seen: &Seen<R>, pool: &Watched<R>, wait: u6
     let was_closed = of(&seen.closed) > 0;
     let watch = Stopwatch::begin(&rt);
     let found = pool.get_timeout(Duration::from_secs(wait));
-    let most = plan.own_seconds().map(|own| wait.saturating_add(own));
+    // It may be at its check as its time ends, and makes no other one then.
+    let most = plan.seconds_of_checks(1).map(|own| wait.saturating_add(own));
     watch.check(seen, "a get ends later than its timeout", 0, most);
     match found {
         Ok(lent) => holds(rt, plan, seen, lent, was_closed),
@@ -215,7 +216,9 @@ fn tries<R: Host>(rt: R, plan: &Plan, seen: &Seen<R>, pool: &Watched<R>) {
     let was_closed = of(&seen.closed) > 0;
     let watch = Stopwatch::begin(&rt);
     let found = pool.try_get();
-    watch.check(seen, "a try_get takes time", 0, plan.own_seconds());
+    // It checks no more than may have been idle.
+    let most = plan.seconds_of_checks(plan.size);
+    watch.check(seen, "a try_get takes time", 0, most);
     match found {
         Ok(Some(lent)) => holds(rt, plan, seen, lent, was_closed),
         Ok(None) => {}

@@ -252,7 +252,8 @@ impl<
     /// waits about as long as `timeout` if there is none.
     ///
     /// If the setting `test_on_check_out` is on, the connection is checked first; one that fails is
-    /// closed, and another is looked for.
+    /// closed, and another is looked for while there is time left. So the call lasts longer than
+    /// `timeout` by one check at most.
     ///
     /// The error is a timeout, with the text of the latest error of an opening or a check if there
     /// was one; or `ErrorKind::Closed`, at once, where the pool was closed; or lack of memory for a
@@ -268,8 +269,9 @@ impl<
     }
 
     /// Lends an idle connection, as `get_timeout`; None if there is none. It does not wait for one,
-    /// and orders none. Connections are checked as by `get_timeout`. The error is lack of memory
-    /// for a shared pointer, and then nothing has changed.
+    /// and orders none. Connections are checked as by `get_timeout`, at most as many as were idle
+    /// when it began. The error is lack of memory for a shared pointer, and then nothing has
+    /// changed.
     pub fn try_get(&self) -> Result<Option<PooledConnection<M, H, V, Z, R>>, Error>
         ensures settings { IfOk result (λ found. IfSome found (λ lent. lent.settings ≡ self.now)) }
         ensures refused { IfErr result IsOfMemory }

@@ -11,6 +11,8 @@ pub struct CallTime {
     step: Duration,
     /// The latest moment of all.
     seen: Duration,
+    /// How many more it may take, of a call that does not wait and has looked.
+    left: Option<u32>,
 }
 
 impl CallTime {
@@ -20,7 +22,16 @@ impl CallTime {
             start,
             step: Duration::ZERO,
             seen: start.unwrap_or(Duration::ZERO),
+            left: None,
         }
+    }
+
+    /// Whether a call that does not wait may take one of so many idle connections: each of those
+    /// that it takes may fail its check, so it takes no more than were idle at its first look.
+    pub(super) fn may_take(&mut self, idle: u32) -> bool {
+        let left = self.left.unwrap_or(idle).min(idle);
+        self.left = Some(left.saturating_sub(1));
+        left > 0
     }
 
     /// It looks at the clock, which shows this.

@@ -39,25 +39,21 @@ impl<C: CountTakes, M: ManageConnection, K: Hooks<M>, R: PoolRuntime> AnyPool<C,
         let mut time = CallTime::new(shared.start_of_call());
         let closer = Arc::try_clone(&self.closer).map_err(|_| Error::memory())?;
         for _ in shared.rt.forever() {
-            match shared.lend_until(timeout, &mut time, tally) {
-                Ok(Some(lent)) => {
-                    if let Some(lent) = shared.if_sound(lent) {
-                        let lent_at = shared.check_out(lent.id, &time);
-                        return Ok(Some(AnyConnection {
-                            closer,
-                            lent_at,
-                            lent,
-                        }));
-                    }
-                }
+            let found = match shared.lend_until(timeout, &mut time, tally) {
+                Ok(Some(lent)) => lent,
                 Ok(None) => return Ok(None),
-                Err(error) => {
-                    if error.kind() == ErrorKind::Timeout {
-                        // Who brings no timeout never waited.
-                        shared.hooks.timeout(timeout.unwrap_or(Duration::ZERO));
-                    }
-                    return Err(error);
-                }
+                Err(error) => return Err(shared.tell_in_vain(error, timeout)),
+            };
+            if let Some(lent) = shared.if_sound(found) {
+                let lent_at = shared.check_out(lent.id, &time);
+                return Ok(Some(AnyConnection {
+                    closer,
+                    lent_at,
+                    lent,
+                }));
+            }
+            if let Some(error) = shared.give_up_if_late(timeout, &mut time) {
+                return Err(shared.tell_in_vain(error, timeout));
             }
         }
         unreachable!()
@@ -84,6 +80,17 @@ impl<C: TakeCounter, M: ManageConnection, K: Hooks<M>, R: PoolRuntime> SharedOf<
             self.hooks.check_out(id, time.start(), lent_at);
         }
         lent_at
+    }
+
+    // Tells of a call whose time ran out, and answers its error.
+    fn tell_in_vain(&self, error: Error, timeout: Option<Duration>) -> Error
+        ensures { result ≡ error }
+    {
+        if error.kind() == ErrorKind::Timeout {
+            // Who brings no timeout never waited.
+            self.hooks.timeout(timeout.unwrap_or(Duration::ZERO));
+        }
+        error
     }
 
     /// The connection, where it need not be checked, or its check finds it sound. Else it is

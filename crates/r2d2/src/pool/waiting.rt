@@ -1,5 +1,6 @@
 // Those who wait at the callers' variable: a caller, the maker of a pool, and who drains one.
-ghost use Rattle.std.specs.Prelude.{◌≡◌, ◌<◌, ◌+◌, IsSome, MatchOption, IfOk, IfErr, OnErr};
+ghost use Rattle.std.specs.Prelude.{◌≡◌, ◌<◌, ◌+◌, IsSome, IfSome, MatchOption, IfOk, IfErr};
+ghost use Rattle.std.specs.Prelude.{OnErr};
 ghost use Rattle.std.specs.Option.{IsNone};
 ghost use Rattle.std.specs.Result.{IsOk};
 ghost use Rattle.r2d2.specs.Status.{IsStatus};
@@ -9,8 +10,8 @@ use super::Status;
 use super::call_time::CallTime;
 use super::lent::Lent;
 use super::locking::{Guarded, Shared};
-use crate::Error;
 use crate::engine::{CountTakes, CountingBook, TakeCounter, Wakes};
+use crate::{Error, ErrorKind};
 use r2d2_core::Take;
 use std::rt::Clock;
 use std::sync::{MutexGuard, Wait};
@@ -38,7 +39,7 @@ impl<P: Drop, C: CountTakes, M, K, R: Clock + Wait> Shared<CountingBook<P, C>, M
     {
         // Modelled in model/waiting.pml: keep both alike.
         let mut guarded = self.lock_for(time);
-        if timeout.is_none() && guarded.book.book().idle() == 0 {
+        if timeout.is_none() && !time.may_take(guarded.book.book().idle()) {
             return Ok(None);
         }
         for _ in self.rt.forever() {
@@ -66,12 +67,7 @@ impl<P: Drop, C: CountTakes, M, K, R: Clock + Wait> Shared<CountingBook<P, C>, M
             guarded = again;
             guarded.end_wait();
             if outcome.timed_out() {
-                let error = guarded.book.take_error();
-                // It is late by the clock, and may have been woken: that wake is another's now.
-                let wakes = guarded.needed_wakes(Wakes::a_caller());
-                drop(guarded);
-                self.wake(wakes);
-                return Err(Error::timeout(error));
+                return Err(self.give_up(guarded));
             }
         }
         unreachable!()
@@ -89,6 +85,37 @@ impl<P: Drop, C: TakeCounter, M, K, R: Clock + Wait> Shared<CountingBook<P, C>, 
             time.look(self.moment());
         }
         self.lock_in_turn()
+    }
+
+    // Gives up: the timeout has the latest error of an opening or a check, where one is known.
+    fn give_up(&self, mut guarded: MutexGuard<'_, Guarded<CountingBook<P, C>>>) -> Error
+        ensures { result.kind ≡ ErrorKind.Timeout }
+    {
+        // Modelled in model/waiting.pml: keep both alike.
+        let error = guarded.book.take_error();
+        // It is late by the clock, and may have been woken: that wake is another's now.
+        let wakes = guarded.needed_wakes(Wakes::a_caller());
+        drop(guarded);
+        self.wake(wakes);
+        Error::timeout(error)
+    }
+
+    /// Gives up for a call whose time is over; None where some is left, or where it brought no
+    /// timeout.
+    pub(super) fn give_up_if_late(
+        &self,
+        timeout: Option<Duration>,
+        time: &mut CallTime,
+    ) -> Option<Error>
+        ensures late { IfSome result (λ error. error.kind ≡ ErrorKind.Timeout) }
+        ensures at_once { IsNone timeout → IsNone result }
+    {
+        let timeout = timeout?;
+        time.look(self.moment());
+        if !time.left_of(timeout).is_zero() {
+            return None;
+        }
+        Some(self.give_up(self.lock()))
     }
 
     /// Waits until there are so many connections, and as long as this at most. Past that it answers
