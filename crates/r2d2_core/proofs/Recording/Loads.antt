@@ -5,10 +5,11 @@ use Rattle.std.proofs.lemmas.List.{length_push}
 use Rattle.std.proofs.lemmas.Bool.{eqb-true}
 use Rattle.r2d2_core.specs.declared.journal.load.Load.{Load}
 use Rattle.r2d2_core.specs.Limits.{SeenLimits, wanted_of}
-use Rattle.r2d2_core.specs.Connections.{lent_connection, id_of_lent}
+use Rattle.r2d2_core.specs.Ids.{without}
+use Rattle.r2d2_core.specs.Connections.{lent_connection, id_of_idle, id_of_lent}
 use Rattle.r2d2_core.specs.Records.{SeenRecord, Taken, Ordered, Admitted, Kept, Closed, Reaped, ClosedAll}
 use Rattle.r2d2_core.specs.Bases.{SeenBase, IsLegalBase}
-use Rattle.r2d2_core.specs.Folding.{moment_of_record, birth_of_idle, idle_after_reap, expired_in, folded, fits, may_follow}
+use Rattle.r2d2_core.specs.Folding.{moment_of_record, birth_of_idle, up_to, swept_of, folded, fits, may_follow}
 use Rattle.r2d2_core.specs.Loads.{IsLoadOf, lent_after, pending_after, is_close}
 use Rattle.r2d2_core.proofs.Lists.Ids.{length-without}
 use Rattle.r2d2_core.proofs.Recording.Folding.{split, is_le, is_lt, is_there}
@@ -39,7 +40,7 @@ module _ (limits : SeenLimits) (b : SeenBase) (small : limits.max_size < 2 ^ 32)
   ordered n idle connections is = omega (arith, small, more_fits b.closed n (wanted_of limits) limits.max_size idle connections b.pending room is)
 
   pub pending_follows : (r : SeenRecord) → fits limits r b ≡ true → (let now = folded limits r b in now.pending) ≡ pending_after r b.pending
-  pending_follows (Taken at id n) fit = ordered n (length b.idle - 1) b.connections (eqb-true n _ (split _ _ fit).1)
+  pending_follows (Taken at id n) fit = ordered n (length (without id_of_idle id b.idle)) b.connections (eqb-true n _ (split _ _ fit).1)
   pending_follows (Ordered at n) fit =
       let f = split _ _ fit in
       let g = split _ _ f.1 in
@@ -50,7 +51,8 @@ module _ (limits : SeenLimits) (b : SeenBase) (small : limits.max_size < 2 ^ 32)
   pending_follows (Kept at id) fit = refl
   pending_follows (Closed at id n) fit = ordered n (length b.idle) (b.connections - 1) (eqb-true n _ (split _ _ fit).1)
   pending_follows (Reaped at n) fit =
-      ordered n (length (idle_after_reap limits at b)) (b.connections - expired_in limits at b) (eqb-true n _ (split _ _ fit).0)
+      let swept = swept_of limits (up_to at b) in
+      ordered n (length swept.idle) swept.connections (eqb-true n _ (split _ _ fit).0)
   pending_follows (ClosedAll at) fit = refl
 
 or_false : (c : Bool) → (c || false) ≡ c
