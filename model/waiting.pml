@@ -16,6 +16,8 @@
      told. Only a failed opening makes an earlier one, and wakes them all: that it does is found without reaps.
    - Who finds the lock taken tries again a few times before it sleeps for it (Shared::lock). Here it comes to the lock
      when that is free: nobody waits for anything else meanwhile, and whoever has the lock lets it go.
+   - A caller that finds none looks again a few times before it waits (Shared::look_again). Such a look changes nothing
+     and waits for nothing: it is a caller that comes to its one look later.
    - `close` is there as the begin of a drain alone. A second close is not there; it would but wake everybody once more.
    - A connection that outlives its pool is here a pool that its caller still has.
    tools/schedules plays the code itself, with the real variables, though by chance and not in all interleavings. */

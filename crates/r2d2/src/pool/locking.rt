@@ -9,6 +9,7 @@ use crate::payload::PayloadOf;
 use r2d2_core::machine::Leftover;
 use r2d2_core::{Refusal, Released, Report, Returned};
 use std::alloc::AllocError;
+use std::hint::spin_loop;
 use std::rt::Clock;
 use std::sync::{Condvar, Mutex, MutexGuard, Wait};
 use std::thread::yield_now;
@@ -17,15 +18,19 @@ use std::time::{Duration, Instant, SystemTime};
 /// How often a thread that finds the lock taken lets others run, before it sleeps for it.
 const TURNS: u32 = 10;
 
+/// How many turns of a loop it lets the lock alone between two tries.
+const PAUSES: u32 = 40;
+
 /// What the lock guards: the book, how many callers wait, and which connections stay.
 #[derive(Drop)]
 pub struct Guarded<B> {
-    pub(super) book: B,
+    // Beside the lock, and the book after them: each step reads them.
     /// Those at a wait who have not the lock again. So it is at least the number of those whom a
     /// wake can reach.
     waiting: u64,
     /// The least id that no eviction has reached: those below it are closed as they come back.
     evicted_below: u64,
+    pub(super) book: B,
 }
 
 impl<B> Guarded<B> {
@@ -75,6 +80,12 @@ impl<P, C: TakeCounter> Guarded<CountingBook<P, C>> {
         ensures { IsStatus result }
     {
         Status::of(self.book.book(), self.waiting)
+    }
+
+    /// Whether nothing is idle, and something is to come back.
+    pub(super) fn is_all_lent(&self) -> bool {
+        let book = self.book.book();
+        book.idle() == 0 && book.connections() > 0 && !book.is_closed()
     }
 }
 
@@ -211,7 +222,7 @@ impl<B, M, K, R> Shared<B, M, K, R> {
         R: Wait,
     {
         for _ in 0..TURNS {
-            yield_now();
+            pause();
             if let Some(guarded) = self.guarded.try_lock() {
                 return guarded;
             }
@@ -277,5 +288,14 @@ impl<P: Drop, C: TakeCounter, M, K, R: Clock + Wait> Shared<CountingBook<P, C>, 
         let left = self.step(|guarded, _now| (guarded.book.close(), Wakes::nobody()));
         self.wake_all();
         left
+    }
+}
+
+/// Lets other threads run, and lets the lock alone for a moment: each try at a lock takes its cache
+/// line from who holds it.
+pub(super) fn pause() {
+    yield_now();
+    for _ in 0..PAUSES {
+        spin_loop();
     }
 }

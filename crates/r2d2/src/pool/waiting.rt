@@ -9,13 +9,16 @@ ghost use Rattle.r2d2.specs.Failures.{IsOfAGet};
 use super::Status;
 use super::call_time::CallTime;
 use super::lent::Lent;
-use super::locking::{Guarded, Shared};
+use super::locking::{Guarded, Shared, pause};
 use crate::engine::{CountTakes, CountingBook, TakeCounter, Wakes};
 use crate::{Error, ErrorKind};
 use r2d2_core::Take;
 use std::rt::Clock;
 use std::sync::{MutexGuard, Wait};
 use std::time::Duration;
+
+/// How often a caller looks again before it waits.
+const LOOKS: u32 = 20;
 
 impl<P: Drop, C: CountTakes, M, K, R: Clock + Wait> Shared<CountingBook<P, C>, M, K, R> {
     /// Takes the idle connection that is lent next. Where there is none it orders one and waits,
@@ -43,6 +46,9 @@ impl<P: Drop, C: CountTakes, M, K, R: Clock + Wait> Shared<CountingBook<P, C>, M
             return Ok(None);
         }
         for _ in self.rt.forever() {
+            if timeout.is_some() && guarded.is_all_lent() {
+                guarded = self.look_again(guarded);
+            }
             let now = self.moment();
             time.look(now);
             let (taken, wakes) = guarded.book.lend(now, timeout.is_some(), tally);
@@ -85,6 +91,23 @@ impl<P: Drop, C: TakeCounter, M, K, R: Clock + Wait> Shared<CountingBook<P, C>, 
             time.look(self.moment());
         }
         self.lock_in_turn()
+    }
+
+    // All are lent: lets the lock alone and looks again, a few times, for about as long as a sleep
+    // and a wake take. So who has a connection for no longer makes nobody sleep.
+    fn look_again<'a>(
+        &'a self,
+        mut guarded: MutexGuard<'a, Guarded<CountingBook<P, C>>>,
+    ) -> MutexGuard<'a, Guarded<CountingBook<P, C>>> {
+        for _ in 0..LOOKS {
+            drop(guarded);
+            pause();
+            guarded = self.lock();
+            if !guarded.is_all_lent() {
+                break;
+            }
+        }
+        guarded
     }
 
     // Gives up: the timeout has the latest error of an opening or a check, where one is known.

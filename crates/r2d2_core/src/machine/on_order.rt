@@ -16,13 +16,14 @@ mod in_work;
 /// Each pending opening is scheduled, in work or numbered.
 #[derive(Drop)]
 pub(crate) struct OnOrder<A: Allocator = Global> {
-    limits: Limits,
-    schedule: Schedule<A>,
-    in_work: InWork,
-    numbered: Roster<u64, A>,
-    next_id: u64,
+    // What each step asks stands first, beside what each step writes.
     pending: u32,
     closed: bool,
+    next_id: u64,
+    limits: Limits,
+    schedule: Schedule<A>,
+    numbered: Roster<u64, A>,
+    in_work: InWork,
 }
 
 impl<A: Allocator> Model for OnOrder<A> {

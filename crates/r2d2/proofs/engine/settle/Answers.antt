@@ -14,12 +14,12 @@ returns-clause-step g c = record {
   answer = search rules;
   after = search rules;
   sound = elim c.match-outcome.branch [
-      | in-Opened+in-Ok w ↦ as_sound _ _ w.book-is w.admit.ensures.of_core.sound
-      | in-Opened+in-Err w ↦ as_sound _ _ w.book-is w.admit.ensures.of_core.sound
-      | in-Failed+in-Ok-fail w ↦ as_sound _ _ w.book-is w.fail.ensures.of_core.sound
-      | in-Failed+in-Err-fail w ↦ as_sound _ _ w.book-is w.fail.ensures.of_core.sound
-      | in-Unsound+in-Ok-fail_check w ↦ as_sound _ _ w.book-is w.fail_check.ensures.of_core.sound
-      | in-Unsound+in-Err-fail_check w ↦ as_sound _ _ w.book-is w.fail_check.ensures.of_core.sound
-    ];
+    | in-Opened+in-Ok w ↦ as_sound _ _ w.book-is w.admit.ensures.of_core.sound
+    | in-Opened+in-Err w ↦ as_sound _ _ w.book-is w.admit.ensures.of_core.sound
+    | in-Failed+in-Ok-fail w ↦ as_sound _ _ w.book-is w.fail.ensures.of_core.sound
+    | in-Failed+in-Err-fail w ↦ as_sound _ _ w.book-is w.fail.ensures.of_core.sound
+    | in-Unsound+in-Ok-fail_check w ↦ as_sound _ _ w.book-is w.fail_check.ensures.of_core.sound
+    | in-Unsound+in-Err-fail_check w ↦ as_sound _ _ w.book-is w.fail_check.ensures.of_core.sound
+  ];
   noted = search rules;
 }
