@@ -306,9 +306,9 @@ has: /* Shared::if_sound, then the caller's own use, then AnyConnection::drop */
      if :: orders -> atomic { orders = false; wake_workers(CHECK) } :: else fi;
      if :: MAY_STAY -> goto stays :: true fi;                       /* Hooks::release */
      goto look
-  :: atomic { !closed -> lent--; idle++; sound(); wakes = somebody_waits };     /* Guarded::give_back, kept */
+  :: atomic { !closed -> lent--; idle++; sound(); wakes = somebody_waits };     /* Shared::give_back, kept */
      if :: wakes -> atomic { wakes = false; wake_caller(KEPT) } :: else fi
-  :: atomic { lent--; top_up(); orders = ordered > 0; wakes = somebody_waits };  /* Guarded::give_back, closed; or AnyConnection::detach */
+  :: atomic { lent--; top_up(); orders = ordered > 0; wakes = somebody_waits };  /* Shared::give_back, closed; or AnyConnection::detach */
      if :: wakes -> atomic { wakes = false; wake_caller(CLOSED) } :: else fi;
      if :: orders -> atomic { orders = false; wake_workers(CLOSED) } :: else fi;
      if :: MAY_STAY -> goto stays :: true fi                        /* Hooks::release */
