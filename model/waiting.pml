@@ -312,9 +312,9 @@ has: /* Shared::if_sound, then the caller's own use, then AnyConnection::drop */
      :: IS_IMPATIENT -> goto gives_up                               /* Shared::give_up_if_late */
      :: IS_TRYING -> goto calls                                     /* CallTime::may_take */
      fi
-  :: atomic { !closed -> lent--; idle++; sound(); wakes = somebody_waits };     /* Guarded::give_back, kept */
+  :: atomic { !closed -> lent--; idle++; sound(); wakes = somebody_waits };     /* Shared::give_back, kept */
      if :: wakes -> atomic { wakes = false; wake_caller(KEPT) } :: else fi
-  :: atomic { lent--; top_up(); orders = ordered > 0; wakes = somebody_waits };  /* Guarded::give_back, closed; or AnyConnection::detach */
+  :: atomic { lent--; top_up(); orders = ordered > 0; wakes = somebody_waits };  /* Shared::give_back, closed; or AnyConnection::detach */
      if :: wakes -> atomic { wakes = false; wake_caller(CLOSED) } :: else fi;
      if :: orders -> atomic { orders = false; wake_workers(CLOSED) } :: else fi;
      if :: MAY_STAY -> goto stays :: true fi                        /* Hooks::release */

@@ -176,7 +176,7 @@ impl<C: TakeCounter, M: ManageConnection, K: Hooks<M>, R: PoolRuntime> Drop
             shared.hooks.check_in(id, lent_at, shared.moment());
         }
         let broken = shared.manager.has_broken(&mut payload.connection);
-        let returned = shared.step(|guarded, now| guarded.give_back(now, id, payload, broken));
+        let returned = shared.give_back(id, payload, broken);
         if let Ok(Returned::Closed { value, age, .. }) = returned {
             let Payload { connection, .. } = value;
             shared.hooks.release(id, age, connection);

@@ -230,10 +230,10 @@ impl<B, M, K, R> Shared<B, M, K, R> {
         self.guarded.lock(&self.rt)
     }
 
-    /// Makes a step: takes the lock, reads the moment, calls, lets the lock go, wakes. What the call
-    /// did to the book, nobody can say after it.
+    // Makes a step: takes the lock, reads the moment, calls, lets the lock go, wakes. What the call
+    // did to the book, nobody can say after it.
     #[inline(always)]
-    pub(super) fn step<X, F: FnOnce(&mut Guarded<B>, Duration) -> (X, Wakes)>(&self, call: F) -> X
+    fn step<X, F: FnOnce(&mut Guarded<B>, Duration) -> (X, Wakes)>(&self, call: F) -> X
     where
         R: Clock + Wait,
         requires { (g : _) (now : _) → F.pre call g now }
@@ -271,6 +271,17 @@ impl<P: Drop, C: TakeCounter, M, K, R: Clock + Wait> Shared<CountingBook<P, C>, 
         ensures sound { IfOk result IsSoundReport }
     {
         self.step(|guarded, _now| (guarded.book.report(), Wakes::nobody()))
+    }
+
+    /// Puts a lent connection back. One that is closed, or refused, comes back.
+    #[inline(always)]
+    pub(super) fn give_back(
+        &self,
+        id: u64,
+        value: P,
+        broken: bool,
+    ) -> Result<Returned<P>, (Refusal, P)> {
+        self.step(|guarded, now| guarded.give_back(now, id, value, broken))
     }
 
     /// Gives an opened connection its id.
