@@ -11,8 +11,8 @@ pub struct CallTime {
     step: Duration,
     /// The latest moment of all.
     seen: Duration,
-    /// How many more it may take, of a call that does not wait and has looked.
-    left: Option<u32>,
+    /// How many more it may take, of a call that does not wait.
+    left: u32,
 }
 
 impl CallTime {
@@ -22,15 +22,15 @@ impl CallTime {
             start,
             step: Duration::ZERO,
             seen: start.unwrap_or(Duration::ZERO),
-            left: None,
+            left: u32::MAX,
         }
     }
 
     /// Whether a call that does not wait may take one of so many idle connections: each of those
     /// that it takes may fail its check, so it takes no more than were idle at its first look.
     pub(super) fn may_take(&mut self, idle: u32) -> bool {
-        let left = self.left.unwrap_or(idle).min(idle);
-        self.left = Some(left.saturating_sub(1));
+        let left = self.left.min(idle);
+        self.left = left.saturating_sub(1);
         left > 0
     }
 

@@ -71,6 +71,7 @@ impl<C: TakeCounter, M: ManageConnection, K: Hooks<M>, R: PoolRuntime> SharedOf<
 
     // Tells that a connection is lent, and answers when. Where nobody listens and nothing was
     // checked since, that is when it was taken.
+    #[inline(always)]
     fn check_out(&self, id: u64, time: &CallTime) -> Duration {
         if !self.listens && !self.hooks.test_on_check_out() {
             return time.step();
@@ -95,6 +96,7 @@ impl<C: TakeCounter, M: ManageConnection, K: Hooks<M>, R: PoolRuntime> SharedOf<
 
     /// The connection, where it need not be checked, or its check finds it sound. Else it is
     /// closed.
+    #[inline(always)]
     fn if_sound(&self, mut lent: Lent<PayloadOf<M>>) -> Option<Lent<PayloadOf<M>>> {
         if self.hooks.test_on_check_out() {
             if let Err(error) = self.manager.is_valid(&mut lent.payload.connection) {

@@ -24,6 +24,7 @@ impl<P: Drop, C: CountTakes, M, K, R: Clock + Wait> Shared<CountingBook<P, C>, M
     /// Takes the idle connection that is lent next. Where there is none it orders one and waits,
     /// until the call's timeout has passed, or until the pool is closed: each is an error. With no
     /// timeout it neither orders nor waits, and answers None.
+    #[inline(always)]
     pub(super) fn lend_until(
         &self,
         timeout: Option<Duration>,
