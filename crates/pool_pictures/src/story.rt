@@ -1,7 +1,6 @@
 // The story of a report: what became of each connection, and how many there were.
 ghost use Rattle.std.specs.Prelude.{◌≡◌, ◌+◌, ◌-◌, ◌^◌, ◌<◌, min, IfOk};
 ghost use Rattle.std.specs.Duration.{as_nanos};
-ghost use Rattle.r2d2_core.specs.Limits.{has_reached};
 
 use r2d2_core::{Limits, Report};
 use std::alloc::{AllocError, Allocator, Global};
@@ -205,17 +204,7 @@ impl Life {
         };
         let rest = at.saturating_sub(last.from);
         let age = at.saturating_sub(self.birth);
-        reaches(limits.idle_timeout(), rest) || reaches(limits.max_lifetime(), age)
-    }
-}
-
-// The limit is set, and the length of time has reached it.
-fn reaches(limit: Option<Duration>, length: Duration) -> bool
-    ensures { result ≡ has_reached limit (as_nanos length) }
-{
-    match limit {
-        Some(limit) => limit.as_nanos() <= length.as_nanos(),
-        None => false,
+        limits.is_idle_too_long(rest) || limits.is_too_old(age)
     }
 }
 

@@ -2,7 +2,7 @@
 ghost use Rattle.std.specs.Prelude.{◌≡◌};
 
 use super::{Cause, Coming, Counts, Life, Story, Stretch, Use};
-use r2d2_core::{Base, Limits, Record, Report};
+use r2d2_core::{Base, Load, Record, Report};
 use std::alloc::{AllocError, Allocator, Global};
 use std::collections::{BTreeMap, BTreeSet};
 use std::time::Duration;
@@ -11,16 +11,13 @@ use std::time::Duration;
 #[derive(Drop)]
 pub(super) struct Teller {
     alloc: Global,
-    limits: Limits,
-    now: Duration,
+    load: Load,
     lives: Vec<Life>,
     counts: Vec<Counts>,
     // The place in `lives` of each connection that is there, by its id.
     places: BTreeMap<u64, usize>,
     // The places of the idle ones.
     idle: BTreeSet<usize>,
-    pending: u32,
-    closed: bool,
     closing: Option<Duration>,
 }
 
@@ -33,14 +30,11 @@ impl Teller {
         let base = &report.base;
         let mut teller = Teller {
             alloc,
-            limits: report.limits,
-            now: base.at,
+            load: Load::of(report.limits, base),
             lives: Vec::new(alloc),
             counts: Vec::new(alloc),
             places: BTreeMap::new(alloc),
             idle: BTreeSet::new(alloc),
-            pending: base.pending,
-            closed: base.closed,
             closing: None,
         };
         teller.meet_resting(base)?;
@@ -83,7 +77,7 @@ impl Teller {
         let first = Stretch {
             what,
             from,
-            to: self.now,
+            to: self.load.at,
         };
         self.lives
             .push(Life::begun(self.alloc, id, birth, coming, first)?)?;
@@ -108,7 +102,7 @@ impl Teller {
         if let Some(place) = self.place_of(id, Use::Idle)
             && let Some(life) = self.lives.get_mut(place)
         {
-            life.turn(Use::Lent, self.now)?;
+            life.turn(Use::Lent, self.load.at)?;
             self.idle.remove(&place);
         }
         Ok(())
@@ -118,7 +112,7 @@ impl Teller {
         if let Some(place) = self.place_of(id, Use::Lent)
             && let Some(life) = self.lives.get_mut(place)
         {
-            life.turn(Use::Idle, self.now)?;
+            life.turn(Use::Idle, self.load.at)?;
             self.idle.insert(place)?;
         }
         Ok(())
@@ -132,7 +126,7 @@ impl Teller {
 
     fn end(&mut self, place: usize, cause: Cause) {
         if let Some(life) = self.lives.get_mut(place) {
-            life.end(self.now, cause);
+            life.end(self.load.at, cause);
             self.places.remove(&life.id);
         }
         self.idle.remove(&place);
@@ -143,7 +137,7 @@ impl Teller {
         let mut expired = Vec::new(self.alloc);
         for place in self.idle.iter() {
             if let Some(life) = self.lives.get(*place)
-                && life.is_expired(&self.limits, self.now)
+                && life.is_expired(&self.load.limits, self.load.at)
             {
                 expired.push(*place)?;
             }
@@ -166,60 +160,38 @@ impl Teller {
         for place in left {
             self.end(place, Cause::ClosedAll);
         }
-        self.pending = 0;
-        if !self.closed {
-            self.closing = Some(self.now);
-        }
-        self.closed = true;
         Ok(())
-    }
-
-    fn order(&mut self, ordered: u32) {
-        self.pending = self.pending.saturating_add(ordered);
-    }
-
-    fn admit(&mut self, id: u64) -> Result<(), AllocError> {
-        self.pending = self.pending.saturating_sub(1);
-        let now = self.now;
-        self.meet(id, now, Coming::Admitted, now)
     }
 
     // Notes how many there are now.
     fn count(&mut self) -> Result<(), AllocError> {
         let (idle, connections) = (capped(self.idle.len()), capped(self.places.len()));
-        let busy = connections
-            .saturating_sub(idle)
-            .saturating_add(self.pending);
         let counts = Counts {
-            at: self.now,
+            at: self.load.at,
             idle,
             connections,
-            pending: self.pending,
-            is_exhausted: !self.closed && busy >= self.limits.max_size(),
+            pending: self.load.pending,
+            is_exhausted: self.load.is_exhausted(),
         };
         Ok(self.counts.push(counts)?)
     }
 
     /// What the next record tells.
     pub(super) fn follow(&mut self, record: Record) -> Result<(), AllocError> {
-        self.now = self.now.max(record.at());
+        let was_closed = self.load.closed;
+        self.load.follow(&record);
+        let at = self.load.at;
         match record {
-            Record::Taken { id, ordered, .. } => {
-                self.lend(id)?;
-                self.order(ordered);
-            }
-            Record::Ordered { ordered, .. } => self.order(ordered),
-            Record::Admitted { id, .. } => self.admit(id)?,
+            Record::Taken { id, .. } => self.lend(id)?,
+            Record::Ordered { .. } => {}
+            Record::Admitted { id, .. } => self.meet(id, at, Coming::Admitted, at)?,
             Record::Kept { id, .. } => self.keep(id)?,
-            Record::Closed { id, ordered, .. } => {
-                self.part(id);
-                self.order(ordered);
-            }
-            Record::Reaped { ordered, .. } => {
-                self.reap()?;
-                self.order(ordered);
-            }
+            Record::Closed { id, .. } => self.part(id),
+            Record::Reaped { .. } => self.reap()?,
             Record::ClosedAll { .. } => self.close()?,
+        }
+        if self.load.closed && !was_closed {
+            self.closing = Some(at);
         }
         self.count()
     }
@@ -232,17 +204,17 @@ impl Teller {
     {
         for life in self.lives.iter_mut() {
             if life.ending.is_none() {
-                life.reach(self.now);
+                life.reach(self.load.at);
             }
         }
         Story {
             limits: report.limits,
             from: report.base.at,
-            to: self.now,
+            to: self.load.at,
             lives: self.lives,
             counts: self.counts,
             lost: report.lost,
-            closed: self.closed,
+            closed: self.load.closed,
             closing: self.closing,
         }
     }
