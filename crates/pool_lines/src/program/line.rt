@@ -37,21 +37,21 @@ pub fn limits(line: &[u8]) -> Result<Limits, Fault>
 
 // What the first line says, legal or not.
 #[derive(Clone, Copy)]
-pub(super) struct LimitsLine {
-    pub(super) max_size: u32,
-    pub(super) min_idle: Option<u32>,
-    pub(super) max_lifetime: Option<Duration>,
-    pub(super) idle_timeout: Option<Duration>,
-    pub(super) connection_timeout: Duration,
-    pub(super) reap_every: Duration,
-    pub(super) order: LendingOrder,
+struct LimitsLine {
+    max_size: u32,
+    min_idle: Option<u32>,
+    max_lifetime: Option<Duration>,
+    idle_timeout: Option<Duration>,
+    connection_timeout: Duration,
+    reap_every: Duration,
+    order: LendingOrder,
 }
 
 impl LimitsLine {
     ghost use Rattle.pool_lines.specs.LimitsLine.{seen_limits_line, bounds_of};
 
     #[tactic(auto, unfolding(crate::specs::Lines::limits_in))]
-    pub(super) fn read(line: &[u8]) -> Option<LimitsLine>
+    fn read(line: &[u8]) -> Option<LimitsLine>
         ensures { option_map seen_limits_line result ≡ limits_in line.now }
     {
         LimitsLine::parse(text(line)?)
@@ -351,7 +351,7 @@ fn reaps_and_order(fields: &str) -> Option<(Duration, LendingOrder)>
     }
 }
 
-pub(super) fn lending_order(word: &str) -> Option<LendingOrder>
+fn lending_order(word: &str) -> Option<LendingOrder>
     ensures { result ≡ order_in word.now }
 {
     match word {
@@ -363,7 +363,7 @@ pub(super) fn lending_order(word: &str) -> Option<LendingOrder>
 
 // A field that may be left out by `-`.
 #[tactic(auto, unfolding(crate::specs::Lines::optional_in))]
-pub(super) fn optional_number(field: &str) -> Option<Option<u32>>
+fn optional_number(field: &str) -> Option<Option<u32>>
     ensures { result ≡ optional_in (number_in 32) field.now }
 {
     if field == "-" {
@@ -373,7 +373,7 @@ pub(super) fn optional_number(field: &str) -> Option<Option<u32>>
 }
 
 #[tactic(auto, unfolding(crate::specs::Lines::optional_in))]
-pub(super) fn optional_time(field: &str) -> Option<Option<Duration>>
+fn optional_time(field: &str) -> Option<Option<Duration>>
     ensures { option_map (option_map as_nanos) result ≡ optional_in time_in field.now }
 {
     if field == "-" {
@@ -392,7 +392,7 @@ fn time(field: &str) -> Option<Duration>
     Some(Duration::from_millis(number(field)?))
 }
 
-pub(super) fn small_number(field: &str) -> Option<u32>
+fn small_number(field: &str) -> Option<u32>
     ensures some { IsSome result ↔ IsNumber 32 field.now }
     ensures value { IfSome result (λ n. n ≡ number_of field.now) }
     ensures exact { result ≡ number_in 32 field.now }
@@ -401,7 +401,7 @@ pub(super) fn small_number(field: &str) -> Option<u32>
 }
 
 // The number that a field of digits says.
-pub(super) fn number(field: &str) -> Option<u64>
+fn number(field: &str) -> Option<u64>
     ensures some { IsSome result ↔ IsNumber 64 field.now }
     ensures value { IfSome result (λ n. n ≡ number_of field.now) }
     ensures exact { result ≡ number_in 64 field.now }
