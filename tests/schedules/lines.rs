@@ -9,6 +9,9 @@ use std::sync::atomic::{AtomicU64, Ordering};
 use std::time::Duration;
 use std::{fmt, thread};
 
+/// How many seconds a handler stays: longer than any caller waits.
+pub(crate) const STAY: u64 = 5000;
+
 #[derive(Clone, Copy, Debug)]
 pub(crate) struct Blammo;
 
@@ -146,7 +149,7 @@ impl<R: Host> Handlers<R> {
     // The first one keeps its handler for longer than any caller waits.
     fn may_stay(&self, may: bool) {
         if may && self.times.fetch_add(1, Ordering::SeqCst) == 0 {
-            self.is_busy_for(5000);
+            self.is_busy_for(STAY);
         }
     }
 }

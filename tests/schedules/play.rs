@@ -2,7 +2,7 @@
 
 use super::kind::{Makes, Pool, PooledConnection};
 use crate::judged::{Host, Seen, Stopwatch, add, choose, of, take_off};
-use crate::lines::{Handlers, Lines};
+use crate::lines::{Handlers, Lines, STAY};
 use crate::plan::Plan;
 use r2d2::{Builder, ErrorKind, LendingOrder, NopConnectionCustomizer, Status};
 use std::sync::Arc;
@@ -196,7 +196,7 @@ fn gets<R: Host>(rt: R, plan: &Plan, seen: &Seen<R>, pool: &Watched<R>, wait: u6
             ErrorKind::Timeout => {
                 seen.tell("is told of a timeout");
                 watch.check(seen, "a get is told of a timeout before it", wait, None);
-                if wait == PATIENT || was_closed {
+                if (wait == PATIENT || was_closed) && !has_stayed(&rt, plan, &watch) {
                     seen.fault("a caller with all the time in the world is told of a timeout");
                 }
             }
@@ -209,6 +209,13 @@ fn gets<R: Host>(rt: R, plan: &Plan, seen: &Seen<R>, pool: &Watched<R>, wait: u6
             _ => seen.fault("a get is told of what cannot be"),
         },
     }
+}
+
+// Whether a call's own handler stayed, so that its time was over after a failed check. Who only waits
+// is told of a timeout long before.
+fn has_stayed<R: Host>(rt: &R, plan: &Plan, watch: &Stopwatch) -> bool {
+    let may_stay = plan.seconds_of_checks(1).is_none();
+    may_stay && watch.seconds(rt).is_none_or(|took| took >= STAY)
 }
 
 fn tries<R: Host>(rt: R, plan: &Plan, seen: &Seen<R>, pool: &Watched<R>) {
