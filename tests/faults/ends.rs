@@ -8,11 +8,12 @@ use r2d2::{
     Builder, ErrorKind, HandleError, ManageConnection, NopConnectionCustomizer, NopEventHandler,
     PoolRuntime,
 };
+use std::process::Abort;
 use std::rt::Clock;
 use std::sync::Arc;
 use std::sync::atomic::{AtomicU64, Ordering};
 use std::test::Fail;
-use std::thread;
+use std::thread::{self, JoinHandle};
 use std::time::Duration;
 
 /// How many calls ended.
@@ -72,6 +73,42 @@ fn once_read<R: Clock, C>(rt: &R, hand: &Hand<C>, after: u64, more: u64) -> bool
     watched(rt, hand.readings(), after + more, 500) >= after + more
 }
 
+// Begins such a wait in a thread of its own.
+fn begins_to_wait<M, H, R, T>(
+    rt: &T,
+    pool: &Pool<M, H, NopEventHandler, NopConnectionCustomizer, R>,
+    seconds: u64,
+    ended: &Ended,
+) -> Result<JoinHandle<Option<ErrorKind>>, Fail>
+where
+    M: ManageConnection,
+    H: HandleError<M::Error>,
+    R: PoolRuntime,
+    T: PoolRuntime,
+{
+    let (theirs, count) = (pool.try_clone()?, Arc::try_clone(ended)?);
+    Ok(thread::spawn(rt, move || waits(theirs, seconds, count))?)
+}
+
+/// Makes a pool whose only opening does not come, with a caller who has a minute, and is at its
+/// wait.
+fn one_waits<R: PoolRuntime + Abort>(
+    rt: R,
+    play: &Arc<Play>,
+    hand: Hand<R>,
+    ended: &Ended,
+) -> Result<(PlainPool<Manager<R>, Hand<R>>, JoinHandle<Option<ErrorKind>>), Fail> {
+    let pool = Builder::new()
+        .max_size(1)
+        .thread_pool(1)
+        .make_unchecked(hand, Manager::new(rt, play)?)?;
+    assert_eq!(rt; watched(&rt, play.connects(), 1, 500), 1);
+    let before = hand.readings().load(Ordering::SeqCst);
+    let caller = begins_to_wait(&rt, &pool, 60, ended)?;
+    assert!(rt; once_read(&rt, &hand, before, OF_A_CALLER));
+    Ok((pool, caller))
+}
+
 // A caller has a thousand seconds. Broken connections come back after 600 and after 1100, and wake
 // it; the first time it orders one, which does not come.
 #[test]
@@ -88,8 +125,7 @@ fn a_caller_who_waits_again_has_what_is_left(rt: HostRuntime) -> Result<(), Fail
         .min_idle(Some(0))
         .make(hand, Manager::new(rt, &play)?)?;
     let (first, second) = (pool.get()?, pool.get()?);
-    let (theirs, count) = (pool.try_clone()?, Arc::try_clone(&ended)?);
-    let caller = thread::spawn(&rt, move || waits(theirs, 1000, count))?;
+    let caller = begins_to_wait(&rt, &pool, 1000, &ended)?;
     for _ in 0..500 {
         if pool.status().waiting == 1 {
             break;
@@ -134,8 +170,7 @@ fn who_gives_up_with_a_text_passes_the_wake_on(rt: HostRuntime) -> Result<(), Fa
     let theirs = pool.try_clone()?;
     let hasty = thread::spawn(&rt, move || is_told(theirs, 60, "connect 1"))?;
     assert!(rt; once_read(&rt, &hand, before, OF_A_CALLER));
-    let (theirs, count) = (pool.try_clone()?, Arc::try_clone(&served)?);
-    let patient = thread::spawn(&rt, move || waits(theirs, 1000, count))?;
+    let patient = begins_to_wait(&rt, &pool, 1000, &served)?;
     assert!(rt; once_read(&rt, &hand, before, 2 * OF_A_CALLER));
     hand.set(100, 0);
     drop(lent);
@@ -151,15 +186,7 @@ fn who_is_late_is_told_so_though_the_pool_is_closed(rt: HostRuntime) -> Result<(
     let rows = Rows { unheld: 0, ..GOOD };
     let (play, hand) = (Play::new(rt.alloc(), rows)?, Hand::new(rt)?);
     let ended = Arc::new(rt.alloc(), AtomicU64::new(0))?;
-    let pool = Builder::new()
-        .max_size(1)
-        .thread_pool(1)
-        .make_unchecked(hand, Manager::new(rt, &play)?)?;
-    assert_eq!(rt; watched(&rt, play.connects(), 1, 500), 1);
-    let before = hand.readings().load(Ordering::SeqCst);
-    let (theirs, count) = (pool.try_clone()?, Arc::try_clone(&ended)?);
-    let caller = thread::spawn(&rt, move || waits(theirs, 60, count))?;
-    assert!(rt; once_read(&rt, &hand, before, OF_A_CALLER));
+    let (pool, caller) = one_waits(rt, &play, hand, &ended)?;
     hand.set(100, 0);
     pool.close();
     assert_eq!(rt; watched(&rt, &ended, 1, 500), 1);
@@ -205,22 +232,15 @@ fn a_close_wakes_after_its_step(rt: HostRuntime) -> Result<(), Fail> {
     let rows = Rows { unheld: 0, ..GOOD };
     let (play, hand) = (Play::new(rt.alloc(), rows)?, Hand::new(rt)?);
     let ended = Arc::new(rt.alloc(), AtomicU64::new(0))?;
-    let pool = Builder::new()
-        .max_size(1)
-        .thread_pool(1)
-        .make_unchecked(hand, Manager::new(rt, &play)?)?;
-    assert_eq!(rt; watched(&rt, play.connects(), 1, 500), 1);
+    let (pool, caller) = one_waits(rt, &play, hand, &ended)?;
     let before = hand.readings().load(Ordering::SeqCst);
-    let (theirs, count) = (pool.try_clone()?, Arc::try_clone(&ended)?);
-    let caller = thread::spawn(&rt, move || waits(theirs, 60, count))?;
-    assert!(rt; once_read(&rt, &hand, before, OF_A_CALLER));
     hand.let_read(false);
     let theirs = pool.try_clone()?;
     let other = thread::spawn(&rt, move || drop(theirs.state()))?;
-    assert!(rt; once_read(&rt, &hand, before, OF_A_CALLER + 1));
+    assert!(rt; once_read(&rt, &hand, before, 1));
     let theirs = pool.try_clone()?;
     let closer = thread::spawn(&rt, move || closes(theirs))?;
-    let more = before + OF_A_CALLER + 2;
+    let more = before + 2;
     assert_eq!(rt; watched(&rt, hand.readings(), more, 30), more - 1);
     hand.let_read(true);
     other.join(&rt);

@@ -15,65 +15,58 @@ use std::test::Fail;
 use std::time::Duration;
 use std::{fmt, thread};
 
+/// A callback.
+#[derive(Clone, Copy, PartialEq)]
+pub(crate) enum Callback {
+    Connect,
+    OnAcquire,
+    HandleAcquire,
+    HandleError,
+    IsValid,
+    HandleCheckout,
+    HasBroken,
+    HandleCheckin,
+    HandleRelease,
+    OnRelease,
+    HandleTimeout,
+}
+
 /// The callbacks, by the words of scenarios.txt.
-pub(crate) const CALLBACKS: [&str; 11] = [
-    "connect",
-    "on_acquire",
-    "handle_acquire",
-    "handle_error",
-    "is_valid",
-    "handle_checkout",
-    "has_broken",
-    "handle_checkin",
-    "handle_release",
-    "on_release",
-    "handle_timeout",
+pub(crate) const CALLBACKS: [(&str, Callback); 11] = [
+    ("connect", Callback::Connect),
+    ("on_acquire", Callback::OnAcquire),
+    ("handle_acquire", Callback::HandleAcquire),
+    ("handle_error", Callback::HandleError),
+    ("is_valid", Callback::IsValid),
+    ("handle_checkout", Callback::HandleCheckout),
+    ("has_broken", Callback::HasBroken),
+    ("handle_checkin", Callback::HandleCheckin),
+    ("handle_release", Callback::HandleRelease),
+    ("on_release", Callback::OnRelease),
+    ("handle_timeout", Callback::HandleTimeout),
 ];
 
-const CONNECT: u64 = 0;
+#[derive(Clone, Copy, PartialEq)]
+enum Call {
+    TryGet,
+    Get,
+    Detach,
+    Evict,
+    Close,
+    Drain,
+    Drop,
+}
 
-const ON_ACQUIRE: u64 = 1;
-
-const HANDLE_ACQUIRE: u64 = 2;
-
-const HANDLE_ERROR: u64 = 3;
-
-const IS_VALID: u64 = 4;
-
-const HANDLE_CHECKOUT: u64 = 5;
-
-const HAS_BROKEN: u64 = 6;
-
-const HANDLE_CHECKIN: u64 = 7;
-
-const HANDLE_RELEASE: u64 = 8;
-
-const ON_RELEASE: u64 = 9;
-
-const HANDLE_TIMEOUT: u64 = 10;
-
-/// The calls, of which the schedule draws one.
-const CALLS: [&str; 7] = [
-    "try_get",
-    "get",
-    "get and detach",
-    "evict",
-    "close",
-    "drain",
-    "drop",
+/// The calls, of which the schedule draws one, by what is told of each.
+const CALLS: [(&str, Call); 7] = [
+    ("try_get", Call::TryGet),
+    ("get", Call::Get),
+    ("get and detach", Call::Detach),
+    ("evict", Call::Evict),
+    ("close", Call::Close),
+    ("drain", Call::Drain),
+    ("drop", Call::Drop),
 ];
-
-const GET: u64 = 1;
-
-const DETACH: u64 = 2;
-
-const EVICT: u64 = 3;
-
-const CLOSE: u64 = 4;
-
-const DRAIN: u64 = 5;
-
-const DROP: u64 = 6;
 
 /// Openings without an end are this many at least.
 const ENOUGH: u64 = 50;
@@ -92,8 +85,10 @@ struct Calls<R: Host> {
 struct Inner<R: Host> {
     seen: Arc<Seen<R>>,
     pool: Mutex<Option<Own<R>>>,
-    within: u64,
-    call: u64,
+    within: Callback,
+    call: Call,
+    /// What is told of the call.
+    word: &'static str,
     /// One connection and one worker, and not two.
     is_tight: bool,
     /// How often it calls at most.
@@ -125,11 +120,11 @@ impl<R: Host> Drop for Calls<R> {
 
 impl<R: Host> Inner<R> {
     /// A callback of this kind calls, unless another one is to, or this has often enough.
-    fn calls(&self, callback: u64) {
+    fn calls(&self, callback: Callback) {
         if callback != self.within || self.called.fetch_add(1, Ordering::SeqCst) >= self.most {
             return;
         }
-        if self.call == DROP {
+        if self.call == Call::Drop {
             let pool = self.pool.lock(&self.rt).take();
             drop(pool);
             return;
@@ -141,7 +136,7 @@ impl<R: Host> Inner<R> {
         };
         drop(held);
         if let Some(pool) = theirs {
-            self.seen.tell(CALLS[self.call as usize]);
+            self.seen.tell(self.word);
             let watch = Stopwatch::begin(&self.rt);
             let is_met = self.call_once(&pool);
             let seconds = if self.waits_out() { 1 } else { 0 };
@@ -163,21 +158,21 @@ impl<R: Host> Inner<R> {
     fn call_once(&self, pool: &Own<R>) -> bool {
         let second = Duration::from_secs(1);
         match self.call {
-            GET => pool.get_timeout(second).is_ok() != self.waits_out(),
-            DETACH => match pool.get_timeout(second) {
+            Call::Get => pool.get_timeout(second).is_ok() != self.waits_out(),
+            Call::Detach => match pool.get_timeout(second) {
                 Ok(lent) => {
                     drop(PooledConnection::detach(lent));
                     !self.waits_out()
                 }
                 Err(_) => self.waits_out(),
             },
-            CLOSE => {
+            Call::Close => {
                 pool.close();
                 true
             }
-            DRAIN => pool.drain(second).is_ok() != self.waits_out(),
-            EVICT if of(&self.seen.opened) <= ENOUGH => pool.evict().is_ok(),
-            EVICT => {
+            Call::Drain => pool.drain(second).is_ok() != self.waits_out(),
+            Call::Evict if of(&self.seen.opened) <= ENOUGH => pool.evict().is_ok(),
+            Call::Evict => {
                 // Nothing else ends it.
                 pool.close();
                 true
@@ -190,18 +185,24 @@ impl<R: Host> Inner<R> {
     fn waits_out(&self) -> bool {
         let is_lent = matches!(
             self.within,
-            IS_VALID | HANDLE_CHECKOUT | HAS_BROKEN | HANDLE_CHECKIN
+            Callback::IsValid
+                | Callback::HandleCheckout
+                | Callback::HasBroken
+                | Callback::HandleCheckin
         );
         let is_opening = matches!(
             self.within,
-            CONNECT | ON_ACQUIRE | HANDLE_ACQUIRE | HANDLE_ERROR
+            Callback::Connect
+                | Callback::OnAcquire
+                | Callback::HandleAcquire
+                | Callback::HandleError
         );
         match self.call {
             // Where a caller gives up, all is lent, as this program has it.
-            GET | DETACH => {
-                self.within == HANDLE_TIMEOUT || self.is_tight && (is_lent || is_opening)
+            Call::Get | Call::Detach => {
+                self.within == Callback::HandleTimeout || self.is_tight && (is_lent || is_opening)
             }
-            DRAIN => self.within == HANDLE_TIMEOUT || is_lent,
+            Call::Drain => self.within == Callback::HandleTimeout || is_lent,
             _ => false,
         }
     }
@@ -215,9 +216,9 @@ impl<R: Host> ManageConnection for Calls<R> {
     type Extension = ();
 
     fn connect(&self) -> Result<Kept<R>, Blammo> {
-        self.inner.calls(CONNECT);
+        self.inner.calls(Callback::Connect);
         // The first opening fails where the handler of errors is the one that calls.
-        if self.inner.within == HANDLE_ERROR
+        if self.inner.within == Callback::HandleError
             && self.inner.seen.bad.fetch_add(1, Ordering::SeqCst) == 0
         {
             return Err(Blammo);
@@ -228,14 +229,14 @@ impl<R: Host> ManageConnection for Calls<R> {
     }
 
     fn is_valid(&self, _connection: &mut Kept<R>) -> Result<(), Blammo> {
-        self.inner.calls(IS_VALID);
+        self.inner.calls(Callback::IsValid);
         Ok(())
     }
 
     fn has_broken(&self, _connection: &mut Kept<R>) -> bool {
-        self.inner.calls(HAS_BROKEN);
+        self.inner.calls(Callback::HasBroken);
         // What is released has to be broken.
-        matches!(self.inner.within, HANDLE_RELEASE | ON_RELEASE)
+        matches!(self.inner.within, Callback::HandleRelease | Callback::OnRelease)
     }
 }
 
@@ -247,41 +248,41 @@ impl<R: Host> fmt::Debug for Calls<R> {
 
 impl<R: Host> HandleError<Blammo> for Calls<R> {
     fn handle_error(&self, _error: Blammo) {
-        self.inner.calls(HANDLE_ERROR);
+        self.inner.calls(Callback::HandleError);
     }
 }
 
 impl<R: Host> HandleEvent for Calls<R> {
     fn handle_acquire(&self, _event: AcquireEvent) {
-        self.inner.calls(HANDLE_ACQUIRE);
+        self.inner.calls(Callback::HandleAcquire);
     }
 
     fn handle_release(&self, _event: ReleaseEvent) {
-        self.inner.calls(HANDLE_RELEASE);
+        self.inner.calls(Callback::HandleRelease);
     }
 
     fn handle_checkout(&self, _event: CheckoutEvent) {
-        self.inner.calls(HANDLE_CHECKOUT);
+        self.inner.calls(Callback::HandleCheckout);
     }
 
     fn handle_timeout(&self, _event: TimeoutEvent) {
-        self.inner.calls(HANDLE_TIMEOUT);
+        self.inner.calls(Callback::HandleTimeout);
     }
 
     fn handle_checkin(&self, _event: CheckinEvent) {
-        self.inner.calls(HANDLE_CHECKIN);
+        self.inner.calls(Callback::HandleCheckin);
     }
 }
 
 impl<R: Host> CustomizeConnection<Kept<R>, Blammo> for Calls<R> {
     fn on_acquire(&self, _connection: &mut Kept<R>) -> Result<(), Blammo> {
-        self.inner.calls(ON_ACQUIRE);
+        self.inner.calls(Callback::OnAcquire);
         Ok(())
     }
 
     fn on_release(&self, connection: Kept<R>) {
         drop(connection);
-        self.inner.calls(ON_RELEASE);
+        self.inner.calls(Callback::OnRelease);
     }
 }
 
@@ -292,21 +293,28 @@ fn calls_of<R: Host>(inner: &Arc<Inner<R>>, is_manager: bool) -> Result<Calls<R>
     })
 }
 
-/// Plays the plan's callback with a call that the schedule draws; without end, if the plan says so.
-pub(crate) fn play<R: Host>(rt: R, plan: Plan, seen: &Arc<Seen<R>>) -> Result<(), Fail> {
+/// Plays the callback with a call that the schedule draws; without end, if the plan says so.
+pub(crate) fn play<R: Host>(
+    rt: R,
+    plan: Plan,
+    within: Callback,
+    seen: &Arc<Seen<R>>,
+) -> Result<(), Fail> {
     let is_tight = !plan.endless && choose(&rt, 2) == 0;
+    let (word, call) = if plan.endless {
+        ("evict", Call::Evict)
+    } else {
+        CALLS[(choose(&rt, 12) % 7) as usize]
+    };
     let size = if is_tight { 1 } else { 2 };
     let inner = Arc::new(
         rt.alloc(),
         Inner {
             seen: Arc::try_clone(seen)?,
             pool: Mutex::new(None),
-            within: plan.within.saturating_sub(1),
-            call: if plan.endless {
-                EVICT
-            } else {
-                choose(&rt, 12) % 7
-            },
+            within,
+            call,
+            word,
             is_tight,
             most: if plan.endless { u64::MAX } else { 1 },
             called: AtomicU64::new(0),
@@ -343,15 +351,15 @@ pub(crate) fn play<R: Host>(rt: R, plan: Plan, seen: &Arc<Seen<R>>) -> Result<()
 // callback is called. The pool that is handed in may be the last one.
 fn uses<R: Host>(inner: &Inner<R>, pool: Own<R>, size: u32) {
     let first = pool.get_timeout(Duration::from_secs(1000)).ok();
-    let second = if inner.within == HANDLE_TIMEOUT && size > 1 {
+    let second = if inner.within == Callback::HandleTimeout && size > 1 {
         pool.get_timeout(Duration::from_secs(1000)).ok()
     } else {
         None
     };
-    if inner.within == HANDLE_TIMEOUT {
+    if inner.within == Callback::HandleTimeout {
         drop(pool.get_timeout(Duration::from_secs(1)).ok());
     }
-    let is_last = inner.call == DROP && choose(&inner.rt, 2) == 0;
+    let is_last = inner.call == Call::Drop && choose(&inner.rt, 2) == 0;
     let kept = if is_last { None } else { Some(pool) };
     drop(first);
     drop(second);

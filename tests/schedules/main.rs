@@ -39,10 +39,10 @@ fn main(rt: HostRuntime) -> Result<ExitCode, Fail> {
         }
     }
     let seen = Seen::new(rt)?;
-    match kind {
-        _ if plan.within > 0 => callbacks::play(rt, plan, &seen)?,
-        "plain" => plain::play::play(rt, plan, &seen)?,
-        _ => counted::play::play(rt, plan, &seen)?,
+    match (plan.within, kind) {
+        (Some(within), _) => callbacks::play(rt, plan, within, &seen)?,
+        (None, "plain") => plain::play::play(rt, plan, &seen)?,
+        (None, _) => counted::play::play(rt, plan, &seen)?,
     }
     judged::ends(rt, &seen);
     Ok(ExitCode::from(if seen.has_faults() { 1 } else { 0 }))

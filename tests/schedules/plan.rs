@@ -1,6 +1,6 @@
 // What a run does: a scenario of tools/schedules/scenarios.txt, which says what its words mean.
 
-use crate::callbacks::CALLBACKS;
+use crate::callbacks::{CALLBACKS, Callback};
 
 #[derive(Clone, Copy)]
 pub(crate) struct Plan {
@@ -29,8 +29,8 @@ pub(crate) struct Plan {
     pub(crate) slow_releases: bool,
     pub(crate) error_stays: bool,
     pub(crate) release_stays: bool,
-    /// The callback that calls into the pool, counted from 1.
-    pub(crate) within: u64,
+    /// The callback that calls into the pool.
+    pub(crate) within: Option<Callback>,
     pub(crate) endless: bool,
 }
 
@@ -62,7 +62,7 @@ impl Plan {
             slow_releases: false,
             error_stays: false,
             release_stays: false,
-            within: 0,
+            within: None,
             endless: false,
         }
     }
@@ -101,14 +101,10 @@ impl Plan {
         true
     }
 
-    fn take_callback(&mut self, callback: &str) -> bool {
-        for name in &CALLBACKS {
-            self.within = self.within.saturating_add(1);
-            if *name == callback {
-                return true;
-            }
-        }
-        false
+    fn take_callback(&mut self, word: &str) -> bool {
+        let named = CALLBACKS.iter().find(|named| named.0 == word);
+        self.within = named.map(|named| named.1);
+        self.within.is_some()
     }
 
     fn take_number(&mut self, name: &str, number: u64) -> bool {

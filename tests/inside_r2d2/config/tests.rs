@@ -4,10 +4,14 @@ use super::*;
 use crate::tests::Numbers;
 use std::test::Fail;
 
-#[test]
-fn the_first_id_is_kept_by_all_other_settings(rt: HostRuntime) -> Result<(), Fail> {
-    assert_eq!(rt; Builder::<Numbers>::new().first_id, 0);
-    let builder = Builder::<Numbers>::new()
+// With other settings than a new builder has, but for the handlers and the customizer.
+fn with_settings<H, V, Z>(builder: Builder<Numbers, H, V, Z>) -> Builder<Numbers, H, V, Z>
+where
+    H: HandleError<&'static str>,
+    V: HandleEvent + 'static,
+    Z: CustomizeConnection<u32, &'static str>,
+{
+    builder
         .first_id(7)
         .max_size(3)
         .min_idle(Some(1))
@@ -19,6 +23,12 @@ fn the_first_id_is_kept_by_all_other_settings(rt: HostRuntime) -> Result<(), Fai
         .journal_room(4)
         .reaper_rate(Duration::from_secs(2))
         .lending_order(LendingOrder::OldestFirst)
+}
+
+#[test]
+fn the_first_id_is_kept_by_all_other_settings(rt: HostRuntime) -> Result<(), Fail> {
+    assert_eq!(rt; Builder::<Numbers>::new().first_id, 0);
+    let builder = with_settings(Builder::<Numbers>::new())
         .error_handler(NopErrorHandler)
         .event_handler(NopEventHandler)
         .connection_customizer(NopConnectionCustomizer);
@@ -52,18 +62,6 @@ fn who_listens_is_known_after_all_other_settings(rt: HostRuntime) -> Result<(), 
     assert!(rt; heard.listens());
     let heard = heard.connection_customizer(NopConnectionCustomizer);
     assert!(rt; heard.listens());
-    let heard = heard
-        .first_id(7)
-        .max_size(3)
-        .min_idle(Some(1))
-        .thread_pool(2)
-        .test_on_check_out(false)
-        .max_lifetime(None)
-        .idle_timeout(None)
-        .connection_timeout(Duration::from_secs(1))
-        .journal_room(4)
-        .reaper_rate(Duration::from_secs(2))
-        .lending_order(LendingOrder::OldestFirst);
-    assert!(rt; heard.listens());
+    assert!(rt; with_settings(heard).listens());
     Ok(())
 }
