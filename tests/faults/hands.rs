@@ -88,29 +88,29 @@ fn how_old_one_is_whose_check_failed(rt: HostRuntime) -> Result<(), Fail> {
     Ok(())
 }
 
-// A caller has a minute. The one that it found fails its check when that is over.
+// A caller has a minute. The clock moves on by more between its start and its first look.
 #[test]
 fn past_its_end_a_caller_orders_on_its_miss(rt: HostRuntime) -> Result<(), Fail> {
-    let rows = Rows {
-        is_valid: "-",
-        ..GOOD
-    };
+    let rows = Rows { unheld: 0, ..GOOD };
     let (play, hand) = (Play::new(rt.alloc(), rows)?, Hand::new(rt)?);
     let ages = Arc::new(rt.alloc(), Mutex::new(Vec::new(rt.alloc())))?;
     let pool = Builder::new()
         .max_size(1)
         .min_idle(Some(0))
         .journal_room(16)
-        .error_handler(Mover::new(hand, [(100, 0); 2], &ages)?)
-        .make(hand, Manager::new(rt, &play)?)?;
+        .event_handler(Mover::new(hand, [(0, 0); 2], &ages)?)
+        .make_unchecked(hand, Manager::new(rt, &play)?)?;
+    hand.set(10, 100);
     assert!(rt; pool.get_timeout(Duration::from_secs(60)).is_err());
+    hand.stop();
     let report = pool.journal()?;
     let orders = report
         .records
         .as_slice()
         .iter()
         .filter(|record| matches!(record, Record::Ordered { .. }));
-    assert_eq!(rt; orders.count(), 2);
+    assert_eq!(rt; orders.count(), 1);
+    play.let_go.store(1, Ordering::SeqCst);
     Ok(())
 }
 
