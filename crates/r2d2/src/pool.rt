@@ -252,8 +252,8 @@ impl<
     /// waits about as long as `timeout` if there is none.
     ///
     /// If the setting `test_on_check_out` is on, the connection is checked first; one that fails is
-    /// closed, and another is looked for while there is time left. So the call lasts longer than
-    /// `timeout` by one check at most.
+    /// closed, and another is looked for while there is time left: a call whose time is over makes
+    /// no other check.
     ///
     /// The error is a timeout, with the text of the latest error of an opening or a check if there
     /// was one; or `ErrorKind::Closed`, at once, where the pool was closed; or lack of memory for a

@@ -108,8 +108,8 @@ impl<C: TakeCounter, M: ManageConnection, K: Hooks<M>, R: PoolRuntime> AnyConnec
     pub fn extensions_mut(this: &mut Self) -> &mut Extensions<M::Extension>
         ensures value { result.now ≡ this.old.extensions }
         ensures* writes_back { sem 𝓛 (Lends (the_row C.row M.row K.row R.row M.Connection.row
-            M.Error.row M.Extension.row M.Extension.Kind.row K.Customizer.row C.TakeCounter M.Error.Display
-            M.Extension.Extension M.Extension.Kind.PartialEq K.Customizer.Debug
+            M.Error.row M.Extension.row M.Extension.Kind.row K.Customizer.row C.TakeCounter
+            M.Error.Display M.Extension.Extension M.Extension.Kind.PartialEq K.Customizer.Debug
             ⟦<Global as Allocator>⟧ ⟦<Global as Clone>⟧)
             (extensions_row M.Extension.row M.Extension.Kind.row
             M.Extension.Extension M.Extension.Kind.PartialEq) this.entry result
@@ -140,8 +140,8 @@ impl<C: TakeCounter, M: ManageConnection, K: Hooks<M>, R: PoolRuntime> DerefMut
     fn deref_mut(&mut self) -> &mut M::Connection
         ensures value { result.now ≡ self.old.connection }
         ensures* writes_back { sem 𝓛 (Lends (the_row C.row M.row K.row R.row M.Connection.row
-            M.Error.row M.Extension.row M.Extension.Kind.row K.Customizer.row C.TakeCounter M.Error.Display
-            M.Extension.Extension M.Extension.Kind.PartialEq K.Customizer.Debug
+            M.Error.row M.Extension.row M.Extension.Kind.row K.Customizer.row C.TakeCounter
+            M.Error.Display M.Extension.Extension M.Extension.Kind.PartialEq K.Customizer.Debug
             ⟦<Global as Allocator>⟧ ⟦<Global as Clone>⟧) M.Connection.row
             self.entry result
             (λ w. record self.old { connection = w })) }
