@@ -21,6 +21,8 @@ mod evicting;
 #[cfg(test)]
 mod extremes;
 #[cfg(test)]
+mod giving_up;
+#[cfg(test)]
 mod hand;
 #[cfg(test)]
 mod hands;
@@ -45,6 +47,8 @@ mod opening;
 #[cfg(test)]
 mod order;
 #[cfg(test)]
+mod outage;
+#[cfg(test)]
 mod passing_on;
 #[cfg(test)]
 mod patience;
@@ -53,7 +57,11 @@ mod play;
 #[cfg(test)]
 mod readings;
 #[cfg(test)]
+mod reasons;
+#[cfg(test)]
 mod scripts;
+#[cfg(test)]
+mod server;
 #[cfg(test)]
 mod status;
 #[cfg(test)]

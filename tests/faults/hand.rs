@@ -55,6 +55,11 @@ impl<R> Hand<R> {
         self.face.moves_by.store(moves_by, Ordering::SeqCst);
     }
 
+    /// It shows so many seconds more.
+    pub(crate) fn move_on(&self, seconds: u64) {
+        self.face.shows.fetch_add(seconds, Ordering::SeqCst);
+    }
+
     /// It stands where it is.
     pub(crate) fn stop(&self) {
         self.face.moves_by.store(0, Ordering::SeqCst);

@@ -7,6 +7,8 @@ mod clocks;
 #[cfg(test)]
 mod ends;
 #[cfg(test)]
+mod giving_up;
+#[cfg(test)]
 mod hand;
 #[cfg(test)]
 mod hands;
@@ -21,6 +23,8 @@ mod lives;
 #[cfg(test)]
 mod moments;
 #[cfg(test)]
+mod outage;
+#[cfg(test)]
 mod passing_on;
 #[cfg(test)]
 mod patience;
@@ -29,6 +33,10 @@ mod play;
 #[cfg(test)]
 mod readings;
 #[cfg(test)]
+mod reasons;
+#[cfg(test)]
 mod refused;
 #[cfg(test)]
 mod scripts;
+#[cfg(test)]
+mod server;

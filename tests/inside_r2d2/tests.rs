@@ -2,7 +2,9 @@
 // and the default bodies.
 
 use super::*;
-use crate::event::{AcquireEvent, CheckinEvent, CheckoutEvent, ReleaseEvent, TimeoutEvent};
+use crate::event::{
+    AcquireEvent, CheckinEvent, CheckoutEvent, ReleaseEvent, ReleaseReason, TimeoutEvent,
+};
 use std::sync::atomic::{AtomicU64, Ordering};
 use std::test::Fail;
 use std::time::Duration;
@@ -56,7 +58,7 @@ impl HandleEvent for Releases {
 #[test]
 fn events_and_what_does_nothing(rt: HostRuntime) -> Result<(), Fail> {
     let acquire = AcquireEvent { id: 1 };
-    let release = ReleaseEvent::of(2, Duration::from_millis(1500));
+    let release = ReleaseEvent::of(2, Duration::from_millis(1500), ReleaseReason::Idle);
     let checkout = CheckoutEvent::of(3, Duration::from_millis(7), Duration::from_millis(12));
     let timeout = TimeoutEvent {
         timeout: Duration::from_millis(123),
@@ -67,8 +69,8 @@ fn events_and_what_does_nothing(rt: HostRuntime) -> Result<(), Fail> {
     )?;
     assert_eq!(rt;
         shown.as_str(),
-        "AcquireEvent { id: 1 } ReleaseEvent { id: 2, age: 1.5s } CheckoutEvent { id: 3, \
-         duration: 5ms } TimeoutEvent { timeout: 123ms } CheckinEvent { id: 4, duration: 2s }"
+        "AcquireEvent { id: 1 } ReleaseEvent { id: 2, age: 1.5s, reason: Idle } CheckoutEvent { \
+         id: 3, duration: 5ms } TimeoutEvent { timeout: 123ms } CheckinEvent { id: 4, duration: 2s }"
     );
     let releases = Releases {
         seen: AtomicU64::new(0),

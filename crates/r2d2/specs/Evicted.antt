@@ -1,5 +1,5 @@
 -- What an eviction does. A moment is raised to the latest so far.
-use Rattle.std.specs.Prelude.{◌≡◌, ℕ, nat_lt, max, Bool, true, false, ◌||◌, List, [], ◌∷◌, map, reverse, Option, Some, None}
+use Rattle.std.specs.Prelude.{◌≡◌, ℕ, nat_lt, max, Bool, true, false, ◌||◌, List, [], ◌∷◌, map, reverse, Option, Some, None, is_some}
 use Rattle.r2d2_core.specs.declared.schedule.limits.LendingOrder.{LendingOrder}
 use Rattle.r2d2_core.specs.declared.schedule.limits.LendingOrder.TheVariants as lending
 use Rattle.r2d2_core.specs.Connections.{SeenIdleConnection, SeenReleased, released_at}
@@ -7,6 +7,7 @@ use Rattle.r2d2_core.specs.Picture.{Picture}
 use Rattle.r2d2_core.specs.Table.{take_answer, after_take, return_answer, after_return}
 use Rattle.r2d2_core.specs.Book.{SeenBook, seen_book}
 use Rattle.r2d2_core.specs.Noted.{noted_take, noted_return}
+use Rattle.r2d2.specs.declared.event.ReleaseReason.{ReleaseReason}
 
 -- the idle ones in the order in which they would be lent: the list has the oldest first
 abbrev pub in_lending_order : {X : Type 0} → LendingOrder → List X → List X
@@ -49,6 +50,11 @@ module _ {T : Type 0} where
     pub closed : new.on_order.closed ≡ old.on_order.closed
     pub last_error : new.last_error ≡ old.last_error
 
--- a connection that comes back is to be closed: it is broken, or was opened before the latest eviction, from which on ids begin with this one
-abbrev pub is_to_close : Bool → ℕ → ℕ → Bool
-is_to_close broken id evicted_below = broken || nat_lt id evicted_below
+-- a connection was opened before the latest eviction, from which on ids begin with this one
+abbrev pub is_evicted : ℕ → ℕ → Bool
+is_evicted id evicted_below = nat_lt id evicted_below
+
+-- a connection that comes back is to be closed: it is unfit for some reason, is past its own lifetime, or was opened before the latest
+-- eviction
+abbrev pub is_to_close : Option ReleaseReason → Bool → ℕ → ℕ → Bool
+is_to_close unfit outlived id evicted_below = is_some unfit || (outlived || is_evicted id evicted_below)

@@ -1,13 +1,18 @@
 -- What the errors of a pool say.
 use Rattle.std.specs.Prelude.{◌≡◌, ◌⊎◌, ℕ, List, ◌++◌, Option, Some, None, codes}
+use Rattle.std.specs.declared.time.Duration.{Duration}
 use Rattle.r2d2.specs.declared.error.ErrorKind.{ErrorKind}
+use Rattle.r2d2.specs.declared.pool.state.Status.{Status}
 use Rattle.r2d2.specs.declared.error.ErrorKind.TheVariants.{Timeout, Memory, Threads, Closed}
 
 -- what a contract sees of an error: why the call failed, and the bytes of the latest error of an
--- opening or a check, where one is known
+-- opening or a check, where one is known; of a call that gave up, what the pool showed then, and how
+-- long it had waited
 pub record Failure : Type 0 where
   pub kind : ErrorKind
   pub message : Option (List ℕ)
+  pub status : Option Status
+  pub waited : Option Duration
 
 -- the text of a failure: a timeout's has the latest error after it, where one is known
 abbrev pub text_of : ErrorKind → Option (List ℕ) → List ℕ

@@ -1,6 +1,7 @@
 pub mod Entries
 pub mod Events
 pub mod Failures
+pub mod Failed
 pub mod Settings
 pub mod Wakes
 pub mod Settled

@@ -1,10 +1,12 @@
 -- The settings of a pool. Lengths of time are compared in nanoseconds.
-use Rattle.std.specs.Prelude.{◌≡◌, ℕ, ◌*◌, ◌<◌, true, Some, None, option_map}
+use Rattle.std.specs.Prelude.{◌≡◌, ℕ, ◌*◌, ◌-◌, ◌<◌, nat_lt, nat_le, Bool, true, false, ◌||◌, Option, Some, None, option_map}
 use Rattle.std.specs.Option.{ForSome}
 use Rattle.std.specs.Duration.{as_nanos}
+use Rattle.std.specs.declared.time.Duration.{Duration}
 use Rattle.r2d2_core.specs.declared.schedule.limits.LendingOrder.TheVariants.{NewestFirst}
 use Rattle.r2d2_core.specs.Limits.{SeenLimits, settings, with_order}
 use Rattle.r2d2.specs.declared.config.Config.{Config}
+use Rattle.r2d2.specs.declared.tuning.Tuning.{Tuning}
 
 -- a number of seconds, in nanoseconds
 abbrev pub seconds : ℕ → ℕ
@@ -23,6 +25,13 @@ pub record AreDefaults {H V Z : Type 0} (config : Config H V Z) : Type 0 where
   pub reaper_rate : as_nanos config.reaper_rate ≡ seconds 30
   pub lending_order : config.lending_order ≡ NewestFirst
 
+-- and those that r2d2 has not: each is off
+pub record IsOff (tuning : Tuning) : Type 0 where
+  pub check_after_idle : tuning.check_after_idle ≡ None
+  pub distrust_idle : tuning.distrust_idle ≡ false
+  pub retry_at_most : tuning.retry_at_most ≡ None
+  pub lifetime_jitter : tuning.lifetime_jitter ≡ None
+
 -- what a builder keeps: its sizes and lengths of time are positive
 pub record ArePositive {H V Z : Type 0} (config : Config H V Z) : Type 0 where
   pub has_size : 0 < config.max_size
@@ -32,10 +41,19 @@ pub record ArePositive {H V Z : Type 0} (config : Config H V Z) : Type 0 where
   pub waits : 0 < as_nanos config.connection_timeout
   pub reaps : 0 < as_nanos config.reaper_rate
 
--- the limits among the settings
-abbrev pub limits_in : {H V Z : Type 0} → Config H V Z → SeenLimits
-limits_in config = with_order config.lending_order (settings config.max_size config.min_idle config.max_lifetime config.idle_timeout config.connection_timeout
+-- a connection is to be checked that is idle since a moment: where no least idle time is set, or where it was idle for that long; also
+-- where that moment is past now, as after a clock that failed
+abbrev pub is_check_due : Option Duration → ℕ → ℕ → Bool
+is_check_due None since now = true
+is_check_due (Some least) since now = nat_lt now since || nat_le (as_nanos least) (now - since)
+
+-- the limits among the settings, with this connection timeout, and with the settings' own
+abbrev pub limits_within : {H V Z : Type 0} → Duration → Config H V Z → SeenLimits
+limits_within timeout config = with_order config.lending_order (settings config.max_size config.min_idle config.max_lifetime config.idle_timeout timeout
     config.reaper_rate)
+
+abbrev pub limits_in : {H V Z : Type 0} → Config H V Z → SeenLimits
+limits_in config = limits_within config.connection_timeout config
 
 -- the same settings with other handlers
 abbrev pub with_handlers : {G W Y H V Z : Type 0} → G → W → Y → Config H V Z → Config G W Y

@@ -5,6 +5,7 @@ ghost use Rattle.std.specs.Duration.{as_nanos};
 ghost use Rattle.r2d2_core.specs.Limits.{seen_limits};
 
 use crate::event::{HandleEvent, NopEventHandler};
+use crate::tuning::Tuning;
 use crate::{
     CustomizeConnection, HandleError, ManageConnection, NopConnectionCustomizer, NopErrorHandler,
 };
@@ -144,6 +145,8 @@ impl<H: fmt::Debug, V: fmt::Debug, Z: fmt::Debug> fmt::Debug for Config<H, V, Z>
 #[derive(Drop)]
 pub struct Builder<M, H = NopErrorHandler, V = NopEventHandler, Z = NopConnectionCustomizer> {
     config: Config<H, V, Z>,
+    // The settings that r2d2 has not.
+    tuning: Tuning,
     // The id of the first connection. It matters to the book that the pool begins with, and to
     // nothing later.
     first_id: u64,
@@ -168,12 +171,18 @@ impl<M, H, V, Z> Builder<M, H, V, Z> {
     ghost use Rattle.r2d2.specs.Settings.{ArePositive};
 
     // A builder with these settings.
-    fn over(config: Config<H, V, Z>, first_id: u64, listens: bool) -> Builder<M, H, V, Z>
+    fn over(
+        config: Config<H, V, Z>,
+        tuning: Tuning,
+        first_id: u64,
+        listens: bool,
+    ) -> Builder<M, H, V, Z>
         requires { ArePositive config }
         ensures { result ≡ config }
     {
         Builder {
             config,
+            tuning,
             first_id,
             listens,
             manager: PhantomData,
@@ -216,6 +225,7 @@ impl<M: ManageConnection> Default for Builder<M> {
                 event_handler: NopEventHandler,
                 connection_customizer: NopConnectionCustomizer,
             },
+            tuning: Tuning::off(),
             first_id: 0,
             listens: false,
             manager: PhantomData,
@@ -229,8 +239,8 @@ impl<
     V: HandleEvent + 'static,
     Z: CustomizeConnection<M::Connection, M::Error>,
 > Builder<M, H, V, Z> {
-    ghost use Rattle.r2d2.specs.Settings.{limits_in, with_error_handler, with_event_handler};
-    ghost use Rattle.r2d2.specs.Settings.{with_customizer};
+    ghost use Rattle.r2d2.specs.Settings.{limits_in, limits_within, with_error_handler};
+    ghost use Rattle.r2d2.specs.Settings.{with_event_handler, with_customizer};
 
     /// How many connections there are at most: idle ones, lent ones and those that are being opened
     /// together. The default is 10. A pool takes the memory for that many when it is built.
@@ -316,7 +326,8 @@ impl<
     /// seconds.
     ///
     /// It bounds two more things: `build` waits as long at most for the first connections, and an
-    /// opening that failed is tried again after half of it at the latest.
+    /// opening that failed is tried again after half of it at the latest, unless `retry_at_most` is
+    /// set.
     ///
     /// It may not be a length of zero. The test for one from outside: `!length.is_zero()`.
     pub fn connection_timeout(mut self, connection_timeout: Duration) -> Self
@@ -369,6 +380,61 @@ impl<
         self
     }
 
+    /// With `test_on_check_out`, how long a connection has to be idle before it is checked: one that
+    /// came back, or was opened, less than this ago is lent without a check. The default is None:
+    /// each is checked. r2d2 always checks.
+    ///
+    /// Half a second spares a busy pool nearly all checks; a caller may then get a connection whose
+    /// server went away within it.
+    pub fn check_after_idle(mut self, idle: Option<Duration>) -> Self
+        ensures { result ≡ self }
+    {
+        self.tuning.check_after_idle = idle;
+        self
+    }
+
+    /// Whether a failed check tells of others: those that came back, or were opened, before the
+    /// connection that failed it did are then closed too, each as a caller comes to it, and not
+    /// checked. So where a server went away, a caller waits for one check, and not for one for each
+    /// idle connection. The default is false, as r2d2.
+    pub fn distrust_idle(mut self, distrust_idle: bool) -> Self
+        ensures { result ≡ self }
+    {
+        self.tuning.distrust_idle = distrust_idle;
+        self
+    }
+
+    /// The longest time after which an opening that failed is tried again. Without this setting it
+    /// is half of `connection_timeout`, as in r2d2: with the default of 30 seconds a pool may stay
+    /// empty for up to 15 seconds after its server is back.
+    ///
+    /// Callers keep `connection_timeout`, and so do the pool's getter, Debug and `limits`. The
+    /// limits in a report have twice this length in its place, since delays grow to half of it.
+    ///
+    /// It may not be a length of zero. The test for one from outside: `!length.is_zero()`.
+    pub fn retry_at_most(mut self, longest: Duration) -> Self
+        requires { 0 < as_nanos longest }
+        ensures { result ≡ self }
+    {
+        self.tuning.retry_at_most = Some(longest);
+        self
+    }
+
+    /// By how much at most the lifetimes of connections differ, so that those that were opened
+    /// together are not closed together: each connection's own is `max_lifetime` less a part of this
+    /// length, which its id and the pool decide. The default is none, as r2d2: each lives for
+    /// `max_lifetime`. A tenth of that spreads them well; with more than `max_lifetime` some are
+    /// closed at each return.
+    ///
+    /// It is enforced when a lent connection comes back. An idle one is closed by the common limits
+    /// alone.
+    pub fn lifetime_jitter(mut self, jitter: Duration) -> Self
+        ensures { result ≡ self }
+    {
+        self.tuning.lifetime_jitter = Some(jitter);
+        self
+    }
+
     /// What is told of each error of the manager and of the customizer. The default,
     /// `NopErrorHandler`, drops each in silence, so that only a caller's timeout tells why no
     /// connection opens. `LoggingErrorHandler` writes each to a log.
@@ -376,7 +442,7 @@ impl<
         ensures { result ≡ with_error_handler handler self }
     {
         let config = self.config.with_error_handler(handler);
-        Builder::over(config, self.first_id, self.listens)
+        Builder::over(config, self.tuning, self.first_id, self.listens)
     }
 
     /// What is told of each event. The default, `NopEventHandler`, ignores them. A pool where none
@@ -385,7 +451,7 @@ impl<
         ensures { result ≡ with_event_handler handler self }
     {
         let config = self.config.with_event_handler(handler);
-        Builder::over(config, self.first_id, true)
+        Builder::over(config, self.tuning, self.first_id, true)
     }
 
     /// What changes connections as they come and go. The default, `NopConnectionCustomizer`, leaves
@@ -397,7 +463,7 @@ impl<
         ensures { result ≡ with_customizer customizer self }
     {
         let config = self.config.with_customizer(customizer);
-        Builder::over(config, self.first_id, self.listens)
+        Builder::over(config, self.tuning, self.first_id, self.listens)
     }
 
     /// The id that the first connection gets.
@@ -410,6 +476,11 @@ impl<
         self.listens
     }
 
+    /// The settings that r2d2 has not.
+    pub(crate) fn tuning(&self) -> Tuning {
+        self.tuning
+    }
+
     /// The settings alone.
     pub(crate) fn into_config(self) -> Config<H, V, Z>
         ensures { result ≡ self }
@@ -420,10 +491,28 @@ impl<
 
     /// The limits that building would use, with the lending order; None exactly where `min_idle` is
     /// above `max_size`. It is the last test to make before a pool is built from settings that come
-    /// from outside.
+    /// from outside. Where `retry_at_most` is set they have `connection_timeout` all the same, and
+    /// the pool's own have twice that length in its place.
     pub fn limits(&self) -> Option<Limits>
         ensures legal { IsSome result ↔ ForSome self.now.min_idle (λ n. n ≤ self.now.max_size) }
         ensures given { IfSome result (λ limits. seen_limits limits ≡ limits_in self.now) }
+    {
+        self.limits_within(self.config.connection_timeout)
+    }
+
+    /// The limits of a pool's book, whose delays grow to half of their connection timeout.
+    pub(crate) fn limits_of_book(&self) -> Option<Limits>
+        ensures { IsSome result ↔ ForSome self.now.min_idle (λ n. n ≤ self.now.max_size) }
+    {
+        self.limits_within(self.tuning.connection_timeout(self.config.connection_timeout))
+    }
+
+    // The limits with this connection timeout.
+    fn limits_within(&self, connection_timeout: Duration) -> Option<Limits>
+        requires { 0 < as_nanos connection_timeout }
+        ensures legal { IsSome result ↔ ForSome self.now.min_idle (λ n. n ≤ self.now.max_size) }
+        ensures given { IfSome result
+            (λ limits. seen_limits limits ≡ limits_within connection_timeout self.now) }
     {
         let config = &self.config;
         let limits = LimitSettings {
@@ -431,7 +520,7 @@ impl<
             min_idle: config.min_idle,
             max_lifetime: config.max_lifetime,
             idle_timeout: config.idle_timeout,
-            connection_timeout: config.connection_timeout,
+            connection_timeout,
             reap_every: config.reaper_rate,
         }
         .limits()?;

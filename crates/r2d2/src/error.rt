@@ -1,11 +1,14 @@
 // Why a call of the pool failed.
-ghost use Rattle.std.specs.Prelude.{◌≡◌, IsSome, IfSome, option_map, string_bytes};
+ghost use Rattle.std.specs.Prelude.{◌≡◌, Some, None, IsSome, IfSome, option_map, string_bytes};
 ghost use Rattle.r2d2.specs.declared.error.ErrorKind.TheVariants.{Timeout};
 ghost use Rattle.r2d2.specs.Failures.{Failure};
+ghost use Rattle.r2d2.specs.Status.{IsStatus};
 
+use crate::pool::Status;
 use std::alloc::Allocator;
 use std::fmt;
 use std::marker::Model;
+use std::time::Duration;
 
 /// Why a call failed.
 #[derive(Clone, Copy, Debug, PartialEq, Eq)]
@@ -23,30 +26,66 @@ pub enum ErrorKind {
 /// Why a call failed, and for a timeout the latest error of an opening or a check, where one is
 /// known. It displays as `timed out waiting for connection`, then `: ` and that text; as `out of
 /// memory`; as `a worker could not be started`; or as `the pool is closed`.
-#[derive(Debug, Drop)]
+#[derive(Drop)]
 pub struct Error {
     kind: ErrorKind,
     message: Option<String>,
+    gave_up: Option<GaveUp>,
 }
 
-// Contracts see an error as why the call failed, and the bytes of the text.
+/// What a call that gave up saw.
+#[derive(Clone, Copy)]
+struct GaveUp {
+    /// What the pool showed then.
+    status: Status,
+    /// How long the call had lasted.
+    waited: Duration,
+}
+
+// Contracts see an error as why the call failed, the bytes of the text, and what a call that gave
+// up saw.
 impl Model for Error {
     ghost Value = { Failure };
 
-    ghost view = { λ e. record { kind = e.kind; message = option_map string_bytes e.message } };
+    ghost view = { λ e. record {
+      kind = e.kind;
+      message = option_map string_bytes e.message;
+      status = option_map (λ g. g.status) e.gave_up;
+      waited = option_map (λ g. g.waited) e.gave_up;
+    } };
 
-    ghost invariant = { λ e. IsSome e.message → e.kind ≡ Timeout };
+    ghost invariant = { λ e. (IsSome e.message → e.kind ≡ Timeout)
+        × IfSome e.gave_up (λ g. IsStatus g.status) };
 }
 
 impl Error {
-    /// No connection came in time; the text is the latest error's, if one is known.
-    pub(crate) fn timeout(message: Option<String>) -> Error
+    /// No connection came in time; the text is the latest error's, if one is known. The call gave up
+    /// after so long, while the pool showed this.
+    pub(crate) fn timeout(message: Option<String>, status: Status, waited: Duration) -> Error
+        requires { IsStatus status }
         ensures kind { result.kind ≡ ErrorKind.Timeout }
         ensures message { result.message ≡ option_map string_bytes message }
+        ensures status { result.status ≡ Some status }
+        ensures waited { result.waited ≡ Some waited }
     {
         Error {
             kind: ErrorKind::Timeout,
             message,
+            gave_up: Some(GaveUp { status, waited }),
+        }
+    }
+
+    // An error of a call that waited for nothing.
+    fn at_once(kind: ErrorKind) -> Error
+        ensures kind { result.kind ≡ kind }
+        ensures message { result.message ≡ None }
+        ensures status { result.status ≡ None }
+        ensures waited { result.waited ≡ None }
+    {
+        Error {
+            kind,
+            message: None,
+            gave_up: None,
         }
     }
 
@@ -54,30 +93,21 @@ impl Error {
     pub(crate) fn memory() -> Error
         ensures kind { result.kind ≡ ErrorKind.Memory }
     {
-        Error {
-            kind: ErrorKind::Memory,
-            message: None,
-        }
+        Error::at_once(ErrorKind::Memory)
     }
 
     /// A worker's thread could not be started.
     pub(crate) fn threads() -> Error
         ensures kind { result.kind ≡ ErrorKind.Threads }
     {
-        Error {
-            kind: ErrorKind::Threads,
-            message: None,
-        }
+        Error::at_once(ErrorKind::Threads)
     }
 
     /// The pool was closed.
     pub(crate) fn closed() -> Error
         ensures kind { result.kind ≡ ErrorKind.Closed }
     {
-        Error {
-            kind: ErrorKind::Closed,
-            message: None,
-        }
+        Error::at_once(ErrorKind::Closed)
     }
 
     /// Why the call failed.
@@ -97,6 +127,31 @@ impl Error {
             Some(text) => Some(text.as_str()),
             None => None,
         }
+    }
+
+    /// What the pool showed as the call gave up, with those who waited beside it. Only a timeout has
+    /// it.
+    pub fn status(&self) -> Option<Status>
+        ensures status { result ≡ self.now.status }
+        ensures sums { IfSome result IsStatus }
+    {
+        self.gave_up.map(|gave_up| gave_up.status)
+    }
+
+    /// How long the call lasted until it gave up. Only a timeout has it.
+    pub fn waited(&self) -> Option<Duration>
+        ensures { result ≡ self.now.waited }
+    {
+        self.gave_up.map(|gave_up| gave_up.waited)
+    }
+}
+
+impl fmt::Debug for Error {
+    fn fmt<W: fmt::Write>(&self, f: &mut fmt::Formatter<W>) -> fmt::Result {
+        f.debug_struct("Error")
+            .field("kind", &self.kind)
+            .field("message", &self.message)
+            .finish()
     }
 }
 

@@ -55,11 +55,33 @@ impl AcquireEvent {
     }
 }
 
+/// Why a connection leaves its pool.
+#[derive(Clone, Copy, PartialEq, Eq, Debug)]
+pub enum ReleaseReason {
+    /// It came back broken, as `ManageConnection::has_broken` says.
+    Broken,
+    /// Its check failed.
+    CheckFailed,
+    /// It was idle for longer than one whose check failed: see `Builder::distrust_idle`.
+    Distrusted,
+    /// It reached its lifetime.
+    Lifetime,
+    /// It was idle for `idle_timeout`.
+    Idle,
+    /// It was there when `Pool::evict` was called.
+    Evicted,
+    /// It is its caller's now: see `PooledConnection::detach`.
+    Detached,
+    /// It came back after the pool was closed.
+    PoolClosed,
+}
+
 /// A connection leaves the pool: to be closed, or detached.
 #[derive(Debug, Drop)]
 pub struct ReleaseEvent {
     id: u64,
     age: Duration,
+    reason: ReleaseReason,
 }
 
 impl Model for ReleaseEvent {
@@ -67,16 +89,17 @@ impl Model for ReleaseEvent {
 
     ghost Value = { Released };
 
-    ghost view = { λ e. record { id = e.id; age = e.age } };
+    ghost view = { λ e. record { id = e.id; age = e.age; reason = e.reason } };
 }
 
 impl ReleaseEvent {
     // Of the connection that is as old as this.
-    pub(crate) fn of(id: u64, age: Duration) -> ReleaseEvent
+    pub(crate) fn of(id: u64, age: Duration, reason: ReleaseReason) -> ReleaseEvent
         ensures id { result.id ≡ id }
         ensures age { result.age ≡ age }
+        ensures reason { result.reason ≡ reason }
     {
-        ReleaseEvent { id, age }
+        ReleaseEvent { id, age, reason }
     }
 
     /// The connection's id.
@@ -91,6 +114,14 @@ impl ReleaseEvent {
         ensures { result ≡ self.now.age }
     {
         self.age
+    }
+
+    /// Why it leaves the pool. Of several reasons it is the first that holds: that it is broken,
+    /// that it was evicted, that the pool is closed.
+    pub fn reason(&self) -> ReleaseReason
+        ensures { result ≡ self.now.reason }
+    {
+        self.reason
     }
 }
 

@@ -2,10 +2,20 @@
 
 use crate::config::Config;
 use crate::event::{
-    AcquireEvent, CheckinEvent, CheckoutEvent, HandleEvent, ReleaseEvent, TimeoutEvent,
+    AcquireEvent, CheckinEvent, CheckoutEvent, HandleEvent, ReleaseEvent, ReleaseReason,
+    TimeoutEvent,
 };
 use crate::{CustomizeConnection, HandleError, ManageConnection};
 use std::time::Duration;
+
+/// A connection that a pool closed.
+#[derive(Drop)]
+pub struct Closed<C> {
+    pub id: u64,
+    pub age: Duration,
+    pub reason: ReleaseReason,
+    pub connection: C,
+}
 
 /// The settings of a pool over this manager, as its threads use them.
 pub trait Hooks<M: ManageConnection>: Send + Sync + Drop + 'static {
@@ -34,10 +44,10 @@ pub trait Hooks<M: ManageConnection>: Send + Sync + Drop + 'static {
     fn check_in(&self, id: u64, lent_at: Duration, now: Duration);
 
     /// A connection is no longer the pool's: its event alone.
-    fn gone(&self, id: u64, age: Duration);
+    fn gone(&self, id: u64, age: Duration, reason: ReleaseReason);
 
     /// A connection was closed: its event, then the customizer.
-    fn release(&self, id: u64, age: Duration, connection: M::Connection);
+    fn release(&self, closed: Closed<M::Connection>);
 }
 
 impl<
@@ -78,12 +88,13 @@ impl<
         self.event_handler.handle_checkin(event);
     }
 
-    fn gone(&self, id: u64, age: Duration) {
-        self.event_handler.handle_release(ReleaseEvent::of(id, age));
+    fn gone(&self, id: u64, age: Duration, reason: ReleaseReason) {
+        let event = ReleaseEvent::of(id, age, reason);
+        self.event_handler.handle_release(event);
     }
 
-    fn release(&self, id: u64, age: Duration, connection: M::Connection) {
-        Hooks::<M>::gone(self, id, age);
-        self.connection_customizer.on_release(connection);
+    fn release(&self, closed: Closed<M::Connection>) {
+        Hooks::<M>::gone(self, closed.id, closed.age, closed.reason);
+        self.connection_customizer.on_release(closed.connection);
     }
 }

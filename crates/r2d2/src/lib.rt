@@ -36,6 +36,7 @@ mod extensions;
 mod hooks;
 mod payload;
 mod pool;
+mod tuning;
 
 pub use config::{Builder, Config};
 pub use error::{Error, ErrorKind};

@@ -27,12 +27,15 @@ use std::time::{Duration, SystemTime};
 
 mod building;
 mod call_time;
+mod checking;
 mod closing;
 mod counting;
 mod evicting;
+mod failures;
 mod lending;
 mod lent;
 mod locking;
+mod returning;
 mod state;
 mod waiting;
 mod worker;

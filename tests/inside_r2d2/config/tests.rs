@@ -23,6 +23,10 @@ where
         .journal_room(4)
         .reaper_rate(Duration::from_secs(2))
         .lending_order(LendingOrder::OldestFirst)
+        .check_after_idle(Some(Duration::from_millis(500)))
+        .distrust_idle(true)
+        .retry_at_most(Duration::from_millis(100))
+        .lifetime_jitter(Duration::from_secs(180))
 }
 
 #[test]
@@ -54,6 +58,10 @@ fn who_listens_is_known_after_all_other_settings(rt: HostRuntime) -> Result<(), 
     assert!(rt; !new().journal_room(4).listens());
     assert!(rt; !new().reaper_rate(Duration::from_secs(2)).listens());
     assert!(rt; !new().lending_order(LendingOrder::OldestFirst).listens());
+    assert!(rt; !new().check_after_idle(None).listens());
+    assert!(rt; !new().distrust_idle(true).listens());
+    assert!(rt; !new().retry_at_most(Duration::from_millis(100)).listens());
+    assert!(rt; !new().lifetime_jitter(Duration::from_secs(180)).listens());
     assert!(rt; !new().error_handler(NopErrorHandler).listens());
     assert!(rt; !new().connection_customizer(NopConnectionCustomizer).listens());
     let heard = new().event_handler(NopEventHandler);

@@ -12,6 +12,7 @@ use crate::engine::{Counted, CountingBook, TakeCounter};
 use crate::event::HandleEvent;
 use crate::hooks::Hooks;
 use crate::payload::PayloadOf;
+use crate::tuning::Tuning;
 use crate::{CustomizeConnection, Error, HandleError, ManageConnection};
 use r2d2_core::{Book, Released};
 use std::alloc::{AllocError, Global};
@@ -57,10 +58,10 @@ impl<
         ensures settings { IfOk result (λ pool. pool ≡ self) }
         ensures refused { IfErr result IsOfMemoryOrThreads }
     {
-        let listens = self.listens();
+        let (listens, tuning) = (self.listens(), self.tuning());
         let (config, book, lists) = self.prepare(rt.alloc()).map_err(|_| Error::memory())?;
         let book = CountingBook::plain(book);
-        open_pool(rt, book, config, listens, manager, lists)
+        open_pool(rt, book, config, listens, tuning, manager, lists)
     }
 
     /// Makes a pool whose takes are counted, and is otherwise as `build_unchecked`.
@@ -79,10 +80,10 @@ impl<
         ensures settings { IfOk result (λ pool. pool ≡ self) }
         ensures refused { IfErr result IsOfMemoryOrThreads }
     {
-        let listens = self.listens();
+        let (listens, tuning) = (self.listens(), self.tuning());
         let (config, book, lists) = self.prepare(rt.alloc()).map_err(|_| Error::memory())?;
         let book = Counted::new(book, total);
-        open_pool(rt, book, config, listens, manager, lists)
+        open_pool(rt, book, config, listens, tuning, manager, lists)
     }
 
     // The settings, a book in which nothing has happened, and a list for each worker.
@@ -91,7 +92,7 @@ impl<
         ensures settings { IfOk result (λ made. made.0 ≡ self) }
         ensures takes { IfOk result (λ made. made.1.journal.takes ≡ 0) }
     {
-        let Some(limits) = self.limits() else {
+        let Some(limits) = self.limits_of_book() else {
             unreachable!()
         };
         let first_id = self.id_of_the_first();
@@ -116,13 +117,14 @@ fn open_pool<C: TakeCounter + Send + 'static, M: ManageConnection, K: Hooks<M>, 
     book: CountingBook<PayloadOf<M>, C>,
     hooks: K,
     listens: bool,
+    tuning: Tuning,
     manager: M,
     lists: Vec<Vec<Released<PayloadOf<M>>>>,
 ) -> Result<AnyPool<C, M, K, R>, Error>
     ensures settings { IfOk result (λ pool. pool ≡ hooks) }
     ensures refused { IfErr result IsOfMemoryOrThreads }
 {
-    let closer = shared_state(rt, book, hooks, listens, manager).map_err(|_| Error::memory())?;
+    let closer = shared_state(rt, book, hooks, listens, tuning, manager).map_err(|_| Error::memory())?;
     start_workers(&closer, lists)?;
     Ok(AnyPool { closer })
 }
@@ -138,9 +140,7 @@ fn wait_for_connections<
     let shared = pool.shared();
     let config = &shared.hooks;
     let wanted = config.min_idle.unwrap_or(config.max_size);
-    shared
-        .wait_for(wanted, config.connection_timeout)
-        .map_err(Error::timeout)
+    shared.wait_for(wanted, config.connection_timeout)
 }
 
 // A list for each worker, with room for all connections that a reap may close.
@@ -162,6 +162,7 @@ fn shared_state<P: Drop, C: TakeCounter, M: Drop, K: Drop, R: PoolRuntime>(
     book: CountingBook<P, C>,
     hooks: K,
     listens: bool,
+    tuning: Tuning,
     manager: M,
 ) -> Result<Arc<Closer<P, C, M, K, R>>, AllocError>
     ensures { IfOk result (λ closer. (arc_value (arc_value closer).shared).hooks ≡ hooks) }
@@ -175,6 +176,7 @@ fn shared_state<P: Drop, C: TakeCounter, M: Drop, K: Drop, R: PoolRuntime>(
         manager,
         hooks,
         listens,
+        tuning,
         made,
         made_at,
         rt,

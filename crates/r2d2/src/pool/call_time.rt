@@ -58,6 +58,11 @@ impl CallTime {
         self.step
     }
 
+    /// How long it has lasted.
+    pub(super) fn waited(&self) -> Duration {
+        self.seen.saturating_sub(self.start())
+    }
+
     /// How much is left of its timeout.
     pub(super) fn left_of(&self, timeout: Duration) -> Duration {
         let end = self.start().saturating_add(timeout);

@@ -6,7 +6,8 @@ use super::PoolRuntime;
 use super::locking::SharedOf;
 use crate::ManageConnection;
 use crate::engine::{CountTakes, TakeCounter};
-use crate::hooks::Hooks;
+use crate::event::ReleaseReason;
+use crate::hooks::{Closed, Hooks};
 use crate::payload::{Payload, PayloadOf};
 use r2d2_core::{Book, Released};
 use std::alloc::AllocError;
@@ -32,19 +33,24 @@ impl<C: CountTakes, M: ManageConnection, K: Hooks<M>, R: PoolRuntime> SharedOf<C
         drop(guarded);
         self.wake_all();
         let count = evicted.len();
-        self.release_all(&mut evicted);
+        for released in evicted.drain(..) {
+            self.release(released, ReleaseReason::Evicted);
+        }
         Ok(count)
     }
 }
 
 impl<C: TakeCounter, M: ManageConnection, K: Hooks<M>, R: PoolRuntime> SharedOf<C, M, K, R> {
-    /// Releases what was closed under the lock, and empties the list.
-    pub(super) fn release_all(&self, closed: &mut Vec<Released<PayloadOf<M>>>) {
-        for released in closed.drain(..) {
-            let Released { id, age, value } = released;
-            let Payload { connection, .. } = value;
-            self.hooks.release(id, age, connection);
-        }
+    /// Releases what was closed under the lock.
+    pub(super) fn release(&self, released: Released<PayloadOf<M>>, reason: ReleaseReason) {
+        let Released { id, age, value } = released;
+        let Payload { connection, .. } = value;
+        self.hooks.release(Closed {
+            id,
+            age,
+            reason,
+            connection,
+        });
     }
 }
 

@@ -3,13 +3,11 @@ ghost use Rattle.std.specs.Prelude.{◌≡◌, ◌≤◌, ◌<◌, ◌+◌, IfOk
 ghost use Rattle.std.specs.Option.{IsNone};
 
 use super::call_time::CallTime;
-use super::lent::{AnyConnection, Lent};
+use super::lent::AnyConnection;
 use super::locking::SharedOf;
 use super::{AnyPool, PoolRuntime};
-use crate::engine::{CountTakes, Outcome, Settled, TakeCounter};
-use crate::error::text_of;
+use crate::engine::{CountTakes, TakeCounter};
 use crate::hooks::Hooks;
-use crate::payload::{Payload, PayloadOf};
 use crate::{Error, ErrorKind, ManageConnection};
 use std::sync::Arc;
 use std::time::Duration;
@@ -44,8 +42,9 @@ impl<C: CountTakes, M: ManageConnection, K: Hooks<M>, R: PoolRuntime> AnyPool<C,
                 Ok(None) => return Ok(None),
                 Err(error) => return Err(shared.tell_in_vain(error, timeout)),
             };
-            if let Some(lent) = shared.if_sound(found) {
-                let lent_at = shared.check_out(lent.id, &time);
+            let is_checked = shared.is_to_check(found.payload.idle_since, time.step());
+            if let Some(lent) = shared.if_sound(found, is_checked) {
+                let lent_at = shared.check_out(lent.id, is_checked, &time);
                 return Ok(Some(AnyConnection {
                     closer,
                     lent_at,
@@ -69,11 +68,11 @@ impl<C: TakeCounter, M: ManageConnection, K: Hooks<M>, R: PoolRuntime> SharedOf<
         Some(self.moment())
     }
 
-    // Tells that a connection is lent, and answers when. Where nobody listens and nothing was
-    // checked since, that is when it was taken.
+    // Tells that a connection is lent, and answers when. Where nobody listens and it was not checked
+    // since, that is when it was taken.
     #[inline(always)]
-    fn check_out(&self, id: u64, time: &CallTime) -> Duration {
-        if !self.listens && !self.hooks.test_on_check_out() {
+    fn check_out(&self, id: u64, is_checked: bool, time: &CallTime) -> Duration {
+        if !self.listens && !is_checked {
             return time.step();
         }
         let lent_at = self.moment();
@@ -92,30 +91,5 @@ impl<C: TakeCounter, M: ManageConnection, K: Hooks<M>, R: PoolRuntime> SharedOf<
             self.hooks.timeout(timeout.unwrap_or(Duration::ZERO));
         }
         error
-    }
-
-    /// The connection, where it need not be checked, or its check finds it sound. Else it is
-    /// closed.
-    #[inline(always)]
-    fn if_sound(&self, mut lent: Lent<PayloadOf<M>>) -> Option<Lent<PayloadOf<M>>> {
-        if self.hooks.test_on_check_out() {
-            if let Err(error) = self.manager.is_valid(&mut lent.payload.connection) {
-                self.close_unsound(lent, error);
-                return None;
-            }
-        }
-        Some(lent)
-    }
-
-    // Closes a connection whose check failed.
-    fn close_unsound(&self, lent: Lent<PayloadOf<M>>, error: M::Error) {
-        // Modelled in model/waiting.pml: keep both alike.
-        let text = text_of(self.rt.alloc(), &error);
-        self.hooks.error(error);
-        let Lent { id, payload } = lent;
-        if let Settled::Gone(gone) = self.settle(Outcome::Unsound { id, text }) {
-            let Payload { connection, .. } = payload;
-            self.hooks.release(id, gone.age, connection);
-        }
     }
 }

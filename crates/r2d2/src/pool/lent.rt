@@ -4,10 +4,10 @@ ghost use Rattle.std.specs.Prelude.{◌≡◌};
 use super::PoolRuntime;
 use super::closing::Closer;
 use crate::engine::{Outcome, Settled, TakeCounter};
+use crate::event::ReleaseReason;
 use crate::hooks::Hooks;
 use crate::payload::{Payload, PayloadOf};
 use crate::{Extensions, ManageConnection};
-use r2d2_core::Returned;
 use std::alloc::{Allocator, Global};
 use std::fmt;
 use std::marker::Model;
@@ -19,6 +19,8 @@ use std::time::Duration;
 #[derive(Drop)]
 pub struct Lent<P> {
     pub(super) id: u64,
+    /// When it was admitted.
+    pub(super) birth: Duration,
     pub(super) payload: P,
 }
 
@@ -84,13 +86,13 @@ impl<C: TakeCounter, M: ManageConnection, K: Hooks<M>, R: PoolRuntime> AnyConnec
             lent_at,
             lent,
         } = this;
-        let Lent { id, payload } = lent;
+        let Lent { id, payload, .. } = lent;
         let shared = &closer.shared;
         if shared.listens {
             shared.hooks.check_in(id, lent_at, shared.moment());
         }
         if let Settled::Gone(gone) = shared.settle(Outcome::Unsound { id, text: None }) {
-            shared.hooks.gone(id, gone.age);
+            shared.hooks.gone(id, gone.age, ReleaseReason::Detached);
         }
         let Payload { connection, .. } = payload;
         connection
@@ -168,18 +170,20 @@ impl<C: TakeCounter, M: ManageConnection, K: Hooks<M>, R: PoolRuntime> Drop
         let AnyConnection {
             closer,
             lent_at,
-            lent,
+            mut lent,
         } = self;
-        let Lent { id, mut payload } = lent;
         let shared = &closer.shared;
         if shared.listens {
-            shared.hooks.check_in(id, lent_at, shared.moment());
+            shared.hooks.check_in(lent.id, lent_at, shared.moment());
         }
-        let broken = shared.manager.has_broken(&mut payload.connection);
-        let returned = shared.give_back(id, payload, broken);
-        if let Ok(Returned::Closed { value, age, .. }) = returned {
-            let Payload { connection, .. } = value;
-            shared.hooks.release(id, age, connection);
+        let broken = shared.manager.has_broken(&mut lent.payload.connection);
+        let unfit = if broken {
+            Some(ReleaseReason::Broken)
+        } else {
+            None
+        };
+        if let Some(closed) = shared.give_back(lent, unfit) {
+            shared.hooks.release(closed);
         }
     }
 }

@@ -3,9 +3,12 @@ ghost use Rattle.std.specs.Prelude.{◌≡◌, ◌≤◌, ◌<◌, ◌+◌, ◌-
 ghost use Rattle.std.specs.Prelude.{vec_capacity, IfOk};
 ghost use Rattle.r2d2_core.specs.Reports.{IsSoundReport};
 
+use super::failures::Failures;
 use super::{State, Status};
 use crate::engine::{CountTakes, CountingBook, Outcome, Settled, TakeCounter, Wakes};
+use crate::event::ReleaseReason;
 use crate::payload::PayloadOf;
+use crate::tuning::Tuning;
 use r2d2_core::machine::Leftover;
 use r2d2_core::{Refusal, Released, Report, Returned};
 use std::alloc::AllocError;
@@ -21,7 +24,7 @@ const TURNS: u32 = 10;
 /// How many turns of a loop it lets the lock alone between two tries.
 const PAUSES: u32 = 40;
 
-/// What the lock guards: the book, how many callers wait, and which connections stay.
+/// What the lock guards: the book, how many callers wait, which connections stay, and what failed.
 #[derive(Drop)]
 pub struct Guarded<B> {
     // Beside the lock, and the book after them: each step reads them.
@@ -31,19 +34,25 @@ pub struct Guarded<B> {
     /// The least id that no eviction has reached: those below it are closed as they come back.
     evicted_below: u64,
     pub(super) book: B,
+    pub(super) failures: Failures,
 }
 
 impl<B> Guarded<B> {
     ghost use Rattle.r2d2.specs.Wakes.{needed_wakes};
+    ghost use Rattle.r2d2.specs.Failed.{HaveNone};
 
     /// A book for which nobody waits yet, and of which nothing was evicted.
     pub(super) fn new(book: B) -> Guarded<B>
-        ensures { result ≡ record { book = book; waiting = 0; evicted_below = 0 } }
+        ensures book { result.book ≡ book }
+        ensures waiting { result.waiting ≡ 0 }
+        ensures evicted { result.evicted_below ≡ 0 }
+        ensures failures { HaveNone result.failures }
     {
         Guarded {
             book,
             waiting: 0,
             evicted_below: 0,
+            failures: Failures::none(),
         }
     }
 
@@ -79,7 +88,7 @@ impl<P, C: TakeCounter> Guarded<CountingBook<P, C>> {
     pub(super) fn status(&self) -> Status
         ensures { IsStatus result }
     {
-        Status::of(self.book.book(), self.waiting)
+        Status::of(self.book.book(), self.waiting, &self.failures)
     }
 
     /// Whether nothing is idle, and something is to come back.
@@ -92,32 +101,85 @@ impl<P, C: TakeCounter> Guarded<CountingBook<P, C>> {
 impl<P: Drop, C: TakeCounter> Guarded<CountingBook<P, C>> {
     ghost use Rattle.std.specs.Duration.{as_nanos};
     ghost use Rattle.r2d2_core.specs.Seen.{seen_returned, seen_released, map_ok};
-    ghost use Rattle.r2d2_core.specs.Table.{return_answer, after_return};
+    ghost use Rattle.r2d2_core.specs.BookSteps.{IsReturn};
+    ghost use Rattle.r2d2.specs.declared.engine.Outcome.TheVariants as outcome;
     ghost use Rattle.r2d2.specs.Wakes.{wakes_of_return};
-    ghost use Rattle.r2d2.specs.Evicted.{is_to_close, evicted_of, after_eviction, IsEvicted};
+    ghost use Rattle.r2d2.specs.Settled.{seen_settled, wakes_of_settled, IsSettling};
+    ghost use Rattle.r2d2.specs.Events.{reason_of_return};
+    ghost use Rattle.r2d2.specs.Failed.{IsOneOpeningMore, IsOneCheckMore};
+    ghost use Rattle.r2d2.specs.Evicted.{is_evicted, is_to_close, evicted_of, after_eviction};
+    ghost use Rattle.r2d2.specs.Evicted.{IsEvicted};
 
-    /// Puts a lent connection back. One that was opened before the latest eviction is closed, as a
-    /// broken one is.
+    /// Puts a lent connection back. One that is unfit for some reason, has outlived its own
+    /// lifetime, or was opened before the latest eviction is closed, as a broken one is. The reason
+    /// is the one for which it was closed, if it was.
     #[inline(always)]
     pub(super) fn give_back(
         &mut self,
         now: Duration,
         id: u64,
         value: P,
-        broken: bool,
-    ) -> (Result<Returned<P>, (Refusal, P)>, Wakes)
-        ensures answer { map_ok seen_returned result.0
-            ≡ return_answer (as_nanos now) id value (is_to_close broken id self.old.evicted_below)
-            self.old.book.book.picture }
-        ensures after { self.new.book.book.picture
-            ≡ after_return (as_nanos now) id value (is_to_close broken id self.old.evicted_below)
-            self.old.book.book.picture }
-        ensures wakes { result.1 ≡ wakes_of_return (map_ok seen_returned result.0) }
+        unfit: Option<ReleaseReason>,
+        outlived: bool,
+    ) -> ((Result<Returned<P>, (Refusal, P)>, ReleaseReason), Wakes)
+        ensures step { IsReturn now id value
+            (is_to_close unfit outlived id self.old.evicted_below) result.0.0 self.old.book.book
+            self.new.book.book }
+        ensures reason { result.0.1 ≡ reason_of_return unfit (is_evicted id self.old.evicted_below)
+            self.old.book.book.picture.on_order.closed }
+        ensures wakes { result.1 ≡ wakes_of_return (map_ok seen_returned result.0.0) }
+        ensures kept { self.new.evicted_below ≡ self.old.evicted_below }
+        ensures waiting { self.new.waiting ≡ self.old.waiting }
+        ensures failures { self.new.failures ≡ self.old.failures }
+    {
+        let is_evicted = id < self.evicted_below;
+        let reason = match unfit {
+            Some(reason) => reason,
+            None if is_evicted => ReleaseReason::Evicted,
+            None if self.book.book().is_closed() => ReleaseReason::PoolClosed,
+            None => ReleaseReason::Lifetime,
+        };
+        let is_to_close = unfit.is_some() || outlived || is_evicted;
+        let (returned, wakes) = self.book.give_back(now, id, value, is_to_close);
+        ((returned, reason), wakes)
+    }
+
+    /// Tells the book of an opening that failed.
+    pub(super) fn fail(
+        &mut self,
+        now: Duration,
+        tries: u32,
+        text: Option<String>,
+    ) -> (Settled<P>, Wakes)
+        ensures step { IsSettling now (outcome.Failed tries text) result.0 self.old.book.book
+            self.new.book.book }
+        ensures wakes { result.1 ≡ wakes_of_settled (seen_settled result.0) }
+        ensures failures { IsOneOpeningMore self.old.failures self.new.failures }
         ensures kept { self.new.evicted_below ≡ self.old.evicted_below }
         ensures waiting { self.new.waiting ≡ self.old.waiting }
     {
-        let is_evicted = id < self.evicted_below;
-        self.book.give_back(now, id, value, broken || is_evicted)
+        self.failures.add_opening();
+        self.book.settle(now, Outcome::Failed { tries, text })
+    }
+
+    /// Tells the book of a check that failed. What was idle before this moment is distrusted from
+    /// now on.
+    pub(super) fn fail_check(
+        &mut self,
+        now: Duration,
+        id: u64,
+        text: Option<String>,
+        distrusted_before: Duration,
+    ) -> (Settled<P>, Wakes)
+        ensures step { IsSettling now (outcome.Unsound id text) result.0 self.old.book.book
+            self.new.book.book }
+        ensures wakes { result.1 ≡ wakes_of_settled (seen_settled result.0) }
+        ensures failures { IsOneCheckMore distrusted_before self.old.failures self.new.failures }
+        ensures kept { self.new.evicted_below ≡ self.old.evicted_below }
+        ensures waiting { self.new.waiting ≡ self.old.waiting }
+    {
+        self.failures.add_check(distrusted_before);
+        self.book.settle(now, Outcome::Unsound { id, text })
     }
 
     /// Closes all that is idle, into the list, and has what is lent closed as it comes back. What
@@ -141,6 +203,7 @@ impl<P: Drop, C: TakeCounter> Guarded<CountingBook<P, C>> {
             self.new.book.book.picture }
         ensures kept { self.new.evicted_below ≡ self.old.book.book.picture.on_order.next_id }
         ensures waiting { self.new.waiting ≡ self.old.waiting }
+        ensures failures { self.new.failures ≡ self.old.failures }
         ensures parts { C.parts tally.new ≡ C.parts tally.old }
         ensures amount { C.amount tally.new
             ≡ C.amount tally.old + length evicted.new.items * C.per_take }
@@ -163,6 +226,8 @@ pub struct Shared<B, M, K, R> {
     pub(super) hooks: K,
     /// Whether a handler of events was set: if not, nobody sees when a call began or ended.
     pub(super) listens: bool,
+    /// The settings that r2d2 has not.
+    pub(super) tuning: Tuning,
     /// When the pool was made; None where the clock could not be read.
     pub(super) made: Option<Instant>,
     /// What the wall clock showed then, where it could be read.
@@ -233,7 +298,7 @@ impl<B, M, K, R> Shared<B, M, K, R> {
     // Makes a step: takes the lock, reads the moment, calls, lets the lock go, wakes. What the call
     // did to the book, nobody can say after it.
     #[inline(always)]
-    fn step<X, F: FnOnce(&mut Guarded<B>, Duration) -> (X, Wakes)>(&self, call: F) -> X
+    pub(super) fn step<X, F: FnOnce(&mut Guarded<B>, Duration) -> (X, Wakes)>(&self, call: F) -> X
     where
         R: Clock + Wait,
         requires { (g : _) (now : _) → F.pre call g now }
@@ -273,17 +338,6 @@ impl<P: Drop, C: TakeCounter, M, K, R: Clock + Wait> Shared<CountingBook<P, C>, 
         self.step(|guarded, _now| (guarded.book.report(), Wakes::nobody()))
     }
 
-    /// Puts a lent connection back. One that is closed, or refused, comes back.
-    #[inline(always)]
-    pub(super) fn give_back(
-        &self,
-        id: u64,
-        value: P,
-        broken: bool,
-    ) -> Result<Returned<P>, (Refusal, P)> {
-        self.step(|guarded, now| guarded.give_back(now, id, value, broken))
-    }
-
     /// Gives an opened connection its id.
     pub(super) fn number(&self, tries: u32) -> Result<u64, Refusal> {
         self.step(|guarded, _now| (guarded.book.number(tries), Wakes::nobody()))
@@ -292,6 +346,11 @@ impl<P: Drop, C: TakeCounter, M, K, R: Clock + Wait> Shared<CountingBook<P, C>, 
     /// Tells the book of an outcome.
     pub(super) fn settle(&self, outcome: Outcome<P>) -> Settled<P> {
         self.step(|guarded, now| guarded.book.settle(now, outcome))
+    }
+
+    /// Tells the book of an opening that failed.
+    pub(super) fn fail(&self, tries: u32, text: Option<String>) {
+        self.step(|guarded, now| guarded.fail(now, tries, text));
     }
 
     /// Closes the book, tells all who wait, and hands over what was idle.

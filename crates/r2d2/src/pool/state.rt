@@ -2,6 +2,7 @@
 ghost use Rattle.std.specs.Prelude.{◌≡◌, ◌≤◌, length};
 ghost use Rattle.r2d2_core.specs.Limits.{wanted_of};
 
+use super::failures::Failures;
 use r2d2_core::Book;
 use std::fmt;
 
@@ -49,6 +50,10 @@ pub struct Status {
     pub opening: u32,
     /// How many callers wait, for a connection or in a `drain`.
     pub waiting: u64,
+    /// How many openings failed so far, those among them whose connection the customizer refused.
+    pub failed_openings: u64,
+    /// How many checks failed so far.
+    pub failed_checks: u64,
     /// Whether it is closed: then nothing is idle, and nothing is opened.
     pub closed: bool,
 }
@@ -56,8 +61,8 @@ pub struct Status {
 impl Status {
     ghost use Rattle.r2d2.specs.Status.{IsStatus};
 
-    // What the book shows, with so many callers who wait.
-    pub(super) fn of<P>(book: &Book<P>, waiting: u64) -> Status
+    // What the book shows, with so many callers who wait, and what failed.
+    pub(super) fn of<P>(book: &Book<P>, waiting: u64, failures: &Failures) -> Status
         ensures sums { IsStatus result }
         ensures max_size { result.max_size ≡ book.now.picture.on_order.limits.max_size }
         ensures wanted { result.wanted ≡ wanted_of book.now.picture.on_order.limits }
@@ -65,6 +70,8 @@ impl Status {
         ensures lent { result.lent ≡ length book.now.picture.lent }
         ensures opening { result.opening ≡ book.now.picture.on_order.pending }
         ensures waiting { result.waiting ≡ waiting }
+        ensures openings { result.failed_openings ≡ failures.now.openings }
+        ensures checks { result.failed_checks ≡ failures.now.checks }
         ensures closed { result.closed ≡ book.now.picture.on_order.closed }
     {
         let limits = book.limits();
@@ -77,6 +84,8 @@ impl Status {
             lent: connections - idle,
             opening: book.pending(),
             waiting,
+            failed_openings: failures.openings,
+            failed_checks: failures.checks,
             closed: book.is_closed(),
         }
     }

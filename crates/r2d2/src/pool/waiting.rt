@@ -54,7 +54,13 @@ impl<P: Drop, C: CountTakes, M, K, R: Clock + Wait> Shared<CountingBook<P, C>, M
             time.look(now);
             let (taken, wakes) = guarded.book.lend(now, timeout.is_some(), tally);
             let found = match taken {
-                Take::Found { id, value, .. } => Some(Lent { id, payload: value }),
+                Take::Found {
+                    id, birth, value, ..
+                } => Some(Lent {
+                    id,
+                    birth,
+                    payload: value,
+                }),
                 Take::Empty { .. } => None,
             };
             let (Some(timeout), None) = (timeout, &found) else {
@@ -74,7 +80,8 @@ impl<P: Drop, C: CountTakes, M, K, R: Clock + Wait> Shared<CountingBook<P, C>, M
             guarded = again;
             guarded.end_wait();
             if outcome.timed_out() {
-                return Err(self.give_up(guarded));
+                time.look(self.moment());
+                return Err(self.give_up(guarded, time));
             }
         }
         unreachable!()
@@ -111,17 +118,23 @@ impl<P: Drop, C: TakeCounter, M, K, R: Clock + Wait> Shared<CountingBook<P, C>, 
         guarded
     }
 
-    // Gives up: the timeout has the latest error of an opening or a check, where one is known.
-    fn give_up(&self, mut guarded: MutexGuard<'_, Guarded<CountingBook<P, C>>>) -> Error
+    // Gives up: the timeout has the latest error of an opening or a check, where one is known, and
+    // what the pool shows now.
+    fn give_up(
+        &self,
+        mut guarded: MutexGuard<'_, Guarded<CountingBook<P, C>>>,
+        time: &CallTime,
+    ) -> Error
         ensures { result.kind ≡ ErrorKind.Timeout }
     {
         // Modelled in model/waiting.pml: keep both alike.
+        let status = guarded.status();
         let error = guarded.book.take_error();
         // It is late by the clock, and may have been woken: that wake is another's now.
         let wakes = guarded.needed_wakes(Wakes::a_caller());
         drop(guarded);
         self.wake(wakes);
-        Error::timeout(error)
+        Error::timeout(error, status, time.waited())
     }
 
     /// Gives up for a call whose time is over; None where some is left, or where it brought no
@@ -139,13 +152,16 @@ impl<P: Drop, C: TakeCounter, M, K, R: Clock + Wait> Shared<CountingBook<P, C>, 
         if !time.left_of(timeout).is_zero() {
             return None;
         }
-        Some(self.give_up(self.lock()))
+        Some(self.give_up(self.lock(), time))
     }
 
-    /// Waits until there are so many connections, and as long as this at most. Past that it answers
-    /// the latest error of an opening or a check.
-    pub(super) fn wait_for(&self, wanted: u32, timeout: Duration) -> Result<(), Option<String>> {
+    /// Waits until there are so many connections, and as long as this at most. Past that it is a
+    /// timeout, with the latest error of an opening or a check.
+    pub(super) fn wait_for(&self, wanted: u32, timeout: Duration) -> Result<(), Error>
+        ensures { IfErr result (λ error. error.kind ≡ ErrorKind.Timeout) }
+    {
         // Modelled in model/waiting.pml: keep both alike.
+        let mut time = CallTime::new(Some(self.moment()));
         let mut guarded = self.guarded.lock(&self.rt);
         guarded.begin_wait();
         let (mut guarded, outcome) = self.callers.wait_timeout_while(
@@ -156,7 +172,10 @@ impl<P: Drop, C: TakeCounter, M, K, R: Clock + Wait> Shared<CountingBook<P, C>, 
         );
         guarded.end_wait();
         if outcome.timed_out() {
-            return Err(guarded.book.take_error());
+            time.look(self.moment());
+            let status = guarded.status();
+            let error = guarded.book.take_error();
+            return Err(Error::timeout(error, status, time.waited()));
         }
         Ok(())
     }

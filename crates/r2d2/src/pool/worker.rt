@@ -1,4 +1,8 @@
 // What a worker does: it opens connections, closes expired ones, and waits for either.
+ghost use Rattle.std.specs.Prelude.{◌≡◌};
+ghost use Rattle.std.specs.Duration.{as_nanos};
+ghost use Rattle.r2d2_core.specs.Limits.{has_reached};
+ghost use Rattle.r2d2.specs.Events.{reason_of_reap};
 
 use super::PoolRuntime;
 use super::evicting::has_room;
@@ -6,9 +10,10 @@ use super::locking::{Guarded, SharedOf};
 use crate::ManageConnection;
 use crate::engine::{CountingBook, Outcome, TakeCounter, Wakes};
 use crate::error::text_of;
+use crate::event::ReleaseReason;
 use crate::hooks::Hooks;
 use crate::payload::{Payload, PayloadOf, open};
-use r2d2_core::{Job, Refusal, Released};
+use r2d2_core::{Job, Limits, Refusal, Released};
 use std::time::Duration;
 
 impl<C: TakeCounter, M: ManageConnection, K: Hooks<M>, R: PoolRuntime> SharedOf<C, M, K, R> {
@@ -29,9 +34,10 @@ impl<C: TakeCounter, M: ManageConnection, K: Hooks<M>, R: PoolRuntime> SharedOf<
                 Job::Reap => {
                     let wakes = guarded.reap(self.moment(), &mut expired);
                     let wakes = guarded.needed_wakes(wakes);
+                    let limits = guarded.book.book().limits();
                     drop(guarded);
                     self.wake(wakes);
-                    self.release_all(&mut expired);
+                    self.release_expired(limits, &mut expired);
                 }
                 Job::Wait(due) => {
                     // Not from `now`, which is zero where the clock can't be read.
@@ -54,7 +60,7 @@ impl<C: TakeCounter, M: ManageConnection, K: Hooks<M>, R: PoolRuntime> SharedOf<
             Ok(connection) => self.admit(tries, connection),
             Err(error) => {
                 let text = text_of(self.rt.alloc(), &error);
-                self.settle(Outcome::Failed { tries, text });
+                self.fail(tries, text);
                 self.hooks.error(error);
             }
         }
@@ -66,18 +72,40 @@ impl<C: TakeCounter, M: ManageConnection, K: Hooks<M>, R: PoolRuntime> SharedOf<
         match self.number(tries) {
             Ok(id) => {
                 self.hooks.acquire(id);
-                let value = Payload::new(self.rt.alloc(), connection);
-                self.settle(Outcome::Opened { id, value });
+                let mut value = Payload::new(self.rt.alloc(), connection);
+                self.step(|guarded, now| {
+                    value.idle_since = now;
+                    guarded.book.settle(now, Outcome::Opened { id, value })
+                });
             }
             Err(Refusal::IdsUsedUp) => {
                 drop(connection);
-                self.settle(Outcome::Failed { tries, text: None });
+                self.fail(tries, None);
             }
             // A pool that was closed meanwhile has no use for it.
             Err(Refusal::Closed) => drop(connection),
             // None other comes, since the opening is in work.
             Err(_) => {}
         }
+    }
+
+    // Releases what a reap closed.
+    fn release_expired(&self, limits: Limits, expired: &mut Vec<Released<PayloadOf<M>>>) {
+        for released in expired.drain(..) {
+            let reason = reason_of_reap(&limits, released.age);
+            self.release(released, reason);
+        }
+    }
+}
+
+// Why a reap closed a connection of this age.
+fn reason_of_reap(limits: &Limits, age: Duration) -> ReleaseReason
+    ensures { result ≡ reason_of_reap (has_reached limits.now.max_lifetime (as_nanos age)) }
+{
+    if limits.is_too_old(age) {
+        ReleaseReason::Lifetime
+    } else {
+        ReleaseReason::Idle
     }
 }
 

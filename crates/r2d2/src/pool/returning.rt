@@ -1,0 +1,51 @@
+// A lent connection comes back, and is kept or closed.
+
+use super::lent::Lent;
+use super::locking::Shared;
+use crate::Extension;
+use crate::engine::{CountingBook, TakeCounter};
+use crate::event::ReleaseReason;
+use crate::hooks::Closed;
+use crate::payload::Payload;
+use r2d2_core::Returned;
+use std::rt::Clock;
+use std::sync::Wait;
+
+impl<X: Drop, E: Extension + Drop, C: TakeCounter, M, K, R: Clock + Wait> Shared<
+    CountingBook<Payload<X, E>, C>,
+    M,
+    K,
+    R,
+> {
+    /// Puts a lent connection back. One that is unfit for some reason, too old, or evicted is
+    /// closed, and so is each where the pool is closed: it answers that one.
+    #[inline(always)]
+    pub(super) fn give_back(
+        &self,
+        lent: Lent<Payload<X, E>>,
+        unfit: Option<ReleaseReason>,
+    ) -> Option<Closed<X>> {
+        let Lent {
+            id,
+            birth,
+            mut payload,
+        } = lent;
+        let (returned, reason) = self.step(|guarded, now| {
+            payload.idle_since = now;
+            let age = now.saturating_sub(birth);
+            let longest = guarded.book.book().limits().max_lifetime();
+            let outlived = self.tuning.is_outlived(longest, self.made_at, id, age);
+            guarded.give_back(now, id, payload, unfit, outlived)
+        });
+        let Ok(Returned::Closed { value, age, .. }) = returned else {
+            return None;
+        };
+        let Payload { connection, .. } = value;
+        Some(Closed {
+            id,
+            age,
+            reason,
+            connection,
+        })
+    }
+}

@@ -1,0 +1,108 @@
+// The settings that r2d2 has not, each off by default: what a pool does in an outage, and how the
+// lifetimes of its connections differ.
+ghost use Rattle.std.specs.Prelude.{◌≡◌, ◌≤◌, ◌<◌, ◌-◌, ◌*◌, min, MatchOption};
+ghost use Rattle.std.specs.Option.{ForSome};
+ghost use Rattle.std.specs.Duration.{as_nanos, max_nanos};
+
+use std::hash::{FoldHasher, Hasher};
+use std::time::{Duration, SystemTime};
+
+/// Into how many parts a jitter is divided.
+const PARTS: u32 = 65_536;
+
+/// What each means is said at the setting of `Builder` of the same name.
+#[derive(Clone, Copy)]
+pub struct Tuning {
+    /// For how long a connection has to be idle before it is checked; None for not at all.
+    pub check_after_idle: Option<Duration>,
+    /// Whether a failed check closes the connections that were idle for longer.
+    pub distrust_idle: bool,
+    /// The longest delay between two tries of an opening; None for half of `connection_timeout`.
+    pub retry_at_most: Option<Duration>,
+    /// By how much at most the lifetime of a connection is less than `max_lifetime`.
+    pub lifetime_jitter: Option<Duration>,
+    pub ghost retries: { ForSome retry_at_most (λ d. 0 < as_nanos d) },
+}
+
+impl Tuning {
+    ghost use Rattle.std.specs.Prelude.{IsTrue, IsFalse, IsSome, IfSome};
+    ghost use Rattle.std.specs.Option.{IsNone};
+    ghost use Rattle.r2d2.specs.Settings.{IsOff, is_check_due};
+
+    /// Each is off.
+    pub fn off() -> Tuning
+        ensures { IsOff result }
+    {
+        Tuning {
+            check_after_idle: None,
+            distrust_idle: false,
+            retry_at_most: None,
+            lifetime_jitter: None,
+        }
+    }
+
+    /// The connection timeout of the limits of a pool's book: so long that delays grow to
+    /// `retry_at_most`, or else the one that callers have.
+    pub fn connection_timeout(&self, of_callers: Duration) -> Duration
+        requires { 0 < as_nanos of_callers }
+        ensures given { MatchOption self.now.retry_at_most (result ≡ of_callers)
+            (λ longest. as_nanos result ≡ min (as_nanos longest * 2) max_nanos) }
+        ensures positive { 0 < as_nanos result }
+    {
+        match self.retry_at_most {
+            Some(longest) => longest.saturating_mul(2),
+            None => of_callers,
+        }
+    }
+
+    /// Whether what is idle since this moment is idle for long enough to be checked. A clock that
+    /// went back tells nothing: then it is.
+    pub fn is_check_due(&self, idle_since: Duration, now: Duration) -> bool
+        ensures { result ≡ is_check_due self.now.check_after_idle (as_nanos idle_since)
+            (as_nanos now) }
+    {
+        let (Some(least), Some(idle)) = (self.check_after_idle, now.checked_sub(idle_since)) else {
+            return true;
+        };
+        idle >= least
+    }
+
+    /// Whether a connection has outlived its own lifetime, where lifetimes differ.
+    pub fn is_outlived(
+        &self,
+        longest: Option<Duration>,
+        made_at: Option<SystemTime>,
+        id: u64,
+        age: Duration,
+    ) -> bool
+        ensures off { IsNone self.now.lifetime_jitter → IsFalse result }
+        ensures early { IsTrue result → IfSome longest (λ longest. IfSome self.now.lifetime_jitter
+            (λ jitter. as_nanos longest - as_nanos jitter ≤ as_nanos age)) }
+        ensures late { IsSome self.now.lifetime_jitter → IfSome longest
+            (λ longest. as_nanos longest ≤ as_nanos age → IsTrue result) }
+    {
+        match (longest, self.lifetime_jitter) {
+            (Some(longest), Some(jitter)) => age >= own_lifetime(longest, jitter, made_at, id),
+            _ => false,
+        }
+    }
+}
+
+// The longest lifetime less a part of the jitter. Which part is drawn from the connection's id and
+// from when the pool was made, so that pools that were made together differ too.
+fn own_lifetime(
+    longest: Duration,
+    jitter: Duration,
+    made_at: Option<SystemTime>,
+    id: u64,
+) -> Duration
+    ensures at_most { as_nanos result ≤ as_nanos longest }
+    ensures at_least { as_nanos longest - as_nanos jitter ≤ as_nanos result }
+{
+    let since_1970 = made_at.and_then(|at| at.duration_since(SystemTime::UNIX_EPOCH).ok());
+    let mut hasher = FoldHasher::default();
+    hasher.write_u32(since_1970.unwrap_or(Duration::ZERO).subsec_nanos());
+    hasher.write_u64(id);
+    let part = (hasher.finish() >> 48) as u32;
+    longest.saturating_sub(jitter / PARTS * part)
+}

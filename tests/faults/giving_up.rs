@@ -1,0 +1,76 @@
+// What the error of a call that gave up tells: what the pool showed then, and how long the call had
+// lasted.
+
+use crate::server::{CHECK, Place, PoolOf};
+use r2d2::{Error, ErrorKind, PoolRuntime, Status};
+use std::test::Fail;
+use std::thread;
+use std::time::Duration;
+
+// A call in a thread: what its error tells.
+fn told<R: PoolRuntime>(pool: PoolOf<R>, timeout: Duration) -> Option<(Status, Duration)> {
+    let error = pool.get_timeout(timeout).err()?;
+    Some((error.status()?, error.waited()?))
+}
+
+// Whether so many callers wait, at last.
+fn once_waiting<R: PoolRuntime>(rt: &R, place: &Place<R>, callers: u64) -> bool {
+    for _ in 0..1000 {
+        if place.pool.status().waiting == callers {
+            return true;
+        }
+        thread::sleep(rt, Duration::from_millis(1));
+    }
+    false
+}
+
+// Another caller waits too. The call begins at 3 s and gives up at 10 s, by the clock of the test.
+#[test]
+fn a_call_that_waited_tells_what_it_saw(rt: HostRuntime) -> Result<(), Fail> {
+    let place = Place::new(rt, 2, |settings| settings)?;
+    let (one, other) = (place.pool.get()?, place.pool.get()?);
+    let patient = place.pool.try_clone()?;
+    let patient = thread::spawn(&rt, move || told(patient, Duration::from_secs(1000)))?;
+    assert!(rt; once_waiting(&rt, &place, 1));
+    place.hand.set(3, 0);
+    let hasty = place.pool.try_clone()?;
+    let hasty = thread::spawn(&rt, move || told(hasty, Duration::from_millis(500)))?;
+    assert!(rt; once_waiting(&rt, &place, 2));
+    place.hand.set(10, 0);
+    let (status, waited) = hasty.join(&rt).ok_or("nothing told")?;
+    assert_eq!(rt; waited, Duration::from_secs(7));
+    assert_eq!(rt; (status.lent, status.idle, status.waiting), (2, 0, 1));
+    assert_eq!(rt; (status.max_size, status.connections, status.opening), (2, 2, 0));
+    drop(one);
+    assert!(rt; patient.join(&rt).is_none());
+    drop(other);
+    Ok(())
+}
+
+#[test]
+fn a_call_that_is_late_after_a_check_tells_it_too(rt: HostRuntime) -> Result<(), Fail> {
+    let place = Place::new(rt, 3, |settings| settings)?;
+    place.dies();
+    let error = place.pool.get_timeout(Duration::from_secs(4)).err();
+    let error = error.ok_or("a connection")?;
+    assert_eq!(rt; error.kind(), ErrorKind::Timeout);
+    assert_eq!(rt; error.waited(), Some(Duration::from_secs(CHECK)));
+    let status = error.status().ok_or("no status")?;
+    assert_eq!(rt; (status.idle, status.lent, status.failed_checks), (2, 0, 1));
+    Ok(())
+}
+
+// Whether an error tells neither.
+fn tells_nothing(error: &Error) -> bool {
+    error.status().is_none() && error.waited().is_none()
+}
+
+#[test]
+fn who_did_not_give_up_tells_nothing(rt: HostRuntime) -> Result<(), Fail> {
+    let place = Place::new(rt, 1, |settings| settings)?;
+    place.pool.close();
+    let error = place.pool.get().err().ok_or("a connection")?;
+    assert_eq!(rt; error.kind(), ErrorKind::Closed);
+    assert!(rt; tells_nothing(&error));
+    Ok(())
+}

@@ -1,0 +1,202 @@
+// What a pool does in an outage, and soon after it: which connections it distrusts, which it checks,
+// and when it tries again.
+
+use crate::play::watched;
+use crate::server::{CHECK, Place};
+use r2d2::LendingOrder;
+use r2d2::event::ReleaseReason::{CheckFailed, Distrusted};
+use std::sync::atomic::Ordering;
+use std::test::Fail;
+use std::thread;
+use std::time::Duration;
+
+// How many of four connections a `try_get` checks that were given back at these seconds, where each
+// check fails: it finds none.
+fn checked<R: r2d2::PoolRuntime>(
+    rt: R,
+    distrusts: bool,
+    order: LendingOrder,
+    returns: [u64; 4],
+) -> Result<u64, Fail> {
+    let place = Place::new(rt, 4, |settings| {
+        settings.distrust_idle(distrusts).lending_order(order)
+    })?;
+    place.server.answers.store(0, Ordering::SeqCst);
+    place.return_at(&returns)?;
+    let before = place.checks();
+    place.dies();
+    if place.pool.try_get()?.is_some() {
+        return Err(Fail::from("a connection"));
+    }
+    let status = place.pool.status();
+    if status.idle != 0 || status.failed_checks != place.checks() - before {
+        return Err(Fail::from("another status"));
+    }
+    Ok(status.failed_checks)
+}
+
+#[test]
+fn a_failed_check_tells_of_those_that_came_back_before(rt: HostRuntime) -> Result<(), Fail> {
+    assert_eq!(rt; checked(rt, true, LendingOrder::NewestFirst, [1, 2, 3, 4])?, 1);
+    assert_eq!(rt; checked(rt, false, LendingOrder::NewestFirst, [1, 2, 3, 4])?, 4);
+    Ok(())
+}
+
+#[test]
+fn it_tells_nothing_of_those_that_came_back_later(rt: HostRuntime) -> Result<(), Fail> {
+    assert_eq!(rt; checked(rt, true, LendingOrder::OldestFirst, [1, 2, 3, 4])?, 4);
+    // Nor of one that came back at the same moment.
+    assert_eq!(rt; checked(rt, true, LendingOrder::NewestFirst, [1, 1, 2, 2])?, 2);
+    assert_eq!(rt; checked(rt, true, LendingOrder::NewestFirst, [3, 3, 3, 3])?, 4);
+    Ok(())
+}
+
+#[test]
+fn one_that_was_not_lent_yet_is_idle_since_its_opening(rt: HostRuntime) -> Result<(), Fail> {
+    let place = Place::new(rt, 2, |settings| {
+        settings
+            .distrust_idle(true)
+            .lending_order(LendingOrder::OldestFirst)
+    })?;
+    // The first comes back broken at 1, so that a third is opened at 1, and the second at 0.
+    place.server.broken.store(1, Ordering::SeqCst);
+    place.ends();
+    let (first, second) = (place.pool.get()?, place.pool.get()?);
+    drop(second);
+    place.hand.set(1, 0);
+    drop(first);
+    for _ in 0..500 {
+        if place.pool.state().idle_connections == 2 {
+            break;
+        }
+        thread::sleep(&rt, Duration::from_millis(10));
+    }
+    place.server.answers.store(0, Ordering::SeqCst);
+    let before = place.checks();
+    place.dies();
+    assert!(rt; place.pool.try_get()?.is_none());
+    assert_eq!(rt; place.checks() - before, 2);
+    Ok(())
+}
+
+#[test]
+fn a_caller_closes_them_and_is_lent_a_new_one(rt: HostRuntime) -> Result<(), Fail> {
+    let place = Place::new(rt, 3, |settings| settings.distrust_idle(true))?;
+    place.return_at(&[1, 2, 3])?;
+    place.dies();
+    place.ends();
+    let lent = place.pool.get_timeout(Duration::from_secs(1000))?;
+    assert!(rt; *lent >= 3);
+    // Those of the lending before it, one that failed, and one of a new connection.
+    assert_eq!(rt; place.checks(), 3 + 1 + 1);
+    // By the order of their lending: the ids are 2, 1, 0, and they came back at 1, 2, 3.
+    let wanted = [
+        (0, 3 + CHECK, CheckFailed),
+        (1, 3 + CHECK, Distrusted),
+        (2, 3 + CHECK, Distrusted),
+    ];
+    assert_eq!(rt; place.released()?.as_slice(), wanted.as_slice());
+    Ok(())
+}
+
+// One that came back while another was checked is lent; those beneath it are distrusted still, and
+// closed when a caller comes to them.
+#[test]
+fn one_that_came_back_amid_the_check_is_checked(rt: HostRuntime) -> Result<(), Fail> {
+    let place = Place::new(rt, 3, |settings| settings.distrust_idle(true))?;
+    place.server.answers.store(0, Ordering::SeqCst);
+    place.return_at(&[1, 2, 3])?;
+    // The newest, with the id 0, is lent; the next, 1, fails its check.
+    let newest = place.pool.get()?;
+    place.server.dead_below.store(2, Ordering::SeqCst);
+    let before = place.checks();
+    place.hand.set(4, 0);
+    let theirs = place.pool.try_clone()?;
+    let found = thread::spawn(&rt, move || matches!(theirs.try_get(), Ok(None)))?.join(&rt);
+    assert!(rt; found);
+    drop(newest);
+    assert_eq!(rt; place.checks() - before, 1);
+    place.server.dead_below.store(0, Ordering::SeqCst);
+    let lent = place.pool.try_get()?.ok_or("none")?;
+    assert_eq!(rt; *lent, 0);
+    assert_eq!(rt; place.checks() - before, 2);
+    Ok(())
+}
+
+// How many checks two lendings make at these seconds, the first of a connection that is idle since
+// 0.
+fn checks_at<R: r2d2::PoolRuntime>(
+    rt: R,
+    after: Option<Duration>,
+    seconds: [u64; 2],
+) -> Result<[u64; 2], Fail> {
+    let place = Place::new(rt, 1, |settings| settings.check_after_idle(after))?;
+    place.hand.set(seconds[0], 0);
+    drop(place.pool.get()?);
+    let first = place.checks();
+    place.hand.set(seconds[1], 0);
+    drop(place.pool.get()?);
+    Ok([first, place.checks() - first])
+}
+
+#[test]
+fn a_connection_is_checked_after_it_was_idle_for_so_long(rt: HostRuntime) -> Result<(), Fail> {
+    let after = Some(Duration::from_secs(5));
+    assert_eq!(rt; checks_at(rt, after, [4, 8])?, [0, 0]);
+    assert_eq!(rt; checks_at(rt, after, [5, 9])?, [1, 0]);
+    assert_eq!(rt; checks_at(rt, after, [4, 9])?, [0, 1]);
+    assert_eq!(rt; checks_at(rt, None, [0, 0])?, [1, 1]);
+    assert_eq!(rt; checks_at(rt, Some(Duration::ZERO), [0, 0])?, [1, 1]);
+    // A clock that went back tells nothing.
+    assert_eq!(rt; checks_at(rt, after, [7, 6])?, [1, 1]);
+    Ok(())
+}
+
+#[test]
+fn where_none_is_checked_none_is_checked_for_that(rt: HostRuntime) -> Result<(), Fail> {
+    let place = Place::new(rt, 1, |settings| {
+        settings
+            .test_on_check_out(false)
+            .check_after_idle(Some(Duration::from_secs(1)))
+    })?;
+    place.hand.set(100, 0);
+    drop(place.pool.get()?);
+    assert_eq!(rt; place.checks(), 0);
+    Ok(())
+}
+
+// An opening that failed is tried again within this time, however long callers wait: by the clock
+// of the machine. Without the setting the sixth failure alone delays it for 6.4 s.
+#[test]
+fn an_opening_is_tried_again_soon(rt: HostRuntime) -> Result<(), Fail> {
+    let place = Place::new(rt, 1, |settings| {
+        settings.retry_at_most(Duration::from_millis(50))
+    })?;
+    place.dies();
+    assert!(rt; place.pool.try_get()?.is_none());
+    assert!(rt; watched(&rt, &place.server.opened, 7, 300) >= 7);
+    assert!(rt; place.pool.status().failed_openings >= 5);
+    place.ends();
+    let lent = place.pool.get_timeout(Duration::from_secs(10))?;
+    assert!(rt; *lent >= 7);
+    Ok(())
+}
+
+#[test]
+fn what_failed_is_counted(rt: HostRuntime) -> Result<(), Fail> {
+    let place = Place::new(rt, 2, |settings| settings)?;
+    assert_eq!(rt; place.pool.status().failed_openings, 0);
+    // A detached connection failed no check, and the customizer refuses the one after it.
+    place.server.refused.store(3, Ordering::SeqCst);
+    place.ends();
+    let lent = place.pool.get()?;
+    crate::kind::PooledConnection::detach(lent);
+    assert!(rt; watched(&rt, &place.server.opened, 4, 500) >= 4);
+    let status = place.pool.status();
+    assert_eq!(rt; (status.failed_openings, status.failed_checks), (1, 0));
+    place.dies();
+    place.server.answers.store(0, Ordering::SeqCst);
+    assert!(rt; place.pool.try_get()?.is_none());
+    assert!(rt; place.pool.status().failed_checks >= 1);
+    Ok(())
+}

@@ -1,0 +1,185 @@
+// Why a connection is released: each reason, and which of several is told.
+
+use crate::kind::PooledConnection;
+use crate::play::watched;
+use crate::server::Place;
+use r2d2::PoolRuntime;
+use r2d2::event::ReleaseReason;
+use std::process::Abort;
+use std::sync::atomic::Ordering;
+use std::test::Fail;
+use std::thread;
+use std::time::Duration;
+
+// The pool has one connection, lent since 0 and given back at 100 s, after this was done to it. It
+// answers what was released.
+fn returned<R: PoolRuntime, F: FnOnce(&Place<R>) -> Result<(), Fail>>(
+    rt: R,
+    done: F,
+) -> Result<Option<(u64, u64, ReleaseReason)>, Fail> {
+    let place = Place::new(rt, 1, |settings| settings)?;
+    let lent = place.pool.get()?;
+    place.hand.set(100, 0);
+    done(&place)?;
+    drop(lent);
+    Ok(place.released()?.first().copied())
+}
+
+fn breaks<R: PoolRuntime>(place: &Place<R>) -> Result<(), Fail> {
+    place.server.broken.store(1, Ordering::SeqCst);
+    Ok(())
+}
+
+fn evicts<R: PoolRuntime>(place: &Place<R>) -> Result<(), Fail> {
+    place.pool.evict()?;
+    Ok(())
+}
+
+fn closes<R: PoolRuntime>(place: &Place<R>) -> Result<(), Fail> {
+    place.pool.close();
+    Ok(())
+}
+
+#[test]
+fn a_return_is_closed_for_one_reason(rt: HostRuntime) -> Result<(), Fail> {
+    use ReleaseReason::{Broken, Evicted, PoolClosed};
+    assert_eq!(rt; returned(rt, |_place| Ok(()))?, None);
+    assert_eq!(rt; returned(rt, breaks)?, Some((0, 100, Broken)));
+    assert_eq!(rt; returned(rt, evicts)?, Some((0, 100, Evicted)));
+    assert_eq!(rt; returned(rt, closes)?, Some((0, 100, PoolClosed)));
+    Ok(())
+}
+
+#[test]
+fn of_several_reasons_the_first_is_told(rt: HostRuntime) -> Result<(), Fail> {
+    use ReleaseReason::{Broken, Evicted};
+    let all = |place: &Place<HostRuntime>| {
+        breaks(place)?;
+        evicts(place)?;
+        closes(place)
+    };
+    assert_eq!(rt; returned(rt, all)?, Some((0, 100, Broken)));
+    let two = |place: &Place<HostRuntime>| {
+        evicts(place)?;
+        closes(place)
+    };
+    assert_eq!(rt; returned(rt, two)?, Some((0, 100, Evicted)));
+    Ok(())
+}
+
+#[test]
+fn a_return_at_its_lifetime(rt: HostRuntime) -> Result<(), Fail> {
+    let place = Place::new(rt, 1, |settings| {
+        settings.max_lifetime(Some(Duration::from_secs(100)))
+    })?;
+    let lent = place.pool.get()?;
+    place.hand.set(100, 0);
+    drop(lent);
+    let wanted = [(0, 100, ReleaseReason::Lifetime)];
+    assert_eq!(rt; place.released()?.as_slice(), wanted.as_slice());
+    Ok(())
+}
+
+#[test]
+fn an_idle_one_of_an_eviction(rt: HostRuntime) -> Result<(), Fail> {
+    let place = Place::new(rt, 2, |settings| settings)?;
+    place.hand.set(7, 0);
+    assert_eq!(rt; place.pool.evict()?, 2);
+    let wanted = [(1, 7, ReleaseReason::Evicted), (0, 7, ReleaseReason::Evicted)];
+    assert_eq!(rt; place.released()?.as_slice(), wanted.as_slice());
+    Ok(())
+}
+
+#[test]
+fn a_detached_one(rt: HostRuntime) -> Result<(), Fail> {
+    let place = Place::new(rt, 1, |settings| settings)?;
+    let lent = place.pool.get()?;
+    place.hand.set(9, 0);
+    breaks(&place)?;
+    PooledConnection::detach(lent);
+    let wanted = [(0, 9, ReleaseReason::Detached)];
+    assert_eq!(rt; place.released()?.as_slice(), wanted.as_slice());
+    Ok(())
+}
+
+// One of three comes back broken at 700 s, which wakes the worker, for which a reap is due too. The
+// two others are idle since 0. It answers what the reap released.
+fn reaped<R: PoolRuntime>(
+    rt: R,
+    lifetime: u64,
+    idle: u64,
+) -> Result<Vec<(u64, u64, ReleaseReason)>, Fail> {
+    let place = Place::new(rt, 3, |settings| {
+        settings
+            .max_lifetime(Some(Duration::from_secs(lifetime)))
+            .idle_timeout(Some(Duration::from_secs(idle)))
+    })?;
+    let lent = place.pool.get()?;
+    place.server.broken.store(3, Ordering::SeqCst);
+    place.hand.set(700, 0);
+    drop(lent);
+    for _ in 0..500 {
+        if place.released()?.len() == 3 {
+            break;
+        }
+        thread::sleep(&rt, Duration::from_millis(10));
+    }
+    let mut released = place.released()?;
+    released.swap_remove(0);
+    released.sort_unstable_by_key(|(id, _, _)| *id);
+    Ok(released)
+}
+
+#[test]
+fn one_that_a_reap_closed(rt: HostRuntime) -> Result<(), Fail> {
+    use ReleaseReason::{Idle, Lifetime};
+    let idle = [(0, 700, Idle), (1, 700, Idle)];
+    assert_eq!(rt; reaped(rt, 701, 700)?.as_slice(), idle.as_slice());
+    let old = [(0, 700, Lifetime), (1, 700, Lifetime)];
+    assert_eq!(rt; reaped(rt, 700, 701)?.as_slice(), old.as_slice());
+    assert_eq!(rt; reaped(rt, 700, 700)?.as_slice(), old.as_slice());
+    Ok(())
+}
+
+// At which ages connections are closed that all come back each second from 1,600 to 1,800 s, and
+// how many of them in the worst second.
+fn ages<R: PoolRuntime + Abort>(rt: R, jitter: Option<u64>) -> Result<(u64, u64, usize), Fail> {
+    let place = Place::new(rt, 64, |settings| {
+        let settings = settings.max_lifetime(Some(Duration::from_secs(1800)));
+        match jitter {
+            Some(jitter) => settings.lifetime_jitter(Duration::from_secs(jitter)),
+            None => settings,
+        }
+    })?;
+    place.server.answers.store(0, Ordering::SeqCst);
+    for second in 1600..1801 {
+        place.hand.set(second, 0);
+        let mut lent = Vec::new(rt.alloc());
+        while let Some(connection) = place.pool.try_get()? {
+            lent.push(connection)?;
+        }
+    }
+    assert_eq!(rt; place.pool.state().connections, 0);
+    let released = place.released()?;
+    let mut worst = 0;
+    for second in 1600..1801 {
+        let closed = released.iter().filter(|(_, age, _)| *age == second).count();
+        worst = worst.max(closed);
+    }
+    let lifetime = |(_, _, reason): &(u64, u64, ReleaseReason)| *reason == ReleaseReason::Lifetime;
+    assert!(rt; released.iter().all(lifetime) && released.len() == 64);
+    let least = released.iter().map(|(_, age, _)| *age).min();
+    let most = released.iter().map(|(_, age, _)| *age).max();
+    Ok((least.ok_or("none")?, most.ok_or("none")?, worst))
+}
+
+#[test]
+fn lifetimes_differ_by_at_most_the_jitter(rt: HostRuntime) -> Result<(), Fail> {
+    assert_eq!(rt; ages(rt, None)?, (1800, 1800, 64));
+    assert_eq!(rt; ages(rt, Some(0))?, (1800, 1800, 64));
+    let (least, most, worst) = ages(rt, Some(180))?;
+    assert!(rt; 1620 <= least && least < 1680);
+    assert!(rt; 1740 < most && most <= 1800);
+    assert!(rt; worst <= 8);
+    Ok(())
+}
