@@ -137,8 +137,8 @@ fn take_steps<R: Read + Drop, W: Write + Drop>(
     Err(too_many_lines)
 }
 
-/// With no whole line at hand the next read may wait, so what was written goes out before it.
-pub fn send_before_waiting<R: Read + Drop, W: Write + Drop>(
+// With no whole line at hand the next read may wait, so what was written goes out before it.
+fn send_before_waiting<R: Read + Drop, W: Write + Drop>(
     input: &BufReader<R>,
     output: &mut BufWriter<W>,
 ) -> Result<(), Fault>
@@ -154,8 +154,8 @@ pub fn send_before_waiting<R: Read + Drop, W: Write + Drop>(
     flush(output)
 }
 
-/// Reads the next line, without its line feed, in place of the last one. Says whether there was one.
-pub fn next_line<R: BufRead>(input: &mut R, line: &mut Vec<u8>) -> Result<bool, Fault>
+// Reads the next line, without its line feed, in place of the last one. Says whether there was one.
+fn next_line<R: BufRead>(input: &mut R, line: &mut Vec<u8>) -> Result<bool, Fault>
     ensures fault { IfErr result (λ fault. (fault ≡ Memory) ⊎ (fault ≡ Read)) }
     ensures line { IfOk result (λ there. IfSome (R.remaining input.old) (λ bytes.
         TakesLine bytes there line.new.items (R.remaining input.new))) }
@@ -173,8 +173,8 @@ pub fn next_line<R: BufRead>(input: &mut R, line: &mut Vec<u8>) -> Result<bool, 
     Ok(count != 0)
 }
 
-/// Sends what was written.
-pub fn flush<W: Write + Drop>(output: &mut BufWriter<W>) -> Result<(), Fault>
+// Sends what was written.
+fn flush<W: Write + Drop>(output: &mut BufWriter<W>) -> Result<(), Fault>
     ensures fault { IfErr result (λ fault. fault ≡ Write) }
     ensures sent { OnOk result (writer_buffer output.new ≡ []) }
     ensures kept { Keeps (writer_contents W.contents output.old)

@@ -31,19 +31,14 @@ pub fn limits(line: &[u8]) -> Result<Limits, Fault>
     ensures refused { IfErr result (λ fault. fault ≡ LimitsRefused
         → (s : Bounds) × (limits_in line.now ≡ Some (sizes_of s)) × ¬ (AreLegal s)) }
 {
-    let settings = LimitsLine::read(line).ok_or(Fault::NotAStep(1))?;
-    settings.limits().ok_or(Fault::LimitsRefused)
+    let said = LimitsLine::read(line).ok_or(Fault::NotAStep(1))?;
+    said.limits().ok_or(Fault::LimitsRefused)
 }
 
 // What the first line says, legal or not.
 #[derive(Clone, Copy)]
 struct LimitsLine {
-    max_size: u32,
-    min_idle: Option<u32>,
-    max_lifetime: Option<Duration>,
-    idle_timeout: Option<Duration>,
-    connection_timeout: Duration,
-    reap_every: Duration,
+    settings: LimitSettings,
     order: LendingOrder,
 }
 
@@ -78,15 +73,15 @@ impl LimitsLine {
         let min_idle = optional_number(min_idle)?;
         let (max_lifetime, idle_timeout, connection_timeout, fields) = lengths(fields)?;
         let (reap_every, order) = reaps_and_order(fields)?;
-        Some(LimitsLine {
+        let settings = LimitSettings {
             max_size,
             min_idle,
             max_lifetime,
             idle_timeout,
             connection_timeout,
             reap_every,
-            order,
-        })
+        };
+        Some(LimitsLine { settings, order })
     }
 
     #[tactic(auto, using(crate::proofs::Fields::legal_with_order, crate::proofs::Fields::legal_in_any_order))]
@@ -94,15 +89,7 @@ impl LimitsLine {
         ensures legal { IsSome result ↔ AreLegal (bounds_of self.now) }
         ensures given { IfSome result (λ limits. seen_limits limits ≡ bounds_of self.now) }
     {
-        let limits = LimitSettings {
-            max_size: self.max_size,
-            min_idle: self.min_idle,
-            max_lifetime: self.max_lifetime,
-            idle_timeout: self.idle_timeout,
-            connection_timeout: self.connection_timeout,
-            reap_every: self.reap_every,
-        }
-        .limits()?;
+        let limits = self.settings.limits()?;
         Some(limits.with_order(self.order))
     }
 }

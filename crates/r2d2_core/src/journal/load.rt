@@ -1,6 +1,7 @@
 // How much of a pool is in use, from record to record.
-ghost use Rattle.std.specs.Prelude.{◌≡◌, ◌+◌, ◌&&◌, not, nat_le, true};
-ghost use Rattle.r2d2_core.specs.Limits.{seen_limits};
+ghost use Rattle.std.specs.Prelude.{◌≡◌, ◌+◌, ◌-◌, ◌&&◌, not, nat_le, true, if◌then◌else◌};
+ghost use Rattle.std.specs.Duration.{as_nanos};
+ghost use Rattle.r2d2_core.specs.Limits.{seen_limits, later_by};
 ghost use Rattle.r2d2_core.specs.Records.{seen_record};
 ghost use Rattle.r2d2_core.specs.Bases.{SeenBase, IsLegalBase};
 ghost use Rattle.r2d2_core.specs.Folding.{folded, may_follow};
@@ -30,6 +31,8 @@ pub struct Load {
     pub pending: u32,
     /// Whether the pool is closed.
     pub closed: bool,
+    /// For how long the pool was exhausted since the moment of the base.
+    pub exhausted: Duration,
 }
 
 impl Load {
@@ -37,6 +40,7 @@ impl Load {
     pub fn of<A: Allocator>(limits: Limits, base: &Base<A>) -> Load
         ensures limits { result.limits ≡ limits }
         ensures load { IsLoadOf (seen_base base.now) result }
+        ensures exhausted { as_nanos result.exhausted ≡ 0 }
     {
         Load {
             limits,
@@ -44,6 +48,7 @@ impl Load {
             lent: base.lent.len(),
             pending: base.pending,
             closed: base.closed,
+            exhausted: Duration::ZERO,
         }
     }
 
@@ -55,12 +60,35 @@ impl Load {
             → IsLoadOf base self.old
             → IsLoadOf (folded (seen_limits self.old.limits) (seen_record made.now) base)
             self.new }
+        ensures exhausted { as_nanos self.new.exhausted
+            ≡ (if not self.old.closed
+            && nat_le (seen_limits self.old.limits).max_size (self.old.lent + self.old.pending)
+            then later_by (as_nanos self.old.exhausted)
+            (as_nanos self.new.at - as_nanos self.old.at)
+            else as_nanos self.old.exhausted) }
     {
         let _max_size = self.limits.max_size();
-        self.at = later(self.at, made.at());
+        let at = later(self.at, made.at());
+        self.exhausted = self.exhausted_until(at);
+        self.at = at;
         self.lent = made.lent_after(self.lent);
         self.pending = made.pending_after(self.pending);
         self.closed |= made.is_close();
+    }
+
+    // For how long the pool was exhausted up to a moment, where nothing changes before it.
+    fn exhausted_until(&self, at: Duration) -> Duration
+        ensures { as_nanos result
+            ≡ (if not self.now.closed
+            && nat_le (seen_limits self.now.limits).max_size (self.now.lent + self.now.pending)
+            then later_by (as_nanos self.now.exhausted) (as_nanos at - as_nanos self.now.at)
+            else as_nanos self.now.exhausted) }
+    {
+        if !self.is_exhausted() {
+            return self.exhausted;
+        }
+        let passed = at.saturating_sub(self.at);
+        self.exhausted.saturating_add(passed)
     }
 
     /// Whether a caller who comes has to wait: the pool is open, and all `max_size` are lent or

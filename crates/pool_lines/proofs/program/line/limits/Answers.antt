@@ -5,5 +5,5 @@ use Rattle.pool_lines.proofs.program.line.limits.Goals as goal
 
 pub returns-clause-refused : goal.returns-clause-refused
 returns-clause-refused c =
-    refused_limits c.args.line.now c.in_ok-settings.settings c.limits.result c.ok_or-2.result c.ok_or-2.ensures.value c.limits.ensures.legal
-    (sym c.read.ensures ∙ ap (option_map seen_limits_line) c.in_ok-settings.ensures.ok_part)
+    refused_limits c.args.line.now c.in_ok-said.said c.limits.result c.ok_or-2.result c.ok_or-2.ensures.value c.limits.ensures.legal
+    (sym c.read.ensures ∙ ap (option_map seen_limits_line) c.in_ok-said.ensures.ok_part)

@@ -10,12 +10,13 @@ returns-clause-load c =
     let old = c.args.self.now in
     let now : Load = record {
       limits = old.limits;
-      at = c.later-self.result;
+      at = c.later-at.result;
       lent = c.lent_after-self.result;
       pending = c.pending_after-self.result;
       closed = old.closed || c.is_close.result;
+      exhausted = c.exhausted_until-self.result;
     } in
     λ base legal may load.
     load_follows (seen_limits old.limits) (seen_record c.args.made.now) base old now (omega (arith, c.max_size-max_size.ensures, c.max_size-max_size.type_inv))
-    legal may load (omega (arith, c.later-self.ensures.later, c.at.ensures)) c.lent_after-self.ensures c.pending_after-self.ensures
+    legal may load (omega (arith, c.later-at.ensures.later, c.at.ensures)) c.lent_after-self.ensures c.pending_after-self.ensures
     (ap (λ b. old.closed || b) c.is_close.ensures)
