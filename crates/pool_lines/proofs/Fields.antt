@@ -9,8 +9,8 @@ use Rattle.std.proofs.lemmas.Str.{IsUtf8-from_is_utf8, is_utf8-from_IsUtf8}
 use Rattle.std.proofs.lemmas.Str.Parse.{IsNumeralModel, numerals_by_value, tells_all_ascii_digits}
 use Rattle.std.proofs.lemmas.Grind.{common_steps}
 use Rattle.std.specs.Option.{ok_or}
-use Rattle.r2d2_core.specs.Limits.{SeenLimits, with_order, AreLegal}
-use Rattle.r2d2_core.specs.declared.schedule.limits.LendingOrder.{LendingOrder}
+use Rattle.r2d2_core.specs.declared.schedule.limits.LimitSettings.{LimitSettings}
+use Rattle.r2d2_core.specs.Limits.{AreLegal}
 use Rattle.r2d2_core.specs.declared.schedule.limits.Limits.{Limits}
 use Rattle.pool_lines.specs.declared.program.Fault.{Fault}
 use Rattle.pool_lines.specs.declared.program.Fault.TheVariants.{LimitsRefused}
@@ -66,15 +66,8 @@ before_none text h = grind (arith, common_steps)
 
 -- LIMITS
 
--- limits are legal whatever the lending order
-pub legal_with_order : (order : LendingOrder) (s : SeenLimits) → AreLegal s → AreLegal (with_order order s)
-legal_with_order order s l = record { has_size = l.has_size; idle_within = l.idle_within; lives = l.lives; idles = l.idles; waits = l.waits; reaps = l.reaps }
-
-pub legal_in_any_order : (order : LendingOrder) (s : SeenLimits) → AreLegal (with_order order s) → AreLegal s
-legal_in_any_order order s l = record { has_size = l.has_size; idle_within = l.idle_within; lives = l.lives; idles = l.idles; waits = l.waits; reaps = l.reaps }
-
 abbrev IsRefused : List ℕ → Result Limits Fault → Type 0
-IsRefused line r = IfErr r (λ fault. fault ≡ LimitsRefused → (s : SeenLimits) × (limits_in line ≡ Some (sizes_of s)) × ¬ (AreLegal s))
+IsRefused line r = IfErr r (λ fault. fault ≡ LimitsRefused → (s : LimitSettings) × (limits_in line ≡ Some (sizes_of s)) × ¬ (AreLegal s))
 
 pub refused_limits : (line : List ℕ) (settings : first.LimitsLine) (o : Option Limits) (r : Result Limits Fault) → r ≡ ok_or o LimitsRefused →
     (IsSome o ↔ AreLegal (bounds_of settings)) → limits_in line ≡ Some (seen_limits_line settings) → IsRefused line r

@@ -3,7 +3,8 @@ use Rattle.std.specs.Prelude.{◌≡◌, ℕ, ◌*◌, ◌<◌, true, Some, None
 use Rattle.std.specs.Option.{ForSome}
 use Rattle.std.specs.Duration.{as_nanos}
 use Rattle.r2d2_core.specs.declared.schedule.limits.LendingOrder.TheVariants.{NewestFirst}
-use Rattle.r2d2_core.specs.Limits.{SeenLimits, settings, with_order}
+use Rattle.r2d2_core.specs.declared.schedule.limits.LimitSettings.{LimitSettings}
+use Rattle.r2d2_core.specs.Limits.{settings, with_order}
 use Rattle.r2d2.specs.declared.config.Config.{Config}
 
 -- a number of seconds, in nanoseconds
@@ -33,7 +34,7 @@ pub record ArePositive {H V Z : Type 0} (config : Config H V Z) : Type 0 where
   pub reaps : 0 < as_nanos config.reaper_rate
 
 -- the limits among the settings
-abbrev pub limits_in : {H V Z : Type 0} → Config H V Z → SeenLimits
+abbrev pub limits_in : {H V Z : Type 0} → Config H V Z → LimitSettings
 limits_in config = with_order config.lending_order (settings config.max_size config.min_idle config.max_lifetime config.idle_timeout config.connection_timeout
     config.reaper_rate)
 

@@ -2,7 +2,8 @@
 ghost use Rattle.std.specs.Prelude.{◌≡◌, ◌*◌, ◌↔◌, ◌⊎◌, None, Some, IsSome, IfSome, IfOk, IfErr};
 ghost use Rattle.std.specs.Prelude.{option_map, option_copied, string_bytes};
 ghost use Rattle.std.specs.Duration.{as_nanos};
-ghost use Rattle.r2d2_core.specs.Limits.{SeenLimits as Bounds, seen_limits, AreLegal};
+ghost use Rattle.r2d2_core.specs.declared.schedule.limits.LimitSettings.{LimitSettings as Bounds};
+ghost use Rattle.r2d2_core.specs.Limits.{seen_limits, AreLegal};
 ghost use Rattle.pool_lines.specs.declared.program.Fault.TheVariants.{NotAStep, LimitsRefused};
 ghost use Rattle.pool_lines.specs.Number.{IsNumber, number_of};
 ghost use Rattle.pool_lines.specs.Lines.{number_in, time_in, optional_in, text_in, connection_in};
@@ -89,21 +90,20 @@ impl LimitsLine {
         })
     }
 
-    #[tactic(auto, using(crate::proofs::Fields::legal_with_order, crate::proofs::Fields::legal_in_any_order))]
     fn limits(&self) -> Option<Limits>
         ensures legal { IsSome result ↔ AreLegal (bounds_of self.now) }
         ensures given { IfSome result (λ limits. seen_limits limits ≡ bounds_of self.now) }
     {
-        let limits = LimitSettings {
+        LimitSettings {
             max_size: self.max_size,
             min_idle: self.min_idle,
             max_lifetime: self.max_lifetime,
             idle_timeout: self.idle_timeout,
             connection_timeout: self.connection_timeout,
             reap_every: self.reap_every,
+            order: self.order,
         }
-        .limits()?;
-        Some(limits.with_order(self.order))
+        .limits()
     }
 }
 
