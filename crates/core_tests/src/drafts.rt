@@ -145,16 +145,16 @@ pub(crate) fn limits(rng: &mut Pcg32) -> Option<Limits> {
     } else {
         LendingOrder::OldestFirst
     };
-    let limits = LimitSettings {
+    LimitSettings {
         max_size,
         min_idle,
         max_lifetime: life,
         idle_timeout: idle,
         connection_timeout: length(rng),
         reap_every: length(rng),
+        order,
     }
-    .limits()?;
-    Some(limits.with_order(order))
+    .limits()
 }
 
 // Mostly a little after the latest moment; now and then before it, or as late as can be.

@@ -8,7 +8,7 @@ use core_uses::steps::{admit, begin, fail, ms, number, put_back, sized, take};
 use pool_lines::program::line::Line;
 use r2d2_core::run::run;
 use r2d2_core::schedule::delay;
-use r2d2_core::{Book, Core, LimitSettings, Limits, Step};
+use r2d2_core::{Book, Core, LendingOrder, LimitSettings, Limits, Step};
 use std::alloc::{AllocError, Global};
 use std::process::Abort;
 use std::str;
@@ -23,6 +23,7 @@ fn brief() -> LimitSettings {
         idle_timeout: None,
         connection_timeout: ms(1000),
         reap_every: ms(1000),
+        order: LendingOrder::NewestFirst,
     }
 }
 

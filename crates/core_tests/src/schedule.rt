@@ -2,7 +2,7 @@
 
 use crate::checks::{legal, same};
 use core_uses::steps::ms;
-use r2d2_core::{Job, LimitSettings, Limits, Schedule};
+use r2d2_core::{Job, LendingOrder, LimitSettings, Limits, Schedule};
 use std::process::Abort;
 
 fn idling() -> Option<Limits> {
@@ -13,6 +13,7 @@ fn idling() -> Option<Limits> {
         idle_timeout: Some(ms(1000)),
         connection_timeout: ms(30_000),
         reap_every: ms(400),
+        order: LendingOrder::NewestFirst,
     }
     .limits()
 }
@@ -26,6 +27,7 @@ fn sized(max_size: u32) -> Option<Limits> {
         idle_timeout: None,
         connection_timeout: ms(30_000),
         reap_every: ms(400),
+        order: LendingOrder::NewestFirst,
     }
     .limits()
 }

@@ -1,6 +1,6 @@
 // Limits and steps in few words. Moments and lengths of time are in milliseconds.
 
-use r2d2_core::{LimitSettings, Limits, Step};
+use r2d2_core::{LendingOrder, LimitSettings, Limits, Step};
 use std::time::Duration;
 
 pub fn ms(n: u64) -> Duration {
@@ -24,6 +24,7 @@ pub fn limits(
         idle_timeout,
         connection_timeout: ms(connection_timeout),
         reap_every: ms(reap_every),
+        order: LendingOrder::NewestFirst,
     }
     .limits()
 }

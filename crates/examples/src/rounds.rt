@@ -2,7 +2,7 @@
 
 use crate::journal;
 use anyhow::Context;
-use r2d2_core::{Core, Job, LimitSettings, Limits, Take};
+use r2d2_core::{Core, Job, LendingOrder, LimitSettings, Limits, Take};
 use std::time::Duration;
 
 pub fn gone<R: Print + AllocGlobal>(rt: &R) -> Result<(), anyhow::Error> {
@@ -23,6 +23,7 @@ fn limits() -> Option<Limits> {
         idle_timeout: Some(second * 600),
         connection_timeout: second * 30,
         reap_every: second * 30,
+        order: LendingOrder::NewestFirst,
     }
     .limits()
 }

@@ -9,15 +9,13 @@ use Rattle.std.proofs.lemmas.Str.{IsUtf8-from_is_utf8, is_utf8-from_IsUtf8}
 use Rattle.std.proofs.lemmas.Str.Parse.{IsNumeralModel, numerals_by_value, tells_all_ascii_digits}
 use Rattle.std.proofs.lemmas.Grind.{common_steps}
 use Rattle.std.specs.Option.{ok_or}
-use Rattle.r2d2_core.specs.Limits.{SeenLimits, with_order, AreLegal}
-use Rattle.r2d2_core.specs.declared.schedule.limits.LendingOrder.{LendingOrder}
+use Rattle.r2d2_core.specs.declared.schedule.limits.LimitSettings.{LimitSettings}
+use Rattle.r2d2_core.specs.Limits.{AreLegal}
 use Rattle.r2d2_core.specs.declared.schedule.limits.Limits.{Limits}
 use Rattle.pool_lines.specs.declared.program.Fault.{Fault}
 use Rattle.pool_lines.specs.declared.program.Fault.TheVariants.{LimitsRefused}
-use Rattle.pool_lines.specs.declared.program.line.LimitsLine as first
 use Rattle.pool_lines.specs.Number.{IsNumber, number_of}
 use Rattle.pool_lines.specs.Lines.{is_number, number_in, text_in, limits_in, sizes_of, is_space}
-use Rattle.pool_lines.specs.LimitsLine.{bounds_of, seen_limits_line}
 
 digits : IsNumeralModel (λ ds. all_ascii_digits ds ≡ true) (digits_value 10)
 digits = numerals_by_value _ tells_all_ascii_digits
@@ -66,18 +64,11 @@ before_none text h = grind (arith, common_steps)
 
 -- LIMITS
 
--- limits are legal whatever the lending order
-pub legal_with_order : (order : LendingOrder) (s : SeenLimits) → AreLegal s → AreLegal (with_order order s)
-legal_with_order order s l = record { has_size = l.has_size; idle_within = l.idle_within; lives = l.lives; idles = l.idles; waits = l.waits; reaps = l.reaps }
-
-pub legal_in_any_order : (order : LendingOrder) (s : SeenLimits) → AreLegal (with_order order s) → AreLegal s
-legal_in_any_order order s l = record { has_size = l.has_size; idle_within = l.idle_within; lives = l.lives; idles = l.idles; waits = l.waits; reaps = l.reaps }
-
 abbrev IsRefused : List ℕ → Result Limits Fault → Type 0
-IsRefused line r = IfErr r (λ fault. fault ≡ LimitsRefused → (s : SeenLimits) × (limits_in line ≡ Some (sizes_of s)) × ¬ (AreLegal s))
+IsRefused line r = IfErr r (λ fault. fault ≡ LimitsRefused → (s : LimitSettings) × (limits_in line ≡ Some (sizes_of s)) × ¬ (AreLegal s))
 
-pub refused_limits : (line : List ℕ) (settings : first.LimitsLine) (o : Option Limits) (r : Result Limits Fault) → r ≡ ok_or o LimitsRefused →
-    (IsSome o ↔ AreLegal (bounds_of settings)) → limits_in line ≡ Some (seen_limits_line settings) → IsRefused line r
+pub refused_limits : (line : List ℕ) (settings : LimitSettings) (o : Option Limits) (r : Result Limits Fault) → r ≡ ok_or o LimitsRefused →
+    (IsSome o ↔ AreLegal settings) → limits_in line ≡ Some (sizes_of settings) → IsRefused line r
 refused_limits line settings None r e legal says =
-    subst (λ (z : Result Limits Fault). IsRefused line z) (sym e) (λ i. (bounds_of settings, says, λ l. let h : false ≡ true = legal.1 l in cc))
+    subst (λ (z : Result Limits Fault). IsRefused line z) (sym e) (λ i. (settings, says, λ l. let h : false ≡ true = legal.1 l in cc))
 refused_limits line settings (Some l) r e legal says = subst (λ (z : Result Limits Fault). IsRefused line z) (sym e) tt

@@ -5,7 +5,8 @@ use Rattle.std.specs.Io.KnownBytes.{Appends, Keeps}
 use Rattle.std.specs.Io.BufRead.{first_piece, drop_through, take_through, strip_last}
 use Rattle.std.proofs.lemmas.Bool.Decides.{nat_tests}
 use Rattle.std.proofs.lemmas.Result.{err_from_is_err_and}
-use Rattle.r2d2_core.specs.Limits.{SeenLimits, AreLegal}
+use Rattle.r2d2_core.specs.declared.schedule.limits.LimitSettings.{LimitSettings}
+use Rattle.r2d2_core.specs.Limits.{AreLegal}
 use Rattle.r2d2_core.specs.Picture.{Picture}
 use Rattle.r2d2_core.specs.Table.{first_picture}
 use Rattle.pool_lines.specs.declared.program.Fault.{Fault}
@@ -149,7 +150,7 @@ module _ (n : ℕ) (p : Picture ℕ) (line : List ℕ) (left o new : Option (Lis
 -- what `?` made of the error of `limits`
 not_started : (lines : List (List ℕ)) (e : Fault) (o : Option (List ℕ)) → (e ≡ NotAStep 1) ⊎ (e ≡ LimitsRefused)
     → (e ≡ NotAStep 1 → limits_in (first_of lines) ≡ None) →
-    (e ≡ LimitsRefused → (s : SeenLimits) × (limits_in (first_of lines) ≡ Some (sizes_of s)) × ¬ (AreLegal s)) → (text : List ℕ) × Plays lines (Err e) text
+    (e ≡ LimitsRefused → (s : LimitSettings) × (limits_in (first_of lines) ≡ Some (sizes_of s)) × ¬ (AreLegal s)) → (text : List ℕ) × Plays lines (Err e) text
     × Appends o o text
 not_started lines e o (inl is) no_form no_leave = ([], subst (λ (z : Fault). Plays lines (Err z) []) (sym is) (no_limits (no_form is)), nothing o)
 not_started lines e o (inr is) no_form no_leave =
@@ -160,7 +161,7 @@ module _ (line : List ℕ) (there : Bool) (left o : Option (List ℕ)) (d : List
   pub says_no_limits : (known : Option (List ℕ)) (r : Result (Unit {0}) Fault) (e : Fault) → IfSome known (λ bytes. TakesLine bytes there line left)
       → IsErrAnd r (λ x. x ≡ e) →
       (e ≡ NotAStep 1) ⊎ (e ≡ LimitsRefused) → (e ≡ NotAStep 1 → limits_in d ≡ None) →
-      (e ≡ LimitsRefused → (s : SeenLimits) × (limits_in d ≡ Some (sizes_of s)) × ¬ (AreLegal s)) → IfSome known (λ bytes. Serves bytes r o o)
+      (e ≡ LimitsRefused → (s : LimitSettings) × (limits_in d ≡ Some (sizes_of s)) × ¬ (AreLegal s)) → IfSome known (λ bytes. Serves bytes r o o)
   says_no_limits None r e takes fails why no_form no_leave = tt
   says_no_limits (Some bytes) r e takes fails why no_form no_leave =
       let (x, is, ends) = err_from_is_err_and r fails in
@@ -169,7 +170,7 @@ module _ (line : List ℕ) (there : Bool) (left o : Option (List ℕ)) (d : List
       (sym (is ∙ ap (λ (z : Fault). Err z) ends))
       (not_started (lines_of bytes) e o why (λ i. ap limits_in f ∙ no_form i) (λ i. let (s, says, wrong) = no_leave i in (s, ap limits_in f ∙ says, wrong)))
 
-  pub starts : (known : Option (List ℕ)) (r : Result (Unit {0}) Fault) (new : Option (List ℕ)) (s : SeenLimits) (p : Picture ℕ)
+  pub starts : (known : Option (List ℕ)) (r : Result (Unit {0}) Fault) (new : Option (List ℕ)) (s : LimitSettings) (p : Picture ℕ)
       → IfSome known (λ bytes. TakesLine bytes there line left) →
       limits_in d ≡ Some (sizes_of s) → AreLegal s → p ≡ first_picture s 0 0 → IfSome left (λ rest. Goes 2 p rest r o new)
       → IfSome known (λ bytes. Serves bytes r o new)

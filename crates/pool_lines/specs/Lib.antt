@@ -1,7 +1,6 @@
 pub mod Faults
 pub mod Lines
 pub mod Number
-pub mod LimitsLine
 pub mod Texts
 pub mod Steps
 pub mod Script

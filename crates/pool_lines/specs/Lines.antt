@@ -9,7 +9,7 @@ use Rattle.r2d2_core.specs.declared.run.Step.{Step}
 use Rattle.r2d2_core.specs.declared.run.Step.TheVariants as step
 use Rattle.r2d2_core.specs.declared.schedule.limits.LendingOrder.{LendingOrder}
 use Rattle.r2d2_core.specs.declared.schedule.limits.LendingOrder.TheVariants as lending
-use Rattle.r2d2_core.specs.Limits.{SeenLimits}
+use Rattle.r2d2_core.specs.declared.schedule.limits.LimitSettings.{LimitSettings}
 use Rattle.pool_lines.specs.declared.program.line.Line.{Line}
 use Rattle.pool_lines.specs.declared.program.line.Line.TheVariants as line
 
@@ -57,7 +57,7 @@ pub record SeenLimitsLine : Type 0 where
   pub order : LendingOrder
 
 -- limits, with their lengths of time in nanoseconds
-abbrev pub sizes_of : SeenLimits → SeenLimitsLine
+abbrev pub sizes_of : LimitSettings → SeenLimitsLine
 sizes_of s = record {
   max_size = s.max_size;
   min_idle = s.min_idle;

@@ -3,7 +3,8 @@ use Rattle.std.specs.Prelude.{◌≡◌, ℕ, ◌+◌, ◌<◌, ◌↔◌, Bool,
 use Rattle.std.specs.Prelude.{is_some, unwrap_or, Result, Ok, Err, ⊤}
 use Rattle.std.specs.Io.KnownBytes.{Appends}
 use Rattle.std.specs.Io.BufRead.{first_piece, drop_through}
-use Rattle.r2d2_core.specs.Limits.{SeenLimits, AreLegal}
+use Rattle.r2d2_core.specs.declared.schedule.limits.LimitSettings.{LimitSettings}
+use Rattle.r2d2_core.specs.Limits.{AreLegal}
 use Rattle.r2d2_core.specs.Picture.{Picture}
 use Rattle.r2d2_core.specs.Table.{first_picture}
 use Rattle.pool_lines.specs.declared.program.Fault.{Fault}
@@ -73,8 +74,8 @@ first_of lines = unwrap_or (slice_get lines 0) []
 -- how a script of these lines ends, and what it writes
 pub data Plays (lines : List (List ℕ)) : Result (Unit {0}) Fault → List ℕ → Type 0 where
   no_limits : limits_in (first_of lines) ≡ None → Plays lines (Err (NotAStep 1)) []
-  refused : (s : SeenLimits) → limits_in (first_of lines) ≡ Some (sizes_of s) → ¬ (AreLegal s) → Plays lines (Err LimitsRefused) []
-  played : (s : SeenLimits) → limits_in (first_of lines) ≡ Some (sizes_of s) → AreLegal s →
+  refused : (s : LimitSettings) → limits_in (first_of lines) ≡ Some (sizes_of s) → ¬ (AreLegal s) → Plays lines (Err LimitsRefused) []
+  played : (s : LimitSettings) → limits_in (first_of lines) ≡ Some (sizes_of s) → AreLegal s →
       Plays lines (outcome_of 2 (drop 1 lines)) (answers_to (first_picture s 0 0) (steps_of (drop 1 lines)))
 
 -- the output grew by what the script of the bytes writes, and the outcome is the script's

@@ -3,7 +3,8 @@ use Rattle.std.proofs.Common.{◌≡◌, ℕ, ◌+◌, ◌≤◌, List, [], ◌�
 use Rattle.std.specs.Prelude.{◌⊎◌, ◌↔◌, false}
 use Rattle.std.proofs.lemmas.List.{length-map}
 use Rattle.r2d2_core.specs.declared.journal.report.Report.{Report}
-use Rattle.r2d2_core.specs.Limits.{SeenLimits, seen_limits, wanted_of}
+use Rattle.r2d2_core.specs.declared.schedule.limits.LimitSettings.{LimitSettings}
+use Rattle.r2d2_core.specs.Limits.{seen_limits, wanted_of}
 use Rattle.r2d2_core.specs.Connections.{id_of_idle, id_of_lent}
 use Rattle.r2d2_core.specs.Records.{SeenRecord}
 use Rattle.r2d2_core.specs.Bases.{SeenBase, IsLegalBase}
@@ -17,7 +18,7 @@ use Rattle.pool_reports.specs.declared.verdict.Verdict.TheVariants as verdict
 use Rattle.pool_reports.specs.Verdicts.{IsVerdictOn}
 
 -- what legal records come to is legal
-pub legal_told : (limits : SeenLimits) (rs : List SeenRecord) (b : SeenBase) → IsLegalBase limits b → AreLegalFrom limits b rs
+pub legal_told : (limits : LimitSettings) (rs : List SeenRecord) (b : SeenBase) → IsLegalBase limits b → AreLegalFrom limits b rs
     → IsLegalBase limits (replay limits rs b)
 legal_told limits [] b legal are = legal
 legal_told limits (r ∷ rs) b legal are =
@@ -27,13 +28,13 @@ legal_told limits (r ∷ rs) b legal are =
 module _ {B : Type 0} (r : Report B) where
   -- so the counts of a report that replays are sound where what is wanted is there or on its way
   pub sound_counts : DoesReplay r → (r.closed ≡ false → (wanted_of (seen_limits r.limits) ≤ length r.idle.items + r.pending)
-      ⊎ (r.connections + r.pending ≡ r.limits.max_size)) → HasSoundCounts r
+      ⊎ (r.connections + r.pending ≡ (seen_limits r.limits).max_size)) → HasSoundCounts r
   sound_counts d ready =
       let end = told_in r in
       let legal : IsLegalBase (seen_limits r.limits) end = legal_told (seen_limits r.limits) (seen_records r) (seen_base r.base) d.base d.legal in
       let idle : length end.idle ≡ length r.idle.items = sym (length-map end.idle id_of_idle) ∙ ap (λ (l : List ℕ). length l) d.idle in
       let lent : length end.lent ≡ length r.lent.items = sym (length-map end.lent id_of_lent) ∙ ap (λ (l : List ℕ). length l) d.lent in
-      let fits : end.connections + end.pending ≤ r.limits.max_size = legal.fits in
+      let fits : end.connections + end.pending ≤ (seen_limits r.limits).max_size = legal.fits in
       record {
         counted = omega (arith, legal.counted, idle, lent, d.connections);
         fits = omega (arith, fits, d.connections, d.pending);

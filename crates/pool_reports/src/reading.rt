@@ -181,12 +181,9 @@ fn limits_of(limits: &Object<'_, '_>) -> Result<Limits, FromJsonError> {
         idle_timeout: limits.read("idle_timeout")?,
         connection_timeout: limits.read("connection_timeout")?,
         reap_every: limits.read("reap_every")?,
+        order: limits.read("order")?,
     };
-    let order = limits.read("order")?;
-    settings
-        .limits()
-        .map(|limits| limits.with_order(order))
-        .ok_or(FromJsonError::Limits)
+    settings.limits().ok_or(FromJsonError::Limits)
 }
 
 impl Read for LendingOrder {

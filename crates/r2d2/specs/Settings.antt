@@ -4,7 +4,8 @@ use Rattle.std.specs.Option.{ForSome}
 use Rattle.std.specs.Duration.{as_nanos}
 use Rattle.std.specs.declared.time.Duration.{Duration}
 use Rattle.r2d2_core.specs.declared.schedule.limits.LendingOrder.TheVariants.{NewestFirst}
-use Rattle.r2d2_core.specs.Limits.{SeenLimits, settings, with_order}
+use Rattle.r2d2_core.specs.declared.schedule.limits.LimitSettings.{LimitSettings}
+use Rattle.r2d2_core.specs.Limits.{settings, with_order}
 use Rattle.r2d2.specs.declared.config.Config.{Config}
 use Rattle.r2d2.specs.declared.tuning.Tuning.{Tuning}
 
@@ -42,11 +43,11 @@ pub record ArePositive {H V Z : Type 0} (config : Config H V Z) : Type 0 where
   pub reaps : 0 < as_nanos config.reaper_rate
 
 -- the limits among the settings, with this connection timeout, and with the settings' own
-abbrev pub limits_within : {H V Z : Type 0} → Duration → Config H V Z → SeenLimits
+abbrev pub limits_within : {H V Z : Type 0} → Duration → Config H V Z → LimitSettings
 limits_within timeout config = with_order config.lending_order (settings config.max_size config.min_idle config.max_lifetime config.idle_timeout timeout
     config.reaper_rate)
 
-abbrev pub limits_in : {H V Z : Type 0} → Config H V Z → SeenLimits
+abbrev pub limits_in : {H V Z : Type 0} → Config H V Z → LimitSettings
 limits_in config = limits_within config.connection_timeout config
 
 -- the same settings with other handlers

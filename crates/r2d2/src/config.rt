@@ -518,16 +518,16 @@ impl<
             (λ limits. seen_limits limits ≡ limits_within connection_timeout self.now) }
     {
         let config = &self.config;
-        let limits = LimitSettings {
+        LimitSettings {
             max_size: config.max_size,
             min_idle: config.min_idle,
             max_lifetime: config.max_lifetime,
             idle_timeout: config.idle_timeout,
             connection_timeout,
             reap_every: config.reaper_rate,
+            order: config.lending_order,
         }
-        .limits()?;
-        Some(limits.with_order(config.lending_order))
+        .limits()
     }
 }
 

@@ -1,7 +1,7 @@
 -- Which steps are refused, what each step answers, and what a core shows.
 use Rattle.std.specs.Prelude.{ℕ, ◌+◌, ◌-◌, min, ◌^◌, Bool, false, ◌==◌, ◌||◌, not, nat_lt}
 use Rattle.std.specs.Prelude.{if◌then◌else◌, List, [], ◌∷◌, map, length, Option, None, is_some}
-use Rattle.std.specs.Prelude.{option_map, unwrap_or, Ok, Err}
+use Rattle.std.specs.Prelude.{Ok}
 use Rattle.std.specs.List.{list_any}
 use Rattle.r2d2_core.specs.declared.run.Step.{Step}
 use Rattle.r2d2_core.specs.declared.run.Step.TheVariants as step
@@ -10,9 +10,9 @@ use Rattle.r2d2_core.specs.declared.machine.answers.Refusal.TheVariants as refus
 use Rattle.r2d2_core.specs.Limits.{top_up, later_by, delay_of, has_reached}
 use Rattle.r2d2_core.specs.Lending.{next_to_lend}
 use Rattle.r2d2_core.specs.Connections.{closed_of, pair_of}
-use Rattle.r2d2_core.specs.Refusals.{refused_if}
+use Rattle.r2d2_core.specs.Refusals.{refused_if, ok_unless, ok_or_back}
 use Rattle.r2d2_core.specs.Seen.{SeenAnswer, Taken, Found, Empty, Begun, Numbered, Admitted, Failed}
-use Rattle.r2d2_core.specs.Seen.{CheckFailed, PutBack, SeenReturned, Kept, Closed, Reaped}
+use Rattle.r2d2_core.specs.Seen.{CheckFailed, PutBack, Kept, Closed, Reaped}
 use Rattle.r2d2_core.specs.Seen.{TakeError, Close}
 use Rattle.r2d2_core.specs.Picture.{Picture}
 use Rattle.r2d2_core.specs.Seen.{take_with}
@@ -51,17 +51,6 @@ module _ {T : Type 0} where
       refused_if (not (is_lent h id)) refusal.NotLent None
   refusal_of h _ = None
 
-  -- the answer to a refused step: the payload comes back
-  abbrev pub refused_with : Step T → Refusal → SeenAnswer T
-  refused_with (step.Number tries) why = Numbered (Err why)
-  refused_with (step.Admit now id value) why = Admitted (Err (why, value))
-  refused_with (step.Fail now tries text) why = Failed (Err why)
-  refused_with (step.FailCheck now id text) why = CheckFailed (Err why)
-  refused_with (step.PutBack now id value broken) why = PutBack (Err (why, value))
-  -- no other step is ever refused (`refusal_of`), so this is never given: a function needs a clause
-  -- for each step
-  refused_with _ why = TakeError None
-
   -- THE LAST ERROR
 
   -- the latest text since the last admission or taking of it
@@ -84,29 +73,27 @@ module _ {T : Type 0} where
   closes h t id broken =
       broken || (has_reached (limits_of h).max_lifetime (age_of h t id) || is_closed h)
 
-  abbrev pub return_with : Bool → T → ℕ → ℕ → SeenReturned T
-  return_with b value age n = if b then Closed value age n else Kept
-
-  -- the answer to a step that is accepted, at the raised moment t, were it to order n openings
-  abbrev pub reply_at : History T → ℕ → ℕ → Step T → SeenAnswer T
-  reply_at h t n (step.Take now or_order) =
+  -- the answer to a step at the raised moment t, where it orders n openings; or why it is refused,
+  -- with its payload. The kinds that are never refused do not look at that
+  abbrev pub reply_at : History T → Option Refusal → ℕ → ℕ → Step T → SeenAnswer T
+  reply_at h why t n (step.Take now or_order) =
       Taken (take_with (next_to_lend (limits_of h).order (idle_of h)) n)
-  reply_at h t n (step.Begin now) = Begun (job_of h t)
-  reply_at h t n (step.Number tries) = Numbered (Ok (next_id_of h))
-  reply_at h t n (step.Admit now id value) = Admitted (Ok tt)
-  reply_at h t n (step.Fail now tries text) =
-      Failed (Ok (later_by t (delay_of (limits_of h) (tries + 1))))
-  reply_at h t n (step.FailCheck now id text) =
-      CheckFailed (Ok (record { age = age_of h t id; ordered = n }))
-  reply_at h t n (step.PutBack now id value broken) =
-      PutBack (Ok (return_with (closes h t id broken) value (age_of h t id) n))
-  reply_at h t n (step.Reap now) = Reaped (closed_of (limits_of h) t (idle_of h)) n
-  reply_at h t n step.TakeError = TakeError (last_error_of h)
-  reply_at h t n step.Close = Close (map pair_of (idle_of h))
+  reply_at h why t n (step.Begin now) = Begun (job_of h t)
+  reply_at h why t n (step.Number tries) = Numbered (ok_unless why (next_id_of h))
+  reply_at h why t n (step.Admit now id value) = Admitted (ok_or_back why value tt)
+  reply_at h why t n (step.Fail now tries text) =
+      Failed (ok_unless why (later_by t (delay_of (limits_of h) (tries + 1))))
+  reply_at h why t n (step.FailCheck now id text) =
+      CheckFailed (ok_unless why (record { age = age_of h t id; ordered = n }))
+  reply_at h why t n (step.PutBack now id value broken) = PutBack (ok_or_back why value
+      (if closes h t id broken then Closed value (age_of h t id) n else Kept))
+  reply_at h why t n (step.Reap now) = Reaped (closed_of (limits_of h) t (idle_of h)) n
+  reply_at h why t n step.TakeError = TakeError (last_error_of h)
+  reply_at h why t n step.Close = Close (map pair_of (idle_of h))
 
-  -- the same, at the step's own raised moment
+  -- the same, with its own refusal and at its own raised moment
   abbrev pub reply_with : History T → ℕ → Step T → SeenAnswer T
-  reply_with h n s = reply_at h (moment_of h s) n s
+  reply_with h n s = reply_at h (refusal_of h s) (moment_of h s) n s
 
   -- ORDERS
 
@@ -141,12 +128,11 @@ module _ {T : Type 0} where
 
   -- the answer to a step after h
   abbrev pub answer_of : History T → Step T → SeenAnswer T
-  answer_of h s =
-      unwrap_or (option_map (refused_with s) (refusal_of h s)) (reply_with h (orders_of h s) s)
+  answer_of h s = reply_with h (orders_of h s) s
 
   -- the history with a step, if it is accepted
   abbrev pub after : History T → Step T → History T
-  after h s = if is_some (refusal_of h s) then h else Then h s (reply_with h (orders_of h s) s)
+  after h s = if is_some (refusal_of h s) then h else Then h s (answer_of h s)
 
   -- A LIST OF STEPS
 

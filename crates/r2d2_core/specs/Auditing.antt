@@ -1,14 +1,14 @@
 -- What a report's audit looks at, test by test.
 use Rattle.std.specs.Prelude.{◌≡◌, ℕ, ◌+◌, Bool, true, ◌==◌, ◌||◌, ◌&&◌, not, nat_le, List, [], ◌∷◌}
 use Rattle.std.specs.Prelude.{length, map}
-use Rattle.r2d2_core.specs.Limits.{SeenLimits}
+use Rattle.r2d2_core.specs.declared.schedule.limits.LimitSettings.{LimitSettings}
 use Rattle.r2d2_core.specs.Connections.{SeenLentConnection, id_of_idle, id_of_lent}
 use Rattle.r2d2_core.specs.Bases.{SeenBase, BareConnection}
 use Rattle.r2d2_core.specs.declared.journal.report.Report.{Report}
 
 -- connections are the idle ones and the lent ones, with the pending ones at most `max_size`; once
 -- closed, nothing is idle or pending
-abbrev pub counts_fit : SeenLimits → SeenBase → Bool
+abbrev pub counts_fit : LimitSettings → SeenBase → Bool
 counts_fit limits b = (b.connections == length b.idle + length b.lent)
     && (nat_le (b.connections + b.pending) limits.max_size &&
     (not b.closed || ((length b.idle == 0) && (b.pending == 0))))

@@ -5,7 +5,8 @@ use Rattle.std.specs.Duration.{as_nanos}
 use Rattle.std.specs.declared.time.Duration.{Duration}
 use Rattle.std.specs.List.{All}
 use Rattle.std.specs.List.Sorted.{IsNonDecreasingBy}
-use Rattle.r2d2_core.specs.Limits.{SeenLimits, wanted_of}
+use Rattle.r2d2_core.specs.declared.schedule.limits.LimitSettings.{LimitSettings}
+use Rattle.r2d2_core.specs.Limits.{wanted_of}
 use Rattle.r2d2_core.specs.Sums.{FitsIn}
 use Rattle.r2d2_core.specs.Ids.{copies_of}
 use Rattle.r2d2_core.specs.Connections.{SeenIdleConnection, SeenLentConnection, idle_connection}
@@ -46,7 +47,7 @@ base_of at idle lent connections pending closed = record {
 }
 
 -- that of a pool just made, at a moment: what is wanted is pending
-abbrev pub first_base : SeenLimits → ℕ → SeenBase
+abbrev pub first_base : LimitSettings → ℕ → SeenBase
 first_base limits now = base_of now [] [] 0 (wanted_of limits) false
 
 -- the ids of all that is idle or lent in it
@@ -54,7 +55,7 @@ abbrev pub ids_in_base : SeenBase → List ℕ
 ids_in_base b = map id_of_idle b.idle ++ map id_of_lent b.lent
 
 -- what holds of each base of a pool with these limits
-pub record IsLegalBase (limits : SeenLimits) (b : SeenBase) : Type 0 where
+pub record IsLegalBase (limits : LimitSettings) (b : SeenBase) : Type 0 where
   -- no id stands twice
   pub apart : (i : ℕ) → copies_of i (ids_in_base b) ≤ 1
   -- connections are the idle ones and the lent ones; with the pending ones they are at most

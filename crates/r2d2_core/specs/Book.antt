@@ -1,6 +1,6 @@
 -- What a book shows, and what holds of each.
 use Rattle.std.specs.Prelude.{◌≡◌, List, map}
-use Rattle.r2d2_core.specs.Limits.{SeenLimits}
+use Rattle.r2d2_core.specs.declared.schedule.limits.LimitSettings.{LimitSettings}
 use Rattle.r2d2_core.specs.Connections.{SeenIdleConnection, idle_connection}
 use Rattle.r2d2_core.specs.Picture.{Picture, IsSound}
 use Rattle.r2d2_core.specs.Records.{SeenRecord}
@@ -29,7 +29,7 @@ pub record ComesTo {T : Type 0} (b : SeenBase) (p : Picture T) : Type 0 where
   pub closed : b.closed ≡ p.on_order.closed
 
 -- records are legal from a legal base, and what they come to from there is what a picture shows
-pub record ReplayTo {T : Type 0} (limits : SeenLimits) (b : SeenBase) (rs : List SeenRecord)
+pub record ReplayTo {T : Type 0} (limits : LimitSettings) (b : SeenBase) (rs : List SeenRecord)
     (p : Picture T) : Type 0 where
   pub base : IsLegalBase limits b
   pub legal : AreLegalFrom limits b rs
@@ -37,7 +37,7 @@ pub record ReplayTo {T : Type 0} (limits : SeenLimits) (b : SeenBase) (rs : List
 
 module _ {T : Type 0} where
   -- the limits of a book
-  abbrev pub limits_of_book : SeenBook T → SeenLimits
+  abbrev pub limits_of_book : SeenBook T → LimitSettings
   limits_of_book a = a.picture.on_order.limits
 
   -- its records, from its base, replay to its picture

@@ -1,16 +1,16 @@
 -- What keeps of the fields of a book.
 use Rattle.std.specs.Prelude.{ℕ, ◌+◌, ◌==◌, ◌≤◌, ◌≡◌, List, [], map, if◌then◌else◌}
-use Rattle.r2d2_core.specs.Limits.{SeenLimits}
+use Rattle.r2d2_core.specs.declared.schedule.limits.LimitSettings.{LimitSettings}
 use Rattle.r2d2_core.specs.Ids.{copies_of}
 use Rattle.r2d2_core.specs.Picture.{Picture, IsSound}
 use Rattle.r2d2_core.specs.Records.{SeenRecord}
 use Rattle.r2d2_core.specs.Bases.{SeenBase, base_of}
 use Rattle.r2d2_core.specs.Folding.{replay, known_in}
 use Rattle.r2d2_core.specs.Journal.{SeenJournal, BeginsAtTheMaking}
-use Rattle.r2d2_core.specs.Book.{SeenBook, seen_book, bare, ReplayTo}
+use Rattle.r2d2_core.specs.Book.{SeenBook, bare, ReplayTo}
 
 -- records replay to what a picture shows, and will with the next one
-pub record KeepReplaying {T : Type 0} (limits : SeenLimits) (b : SeenBase) (rs : List SeenRecord)
+pub record KeepReplaying {T : Type 0} (limits : LimitSettings) (b : SeenBase) (rs : List SeenRecord)
     (p : Picture T) : Type 0 where
   pub same : limits ≡ p.on_order.limits
   pub replays : ReplayTo limits b rs p
@@ -31,7 +31,7 @@ module _ {T : Type 0} where
   beside p l = record l { base = if l.room == 0 then shown_at l.base.at p else l.base }
 
   abbrev pub book_in : Picture T → SeenJournal → SeenBook T
-  book_in p l = seen_book p (beside p l)
+  book_in p l = record { picture = p; journal = beside p l }
 
   abbrev pub IsRecorded : SeenBook T → Type 0
   IsRecorded a = KeepReplaying a.journal.limits a.journal.base a.journal.records a.picture

@@ -1,6 +1,7 @@
 -- Connections. Moments and ages are in nanoseconds.
 use Rattle.std.specs.Prelude.{ℕ, ◌-◌, Bool, not, ◌||◌, List, map, filter, Option, option_map}
-use Rattle.r2d2_core.specs.Limits.{SeenLimits, has_reached}
+use Rattle.r2d2_core.specs.declared.schedule.limits.LimitSettings.{LimitSettings}
+use Rattle.r2d2_core.specs.Limits.{has_reached}
 use Rattle.r2d2_core.specs.Ids.{found}
 
 -- one that is idle: when it was admitted, since when it is idle, and what was handed in then
@@ -46,12 +47,12 @@ module _ {T : Type 0} where
   pair_of c = (c.id, c.value)
 
   -- a reap at the moment closes it: it is idle too long, or too old
-  unfoldable pub is_expired : SeenLimits → ℕ → SeenIdleConnection T → Bool
+  unfoldable pub is_expired : LimitSettings → ℕ → SeenIdleConnection T → Bool
   is_expired limits now c = has_reached limits.idle_timeout (now - c.since)
       || has_reached limits.max_lifetime (now - c.birth)
 
   -- or keeps it
-  unfoldable pub is_kept : SeenLimits → ℕ → SeenIdleConnection T → Bool
+  unfoldable pub is_kept : LimitSettings → ℕ → SeenIdleConnection T → Bool
   is_kept limits now c = not (is_expired limits now c)
 
   -- what a reap at the moment hands out of it
@@ -59,5 +60,5 @@ module _ {T : Type 0} where
   released_at now c = record { id = c.id; age = now - c.birth; value = c.value }
 
   -- what a reap at the moment closes of a list
-  abbrev pub closed_of : SeenLimits → ℕ → List (SeenIdleConnection T) → List (SeenReleased T)
+  abbrev pub closed_of : LimitSettings → ℕ → List (SeenIdleConnection T) → List (SeenReleased T)
   closed_of limits now idle = map (released_at now) (filter (is_expired limits now) idle)

@@ -17,8 +17,8 @@ module _ {T A : Type 0} where
 
   -- each list has room for all that it may come to
   pub record HasRoom (c : Inside T A) : Type 0 where
-    pub idle : c.on_order.closed ≡ false → c.idle.room ≡ c.on_order.limits.max_size
-    pub lent : c.lent.room ≡ c.on_order.limits.max_size
+    pub idle : c.on_order.closed ≡ false → c.idle.capacity ≡ c.on_order.limits.max_size
+    pub lent : c.lent.capacity ≡ c.on_order.limits.max_size
 
   pub record IsWhole (c : Inside T A) : Type 0 where
     pub sound : IsSound (view_of c)

@@ -1,8 +1,7 @@
 -- Which connections are idle and lent: each accepted step did something to ids, and the latest deed
 -- of an id says where its connection is.
 use Rattle.std.specs.Prelude.{ℕ, ◌-◌, Bool, true, false, ◌==◌, if◌then◌else◌, List, [], ◌∷◌, ◌++◌}
-use Rattle.std.specs.Prelude.{map, filter_map, count_by, Option, Some, None, option_map}
-use Rattle.std.specs.Prelude.{Ok}
+use Rattle.std.specs.Prelude.{map, filter_map, count_by, Option, Some, None, Ok}
 use Rattle.r2d2_core.specs.declared.run.Step.{Step}
 use Rattle.r2d2_core.specs.declared.run.Step.TheVariants as step
 use Rattle.r2d2_core.specs.Ids.{latest}
@@ -12,37 +11,30 @@ use Rattle.r2d2_core.specs.Seen as seen
 use Rattle.r2d2_core.specs.Seen.{SeenAnswer, Found, PutBack, Closed, Reaped, Close, CheckFailed}
 use Rattle.r2d2_core.specs.History.{History, Made, Then, moment_of}
 
--- what was done to a connection; where it came to be idle, with the payload that was handed in
-pub data What (T : Type 0) : Type 0 where
-  Admitted : (value : T) → What T
-  Taken : What T
-  Kept : (value : T) → What T
-  Gone : What T
-
-pub record Deed (T : Type 0) : Type 0 where
-  pub id : ℕ
-  pub at : ℕ
-  pub what : What T
+-- what was done to a connection, and when; where it came to be idle, with the payload that was
+-- handed in
+pub data Deed (T : Type 0) : Type 0 where
+  Admitted : (id at : ℕ) (value : T) → Deed T
+  Taken : (id at : ℕ) → Deed T
+  Kept : (id at : ℕ) (value : T) → Deed T
+  Gone : (id at : ℕ) → Deed T
 
 module _ {T : Type 0} where
-  abbrev pub deed : ℕ → ℕ → What T → Deed T
-  deed i at what = record { id = i; at = at; what = what }
-
   abbrev pub id_of_deed : Deed T → ℕ
-  id_of_deed d = d.id
+  id_of_deed (Admitted id at value) = id
+  id_of_deed (Taken id at) = id
+  id_of_deed (Kept id at value) = id
+  id_of_deed (Gone id at) = id
 
-  -- the deeds of a step, by its answer
+  -- the deeds of a step at a moment t, by its answer
   abbrev pub deeds_in : ℕ → Step T → SeenAnswer T → List (Deed T)
-  deeds_in t (step.Take now or_order) (seen.Taken (Found id birth value ordered)) =
-      deed id t Taken ∷ []
-  deeds_in t (step.Admit now id value) r = deed id t (Admitted value) ∷ []
-  deeds_in t (step.FailCheck now id text) r = deed id t Gone ∷ []
-  deeds_in t (step.PutBack now id value broken) (PutBack (Ok seen.Kept)) =
-      deed id t (Kept value) ∷ []
-  deeds_in t (step.PutBack now id value broken) (PutBack (Ok (Closed v age ordered))) =
-      deed id t Gone ∷ []
-  deeds_in t (step.Reap now) (Reaped closed ordered) = map (λ c. deed c.id t Gone) closed
-  deeds_in t step.Close (Close left) = map (λ p. deed p.0 t Gone) left
+  deeds_in t (step.Take now or_order) (seen.Taken (Found id birth value n)) = Taken id t ∷ []
+  deeds_in t (step.Admit now id value) r = Admitted id t value ∷ []
+  deeds_in t (step.FailCheck now id text) r = Gone id t ∷ []
+  deeds_in t (step.PutBack now id value broken) (PutBack (Ok seen.Kept)) = Kept id t value ∷ []
+  deeds_in t (step.PutBack now id value broken) (PutBack (Ok (Closed v age n))) = Gone id t ∷ []
+  deeds_in t (step.Reap now) (Reaped closed n) = map (λ c. Gone c.id t) closed
+  deeds_in t step.Close (Close left) = map (λ p. Gone p.0 t) left
   deeds_in t s r = []
 
   -- all deeds, oldest first
@@ -64,50 +56,39 @@ module _ {T : Type 0} where
 
   -- IDLE AND LENT
 
-  -- the payload that an admission or a kept return handed in
-  abbrev pub value_in : What T → Option T
-  value_in (Admitted value) = Some value
-  value_in (Kept value) = Some value
-  value_in _ = None
+  -- what an admission or a kept return leaves, by the births of ids
+  abbrev pub as_idle : (ℕ → ℕ) → Deed T → Option (SeenIdleConnection T)
+  as_idle birth (Admitted id at value) = Some (idle_connection id (birth id) at value)
+  as_idle birth (Kept id at value) = Some (idle_connection id (birth id) at value)
+  as_idle birth _ = None
 
-  abbrev pub is_taking : What T → Bool
-  is_taking Taken = true
-  is_taking _ = false
-
-  -- an idle connection, of this birth, where the deed leaves one
-  abbrev pub as_idle : ℕ → Deed T → Option (SeenIdleConnection T)
-  as_idle birth d = option_map (idle_connection d.id birth d.at) (value_in d.what)
-
-  -- a lent one
-  abbrev pub as_lent : ℕ → Deed T → Option SeenLentConnection
-  as_lent birth d = if is_taking d.what then Some (lent_connection d.id birth) else None
+  -- what a take leaves
+  abbrev pub as_lent : (ℕ → ℕ) → Deed T → Option SeenLentConnection
+  as_lent birth (Taken id at) = Some (lent_connection id (birth id))
+  as_lent birth _ = None
 
   -- the connections whose latest deed is an admission or a kept return, in the order of those deeds
   unfoldable pub idle_of : History T → List (SeenIdleConnection T)
-  idle_of h = filter_map (λ d. as_idle (birth_of h d.id) d) (latest id_of_deed (deeds_of h))
+  idle_of h = filter_map (as_idle (birth_of h)) (latest id_of_deed (deeds_of h))
 
   -- those whose latest deed is a take, in the order of those deeds
   unfoldable pub lent_of : History T → List SeenLentConnection
-  lent_of h = filter_map (λ d. as_lent (birth_of h d.id) d) (latest id_of_deed (deeds_of h))
+  lent_of h = filter_map (as_lent (birth_of h)) (latest id_of_deed (deeds_of h))
 
   -- HOW MANY
 
-  abbrev pub has_come : What T → Bool
-  has_come (Admitted value) = true
+  abbrev pub has_come : Deed T → Bool
+  has_come (Admitted id at value) = true
   has_come _ = false
 
-  abbrev pub is_gone : What T → Bool
-  is_gone Gone = true
+  abbrev pub is_gone : Deed T → Bool
+  is_gone (Gone id at) = true
   is_gone _ = false
 
   -- how many ids were admitted
   abbrev pub admitted_count : History T → ℕ
-  admitted_count h = count_by (λ d. has_come d.what) (deeds_of h)
-
-  -- how many are gone
-  abbrev pub gone_count : History T → ℕ
-  gone_count h = count_by (λ d. is_gone d.what) (deeds_of h)
+  admitted_count h = count_by has_come (deeds_of h)
 
   -- how many ids were admitted, less how many are gone; never more are gone than were admitted
   unfoldable pub connections_of : History T → ℕ
-  connections_of h = admitted_count h - gone_count h
+  connections_of h = admitted_count h - count_by is_gone (deeds_of h)

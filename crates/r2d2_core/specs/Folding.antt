@@ -2,8 +2,9 @@
 -- and in a report.
 use Rattle.std.specs.Prelude.{◌≡◌, ℕ, ◌+◌, ◌-◌, ◌≤◌, Bool, true, false, ◌==◌, ◌||◌, ◌&&◌, not}
 use Rattle.std.specs.Prelude.{nat_lt, nat_le, List, [], ◌∷◌, ◌++◌, length, filter, is_some}
-use Rattle.std.specs.Prelude.{option_map, unwrap_or}
-use Rattle.r2d2_core.specs.Limits.{SeenLimits, top_up, has_reached}
+use Rattle.std.specs.Prelude.{option_map, unwrap_or, flat_map}
+use Rattle.r2d2_core.specs.declared.schedule.limits.LimitSettings.{LimitSettings}
+use Rattle.r2d2_core.specs.Limits.{top_up, has_reached}
 use Rattle.r2d2_core.specs.Ids.{found, without, copies_of}
 use Rattle.r2d2_core.specs.Lending.{next_to_lend}
 use Rattle.r2d2_core.specs.Connections.{SeenLentConnection, idle_connection, lent_connection}
@@ -11,16 +12,6 @@ use Rattle.r2d2_core.specs.Connections.{id_of_idle, id_of_lent, birth_in, is_exp
 use Rattle.r2d2_core.specs.Records.{SeenRecord, Taken, Ordered, Admitted, Kept, Closed, Reaped}
 use Rattle.r2d2_core.specs.Records.{ClosedAll}
 use Rattle.r2d2_core.specs.Bases.{SeenBase, BareConnection, ids_in_base}
-
--- the moment of a record
-abbrev pub moment_of_record : SeenRecord → ℕ
-moment_of_record (Taken at id n) = at
-moment_of_record (Ordered at n) = at
-moment_of_record (Admitted at id) = at
-moment_of_record (Kept at id) = at
-moment_of_record (Closed at id n) = at
-moment_of_record (Reaped at n) = at
-moment_of_record (ClosedAll at) = at
 
 -- the birth of the idle one with the id, and of the lent one
 abbrev pub birth_of_idle : ℕ → List BareConnection → ℕ
@@ -30,7 +21,7 @@ abbrev pub birth_of_lent : ℕ → List SeenLentConnection → ℕ
 birth_of_lent id lent = unwrap_or (birth_in id lent) 0
 
 -- how many a reap at the moment of a base closes
-abbrev pub expired_in : SeenLimits → SeenBase → ℕ
+abbrev pub expired_in : LimitSettings → SeenBase → ℕ
 expired_in limits b = length (filter (is_expired limits b.at) b.idle)
 
 -- WHAT IS DONE TO A BASE, at its moment
@@ -70,7 +61,7 @@ abbrev pub parted_from : ℕ → SeenBase → SeenBase
 parted_from id b = record b { lent = without id_of_lent id b.lent; connections = b.connections - 1 }
 
 -- the expired ones are gone
-abbrev pub swept_of : SeenLimits → SeenBase → SeenBase
+abbrev pub swept_of : LimitSettings → SeenBase → SeenBase
 swept_of limits b = record b {
   idle = filter (is_kept limits b.at) b.idle;
   connections = b.connections - expired_in limits b;
@@ -84,7 +75,7 @@ closed_all_in b =
 -- WHAT RECORDS COME TO
 
 -- the base with a record
-abbrev pub folded : SeenLimits → SeenRecord → SeenBase → SeenBase
+abbrev pub folded : LimitSettings → SeenRecord → SeenBase → SeenBase
 folded limits (Taken at id n) b = with_more n (lent_in id (up_to at b))
 folded limits (Ordered at n) b = with_more n (up_to at b)
 folded limits (Admitted at id) b = admitted_to id (up_to at b)
@@ -94,24 +85,24 @@ folded limits (Reaped at n) b = with_more n (swept_of limits (up_to at b))
 folded limits (ClosedAll at) b = closed_all_in (up_to at b)
 
 -- the base with all of them
-abbrev pub replay : SeenLimits → List SeenRecord → SeenBase → SeenBase
+abbrev pub replay : LimitSettings → List SeenRecord → SeenBase → SeenBase
 replay limits [] b = b
 replay limits (r ∷ rs) b = replay limits rs (folded limits r b)
 
 -- LEGAL RECORDS
 
 -- whether an id is that of the idle one that is lent next
-abbrev pub is_next : SeenLimits → ℕ → SeenBase → Bool
+abbrev pub is_next : LimitSettings → ℕ → SeenBase → Bool
 is_next limits id b =
     unwrap_or (option_map (λ c. c.id == id) (next_to_lend limits.order b.idle)) false
 
 -- what a top-up of a base orders
-abbrev pub top_up_in : SeenLimits → SeenBase → ℕ
+abbrev pub top_up_in : LimitSettings → SeenBase → ℕ
 top_up_in limits b = top_up limits b.closed (length b.idle) b.connections b.pending
 
 -- whether a record fits a base, but for its moment. Where a top-up follows, it orders what that
 -- orders
-abbrev pub fits : SeenLimits → SeenRecord → SeenBase → Bool
+abbrev pub fits : LimitSettings → SeenRecord → SeenBase → Bool
 -- the one taken is the idle one that is next
 fits limits (Taken at id n) b = is_next limits id b && (n == top_up_in limits (lent_in id b))
 -- one is ordered alone, where none is idle and there is room
@@ -134,12 +125,12 @@ fits limits (Reaped at n) b =
 -- a pool is closed once
 fits limits (ClosedAll at) b = not b.closed
 
--- and moments never fall
-abbrev pub may_follow : SeenLimits → SeenRecord → SeenBase → Bool
-may_follow limits r b = nat_le b.at (moment_of_record r) && fits limits r b
+-- and the base with it is not earlier: moments never fall
+abbrev pub may_follow : LimitSettings → SeenRecord → SeenBase → Bool
+may_follow limits r b = nat_le b.at (folded limits r b).at && fits limits r b
 
 -- each may follow what those before it come to
-abbrev pub all_follow : SeenLimits → List SeenRecord → SeenBase → Bool
+abbrev pub all_follow : LimitSettings → List SeenRecord → SeenBase → Bool
 all_follow limits [] b = true
 all_follow limits (r ∷ rs) b = may_follow limits r b && all_follow limits rs (folded limits r b)
 
@@ -148,15 +139,12 @@ abbrev pub admitted_by : SeenRecord → List ℕ
 admitted_by (Admitted at id) = id ∷ []
 admitted_by r = []
 
-abbrev pub admitted_in : List SeenRecord → List ℕ
-admitted_in [] = []
-admitted_in (r ∷ rs) = admitted_by r ++ admitted_in rs
-
 -- the ids in a base, and those that records admit
 abbrev pub known_in : SeenBase → List SeenRecord → List ℕ
-known_in b rs = ids_in_base b ++ admitted_in rs
+known_in b rs = ids_in_base b ++ flat_map admitted_by rs
 
 -- records are legal from a base where each may follow, and none admits an id that was there before
-pub record AreLegalFrom (limits : SeenLimits) (b : SeenBase) (rs : List SeenRecord) : Type 0 where
+pub record AreLegalFrom (limits : LimitSettings) (b : SeenBase) (rs : List SeenRecord)
+    : Type 0 where
   pub follow : all_follow limits rs b ≡ true
   pub apart : (i : ℕ) → copies_of i (known_in b rs) ≤ 1

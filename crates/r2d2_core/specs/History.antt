@@ -4,17 +4,17 @@ use Rattle.std.specs.Prelude.{ℕ, max, Bool, true, false}
 use Rattle.std.specs.Duration.{as_nanos}
 use Rattle.r2d2_core.specs.declared.run.Step.{Step}
 use Rattle.r2d2_core.specs.declared.run.Step.TheVariants as step
-use Rattle.r2d2_core.specs.Limits.{SeenLimits}
+use Rattle.r2d2_core.specs.declared.schedule.limits.LimitSettings.{LimitSettings}
 use Rattle.r2d2_core.specs.Seen.{SeenAnswer}
 
 -- A core was made, with limits, at a moment, its ids counted from a first one; then came accepted
 -- steps, each with its answer.
 pub data History (T : Type 0) : Type 0 where
-  Made : (limits : SeenLimits) (moment first : ℕ) → History T
+  Made : (limits : LimitSettings) (moment first : ℕ) → History T
   Then : (before : History T) (step : Step T) (reply : SeenAnswer T) → History T
 
 module _ {T : Type 0} where
-  abbrev pub limits_of : History T → SeenLimits
+  abbrev pub limits_of : History T → LimitSettings
   limits_of (Made limits moment first) = limits
   limits_of (Then h s r) = limits_of h
 

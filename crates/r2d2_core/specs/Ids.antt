@@ -1,13 +1,11 @@
 -- Lists of things with ids.
 use Rattle.std.specs.Prelude.{ℕ, ◌+◌, ◌-◌, ◌==◌, if◌then◌else◌, List, [], ◌∷◌, length, take, Option}
 use Rattle.std.specs.Prelude.{Some, None}
-use Rattle.std.specs.List.{list_any}
+use Rattle.std.specs.List.{list_any, last_or}
 
 -- the last of a list
 abbrev pub last_of : {X : Type 0} → List X → Option X
-last_of [] = None
-last_of (x ∷ []) = Some x
-last_of (x ∷ y ∷ ys) = last_of (y ∷ ys)
+last_of xs = last_or None xs
 
 -- all but the last
 abbrev pub front : {X : Type 0} → List X → List X

@@ -20,18 +20,14 @@ seen_job (job.Wait due) = Wait (as_nanos due)
 seen_job job.Nothing = Nothing
 seen_job job.Closed = Closed
 
--- an opening is handed out once it is due
-abbrev pub open_or_wait : ℕ → SeenOpening → SeenJob
-open_or_wait now x = if nat_le x.due now then Open x.tries else Wait x.due
-
--- and so is a reap
-abbrev pub reap_or_wait : ℕ → ℕ → SeenJob
-reap_or_wait now reap = if nat_le reap now then Reap else Wait reap
+-- a job is handed out once it is due, and until then the worker is to wait for it
+abbrev pub once_due : ℕ → ℕ → SeenJob → SeenJob
+once_due now due job = if nat_le due now then job else Wait due
 
 -- the least opening or the next reap, whichever is due first; at one moment the opening comes first
 abbrev pub first_job : ℕ → List SeenOpening → Option ℕ → SeenJob
 first_job now [] None = Nothing
-first_job now [] (Some reap) = reap_or_wait now reap
-first_job now (x ∷ xs) None = open_or_wait now x
+first_job now [] (Some reap) = once_due now reap Reap
+first_job now (x ∷ xs) None = once_due now x.due (Open x.tries)
 first_job now (x ∷ xs) (Some reap) =
-    if nat_le x.due reap then open_or_wait now x else reap_or_wait now reap
+    if nat_le x.due reap then once_due now x.due (Open x.tries) else once_due now reap Reap

@@ -1,13 +1,13 @@
 -- What a contract sees of the records that are kept.
 use Rattle.std.specs.Prelude.{◌≡◌, ℕ, ◌+◌, ◌-◌, ◌^◌, min, nat_lt, List, [], ◌∷◌, ◌++◌, length, drop}
 use Rattle.std.specs.Prelude.{Option, Some, None, if◌then◌else◌}
-use Rattle.r2d2_core.specs.Limits.{SeenLimits}
+use Rattle.r2d2_core.specs.declared.schedule.limits.LimitSettings.{LimitSettings}
 use Rattle.r2d2_core.specs.Records.{SeenRecord, is_take, takes_in}
 use Rattle.r2d2_core.specs.Bases.{SeenBase, first_base}
 use Rattle.r2d2_core.specs.Folding.{folded}
 
 pub record SeenJournal : Type 0 where
-  pub limits : SeenLimits
+  pub limits : LimitSettings
   -- the moment of the making
   pub made : ℕ
   -- what stood before the oldest record
@@ -38,7 +38,7 @@ abbrev pub BeginsAtTheMaking : SeenJournal → Type 0
 BeginsAtTheMaking l = l.lost ≡ 0 → l.base ≡ first_base l.limits l.made
 
 -- at the making, at a moment
-abbrev pub first_journal : SeenLimits → ℕ → ℕ → SeenJournal
+abbrev pub first_journal : LimitSettings → ℕ → ℕ → SeenJournal
 first_journal limits now room = record {
   limits = limits;
   made = now;
@@ -50,7 +50,7 @@ first_journal limits now room = record {
 }
 
 -- the base with the oldest of some records
-abbrev pub with_oldest : SeenLimits → List SeenRecord → SeenBase → SeenBase
+abbrev pub with_oldest : LimitSettings → List SeenRecord → SeenBase → SeenBase
 with_oldest limits [] b = b
 with_oldest limits (r ∷ rs) b = folded limits r b
 

@@ -5,10 +5,12 @@ use Rattle.std.specs.Duration.{as_nanos}
 use Rattle.r2d2_core.specs.declared.journal.bounded.Before.{Before}
 use Rattle.r2d2_core.specs.declared.journal.bounded.Before.TheVariants as before
 use Rattle.r2d2_core.specs.declared.journal.bounded.Journal.TheInside.{Inside}
-use Rattle.r2d2_core.specs.Limits.{SeenLimits, seen_limits}
+use Rattle.r2d2_core.specs.declared.schedule.limits.LimitSettings.{LimitSettings}
+use Rattle.r2d2_core.specs.Limits.{seen_limits}
 use Rattle.r2d2_core.specs.Records.{SeenRecord, seen_record}
 use Rattle.r2d2_core.specs.Bases.{SeenBase, IsLegalBase, first_base}
-use Rattle.r2d2_core.specs.Folding.{AreLegalFrom, moment_of_record}
+use Rattle.r2d2_core.specs.Records.{moment_of_record}
+use Rattle.r2d2_core.specs.Folding.{AreLegalFrom}
 use Rattle.r2d2_core.specs.RunningBase.{rooms}
 use Rattle.r2d2_core.specs.Journal.{SeenJournal, CountsTakes, added, with_noted, next_count}
 use Rattle.r2d2_core.specs.Journal.{takes_with}
@@ -16,7 +18,7 @@ use Rattle.r2d2_core.specs.Journal.{takes_with}
 module _ {A : Type 0} where
   -- the base of what was folded; where nothing is, the moment up to which a machine tells, and
   -- nothing else
-  abbrev pub base_before : SeenLimits → Before A → SeenBase
+  abbrev pub base_before : LimitSettings → Before A → SeenBase
   base_before limits (before.Shown at) = first_base limits (as_nanos at)
   base_before limits (before.Folded running_base) = running_base.base
 
@@ -33,7 +35,7 @@ module _ {A : Type 0} where
 
   -- records are folded where there is room for one; the base has room then for all that it may come
   -- to
-  abbrev pub BaseHasRoom : SeenLimits → ℕ → Before A → Type 0
+  abbrev pub BaseHasRoom : LimitSettings → ℕ → Before A → Type 0
   BaseHasRoom limits room (before.Shown at) = room ≡ 0
   BaseHasRoom limits room (before.Folded running_base) =
       (0 < room) × (running_base.room ≡ rooms limits.max_size limits.max_size)

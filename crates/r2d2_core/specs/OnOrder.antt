@@ -6,7 +6,8 @@ use Rattle.std.specs.List.{All}
 use Rattle.std.specs.Duration.{as_nanos}
 use Rattle.r2d2_core.specs.declared.machine.answers.Refusal.{Refusal}
 use Rattle.r2d2_core.specs.declared.machine.answers.Refusal.TheVariants as refusal
-use Rattle.r2d2_core.specs.Limits.{SeenLimits, wanted_of, top_up, later_by, delay_of}
+use Rattle.r2d2_core.specs.declared.schedule.limits.LimitSettings.{LimitSettings}
+use Rattle.r2d2_core.specs.Limits.{wanted_of, top_up, later_by, delay_of}
 use Rattle.r2d2_core.specs.Ids.{found, without, same_id}
 use Rattle.r2d2_core.specs.Openings.{SeenOpening, opening, with_opening, with_many, one_more}
 use Rattle.r2d2_core.specs.Openings.{one_less}
@@ -15,7 +16,7 @@ use Rattle.r2d2_core.specs.Schedule.{first_reap, next_by}
 use Rattle.r2d2_core.specs.Refusals.{refused_if, unless_refused}
 
 pub record SeenOnOrder : Type 0 where
-  pub limits : SeenLimits
+  pub limits : LimitSettings
   -- ordered and not begun
   pub scheduled : List SeenOpening
   -- how many are in work, for each number of tries from 0 to 99
@@ -27,21 +28,15 @@ pub record SeenOnOrder : Type 0 where
   pub pending : ℕ
   pub closed : Bool
 
--- nothing is on order, and no reap is due any more
-pub record IsEmpty (o : SeenOnOrder) : Type 0 where
-  pub pending : o.pending ≡ 0
-  pub scheduled : o.scheduled ≡ []
-  pub in_work : o.in_work ≡ replicate 100 0
-  pub numbered : o.numbered ≡ []
-  pub next_reap : o.next_reap ≡ None
-
 -- each pending opening stands in one of three places
 pub record IsAccounted (o : SeenOnOrder) : Type 0 where
   pub placed : o.pending ≡ length o.scheduled + (sum o.in_work + length o.numbered)
   pub within : o.pending ≤ o.limits.max_size
   pub tries : All (λ x. x.tries ≤ 99) o.scheduled
   pub lanes : length o.in_work ≡ 100
-  pub empty_once_closed : o.closed ≡ true → IsEmpty o
+  -- once closed, nothing is pending, and so none stands there, and no reap is due any more
+  pub none_once_closed : o.closed ≡ true → o.pending ≡ 0
+  pub no_reap_once_closed : o.closed ≡ true → o.next_reap ≡ None
 
 -- ORDERS
 
@@ -64,7 +59,7 @@ with_orders n due o =
     record o { scheduled = with_many n (opening due 0) o.scheduled; pending = o.pending + n }
 
 -- what is wanted is ordered at the making
-abbrev pub first_on_order : SeenLimits → ℕ → ℕ → SeenOnOrder
+abbrev pub first_on_order : LimitSettings → ℕ → ℕ → SeenOnOrder
 first_on_order limits now first_id = record {
   limits = limits;
   scheduled = with_many (wanted_of limits) (opening now 0) [];

@@ -20,9 +20,9 @@ module _ {A : Type 0} where
 
   -- the parts were made with the limits
   pub record HasParts (o : Inside A) : Type 0 where
-    pub room : o.schedule.max_size ≡ o.limits.max_size
-    pub rate : o.schedule.reap_every ≡ as_nanos o.limits.reap_every
-    pub number_room : o.numbered.room ≡ o.limits.max_size
+    pub room : o.schedule.max_size ≡ (seen_limits o.limits).max_size
+    pub rate : o.schedule.reap_every ≡ as_nanos (seen_limits o.limits).reap_every
+    pub number_room : o.numbered.capacity ≡ (seen_limits o.limits).max_size
 
   pub record IsKeeping (o : Inside A) : Type 0 where
     pub accounted : IsAccounted (seen_on_order o)

@@ -30,6 +30,16 @@ is_take _ = false
 abbrev pub takes_in : List SeenRecord → ℕ
 takes_in rs = count_by is_take rs
 
+-- the moment of a record
+abbrev pub moment_of_record : SeenRecord → ℕ
+moment_of_record (Taken at id n) = at
+moment_of_record (Ordered at n) = at
+moment_of_record (Admitted at id) = at
+moment_of_record (Kept at id) = at
+moment_of_record (Closed at id n) = at
+moment_of_record (Reaped at n) = at
+moment_of_record (ClosedAll at) = at
+
 abbrev pub seen_record : Record → SeenRecord
 seen_record (record_.Taken at id ordered) = Taken (as_nanos at) id ordered
 seen_record (record_.Ordered at ordered) = Ordered (as_nanos at) ordered

@@ -47,9 +47,9 @@ module _ {B : Type 0} where
   -- what keeps of the counts of each report of a book
   pub record HasSoundCounts (r : Report B) : Type 0 where
     pub counted : r.connections ≡ length r.idle.items + length r.lent.items
-    pub fits : FitsIn r.limits.max_size r.connections r.pending
-    pub replenished : IsReplenished (wanted_of (seen_limits r.limits)) r.limits.max_size
-        (length r.idle.items) r.connections r.pending r.closed
+    pub fits : FitsIn (seen_limits r.limits).max_size r.connections r.pending
+    pub replenished : IsReplenished (wanted_of (seen_limits r.limits))
+        (seen_limits r.limits).max_size (length r.idle.items) r.connections r.pending r.closed
 
   -- all that a book, and a pool, promises of each of its reports
   pub record IsSoundReport (r : Report B) : Type 0 where

@@ -5,7 +5,8 @@ use Rattle.std.specs.Prelude.{None}
 use Rattle.std.specs.Option.{option_map}
 use Rattle.std.specs.declared.time.Duration.{Duration}
 use Rattle.std.specs.Duration.{as_nanos}
-use Rattle.r2d2_core.specs.Limits.{SeenLimits, later_by, has_reaps}
+use Rattle.r2d2_core.specs.declared.schedule.limits.LimitSettings.{LimitSettings}
+use Rattle.r2d2_core.specs.Limits.{later_by, has_reaps}
 use Rattle.r2d2_core.specs.Openings.{SeenOpening, with_opening}
 use Rattle.r2d2_core.specs.Jobs.{SeenJob, Open, Reap, Wait, Nothing, Closed}
 
@@ -16,12 +17,12 @@ pub record SeenSchedule : Type 0 where
   pub next_reap : Option ℕ
 
 -- the first reap, where reaps are ever due
-abbrev pub first_reap : SeenLimits → ℕ → Option ℕ
+abbrev pub first_reap : LimitSettings → ℕ → Option ℕ
 first_reap limits now =
     if has_reaps limits then Some (later_by now (as_nanos limits.reap_every)) else None
 
 -- no openings, and the first reap
-abbrev pub first_schedule : SeenLimits → ℕ → SeenSchedule
+abbrev pub first_schedule : LimitSettings → ℕ → SeenSchedule
 first_schedule limits now = record {
   max_size = limits.max_size;
   reap_every = as_nanos limits.reap_every;

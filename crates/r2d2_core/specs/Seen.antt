@@ -1,5 +1,7 @@
 -- What a caller sees of an answer: moments and ages in nanoseconds, lists as lists, texts as bytes.
 use Rattle.std.specs.Prelude.{ℕ, List, Option, Result, Ok, Err, Some, None, String, string_bytes}
+use Rattle.std.specs.Prelude.{option_map}
+use Rattle.std.specs.Option.{option_or}
 use Rattle.std.specs.Duration.{as_nanos}
 use Rattle.r2d2_core.specs.declared.machine.answers.Refusal.{Refusal}
 use Rattle.r2d2_core.specs.declared.machine.answers.Take.{Take}
@@ -64,5 +66,4 @@ map_ok f (Err e) = Err e
 
 -- a text is recorded; where there is none, what was there stays
 abbrev pub or_text : {A : Type 0} → Option (String A) → Option (List ℕ) → Option (List ℕ)
-or_text None before = before
-or_text (Some text) before = Some (string_bytes text)
+or_text text before = option_or (option_map string_bytes text) before

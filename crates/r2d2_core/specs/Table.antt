@@ -5,7 +5,8 @@ use Rattle.std.specs.Prelude.{length, map, filter, Option, Some, None, is_some, 
 use Rattle.std.specs.Prelude.{Result, String}
 use Rattle.r2d2_core.specs.declared.machine.answers.Refusal.{Refusal}
 use Rattle.r2d2_core.specs.declared.machine.answers.Refusal.TheVariants as refusal
-use Rattle.r2d2_core.specs.Limits.{SeenLimits, has_reached}
+use Rattle.r2d2_core.specs.declared.schedule.limits.LimitSettings.{LimitSettings}
+use Rattle.r2d2_core.specs.Limits.{has_reached}
 use Rattle.r2d2_core.specs.Ids.{without}
 use Rattle.r2d2_core.specs.Lending.{next_to_lend, still_idle}
 use Rattle.r2d2_core.specs.Jobs.{SeenJob}
@@ -45,7 +46,7 @@ module _ {T : Type 0} where
 
   -- MAKING
 
-  abbrev pub first_picture : SeenLimits → ℕ → ℕ → Picture T
+  abbrev pub first_picture : LimitSettings → ℕ → ℕ → Picture T
   first_picture limits now first_id = record {
     latest = now;
     idle = [];

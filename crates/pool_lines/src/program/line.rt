@@ -2,7 +2,8 @@
 ghost use Rattle.std.specs.Prelude.{◌≡◌, ◌*◌, ◌↔◌, ◌⊎◌, None, Some, IsSome, IfSome, IfOk, IfErr};
 ghost use Rattle.std.specs.Prelude.{option_map, option_copied, string_bytes};
 ghost use Rattle.std.specs.Duration.{as_nanos};
-ghost use Rattle.r2d2_core.specs.Limits.{SeenLimits as Bounds, seen_limits, AreLegal};
+ghost use Rattle.r2d2_core.specs.declared.schedule.limits.LimitSettings.{LimitSettings as Bounds};
+ghost use Rattle.r2d2_core.specs.Limits.{seen_limits, AreLegal};
 ghost use Rattle.pool_lines.specs.declared.program.Fault.TheVariants.{NotAStep, LimitsRefused};
 ghost use Rattle.pool_lines.specs.Number.{IsNumber, number_of};
 ghost use Rattle.pool_lines.specs.Lines.{number_in, time_in, optional_in, text_in, connection_in};
@@ -31,67 +32,48 @@ pub fn limits(line: &[u8]) -> Result<Limits, Fault>
     ensures refused { IfErr result (λ fault. fault ≡ LimitsRefused
         → (s : Bounds) × (limits_in line.now ≡ Some (sizes_of s)) × ¬ (AreLegal s)) }
 {
-    let said = LimitsLine::read(line).ok_or(Fault::NotAStep(1))?;
+    let said = read_limits(line).ok_or(Fault::NotAStep(1))?;
     said.limits().ok_or(Fault::LimitsRefused)
 }
 
 // What the first line says, legal or not.
-#[derive(Clone, Copy)]
-struct LimitsLine {
-    settings: LimitSettings,
-    order: LendingOrder,
+#[tactic(auto, unfolding(crate::specs::Lines::limits_in))]
+fn read_limits(line: &[u8]) -> Option<LimitSettings>
+    ensures { option_map sizes_of result ≡ limits_in line.now }
+{
+    limits_of_text(text(line)?)
 }
 
-impl LimitsLine {
-    ghost use Rattle.pool_lines.specs.LimitsLine.{seen_limits_line, bounds_of};
-
-    #[tactic(auto, unfolding(crate::specs::Lines::limits_in))]
-    fn read(line: &[u8]) -> Option<LimitsLine>
-        ensures { option_map seen_limits_line result ≡ limits_in line.now }
-    {
-        LimitsLine::parse(text(line)?)
+#[tactic(auto, unfolding(crate::specs::Lines::sizes_in))]
+fn limits_of_text(line: &str) -> Option<LimitSettings>
+    ensures { option_map sizes_of result ≡ sizes_in line.now }
+{
+    let (word, fields) = cut(line)?;
+    if word != "limits" {
+        return None;
     }
+    limits_of_fields(fields)
+}
 
-    #[tactic(auto, unfolding(crate::specs::Lines::sizes_in))]
-    fn parse(line: &str) -> Option<LimitsLine>
-        ensures { option_map seen_limits_line result ≡ sizes_in line.now }
-    {
-        let (word, fields) = cut(line)?;
-        if word != "limits" {
-            return None;
-        }
-        LimitsLine::of_fields(fields)
-    }
-
-    #[tactic(auto, unfolding(crate::specs::Lines::fields_in))]
-    fn of_fields(fields: &str) -> Option<LimitsLine>
-        ensures { option_map seen_limits_line result ≡ fields_in fields.now }
-    {
-        let (max_size, fields) = cut(fields)?;
-        let (min_idle, fields) = cut(fields)?;
-        let max_size = small_number(max_size)?;
-        let min_idle = optional_number(min_idle)?;
-        let (max_lifetime, idle_timeout, connection_timeout, fields) = lengths(fields)?;
-        let (reap_every, order) = reaps_and_order(fields)?;
-        let settings = LimitSettings {
-            max_size,
-            min_idle,
-            max_lifetime,
-            idle_timeout,
-            connection_timeout,
-            reap_every,
-        };
-        Some(LimitsLine { settings, order })
-    }
-
-    #[tactic(auto, using(crate::proofs::Fields::legal_with_order, crate::proofs::Fields::legal_in_any_order))]
-    fn limits(&self) -> Option<Limits>
-        ensures legal { IsSome result ↔ AreLegal (bounds_of self.now) }
-        ensures given { IfSome result (λ limits. seen_limits limits ≡ bounds_of self.now) }
-    {
-        let limits = self.settings.limits()?;
-        Some(limits.with_order(self.order))
-    }
+#[tactic(auto, unfolding(crate::specs::Lines::fields_in))]
+fn limits_of_fields(fields: &str) -> Option<LimitSettings>
+    ensures { option_map sizes_of result ≡ fields_in fields.now }
+{
+    let (max_size, fields) = cut(fields)?;
+    let (min_idle, fields) = cut(fields)?;
+    let max_size = small_number(max_size)?;
+    let min_idle = optional_number(min_idle)?;
+    let (max_lifetime, idle_timeout, connection_timeout, fields) = lengths(fields)?;
+    let (reap_every, order) = reaps_and_order(fields)?;
+    Some(LimitSettings {
+        max_size,
+        min_idle,
+        max_lifetime,
+        idle_timeout,
+        connection_timeout,
+        reap_every,
+        order,
+    })
 }
 
 /// What a line after the first says: a step of the pool, or a look at its state.

@@ -116,7 +116,7 @@ fn is_replenished<A: Allocator>(report: &Report<A>) -> bool
         ↔ (report.now.closed ≡ false
         → (wanted_of (seen_limits report.now.limits) ≤ length report.now.idle.items
         + report.now.pending)
-        ⊎ (report.now.connections + report.now.pending ≡ report.now.limits.max_size)) }
+        ⊎ (report.now.connections + report.now.pending ≡ (seen_limits report.now.limits).max_size)) }
 {
     let ready = report.idle.len() as u128 + report.pending as u128;
     let all = report.connections as u64 + report.pending as u64;

@@ -1,7 +1,7 @@
 // What a worker does: it opens connections, closes expired ones, and waits for either.
 ghost use Rattle.std.specs.Prelude.{◌≡◌};
 ghost use Rattle.std.specs.Duration.{as_nanos};
-ghost use Rattle.r2d2_core.specs.Limits.{has_reached};
+ghost use Rattle.r2d2_core.specs.Limits.{seen_limits, has_reached};
 ghost use Rattle.r2d2.specs.Events.{reason_of_reap};
 
 use super::PoolRuntime;
@@ -100,7 +100,7 @@ impl<C: TakeCounter, M: ManageConnection, K: Hooks<M>, R: PoolRuntime> SharedOf<
 
 // Why a reap closed a connection of this age.
 fn reason_of_reap(limits: &Limits, age: Duration) -> ReleaseReason
-    ensures { result ≡ reason_of_reap (has_reached limits.now.max_lifetime (as_nanos age)) }
+    ensures { result ≡ reason_of_reap (has_reached (seen_limits limits.now).max_lifetime (as_nanos age)) }
 {
     if limits.is_too_old(age) {
         ReleaseReason::Lifetime

@@ -1,16 +1,18 @@
 -- Each change of what is on order keeps every pending opening accounted for.
 use Rattle.std.proofs.Common.{◌≡◌, ℕ, ◌+◌, ◌<◌, ◌≤◌, ◌^◌, min, Bool, true, false, cond, not, List, [], ◌∷◌, length, Option, Some, None, refl, ◌∙◌, ap, subst}
 use Rattle.std.proofs.Common.{arith, drop, length-set, rules}
-use Rattle.std.specs.Prelude.{slice_index, is_some}
+use Rattle.std.specs.Prelude.{slice_index, is_some, sum, replicate}
 use Rattle.std.specs.List.{All}
 use Rattle.std.proofs.lemmas.List.{length_push}
 use Rattle.std.proofs.lemmas.List.Elements.{All-drop}
+use Rattle.std.proofs.lemmas.List.Sums.{sum_by-cons}
 use Rattle.std.proofs.lemmas.Bool.{ltb-true}
 use Rattle.r2d2_core.specs.declared.machine.answers.Refusal.{Refusal}
 use Rattle.r2d2_core.specs.declared.machine.answers.Refusal.TheVariants as refusal
-use Rattle.r2d2_core.specs.Limits.{SeenLimits, wanted_of}
+use Rattle.r2d2_core.specs.declared.schedule.limits.LimitSettings.{LimitSettings}
+use Rattle.r2d2_core.specs.Limits.{wanted_of}
 use Rattle.r2d2_core.specs.Ids.{found, same_id}
-use Rattle.r2d2_core.specs.Openings.{SeenOpening, opening, with_many}
+use Rattle.r2d2_core.specs.Openings.{SeenOpening, opening}
 use Rattle.r2d2_core.specs.Jobs.{SeenJob, Open, Reap, Wait, Nothing, Closed, first_job}
 use Rattle.r2d2_core.specs.Refusals.{refused_if, unless_refused}
 use Rattle.r2d2_core.specs.OnOrder.{SeenOnOrder, IsAccounted, with_orders, first_on_order, begun_by, begun, has_in_work, number_refusal, numbered_one}
@@ -19,6 +21,38 @@ use Rattle.r2d2_core.proofs.Scheduling.Openings.{length-with, length-with_many}
 use Rattle.r2d2_core.proofs.Lists.Counting.{All-with_many, All-with, sum-one_more, sum-one_less, get_or-sum_le}
 use Rattle.r2d2_core.proofs.Lists.Ids.{length-without, found_self}
 use Rattle.r2d2_core.proofs.Scheduling.Jobs.{opens_first}
+
+-- ONCE CLOSED
+
+zeros : (xs : List ℕ) → sum xs ≡ 0 → xs ≡ replicate (length xs) 0
+zeros [] e = refl
+zeros (x ∷ xs) e =
+    let zero_first : x ≡ 0 = omega (arith, e, sum_by-cons (λ x. x) x xs) in
+    let rest : sum xs ≡ 0 = omega (arith, e, sum_by-cons (λ x. x) x xs) in
+    ap (λ y. y ∷ xs) zero_first ∙ ap (λ l. 0 ∷ l) (zeros xs rest)
+
+none_there : {X : Type 0} (xs : List X) → length xs ≡ 0 → xs ≡ []
+none_there [] e = refl
+none_there (x ∷ xs) e = absurd (omega (arith, e))
+
+-- nothing is on order, and no reap is due any more
+pub record IsEmpty (o : SeenOnOrder) : Type 0 where
+  pub pending : o.pending ≡ 0
+  pub scheduled : o.scheduled ≡ []
+  pub in_work : o.in_work ≡ replicate 100 0
+  pub numbered : o.numbered ≡ []
+  pub next_reap : o.next_reap ≡ None
+
+pub empty_once_closed : (o : SeenOnOrder) → IsAccounted o → o.closed ≡ true → IsEmpty o
+empty_once_closed o a closed =
+    let none : o.pending ≡ 0 = a.none_once_closed closed in
+    record {
+      pending = none;
+      scheduled = none_there o.scheduled (omega (arith, a.placed, none));
+      in_work = zeros o.in_work (omega (arith, a.placed, none)) ∙ ap (λ n. replicate n 0) a.lanes;
+      numbered = none_there o.numbered (omega (arith, a.placed, none));
+      next_reap = a.no_reap_once_closed closed;
+    }
 
 -- REFUSALS
 
@@ -57,9 +91,6 @@ found_numbered id o e =
 
 -- ORDERS
 
-none_more : (n : ℕ) (x : SeenOpening) (xs : List SeenOpening) → n ≡ 0 → with_many n x xs ≡ xs
-none_more n x xs e = rw e refl
-
 pub accounted_orders : (n due : ℕ) (o : SeenOnOrder) → o.pending + n ≤ o.limits.max_size → (o.closed ≡ true → n ≡ 0) → IsAccounted o
     → IsAccounted (with_orders n due o)
 accounted_orders n due o within none a = record {
@@ -67,25 +98,18 @@ accounted_orders n due o within none a = record {
   within = within;
   tries = All-with_many (λ x. x.tries ≤ 99) n (opening due 0) o.scheduled (omega arith) a.tries;
   lanes = a.lanes;
-  empty_once_closed = λ closed.
-      let e = a.empty_once_closed closed in
-      let z : n ≡ 0 = none closed in
-      record {
-        pending = omega (arith, e.pending);
-        scheduled = none_more n (opening due 0) o.scheduled z ∙ e.scheduled;
-        in_work = e.in_work;
-        numbered = e.numbered;
-        next_reap = e.next_reap;
-      };
+  none_once_closed = λ closed. omega (arith, a.none_once_closed closed, none closed);
+  no_reap_once_closed = a.no_reap_once_closed;
 }
 
-pub accounted_first : (limits : SeenLimits) (now first_id : ℕ) → wanted_of limits ≤ limits.max_size → IsAccounted (first_on_order limits now first_id)
+pub accounted_first : (limits : LimitSettings) (now first_id : ℕ) → wanted_of limits ≤ limits.max_size → IsAccounted (first_on_order limits now first_id)
 accounted_first limits now first_id le = record {
   placed = omega (arith, length-with_many (wanted_of limits) (opening now 0) []);
   within = le;
   tries = All-with_many (λ x. x.tries ≤ 99) (wanted_of limits) (opening now 0) [] (omega arith) (λ k d lt. absurd (omega arith));
   lanes = refl;
-  empty_once_closed = λ closed. absurd (is_not false closed refl);
+  none_once_closed = λ closed. absurd (is_not false closed refl);
+  no_reap_once_closed = λ closed. absurd (is_not false closed refl);
 }
 
 -- BEGIN
@@ -103,7 +127,8 @@ accounted_open x rest o is is_open a =
       within = a.within;
       tries = All-drop (λ x. x.tries ≤ 99) 1 o.scheduled a.tries;
       lanes = length-set o.in_work x.tries _ ∙ a.lanes;
-      empty_once_closed = λ closed. absurd (is_not o.closed closed is_open);
+      none_once_closed = λ closed. absurd (is_not o.closed closed is_open);
+      no_reap_once_closed = λ closed. absurd (is_not o.closed closed is_open);
     }
 
 accounted_reap : (o : SeenOnOrder) → o.closed ≡ false → IsAccounted o → IsAccounted (begun_by Reap o)
@@ -112,7 +137,8 @@ accounted_reap o is_open a = record {
   within = a.within;
   tries = a.tries;
   lanes = a.lanes;
-  empty_once_closed = λ closed. absurd (is_not o.closed closed is_open);
+  none_once_closed = λ closed. absurd (is_not o.closed closed is_open);
+  no_reap_once_closed = λ closed. absurd (is_not o.closed closed is_open);
 }
 
 accounted_task : (task : SeenJob) (now : ℕ) (o : SeenOnOrder) → task ≡ first_job now o.scheduled o.next_reap → o.closed ≡ false → IsAccounted o
@@ -154,7 +180,8 @@ accounted_numbered tries o some is_open a = record {
   within = a.within;
   tries = a.tries;
   lanes = length-set o.in_work tries _ ∙ a.lanes;
-  empty_once_closed = λ closed. absurd (is_not o.closed closed is_open);
+  none_once_closed = λ closed. absurd (is_not o.closed closed is_open);
+  no_reap_once_closed = λ closed. absurd (is_not o.closed closed is_open);
 }
 
 pub accounted_numbering : (tries : ℕ) (o : SeenOnOrder) → IsAccounted o → IsAccounted (after_numbering tries o)
@@ -168,7 +195,8 @@ accounted_less id o is is_open a = record {
   within = omega (arith, a.within);
   tries = a.tries;
   lanes = a.lanes;
-  empty_once_closed = λ closed. absurd (is_not o.closed closed is_open);
+  none_once_closed = λ closed. absurd (is_not o.closed closed is_open);
+  no_reap_once_closed = λ closed. absurd (is_not o.closed closed is_open);
 }
 
 pub accounted_admitted : (id : ℕ) (o : SeenOnOrder) → IsAccounted o → IsAccounted (unless_refused (admit_refusal id o) (admitted_one id o) o)
@@ -185,7 +213,8 @@ accounted_put_off now tries o some is_open a =
       within = a.within;
       tries = All-with (λ x. x.tries ≤ 99) x o.scheduled (omega arith) a.tries;
       lanes = length-set o.in_work tries _ ∙ a.lanes;
-      empty_once_closed = λ closed. absurd (is_not o.closed closed is_open);
+      none_once_closed = λ closed. absurd (is_not o.closed closed is_open);
+      no_reap_once_closed = λ closed. absurd (is_not o.closed closed is_open);
     }
 
 pub accounted_failed : (now tries : ℕ) (o : SeenOnOrder) → IsAccounted o → IsAccounted (unless_refused (fail_refusal tries o) (failed_one now tries o) o)
@@ -199,5 +228,6 @@ accounted_emptied o = record {
   within = omega arith;
   tries = λ k d lt. absurd (omega arith);
   lanes = refl;
-  empty_once_closed = λ closed. record { pending = refl; scheduled = refl; in_work = refl; numbered = refl; next_reap = refl };
+  none_once_closed = λ closed. refl;
+  no_reap_once_closed = λ closed. refl;
 }

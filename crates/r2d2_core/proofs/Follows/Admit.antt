@@ -18,7 +18,8 @@ use Rattle.r2d2_core.specs.OnOrder.{admit_refusal}
 use Rattle.r2d2_core.specs.Picture.{IsSound}
 use Rattle.r2d2_core.specs.Table.{admitted_at, admit_answer, after_admit}
 use Rattle.r2d2_core.specs.History.{History, Then, now_of, is_closed}
-use Rattle.r2d2_core.specs.Deeds.{idle_of, lent_of, connections_of, admitted_count, gone_count}
+use Rattle.r2d2_core.specs.Deeds.{idle_of, lent_of, connections_of, admitted_count}
+use Rattle.r2d2_core.proofs.Histories.Kept.{gone_count}
 use Rattle.r2d2_core.specs.Pending.{ordered_of, pending_of, ids_of, is_admitted, numbered_of, next_id_of, next_reap_of, on_order_of}
 use Rattle.r2d2_core.specs.Answers.{refusal_of, picture_of}
 use Rattle.r2d2_core.proofs.Histories.Kept.{IsKept, Follows}

@@ -13,7 +13,8 @@ use Rattle.r2d2_core.specs.OnOrder.{begun_by}
 use Rattle.r2d2_core.specs.Picture.{IsSound}
 use Rattle.r2d2_core.specs.Table.{raised_to, with_on_order, begin_answer, after_begin}
 use Rattle.r2d2_core.specs.History.{History, Then, limits_of, start_of, is_closed, moment_of}
-use Rattle.r2d2_core.specs.Deeds.{admitted_count, gone_count}
+use Rattle.r2d2_core.specs.Deeds.{admitted_count}
+use Rattle.r2d2_core.proofs.Histories.Kept.{gone_count}
 use Rattle.r2d2_core.specs.Pending.{begun_of, scheduled_of, next_id_of, numbered_of, reaps_of, next_reap_of, job_of, on_order_of}
 use Rattle.r2d2_core.specs.Answers.{picture_of}
 use Rattle.r2d2_core.proofs.Histories.Kept.{IsKept, Follows}

@@ -6,7 +6,7 @@ use Rattle.r2d2_core.specs.declared.run.Step.{Step}
 use Rattle.r2d2_core.specs.declared.run.Step.TheVariants as step
 use Rattle.r2d2_core.specs.declared.machine.answers.Refusal.{Refusal}
 use Rattle.r2d2_core.specs.declared.machine.answers.Refusal.TheVariants as refusal
-use Rattle.r2d2_core.specs.Refusals.{ok_unless, unless_refused}
+use Rattle.r2d2_core.specs.Refusals.{refused_if, ok_unless, unless_refused}
 use Rattle.r2d2_core.specs.Seen.{SeenAnswer, SeenGone, CheckFailed}
 use Rattle.r2d2_core.specs.OnOrder.{top_up_beside}
 use Rattle.r2d2_core.specs.Picture.{Picture, IsSound}
@@ -47,7 +47,8 @@ module _ {T : Type 0} where
   orders_of-check : (h : History T) (now : Duration) (id : ℕ) (text : Option (String Global)) → is_lent h id ≡ true → IsSound (picture_of h)
       → orders_of h (checking now id text) ≡ top_up_beside (length (idle_of h)) (connections_of h - 1) (on_order_of h)
   orders_of-check h now id text lent sound =
-      orders_of-top_up h (checking now id text) (length (idle_of h)) (connections_of h - 1) refl
+      orders_of-top_up h (checking now id text) (length (idle_of h)) (connections_of h - 1)
+      (ap (λ b. refused_if (not b) refusal.NotLent None) lent) refl
       (ap length (idle_of-check h now id text 0 lent sound)) (connections_of-check h now id text 0)
 
   ordering_check : (h : History T) (now : Duration) (id : ℕ) (text : Option (String Global)) (n : ℕ)
@@ -72,7 +73,7 @@ module _ {T : Type 0} where
       let r = lost_reply h (as_nanos now) id n in
       let p = gone_one id (with_text text (raised_to (as_nanos now) (picture_of h))) in
       picture_of-ordered h s r p n (ordering_check h now id text n) kept refl none
-      refl (idle_of-check h now id text n lent kept.sound) (lent_of-back h s r id (max (now_of h) (as_nanos now)) Gone refl (λ i. refl) (λ birth. refl)
+      refl (idle_of-check h now id text n lent kept.sound) (lent_of-back h s r (Gone id (max (now_of h) (as_nanos now))) refl (λ i. refl) (λ birth. refl)
       (apart_in h kept.sound)) refl (connections_of-check h now id text n) refl
       ∙ ap (λ k. ordered k p) orders
 

@@ -6,7 +6,8 @@ use Rattle.std.specs.Duration.{as_nanos}
 use Rattle.r2d2_core.specs.declared.run.Step.TheVariants as step
 use Rattle.r2d2_core.specs.Limits.{later_by, has_reaps}
 use Rattle.r2d2_core.specs.Connections.{SeenIdleConnection, SeenLentConnection, id_of_idle, pair_of}
-use Rattle.r2d2_core.specs.OnOrder.{emptied, IsEmpty}
+use Rattle.r2d2_core.specs.OnOrder.{emptied}
+use Rattle.r2d2_core.proofs.Facts.Accounted.{IsEmpty, empty_once_closed}
 use Rattle.r2d2_core.specs.Picture.{Picture, IsSound}
 use Rattle.r2d2_core.specs.Table.{close_answer, after_close}
 use Rattle.r2d2_core.specs.Seen.{SeenAnswer, Close}
@@ -105,7 +106,7 @@ module _ {T : Type 0} where
   unfolding picture_of on_order_of
   after_close-closed h kept closed =
       let o = on_order_of h in
-      let none : IsEmpty o = kept.sound.steady.accounted.empty_once_closed closed in
+      let none : IsEmpty o = empty_once_closed o kept.sound.steady.accounted closed in
       let idle : idle_of h ≡ [] = kept.sound.steady.none_once_closed closed in
       let all : connections_of h - length (idle_of h) ≡ connections_of h = omega (arith, ap length idle) in
       same_picture refl (sym idle) refl

@@ -13,7 +13,8 @@ use Rattle.r2d2_core.specs.OnOrder.{fail_refusal, failed_one}
 use Rattle.r2d2_core.specs.Picture.{Picture, IsSound}
 use Rattle.r2d2_core.specs.Table.{fail_answer, failed, after_fail}
 use Rattle.r2d2_core.specs.History.{History, Then, is_closed, now_of, limits_of}
-use Rattle.r2d2_core.specs.Deeds.{admitted_count, gone_count}
+use Rattle.r2d2_core.specs.Deeds.{admitted_count}
+use Rattle.r2d2_core.proofs.Histories.Kept.{gone_count}
 use Rattle.r2d2_core.specs.Pending.{pending_of, numbered_of, next_reap_of, next_id_of, on_order_of}
 use Rattle.r2d2_core.specs.Answers.{refusal_of, is_in_work, picture_of}
 use Rattle.r2d2_core.proofs.Histories.Kept.{IsKept, Follows}

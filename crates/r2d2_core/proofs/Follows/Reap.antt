@@ -9,7 +9,8 @@ use Rattle.r2d2_core.specs.Picture.{IsSound}
 use Rattle.r2d2_core.specs.Table.{raised_to, ordered, swept, reap_closed, reap_orders, after_reap}
 use Rattle.r2d2_core.specs.Seen.{SeenAnswer, Reaped}
 use Rattle.r2d2_core.specs.History.{History, Then, limits_of, now_of, is_closed, moment_of}
-use Rattle.r2d2_core.specs.Deeds.{deeds_in, idle_of, lent_of, admitted_count, gone_count, connections_of}
+use Rattle.r2d2_core.specs.Deeds.{deeds_in, idle_of, lent_of, admitted_count, connections_of}
+use Rattle.r2d2_core.proofs.Histories.Kept.{gone_count}
 use Rattle.r2d2_core.specs.Pending.{on_order_of}
 use Rattle.r2d2_core.specs.Answers.{orders_of, picture_of}
 use Rattle.r2d2_core.proofs.Histories.Kept.{IsKept, Follows}
@@ -72,7 +73,7 @@ module _ {T : Type 0} where
   unfolding picture_of on_order_of
   orders_of-reap h now kept =
       orders_of-top_up h (step.Reap now) (length (filter (is_kept (limits_of h) (reaped_at h now)) (idle_of h))) (connections_of h - length (expired_of h now))
-      refl (ap length (idle_of-reap h now 0 kept)) (connections_of-reap h now 0)
+      refl refl (ap length (idle_of-reap h now 0 kept)) (connections_of-reap h now 0)
 
   ordering_reap : (h : History T) (now : Duration) (n : ℕ) → IsOrdering h (step.Reap now) (reaped_by h now n)
   ordering_reap h now n = record {

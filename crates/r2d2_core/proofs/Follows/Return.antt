@@ -6,22 +6,23 @@ use Rattle.r2d2_core.specs.declared.run.Step.{Step}
 use Rattle.r2d2_core.specs.declared.run.Step.TheVariants as step
 use Rattle.r2d2_core.specs.declared.machine.answers.Refusal.{Refusal}
 use Rattle.r2d2_core.specs.declared.machine.answers.Refusal.TheVariants as refusal
-use Rattle.r2d2_core.specs.Refusals.{ok_or_back, unless_refused}
-use Rattle.r2d2_core.specs.Seen.{SeenAnswer, Kept, PutBack}
+use Rattle.r2d2_core.specs.Refusals.{refused_if, ok_or_back, unless_refused}
+use Rattle.r2d2_core.specs.Seen.{SeenAnswer, SeenReturned, Kept, Closed, PutBack}
 use Rattle.r2d2_core.specs.OnOrder.{top_up_beside}
 use Rattle.r2d2_core.specs.Picture.{Picture, IsSound}
 use Rattle.r2d2_core.specs.Table.{raised_to, ordered, lent_refusal, lent_birth, kept_one, gone_one, return_by, returned_by, return_of, returned, return_answer}
 use Rattle.r2d2_core.specs.Table.{after_return}
 use Rattle.r2d2_core.specs.History.{History, Then, is_closed, now_of}
-use Rattle.r2d2_core.specs.Deeds.{Gone, Kept as KeptDeed, birth_of, idle_of, connections_of, admitted_count, gone_count}
+use Rattle.r2d2_core.specs.Deeds.{Gone, Kept as KeptDeed, birth_of, idle_of, connections_of, admitted_count}
+use Rattle.r2d2_core.proofs.Histories.Kept.{gone_count}
 use Rattle.r2d2_core.specs.Pending.{on_order_of}
-use Rattle.r2d2_core.specs.Answers.{refusal_of, is_lent, closes, return_with, reply_with, orders_of, orders_by, top_up_after, picture_of}
+use Rattle.r2d2_core.specs.Answers.{refusal_of, is_lent, closes, orders_of, orders_by, top_up_after, picture_of}
 use Rattle.r2d2_core.proofs.Histories.Kept.{IsKept, Follows}
 use Rattle.r2d2_core.proofs.Histories.Counts.{come_in, step_deeds, more_gone, none_admitted, none_gone, connections_of-same, connections_of-less}
 use Rattle.r2d2_core.proofs.Facts.Accounted.{passes, not_false}
 use Rattle.r2d2_core.proofs.Histories.GoingOnes.{apart_in}
 use Rattle.r2d2_core.proofs.Histories.LentOnes.{lent_birth-is, lent_refusal-is, lent_of-back, idle_of-lost, idle_of-kept, lent_is_connected}
-use Rattle.r2d2_core.proofs.Histories.Orders.{IsOrdering, orders_if_closed, orders_of-top_up, picture_of-ordered, picture_of-unordered, kept_ordered}
+use Rattle.r2d2_core.proofs.Histories.Orders.{IsOrdering, accepted_with, orders_if_closed, orders_of-accepted, orders_of-top_up, picture_of-ordered, picture_of-unordered, kept_ordered}
 use Rattle.r2d2_core.proofs.Histories.Following.{follows_accepted, follows_refused}
 use Rattle.r2d2_core.proofs.Facts.Sounds.{sound_return}
 
@@ -29,8 +30,14 @@ none_ordered : (closed : Bool) → ◌≡◌ {A = ℕ} (cond closed 0 0) 0
 none_ordered true = refl
 none_ordered false = refl
 
+none_refused : (lent : Bool) → lent ≡ true → refused_if (not lent) refusal.NotLent None ≡ None
+none_refused lent e = ap (λ b. refused_if (not b) refusal.NotLent None) e
+
 module _ {T : Type 0} where
   -- the answer to one that is closed, or kept
+  abbrev return_with : Bool → T → ℕ → ℕ → SeenReturned T
+  return_with b value age n = cond b (Closed value age n) Kept
+
   abbrev back_reply : History T → ℕ → ℕ → T → ℕ → Bool → SeenAnswer T
   back_reply h t id value n b = PutBack (Ok (return_with b value (max (now_of h) t - birth_of h id) n))
 
@@ -55,22 +62,23 @@ module _ {T : Type 0} where
   back_orders h true = top_up_beside (length (idle_of h)) (connections_of h - 1) (on_order_of h)
   back_orders h false = 0
 
-  orders_of-kept : (h : History T) (s : Step T) → reply_with h 0 s ≡ PutBack (Ok Kept) → orders_of h s ≡ 0
-  unfolding orders_of
-  orders_of-kept h s r = ap (λ r. cond (is_closed h) 0 (orders_by h (Then h s r) s r)) r ∙ none_ordered (is_closed h)
+  orders_of-kept : (h : History T) (s : Step T) → refusal_of h s ≡ None → accepted_with h 0 s ≡ PutBack (Ok Kept) → orders_of h s ≡ 0
+  orders_of-kept h s none r =
+      orders_of-accepted h s none ∙ (ap (λ r. cond (is_closed h) 0 (orders_by h (Then h s r) s r)) r ∙ none_ordered (is_closed h))
 
   orders_of-return : (h : History T) (now : Duration) (id : ℕ) (value : T) (broken b : Bool) → closes h (max (now_of h) (as_nanos now)) id broken ≡ b
       → is_lent h id ≡ true → IsSound (picture_of h)
       → orders_of h (step.PutBack now id value broken) ≡ back_orders h b
   orders_of-return h now id value broken true e lent sound =
       let s : Step T = step.PutBack now id value broken in
-      let r : reply_with h 0 s ≡ back_reply h (as_nanos now) id value 0 true = ap (back_reply h (as_nanos now) id value 0) e in
+      let r : accepted_with h 0 s ≡ back_reply h (as_nanos now) id value 0 true = ap (back_reply h (as_nanos now) id value 0) e in
       orders_of-top_up h s (length (idle_of h)) (connections_of h - 1)
+      (none_refused (is_lent h id) lent)
       (subst (λ r. orders_by h (Then h s r) s r ≡ top_up_after h (Then h s r)) (sym r) refl)
       (ap (λ r. length (idle_of (Then h s r))) r ∙ ap length (idle_of-gone h now id value broken 0 lent sound))
       (ap (λ r. connections_of (Then h s r)) r ∙ connections_of-gone h now id value broken 0)
   orders_of-return h now id value broken false e lent sound = orders_of-kept h (step.PutBack now id value broken)
-      (ap (back_reply h (as_nanos now) id value 0) e)
+      (none_refused (is_lent h id) lent) (ap (back_reply h (as_nanos now) id value 0) e)
 
   none_come : (h : History T) (now : Duration) (id : ℕ) (value : T) (broken : Bool) (n : ℕ) (b : Bool)
       → come_in (step_deeds h (step.PutBack now id value broken) (back_reply h (as_nanos now) id value n b)) ≡ 0
@@ -99,7 +107,7 @@ module _ {T : Type 0} where
       let r = back_reply h (as_nanos now) id value n true in
       let p = gone_one id (raised_to (as_nanos now) (picture_of h)) in
       picture_of-ordered h s r p n (ordering_return h now id value broken n true) kept refl none
-      refl (idle_of-gone h now id value broken n lent kept.sound) (lent_of-back h s r id (max (now_of h) (as_nanos now)) Gone refl (λ i. refl) (λ birth. refl)
+      refl (idle_of-gone h now id value broken n lent kept.sound) (lent_of-back h s r (Gone id (max (now_of h) (as_nanos now))) refl (λ i. refl) (λ birth. refl)
       (apart_in h kept.sound)) refl (connections_of-gone h now id value broken n) refl
       ∙ ap (λ k. ordered k p) orders
   picture_of-return h now id value broken n false lent kept orders none =
@@ -108,7 +116,7 @@ module _ {T : Type 0} where
       let t = max (now_of h) (as_nanos now) in
       picture_of-unordered h s r (kept_one id (birth_of h id) value (raised_to (as_nanos now) (picture_of h)))
       (ordering_return h now id value broken n false) kept refl
-      refl (idle_of-kept h s r id t value refl (λ i. refl) lent (apart_in h kept.sound)) (lent_of-back h s r id t (KeptDeed value) refl (λ i. refl)
+      refl (idle_of-kept h s r id t value refl (λ i. refl) lent (apart_in h kept.sound)) (lent_of-back h s r (KeptDeed id t value) refl (λ i. refl)
       (λ birth. refl) (apart_in h kept.sound)) refl (connections_of-kept h now id value broken n) refl
 
   gone_of-return : (h : History T) (now : Duration) (id : ℕ) (value : T) (broken : Bool) (n : ℕ) (b : Bool) → is_lent h id ≡ true → IsKept h
@@ -145,7 +153,7 @@ module _ {T : Type 0} where
       let orders : n ≡ back_orders h b = orders_of-return h now id value broken b e lent kept.sound in
       let picture : picture_of (then_back h now id value broken n b) ≡ returned_by b id (birth_of h id) value
       (raised_to (as_nanos now) (picture_of h)) = picture_of-return h now id value broken n b lent kept orders (orders_if_closed h s) in
-      let r : reply_with h n s ≡ back_reply h (as_nanos now) id value n b = ap (back_reply h (as_nanos now) id value n) e in
+      let r : accepted_with h n s ≡ back_reply h (as_nanos now) id value n b = ap (back_reply h (as_nanos now) id value n) e in
       follows_accepted h s _ _ accepted
       (return_by-is h now id value n b orders ∙ sym r)
       (sym picture ∙ ap (λ r. picture_of (Then h s r)) (sym r))

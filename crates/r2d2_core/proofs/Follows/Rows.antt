@@ -5,7 +5,8 @@ use Rattle.std.specs.declared.time.Duration.{Duration}
 use Rattle.r2d2_core.specs.declared.run.Step.{Step}
 use Rattle.r2d2_core.specs.declared.run.Step.TheVariants as step
 use Rattle.r2d2_core.specs.declared.machine.answers.Refusal.TheVariants as refusal
-use Rattle.r2d2_core.specs.Limits.{SeenLimits, settings, delay_of}
+use Rattle.r2d2_core.specs.declared.schedule.limits.LimitSettings.{LimitSettings}
+use Rattle.r2d2_core.specs.Limits.{settings, delay_of}
 use Rattle.r2d2_core.specs.Openings.{opening, is_before}
 use Rattle.r2d2_core.specs.Jobs.{Open, Reap, Wait, Nothing, Closed as JobClosed}
 use Rattle.r2d2_core.specs.Connections.{SeenReleased, lent_connection, is_expired, is_kept, released_at}
@@ -23,11 +24,11 @@ ms n = record { secs = n / 1000; nanos = n % 1000 * 1_000_000 }
 abbrev longest : Duration
 longest = record { secs = 18_446_744_073_709_551_615; nanos = 999_999_999 }
 
-abbrev limits : ℕ → Option ℕ → Option ℕ → Option ℕ → ℕ → ℕ → SeenLimits
+abbrev limits : ℕ → Option ℕ → Option ℕ → Option ℕ → ℕ → ℕ → LimitSettings
 limits size least life idle timeout every = settings size least (option_map ms life) (option_map ms idle) (ms timeout) (ms every)
 
 -- a size alone
-abbrev sized : ℕ → SeenLimits
+abbrev sized : ℕ → LimitSettings
 sized n = limits n None None None 30_000 30_000
 
 -- STEPS: a `want` is a take that orders on a miss, a `broken` a return of a broken one, a `bad` a failed check
@@ -114,13 +115,13 @@ told text = TakeError (Some (string_bytes text))
 
 -- HISTORIES: of a new core, and of one with one or two idle connections, whose values are 70 and 71
 
-abbrev new : SeenLimits → History ℕ
+abbrev new : LimitSettings → History ℕ
 new limits = Made limits 0 0
 
-abbrev opened_one : SeenLimits → History ℕ
+abbrev opened_one : LimitSettings → History ℕ
 opened_one limits = after_all (new limits) (begin 0 ∷ number 0 ∷ admit 0 0 70 ∷ [])
 
-abbrev opened_two : SeenLimits → History ℕ
+abbrev opened_two : LimitSettings → History ℕ
 opened_two limits = after_all (new limits) (begin 0 ∷ begin 0 ∷ number 0 ∷ number 0 ∷ admit 0 0 70 ∷ admit 0 1 71 ∷ [])
 
 -- how many are connected, idle and pending in the end, and the answers

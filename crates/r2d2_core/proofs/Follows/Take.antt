@@ -10,7 +10,8 @@ use Rattle.r2d2_core.specs.Picture.{IsSound}
 use Rattle.r2d2_core.specs.Table.{raised_to, ordered, lent_out, take_orders, taken, take_answer, after_take}
 use Rattle.r2d2_core.specs.Seen.{take_with}
 use Rattle.r2d2_core.specs.History.{History, Then, limits_of, is_closed}
-use Rattle.r2d2_core.specs.Deeds.{idle_of, connections_of, gone_count}
+use Rattle.r2d2_core.specs.Deeds.{idle_of, connections_of}
+use Rattle.r2d2_core.proofs.Histories.Kept.{gone_count}
 use Rattle.r2d2_core.specs.Pending.{on_order_of}
 use Rattle.r2d2_core.specs.Answers.{orders_of, orders_by, picture_of}
 use Rattle.r2d2_core.proofs.Histories.Kept.{IsKept, Follows}
@@ -50,7 +51,7 @@ module _ {T : Type 0} where
   orders_of-take h now or_order (Some c) e sound =
       let s = step.Take now or_order in
       orders_of-top_up h s (length (still_idle (limits_of h).order (idle_of h))) (connections_of h)
-      (rw e refl)
+      refl (rw e refl)
       (rw e (ap length (idle_of-found h s (Taken (Found c.id c.birth c.value 0)) _ (limits_of h).order c refl (λ i. refl) e (apart_in h sound))))
       (connections_of-take h now or_order (next_to_lend (limits_of h).order (idle_of h)) 0)
 

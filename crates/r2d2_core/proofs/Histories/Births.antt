@@ -9,7 +9,7 @@ use Rattle.r2d2_core.specs.Ids.{latest, last_of}
 use Rattle.r2d2_core.specs.Lending.{next_to_lend}
 use Rattle.r2d2_core.specs.Connections.{SeenIdleConnection}
 use Rattle.r2d2_core.specs.History.{History}
-use Rattle.r2d2_core.specs.Deeds.{What, Admitted, Taken, Kept, Gone, deeds_of, id_of_deed, birth_of, as_idle, idle_of}
+use Rattle.r2d2_core.specs.Deeds.{Deed, Admitted, Taken, Kept, Gone, deeds_of, id_of_deed, birth_of, as_idle, idle_of}
 
 -- what is so of each is so of the last
 last_holds : {Y : Type 0} (P : Y → Type 0) (xs : List Y) (c : Y) → AllByRecursion P xs → last_of xs ≡ Some c → P c
@@ -34,17 +34,15 @@ pub shown_all : {X Y : Type 0} (P : Y → Type 0) (f : X → Option Y) → ((x :
 shown_all P f p [] = tt
 shown_all P f p (x ∷ xs) = shown_step P f (f x) x xs refl (p x) (shown_all P f p xs)
 
-birth_shown : {T : Type 0} (birth : ℕ → ℕ) (i at : ℕ) (w : What T) → MatchOption (as_idle (birth i) (record { id = i; at = at; what = w })) (Unit {0})
-    (λ c. c.birth ≡ birth c.id)
-birth_shown birth i at (Admitted v) = refl
-birth_shown birth i at (Kept v) = refl
-birth_shown birth i at Taken = tt
-birth_shown birth i at Gone = tt
+birth_shown : {T : Type 0} (birth : ℕ → ℕ) (d : Deed T) → MatchOption (as_idle birth d) (Unit {0}) (λ c. c.birth ≡ birth c.id)
+birth_shown birth (Admitted id at v) = refl
+birth_shown birth (Kept id at v) = refl
+birth_shown birth (Taken id at) = tt
+birth_shown birth (Gone id at) = tt
 
 pub births_of-idle : {T : Type 0} (h : History T) → AllByRecursion (λ c. c.birth ≡ birth_of h c.id) (idle_of h)
 unfolding idle_of
-births_of-idle h = shown_all (λ c. c.birth ≡ birth_of h c.id) (λ d. as_idle (birth_of h d.id) d) (λ d. birth_shown (birth_of h) d.id d.at d.what)
-    (latest id_of_deed (deeds_of h))
+births_of-idle h = shown_all (λ c. c.birth ≡ birth_of h c.id) (as_idle (birth_of h)) (birth_shown (birth_of h)) (latest id_of_deed (deeds_of h))
 
 -- the one that is lent next too
 pub birth_of-next : {T : Type 0} (h : History T) (o : LendingOrder) (c : SeenIdleConnection T) → next_to_lend o (idle_of h) ≡ Some c → c.birth ≡ birth_of h c.id

@@ -12,7 +12,7 @@ use Rattle.r2d2_core.specs.Lending.{next_to_lend, still_idle}
 use Rattle.r2d2_core.specs.Connections.{SeenIdleConnection, idle_connection, lent_connection, id_of_idle, id_of_lent}
 use Rattle.r2d2_core.specs.Seen.{SeenAnswer}
 use Rattle.r2d2_core.specs.History.{History, Then, now_of, moment_of}
-use Rattle.r2d2_core.specs.Deeds.{Deed, Admitted, Taken, deed, deeds_in, id_of_deed, birth_of, admits, idle_of, lent_of}
+use Rattle.r2d2_core.specs.Deeds.{Deed, Admitted, Taken, deeds_in, id_of_deed, birth_of, admits, idle_of, lent_of}
 use Rattle.r2d2_core.proofs.Lists.Filters.{filter-absent}
 use Rattle.r2d2_core.proofs.Lists.Lending.{copies_of-next, filter-next}
 use Rattle.r2d2_core.proofs.Facts.Latest.{one_other}
@@ -40,10 +40,10 @@ module _ {T : Type 0} where
 
   -- what is idle after a step that lends the one that is next
   pub idle_of-found : (h : History T) (s : Step T) (r : SeenAnswer T) (t : ℕ) (o : LendingOrder) (c : SeenIdleConnection T)
-      → deeds_in (moment_of h s) s r ≡ deed c.id t Taken ∷ [] → ((i : ℕ) → admits s i ≡ false)
+      → deeds_in (moment_of h s) s r ≡ Taken c.id t ∷ [] → ((i : ℕ) → admits s i ≡ false)
       → next_to_lend o (idle_of h) ≡ Some c → AreApart h → idle_of (Then h s r) ≡ still_idle o (idle_of h)
   idle_of-found h s r t o c es none e apart =
-      let d : Deed T = deed c.id t Taken in
+      let d : Deed T = Taken c.id t in
       idle_of-then h s r (d ∷ []) es (λ i other. none i)
       ∙ (append-nil _
       ∙ (one_other id_of_deed d id_of_idle (idle_of h)
@@ -51,10 +51,10 @@ module _ {T : Type 0} where
 
   -- and what is lent
   pub lent_of-found : (h : History T) (s : Step T) (r : SeenAnswer T) (t : ℕ) (o : LendingOrder) (c : SeenIdleConnection T)
-      → deeds_in (moment_of h s) s r ≡ deed c.id t Taken ∷ [] → ((i : ℕ) → admits s i ≡ false)
+      → deeds_in (moment_of h s) s r ≡ Taken c.id t ∷ [] → ((i : ℕ) → admits s i ≡ false)
       → next_to_lend o (idle_of h) ≡ Some c → AreApart h → lent_of (Then h s r) ≡ lent_of h ++ lent_connection c.id c.birth ∷ []
   lent_of-found h s r t o c es none e apart =
-      let d : Deed T = deed c.id t Taken in
+      let d : Deed T = Taken c.id t in
       lent_of-then h s r (d ∷ []) es (λ i other. none i)
       ∙ (ap (λ l. l ++ lent_connection c.id (birth_of (Then h s r) c.id) ∷ []) (one_other id_of_deed d id_of_lent (lent_of h)
       ∙ filter-absent id_of_lent c.id (lent_of h) (idle_not_lent h o c e apart))
@@ -67,7 +67,7 @@ module _ {T : Type 0} where
       (max (now_of h) (as_nanos now)) value ∷ []
   idle_of-admitted h now id value r none =
       let t = max (now_of h) (as_nanos now) in
-      let d : Deed T = deed id t (Admitted value) in
+      let d : Deed T = Admitted id t value in
       idle_of-then h (step.Admit now id value) r (d ∷ []) refl (other_admits id)
       ∙ (ap (λ l. l ++ idle_connection id (cond (id == id) t (birth_of h id)) t value ∷ [])
       (one_other id_of_deed d id_of_idle (idle_of h) ∙ filter-absent id_of_idle id (idle_of h) none)
@@ -77,6 +77,6 @@ module _ {T : Type 0} where
   pub lent_of-admitted : (h : History T) (now : Duration) (id : ℕ) (value : T) (r : SeenAnswer T) → copies_of id (map id_of_lent (lent_of h)) ≡ 0
       → lent_of (Then h (step.Admit now id value) r) ≡ lent_of h
   lent_of-admitted h now id value r none =
-      let d : Deed T = deed id (max (now_of h) (as_nanos now)) (Admitted value) in
+      let d : Deed T = Admitted id (max (now_of h) (as_nanos now)) value in
       lent_of-then h (step.Admit now id value) r (d ∷ []) refl (other_admits id)
       ∙ (append-nil _ ∙ (one_other id_of_deed d id_of_lent (lent_of h) ∙ filter-absent id_of_lent id (lent_of h) none))

@@ -5,15 +5,16 @@ use Rattle.std.proofs.lemmas.List.Sums.{sum_by-append}
 use Rattle.r2d2_core.specs.declared.run.Step.{Step}
 use Rattle.r2d2_core.specs.Seen.{SeenAnswer}
 use Rattle.r2d2_core.specs.History.{History, Then, moment_of}
-use Rattle.r2d2_core.specs.Deeds.{Deed, has_come, is_gone, deeds_of, deeds_in, admitted_count, gone_count, connections_of}
+use Rattle.r2d2_core.specs.Deeds.{Deed, has_come, is_gone, deeds_of, deeds_in, admitted_count, connections_of}
+use Rattle.r2d2_core.proofs.Histories.Kept.{gone_count}
 use Rattle.r2d2_core.proofs.Histories.GoingOnes.{going, going_deeds}
 
 module _ {T : Type 0} where
   abbrev pub come_in : List (Deed T) → ℕ
-  come_in ds = count_by (λ d. has_come d.what) ds
+  come_in ds = count_by has_come ds
 
   abbrev pub gone_in : List (Deed T) → ℕ
-  gone_in ds = count_by (λ d. is_gone d.what) ds
+  gone_in ds = count_by is_gone ds
 
   abbrev pub step_deeds : History T → Step T → SeenAnswer T → List (Deed T)
   step_deeds h s r = deeds_in (moment_of h s) s r

@@ -7,9 +7,9 @@ use Rattle.std.proofs.lemmas.List.{append-nil}
 use Rattle.std.proofs.lemmas.List.Elements.{filter_map-append}
 use Rattle.r2d2_core.specs.declared.run.Step.{Step}
 use Rattle.r2d2_core.specs.Ids.{latest, copies_of}
-use Rattle.r2d2_core.specs.Connections.{id_of_idle, id_of_lent}
+use Rattle.r2d2_core.specs.Connections.{id_of_idle, id_of_lent, idle_connection, lent_connection}
 use Rattle.r2d2_core.specs.History.{History, Then, moment_of}
-use Rattle.r2d2_core.specs.Deeds.{Deed, What, Admitted, Taken, Kept, Gone, deeds_of, deeds_in, id_of_deed, birth_of, admits, as_idle, as_lent}
+use Rattle.r2d2_core.specs.Deeds.{Deed, Admitted, Taken, Kept, Gone, deeds_of, deeds_in, id_of_deed, birth_of, admits, as_idle, as_lent}
 use Rattle.r2d2_core.specs.Deeds.{idle_of, lent_of}
 use Rattle.r2d2_core.specs.Seen.{SeenAnswer}
 use Rattle.r2d2_core.proofs.Lists.Filters.{filter_true}
@@ -34,19 +34,30 @@ filter_map-filter f p q h [] = refl
 filter_map-filter f p q h (x ∷ xs) = keeps_step (p x) (f x) q f x (filter p xs) (filter_map f xs) [] refl (h x) (filter_map-filter f p q h xs)
 
 -- a test of ids sees what is shown as it sees the deed
-pub idle_keeps : {T : Type 0} (q : ℕ → Bool) (birth i at : ℕ) (w : What T)
-    → MatchOption (as_idle birth (record { id = i; at = at; what = w })) (Unit {0}) (λ c. q c.id ≡ q i)
-idle_keeps q birth i at (Admitted v) = refl
-idle_keeps q birth i at (Kept v) = refl
-idle_keeps q birth i at Taken = tt
-idle_keeps q birth i at Gone = tt
+pub idle_keeps : {T : Type 0} (q : ℕ → Bool) (birth : ℕ → ℕ) (d : Deed T) → MatchOption (as_idle birth d) (Unit {0}) (λ c. q c.id ≡ q (id_of_deed d))
+idle_keeps q birth (Admitted id at v) = refl
+idle_keeps q birth (Kept id at v) = refl
+idle_keeps q birth (Taken id at) = tt
+idle_keeps q birth (Gone id at) = tt
 
-pub lent_keeps : {T : Type 0} (q : ℕ → Bool) (birth i at : ℕ) (w : What T)
-    → MatchOption (as_lent birth (record { id = i; at = at; what = w })) (Unit {0}) (λ c. q c.id ≡ q i)
-lent_keeps q birth i at (Admitted v) = tt
-lent_keeps q birth i at (Kept v) = tt
-lent_keeps q birth i at Taken = refl
-lent_keeps q birth i at Gone = tt
+pub lent_keeps : {T : Type 0} (q : ℕ → Bool) (birth : ℕ → ℕ) (d : Deed T) → MatchOption (as_lent birth d) (Unit {0}) (λ c. q c.id ≡ q (id_of_deed d))
+lent_keeps q birth (Admitted id at v) = tt
+lent_keeps q birth (Kept id at v) = tt
+lent_keeps q birth (Taken id at) = refl
+lent_keeps q birth (Gone id at) = tt
+
+-- what is shown of a deed is the same by births that are the same of its id
+idle_agrees : {T : Type 0} (f g : ℕ → ℕ) (d : Deed T) → f (id_of_deed d) ≡ g (id_of_deed d) → as_idle f d ≡ as_idle g d
+idle_agrees f g (Admitted id at v) e = ap (λ b. Some (idle_connection id b at v)) e
+idle_agrees f g (Kept id at v) e = ap (λ b. Some (idle_connection id b at v)) e
+idle_agrees f g (Taken id at) e = refl
+idle_agrees f g (Gone id at) e = refl
+
+lent_agrees : {T : Type 0} (f g : ℕ → ℕ) (d : Deed T) → f (id_of_deed d) ≡ g (id_of_deed d) → as_lent f d ≡ as_lent g d
+lent_agrees f g (Admitted id at v) e = refl
+lent_agrees f g (Kept id at v) e = refl
+lent_agrees f g (Taken id at) e = ap (λ b. Some (lent_connection id b)) e
+lent_agrees f g (Gone id at) e = refl
 
 births_step : {X Y : Type 0} (b : Bool) (f g : X → Option Y) (x : X) (xs : List X) → (b ≡ true → f x ≡ g x) → filter_map f xs ≡ filter_map g xs
     → filter_map f (cond b (x ∷ xs) xs) ≡ filter_map g (cond b (x ∷ xs) xs)
@@ -62,36 +73,36 @@ filter_map-agree p f g e (x ∷ xs) = births_step (p x) f g x (filter p xs) (e x
 -- what is idle after a step: what was, but for the ids of its deeds, and what its deeds leave
 pub idle_of-then : {T : Type 0} (h : History T) (s : Step T) (r : SeenAnswer T) (es : List (Deed T)) → deeds_in (moment_of h s) s r ≡ es
     → ((i : ℕ) → is_other id_of_deed es i ≡ true → admits s i ≡ false)
-    → idle_of (Then h s r) ≡ filter (λ c. is_other id_of_deed es c.id) (idle_of h) ++ filter_map (λ d. as_idle (birth_of (Then h s r) d.id) d)
+    → idle_of (Then h s r) ≡ filter (λ c. is_other id_of_deed es c.id) (idle_of h) ++ filter_map (as_idle (birth_of (Then h s r)))
     (latest id_of_deed es)
 unfolding idle_of
 idle_of-then h s r es e new =
-    let now = λ (d : Deed _). as_idle (birth_of (Then h s r) d.id) d in
+    let now = as_idle (birth_of (Then h s r)) in
     ap (λ ds. filter_map now (latest id_of_deed (deeds_of h ++ ds))) e
     ∙ (ap (filter_map now) (latest-append id_of_deed (deeds_of h) es)
-    ∙ (filter_map-append now (filter (λ d. is_other id_of_deed es d.id) (latest id_of_deed (deeds_of h))) (latest id_of_deed es)
+    ∙ (filter_map-append now (filter (λ d. is_other id_of_deed es (id_of_deed d)) (latest id_of_deed (deeds_of h))) (latest id_of_deed es)
     ∙ ap (λ l. l ++ filter_map now (latest id_of_deed es))
-    (filter_map-agree (λ d. is_other id_of_deed es d.id) now (λ d. as_idle (birth_of h d.id) d)
-    (λ d other. ap (λ b. as_idle (cond b (moment_of h s) (birth_of h d.id)) d) (new d.id other)) (latest id_of_deed (deeds_of h))
-    ∙ filter_map-filter (λ d. as_idle (birth_of h d.id) d) (λ d. is_other id_of_deed es d.id) (λ c. is_other id_of_deed es c.id)
-    (λ d. idle_keeps (is_other id_of_deed es) (birth_of h d.id) d.id d.at d.what) (latest id_of_deed (deeds_of h)))))
+    (filter_map-agree (λ d. is_other id_of_deed es (id_of_deed d)) now (as_idle (birth_of h))
+    (λ d other. idle_agrees (birth_of (Then h s r)) (birth_of h) d (ap (λ b. cond b (moment_of h s) (birth_of h (id_of_deed d))) (new (id_of_deed d) other))) (latest id_of_deed (deeds_of h))
+    ∙ filter_map-filter (as_idle (birth_of h)) (λ d. is_other id_of_deed es (id_of_deed d)) (λ c. is_other id_of_deed es c.id)
+    (idle_keeps (is_other id_of_deed es) (birth_of h)) (latest id_of_deed (deeds_of h)))))
 
 -- the same of what is lent
 pub lent_of-then : {T : Type 0} (h : History T) (s : Step T) (r : SeenAnswer T) (es : List (Deed T)) → deeds_in (moment_of h s) s r ≡ es
     → ((i : ℕ) → is_other id_of_deed es i ≡ true → admits s i ≡ false)
-    → lent_of (Then h s r) ≡ filter (λ c. is_other id_of_deed es c.id) (lent_of h) ++ filter_map (λ d. as_lent (birth_of (Then h s r) d.id) d)
+    → lent_of (Then h s r) ≡ filter (λ c. is_other id_of_deed es c.id) (lent_of h) ++ filter_map (as_lent (birth_of (Then h s r)))
     (latest id_of_deed es)
 unfolding lent_of
 lent_of-then h s r es e new =
-    let now = λ (d : Deed _). as_lent (birth_of (Then h s r) d.id) d in
+    let now = as_lent (birth_of (Then h s r)) in
     ap (λ ds. filter_map now (latest id_of_deed (deeds_of h ++ ds))) e
     ∙ (ap (filter_map now) (latest-append id_of_deed (deeds_of h) es)
-    ∙ (filter_map-append now (filter (λ d. is_other id_of_deed es d.id) (latest id_of_deed (deeds_of h))) (latest id_of_deed es)
+    ∙ (filter_map-append now (filter (λ d. is_other id_of_deed es (id_of_deed d)) (latest id_of_deed (deeds_of h))) (latest id_of_deed es)
     ∙ ap (λ l. l ++ filter_map now (latest id_of_deed es))
-    (filter_map-agree (λ d. is_other id_of_deed es d.id) now (λ d. as_lent (birth_of h d.id) d)
-    (λ d other. ap (λ b. as_lent (cond b (moment_of h s) (birth_of h d.id)) d) (new d.id other)) (latest id_of_deed (deeds_of h))
-    ∙ filter_map-filter (λ d. as_lent (birth_of h d.id) d) (λ d. is_other id_of_deed es d.id) (λ c. is_other id_of_deed es c.id)
-    (λ d. lent_keeps (is_other id_of_deed es) (birth_of h d.id) d.id d.at d.what) (latest id_of_deed (deeds_of h)))))
+    (filter_map-agree (λ d. is_other id_of_deed es (id_of_deed d)) now (as_lent (birth_of h))
+    (λ d other. lent_agrees (birth_of (Then h s r)) (birth_of h) d (ap (λ b. cond b (moment_of h s) (birth_of h (id_of_deed d))) (new (id_of_deed d) other))) (latest id_of_deed (deeds_of h))
+    ∙ filter_map-filter (as_lent (birth_of h)) (λ d. is_other id_of_deed es (id_of_deed d)) (λ c. is_other id_of_deed es c.id)
+    (lent_keeps (is_other id_of_deed es) (birth_of h)) (latest id_of_deed (deeds_of h)))))
 
 -- a step with no deeds leaves what is idle and lent
 pub idle_of-none : {T : Type 0} (h : History T) (s : Step T) (r : SeenAnswer T) → deeds_in (moment_of h s) s r ≡ [] → ((i : ℕ) → admits s i ≡ false)

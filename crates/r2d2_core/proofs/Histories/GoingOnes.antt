@@ -9,8 +9,8 @@ use Rattle.r2d2_core.specs.Connections.{SeenIdleConnection, SeenLentConnection, 
 use Rattle.r2d2_core.specs.Ids.{latest}
 use Rattle.r2d2_core.specs.Seen.{SeenAnswer}
 use Rattle.r2d2_core.specs.History.{History, Then, moment_of}
-use Rattle.r2d2_core.specs.Deeds.{Deed, Gone, deed, deeds_in, id_of_deed, birth_of, admits, as_idle, as_lent, idle_of, lent_of, connections_of, admitted_count}
-use Rattle.r2d2_core.specs.Deeds.{gone_count}
+use Rattle.r2d2_core.specs.Deeds.{Deed, Gone, deeds_in, id_of_deed, birth_of, admits, as_idle, as_lent, idle_of, lent_of, connections_of, admitted_count}
+use Rattle.r2d2_core.proofs.Histories.Kept.{gone_count}
 use Rattle.r2d2_core.specs.Picture.{IsSound}
 use Rattle.r2d2_core.specs.Pending.{numbered_of, on_order_of}
 use Rattle.r2d2_core.specs.Answers.{picture_of}
@@ -24,21 +24,22 @@ use Rattle.r2d2_core.proofs.Facts.Latest.{is_other, any_id, none_left}
 
 module _ {T : Type 0} where
   abbrev pub going : {Y : Type 0} → (Y → ℕ) → ℕ → Y → Deed T
-  going of t c = deed (of c) t Gone
+  going of t c = Gone (of c) t
 
   abbrev pub going_deeds : {Y : Type 0} → (Y → ℕ) → ℕ → List Y → List (Deed T)
   going_deeds of t cs = map (going of t) cs
 
   -- the deeds of those that a reap closed, and of those that a close left
-  pub closings_go : (t now : ℕ) (cs : List (SeenIdleConnection T)) → map (λ c. deed {T = T} c.id t Gone)
-      (map (released_at now) cs) ≡ going_deeds id_of_idle t cs
+  pub closings_go : (t now : ℕ) (cs : List (SeenIdleConnection T))
+      → ◌≡◌ {A = List (Deed T)} (map (λ c. Gone c.id t) (map (released_at now) cs)) (going_deeds id_of_idle t cs)
   unfolding released_at
   closings_go t now [] = refl
-  closings_go t now (c ∷ cs) = ap (λ l. deed c.id t Gone ∷ l) (closings_go t now cs)
+  closings_go t now (c ∷ cs) = ap (λ l. Gone c.id t ∷ l) (closings_go t now cs)
 
-  pub pairs_go : (t : ℕ) (cs : List (SeenIdleConnection T)) → map (λ p. deed {T = T} p.0 t Gone) (map pair_of cs) ≡ going_deeds id_of_idle t cs
+  pub pairs_go : (t : ℕ) (cs : List (SeenIdleConnection T))
+      → ◌≡◌ {A = List (Deed T)} (map (λ p. Gone p.0 t) (map pair_of cs)) (going_deeds id_of_idle t cs)
   pairs_go t [] = refl
-  pairs_go t (c ∷ cs) = ap (λ l. deed c.id t Gone ∷ l) (pairs_go t cs)
+  pairs_go t (c ∷ cs) = ap (λ l. Gone c.id t ∷ l) (pairs_go t cs)
 
   -- the ids of a sound picture are apart
   pub apart_in : (h : History T) → IsSound (picture_of h) → AreApart h
@@ -52,7 +53,7 @@ module _ {T : Type 0} where
   idle_of-going h s r t p e none apart =
       let es : List (Deed T) = going_deeds id_of_idle t (filter p (idle_of h)) in
       let stay : List (SeenIdleConnection T) = filter (λ c. is_other id_of_deed es c.id) (idle_of h) in
-      let left : filter_map (λ d. as_idle (birth_of (Then h s r) d.id) d) (latest id_of_deed es) ≡ [] = none_left id_of_deed _ (going id_of_idle t)
+      let left : filter_map (as_idle (birth_of (Then h s r))) (latest id_of_deed es) ≡ [] = none_left id_of_deed _ (going id_of_idle t)
       (filter p (idle_of h)) (λ c. refl) in
       idle_of-then h s r es e (λ i other. none i)
       ∙ (ap (λ l. stay ++ l) left
@@ -69,7 +70,7 @@ module _ {T : Type 0} where
       let cs : List (SeenIdleConnection T) = filter p (idle_of h) in
       let es : List (Deed T) = going_deeds id_of_idle t cs in
       let stay : List SeenLentConnection = filter (λ c. is_other id_of_deed es c.id) (lent_of h) in
-      let left : filter_map (λ d. as_lent (birth_of (Then h s r) d.id) d) (latest id_of_deed es) ≡ [] = none_left id_of_deed _ (going id_of_idle t) cs
+      let left : filter_map (as_lent (birth_of (Then h s r))) (latest id_of_deed es) ≡ [] = none_left id_of_deed _ (going id_of_idle t) cs
       (λ c. refl) in
       lent_of-then h s r es e (λ i other. none i)
       ∙ (ap (λ l. stay ++ l) left

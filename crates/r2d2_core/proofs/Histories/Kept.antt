@@ -1,14 +1,18 @@
 -- What it is for a core to follow a history: it answers as the definitions say, and shows the history's picture.
-use Rattle.std.specs.Prelude.{◌≡◌, ℕ, ◌≤◌, false}
+use Rattle.std.specs.Prelude.{◌≡◌, ℕ, ◌≤◌, false, count_by}
 use Rattle.r2d2_core.specs.declared.run.Step.{Step}
 use Rattle.r2d2_core.specs.Picture.{Picture, IsSound}
 use Rattle.r2d2_core.specs.Seen.{SeenAnswer}
 use Rattle.r2d2_core.specs.History.{History, is_closed}
-use Rattle.r2d2_core.specs.Deeds.{admitted_count, gone_count}
+use Rattle.r2d2_core.specs.Deeds.{is_gone, deeds_of, admitted_count}
 use Rattle.r2d2_core.specs.Pending.{ordered_of, begun_of, ended_of, next_id_of, is_admitted}
 use Rattle.r2d2_core.specs.Answers.{answer_of, after, picture_of}
 
 module _ {T : Type 0} where
+  -- how many are gone
+  abbrev pub gone_count : History T → ℕ
+  gone_count h = count_by is_gone (deeds_of h)
+
   -- what keeps with each accepted step
   pub record IsKept (h : History T) : Type 0 where
     pub sound : IsSound (picture_of h)

@@ -15,8 +15,9 @@ use Rattle.r2d2_core.specs.Seen.{SeenAnswer}
 use Rattle.r2d2_core.specs.Picture.{IsSound}
 use Rattle.r2d2_core.specs.Table.{lent_refusal, lent_birth}
 use Rattle.r2d2_core.specs.History.{History, Then, moment_of}
-use Rattle.r2d2_core.specs.Deeds.{Deed, What, Admitted, Taken, Kept, Gone, deed, deeds_of, deeds_in, id_of_deed, birth_of, admits, as_lent, idle_of}
-use Rattle.r2d2_core.specs.Deeds.{lent_of, connections_of, admitted_count, gone_count}
+use Rattle.r2d2_core.specs.Deeds.{Deed, Admitted, Taken, Kept, Gone, deeds_of, deeds_in, id_of_deed, birth_of, admits, as_lent, idle_of}
+use Rattle.r2d2_core.specs.Deeds.{lent_of, connections_of, admitted_count}
+use Rattle.r2d2_core.proofs.Histories.Kept.{gone_count}
 use Rattle.r2d2_core.specs.Answers.{is_lent, picture_of}
 use Rattle.r2d2_core.proofs.Histories.Births.{shown_all}
 use Rattle.r2d2_core.proofs.Histories.Deeds.{AreApart, idle_of-then, lent_of-then}
@@ -62,12 +63,11 @@ pub some-found : {X : Type 0} (p : X → Bool) (xs : List X) → list_any p xs �
 some-found p [] e = absurd cc
 some-found p (x ∷ xs) e = omega arith
 
-birth_shown : {T : Type 0} (birth_at : ℕ → ℕ) (i at : ℕ) (w : What T) → MatchOption (as_lent (birth_at i) (record { id = i; at = at; what = w })) (Unit {0})
-    (λ c. c.birth ≡ birth_at c.id)
-birth_shown birth_at i at (Admitted v) = tt
-birth_shown birth_at i at (Kept v) = tt
-birth_shown birth_at i at Taken = refl
-birth_shown birth_at i at Gone = tt
+birth_shown : {T : Type 0} (birth : ℕ → ℕ) (d : Deed T) → MatchOption (as_lent birth d) (Unit {0}) (λ c. c.birth ≡ birth c.id)
+birth_shown birth (Admitted id at v) = tt
+birth_shown birth (Kept id at v) = tt
+birth_shown birth (Taken id at) = refl
+birth_shown birth (Gone id at) = tt
 
 module _ {T : Type 0} where
   -- OF A HISTORY
@@ -75,8 +75,7 @@ module _ {T : Type 0} where
   -- a lent one was born when its id was admitted
   births_of_lent : (h : History T) → AllByRecursion (λ c. c.birth ≡ birth_of h c.id) (lent_of h)
   unfolding lent_of
-  births_of_lent h = shown_all (λ c. c.birth ≡ birth_of h c.id) (λ d. as_lent (birth_of h d.id) d) (λ d. birth_shown (birth_of h) d.id d.at d.what)
-      (latest id_of_deed (deeds_of h))
+  births_of_lent h = shown_all (λ c. c.birth ≡ birth_of h c.id) (as_lent (birth_of h)) (birth_shown (birth_of h)) (latest id_of_deed (deeds_of h))
 
   pub birth_of-lent : (h : History T) (id : ℕ) → is_lent h id ≡ true → unwrap_or (birth_in id (lent_of h)) 0 ≡ birth_of h id
   birth_of-lent h id lent = born_as (birth_of h) id (lent_of h) (births_of_lent h) lent
@@ -95,34 +94,33 @@ module _ {T : Type 0} where
   lent_not_idle h id lent apart = omega (arith, apart id, copies_of-found id_of_lent id (lent_of h) lent)
 
   -- a step that takes a lent one back, whether it keeps it or not
-  pub lent_of-back : (h : History T) (s : Step T) (r : SeenAnswer T) (id t : ℕ) (w : What T) → deeds_in (moment_of h s) s r ≡ deed id t w ∷ []
+  pub lent_of-back : (h : History T) (s : Step T) (r : SeenAnswer T) (d : Deed T) → deeds_in (moment_of h s) s r ≡ d ∷ []
       → ((i : ℕ) → admits s i ≡ false)
-      → ((birth : ℕ) → as_lent birth (deed id t w) ≡ None) → AreApart h → lent_of (Then h s r) ≡ without id_of_lent id (lent_of h)
-  lent_of-back h s r id t w e none not_taken apart =
-      let d : Deed T = deed id t w in
+      → ((birth : ℕ → ℕ) → as_lent birth d ≡ None) → AreApart h → lent_of (Then h s r) ≡ without id_of_lent (id_of_deed d) (lent_of h)
+  lent_of-back h s r d e none not_taken apart =
       lent_of-then h s r (d ∷ []) e (λ i other. none i)
-      ∙ (ap (λ o. filter (λ c. is_other id_of_deed (d ∷ []) c.id) (lent_of h) ++ cons_option o []) (not_taken (birth_of (Then h s r) id))
+      ∙ (ap (λ o. filter (λ c. is_other id_of_deed (d ∷ []) c.id) (lent_of h) ++ cons_option o []) (not_taken (birth_of (Then h s r)))
       ∙ (append-nil _
       ∙ (one_other id_of_deed d id_of_lent (lent_of h)
-      ∙ filter-once id_of_lent id (lent_of h) (omega (arith, apart id)))))
+      ∙ filter-once id_of_lent (id_of_deed d) (lent_of h) (omega (arith, apart (id_of_deed d))))))
 
   -- what is idle stays where it is gone
-  pub idle_of-lost : (h : History T) (s : Step T) (r : SeenAnswer T) (id t : ℕ) → deeds_in (moment_of h s) s r ≡ deed id t Gone ∷ []
+  pub idle_of-lost : (h : History T) (s : Step T) (r : SeenAnswer T) (id t : ℕ) → deeds_in (moment_of h s) s r ≡ Gone id t ∷ []
       → ((i : ℕ) → admits s i ≡ false)
       → is_lent h id ≡ true → AreApart h → idle_of (Then h s r) ≡ idle_of h
   idle_of-lost h s r id t e none lent apart =
-      let d : Deed T = deed id t Gone in
+      let d : Deed T = Gone id t in
       idle_of-then h s r (d ∷ []) e (λ i other. none i)
       ∙ (append-nil _
       ∙ (one_other id_of_deed d id_of_idle (idle_of h)
       ∙ filter-absent id_of_idle id (idle_of h) (lent_not_idle h id lent apart)))
 
   -- where it is kept, it is the last
-  pub idle_of-kept : (h : History T) (s : Step T) (r : SeenAnswer T) (id t : ℕ) (value : T) → deeds_in (moment_of h s) s r ≡ deed id t (Kept value) ∷ []
+  pub idle_of-kept : (h : History T) (s : Step T) (r : SeenAnswer T) (id t : ℕ) (value : T) → deeds_in (moment_of h s) s r ≡ Kept id t value ∷ []
       → ((i : ℕ) → admits s i ≡ false)
       → is_lent h id ≡ true → AreApart h → idle_of (Then h s r) ≡ idle_of h ++ idle_connection id (birth_of h id) t value ∷ []
   idle_of-kept h s r id t value e none lent apart =
-      let d : Deed T = deed id t (Kept value) in
+      let d : Deed T = Kept id t value in
       idle_of-then h s r (d ∷ []) e (λ i other. none i)
       ∙ (ap (λ l. l ++ idle_connection id (birth_of (Then h s r) id) t value ∷ []) (one_other id_of_deed d id_of_idle (idle_of h)
       ∙ filter-absent id_of_idle id (idle_of h) (lent_not_idle h id lent apart))

@@ -1,7 +1,8 @@
 -- A history that was only made.
 use Rattle.std.proofs.Common.{◌≡◌, ℕ, ◌+◌, ◌*◌, ◌≤◌, cond, Some, None, refl, sym, ap, subst, arith}
 use Rattle.std.specs.Duration.{as_nanos}
-use Rattle.r2d2_core.specs.Limits.{SeenLimits, wanted_of, later_by, has_reaps}
+use Rattle.r2d2_core.specs.declared.schedule.limits.LimitSettings.{LimitSettings}
+use Rattle.r2d2_core.specs.Limits.{wanted_of, later_by, has_reaps}
 use Rattle.r2d2_core.specs.Picture.{IsSound}
 use Rattle.r2d2_core.specs.Table.{first_picture}
 use Rattle.r2d2_core.specs.History.{History, Made}
@@ -13,7 +14,7 @@ use Rattle.r2d2_core.proofs.Histories.Orders.{same_on_order, picture_of-is}
 use Rattle.r2d2_core.proofs.Facts.Sounds.{sound_first}
 
 module _ {T : Type 0} where
-  pub picture_of-made : (limits : SeenLimits) (moment first : ℕ) → picture_of {T = T} (Made limits moment first) ≡ first_picture limits moment first
+  pub picture_of-made : (limits : LimitSettings) (moment first : ℕ) → picture_of {T = T} (Made limits moment first) ≡ first_picture limits moment first
   unfolding on_order_of idle_of lent_of connections_of pending_of in_work_of in_work_at next_id_of numbered_of next_reap_of
   picture_of-made limits moment first =
       let h : History T = Made limits moment first in
@@ -25,7 +26,7 @@ module _ {T : Type 0} where
       refl refl
 
   -- what keeps with each step holds at the start
-  pub kept_made : (limits : SeenLimits) (moment first : ℕ) → wanted_of limits ≤ limits.max_size → IsKept {T = T} (Made limits moment first)
+  pub kept_made : (limits : LimitSettings) (moment first : ℕ) → wanted_of limits ≤ limits.max_size → IsKept {T = T} (Made limits moment first)
   unfolding next_id_of
   kept_made limits moment first legal = record {
     sound = subst IsSound (sym (picture_of-made limits moment first)) (sound_first limits moment first legal);

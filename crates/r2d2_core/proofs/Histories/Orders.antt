@@ -1,5 +1,5 @@
 -- Steps that order openings, and do nothing else to what is on order.
-use Rattle.std.proofs.Common.{◌≡◌, ℕ, ◌+◌, ◌-◌, ◌≤◌, min, Bool, true, false, cond, List, [], map, length, Option, refl, sym, ◌∙◌, ap, arith}
+use Rattle.std.proofs.Common.{◌≡◌, ℕ, ◌+◌, ◌-◌, ◌≤◌, min, Bool, true, false, cond, List, [], map, length, Option, None, refl, sym, ◌∙◌, ap, arith}
 use Rattle.std.specs.Prelude.{filter, not}
 use Rattle.std.specs.List.{range_with_len}
 use Rattle.std.proofs.Math.Path.{fun_ext}
@@ -12,10 +12,11 @@ use Rattle.r2d2_core.specs.OnOrder.{SeenOnOrder, with_orders, top_up_beside}
 use Rattle.r2d2_core.specs.Picture.{Picture, IsSound}
 use Rattle.r2d2_core.specs.Table.{ordered}
 use Rattle.r2d2_core.specs.History.{History, Then, limits_of, is_closed, now_of, moment_of}
-use Rattle.r2d2_core.specs.Deeds.{idle_of, lent_of, connections_of, admitted_count, gone_count}
+use Rattle.r2d2_core.specs.Deeds.{idle_of, lent_of, connections_of, admitted_count}
+use Rattle.r2d2_core.proofs.Histories.Kept.{gone_count}
 use Rattle.r2d2_core.specs.Pending.{ordered_in, ordered_of, pending_of, scheduled_of, begun_of, ended_of, in_work_at, in_work_of, ids_of, next_id_of}
 use Rattle.r2d2_core.specs.Pending.{is_admitted, numbered_of, reaps_of, next_reap_of, on_order_of}
-use Rattle.r2d2_core.specs.Answers.{orders_of, orders_by, top_up_after, reply_with, last_error_of, picture_of}
+use Rattle.r2d2_core.specs.Answers.{refusal_of, orders_of, orders_by, top_up_after, reply_at, reply_with, last_error_of, picture_of}
 use Rattle.r2d2_core.proofs.Histories.Kept.{IsKept}
 
 -- a step after h, with its reply, orders as many as the reply says, and does nothing else to what is on order
@@ -70,6 +71,10 @@ pub same_on_order : (o : SeenOnOrder) {scheduled scheduled' : List _} {in_work i
 same_on_order o e1 e2 e3 e4 e5 e6 e7 = rw (e1, e2, e3, e4, e5, e6, e7) refl
 
 module _ {T : Type 0} where
+  -- the answer to a step that is accepted, were it to order n openings
+  abbrev pub accepted_with : History T → ℕ → Step T → SeenAnswer T
+  accepted_with h n s = reply_at h None (moment_of h s) n s
+
   -- a closed core orders nothing
   pub orders_if_closed : (h : History T) (s : Step T) → is_closed h ≡ true → orders_of h s ≡ 0
   unfolding orders_of
@@ -177,17 +182,25 @@ module _ {T : Type 0} where
   picture_of-unordered h s r p o kept none latest idle lent on_order connections last_error =
       picture_of-is (Then h s r) p latest idle lent (on_order_of-unchanged h s r o kept none ∙ on_order) connections last_error
 
+  -- what a step orders that nothing refuses
+  pub orders_of-accepted : (h : History T) (s : Step T) → refusal_of h s ≡ None
+      → orders_of h s ≡ cond (is_closed h) 0 (orders_by h (Then h s (accepted_with h 0 s)) s (accepted_with h 0 s))
+  unfolding orders_of
+  orders_of-accepted h s none =
+      ap (λ o. cond (is_closed h) 0 (orders_by h (Then h s (reply_at h o (moment_of h s) 0 s)) s (reply_at h o (moment_of h s) 0 s))) none
+
   -- a step that tops up orders what the table says, where so many are idle and connected after it
-  pub orders_of-top_up : (h : History T) (s : Step T) (idle connections : ℕ)
-      → orders_by h (Then h s (reply_with h 0 s)) s (reply_with h 0 s) ≡ top_up_after h (Then h s (reply_with h 0 s))
-      → length (idle_of (Then h s (reply_with h 0 s))) ≡ idle → connections_of (Then h s (reply_with h 0 s)) ≡ connections
+  pub orders_of-top_up : (h : History T) (s : Step T) (idle connections : ℕ) → refusal_of h s ≡ None
+      → orders_by h (Then h s (accepted_with h 0 s)) s (accepted_with h 0 s) ≡ top_up_after h (Then h s (accepted_with h 0 s))
+      → length (idle_of (Then h s (accepted_with h 0 s))) ≡ idle → connections_of (Then h s (accepted_with h 0 s)) ≡ connections
       → orders_of h s ≡ top_up_beside idle connections (on_order_of h)
   unfolding orders_of on_order_of
-  orders_of-top_up h s idle connections tops_up idle_is connections_is =
-      ap (λ n. cond (is_closed h) 0 n) tops_up
+  orders_of-top_up h s idle connections none tops_up idle_is connections_is =
+      orders_of-accepted h s none
+      ∙ (ap (λ n. cond (is_closed h) 0 n) tops_up
       ∙ (ap (λ n. cond (is_closed h) 0 (min (wanted_of (limits_of h) - n) ((limits_of h).max_size - connections_of
-      (Then h s (reply_with h 0 s)) - pending_of h))) idle_is
-      ∙ ap (λ n. cond (is_closed h) 0 (min (wanted_of (limits_of h) - idle) ((limits_of h).max_size - n - pending_of h))) connections_is)
+      (Then h s (accepted_with h 0 s)) - pending_of h))) idle_is
+      ∙ ap (λ n. cond (is_closed h) 0 (min (wanted_of (limits_of h) - idle) ((limits_of h).max_size - n - pending_of h))) connections_is))
 
   -- what keeps with a step that orders
   pub kept_ordered : (h : History T) (s : Step T) (r : SeenAnswer T) → IsOrdering h s r → IsKept h → IsSound (picture_of (Then h s r))

@@ -14,12 +14,13 @@ use Rattle.std.proofs.lemmas.Bool.{eq-eqb, eqb-true, cases_lt}
 use mathlib.Core.Logic.{⊎_elim}
 use Rattle.r2d2_core.specs.declared.journal.record.Record.{Record}
 use Rattle.r2d2_core.specs.declared.journal.record.Record.TheVariants as record_
-use Rattle.r2d2_core.specs.Limits.{SeenLimits}
+use Rattle.r2d2_core.specs.declared.schedule.limits.LimitSettings.{LimitSettings}
 use Rattle.r2d2_core.specs.Ids.{copies_of, without}
 use Rattle.r2d2_core.specs.Connections.{SeenLentConnection, idle_connection, lent_connection, id_of_idle, id_of_lent, since_of, is_kept}
 use Rattle.r2d2_core.specs.Records.{seen_record, SeenRecord, Taken, Ordered, Admitted, Kept, Closed, Reaped, ClosedAll}
 use Rattle.r2d2_core.specs.Bases.{SeenBase, BareConnection, ids_in_base, IsLegalBase}
-use Rattle.r2d2_core.specs.Folding.{birth_of_idle, birth_of_lent, folded, replay, may_follow, all_follow, admitted_by, admitted_in, known_in, AreLegalFrom}
+use Rattle.std.specs.Prelude.{flat_map}
+use Rattle.r2d2_core.specs.Folding.{birth_of_idle, birth_of_lent, folded, replay, may_follow, all_follow, admitted_by, known_in, AreLegalFrom}
 use Rattle.r2d2_core.specs.declared.journal.report.Report.{Report}
 use Rattle.r2d2_core.specs.Limits.{seen_limits}
 use Rattle.r2d2_core.specs.RunningBase.{SeenRunningBase, running_base, made_idle_by, made_lent_by, made_idle_in, made_lent_in, rooms_for}
@@ -47,7 +48,7 @@ is_or : (closed b : Bool) → (closed ≡ true → b ≡ true) → (not closed |
 is_or true b h = h refl
 is_or false b h = refl
 
-pub counts_of_legal : (limits : SeenLimits) (b : SeenBase) → IsLegalBase limits b → counts_fit limits b ≡ true
+pub counts_of_legal : (limits : LimitSettings) (b : SeenBase) → IsLegalBase limits b → counts_fit limits b ≡ true
 counts_of_legal limits b legal =
     both _ _ (eq-eqb b.connections _ legal.counted)
     (both _ _ (le_is _ _ legal.fits)
@@ -122,7 +123,7 @@ born_by at (l ∷ ls) e = let f = split _ _ e in all_more (λ l. l.birth ≤ at)
 
 -- THE BASE
 
-pub legal_by : (limits : SeenLimits) (b : SeenBase) → counts_fit limits b ≡ true → ((i : ℕ) → copies_of i (ids_in_base b) ≤ 1)
+pub legal_by : (limits : LimitSettings) (b : SeenBase) → counts_fit limits b ≡ true → ((i : ℕ) → copies_of i (ids_in_base b) ≤ 1)
     → (are_in_order b.at 0 b.idle && are_born b.at b.lent) ≡ true → IsLegalBase limits b
 legal_by limits b counts apart order =
     let c = split _ _ counts in
@@ -141,7 +142,7 @@ legal_by limits b counts apart order =
       none_pending = λ closed. eqb-true b.pending 0 ((split _ _ (or_is b.closed _ d.1 closed)).1);
     }
 
-pub order_in : (limits : SeenLimits) (b : SeenBase) → IsLegalBase limits b → (are_in_order b.at 0 b.idle && are_born b.at b.lent) ≡ true
+pub order_in : (limits : LimitSettings) (b : SeenBase) → IsLegalBase limits b → (are_in_order b.at 0 b.idle && are_born b.at b.lent) ≡ true
 order_in limits b legal = both _ _ (order_of_legal b.at 0 b.idle legal.is_sorted (λ d some. omega arith) legal.seen legal.born)
     (born_of_legal b.at b.lent legal.born_lent)
 
@@ -221,7 +222,7 @@ copies-permutation i xs ys h = IsPermutation-keeps xs (λ (l : List ℕ). copies
 -- RECORDS
 
 -- after so many records
-pub record IsFollowing (limits : SeenLimits) (rs : List SeenRecord) (b : SeenBase) (k : ℕ) (now : SeenBase) (room : Rooms) : Type 0 where
+pub record IsFollowing (limits : LimitSettings) (rs : List SeenRecord) (b : SeenBase) (k : ℕ) (now : SeenBase) (room : Rooms) : Type 0 where
   pub legal : IsLegalBase limits now
   pub apart : (i : ℕ) → copies_of i (known_in now (drop k rs)) ≤ 1
   pub idle_room : length now.idle + made_idle_in (drop k rs) ≤ room.idle
@@ -246,7 +247,7 @@ fewer_kept p [] = omega arith
 fewer_kept p (x ∷ xs) = kept_step (p x) x xs (filter p xs) (fewer_kept p xs)
 
 -- so many are idle and lent with a record
-rested : (limits : SeenLimits) (r : SeenRecord) (b : SeenBase) → (let now = folded limits r b in length now.idle) ≤ length b.idle + made_idle_by r
+rested : (limits : LimitSettings) (r : SeenRecord) (b : SeenBase) → (let now = folded limits r b in length now.idle) ≤ length b.idle + made_idle_by r
 rested limits (Taken at id n) b = omega (arith, fewer_without id_of_idle id b.idle)
 rested limits (Ordered at n) b = omega arith
 rested limits (Admitted at id) b = omega (arith, length_push b.idle (idle_connection id at at tt))
@@ -255,7 +256,7 @@ rested limits (Closed at id n) b = omega arith
 rested limits (Reaped at n) b = omega (arith, fewer_kept (is_kept limits at) b.idle)
 rested limits (ClosedAll at) b = omega arith
 
-left : (limits : SeenLimits) (r : SeenRecord) (b : SeenBase) → (let now = folded limits r b in length now.lent) ≤ length b.lent + made_lent_by r
+left : (limits : LimitSettings) (r : SeenRecord) (b : SeenBase) → (let now = folded limits r b in length now.lent) ≤ length b.lent + made_lent_by r
 left limits (Taken at id n) b = omega (arith, length_push b.lent (lent_connection id (birth_of_idle id b.idle)))
 left limits (Ordered at n) b = omega arith
 left limits (Admitted at id) b = omega arith
@@ -264,7 +265,7 @@ left limits (Closed at id n) b = omega (arith, fewer_without id_of_lent id b.len
 left limits (Reaped at n) b = omega arith
 left limits (ClosedAll at) b = omega arith
 
-pub following_start : (limits : SeenLimits) (rs : List SeenRecord) (b : SeenBase) (room : Rooms) → IsLegalBase limits b
+pub following_start : (limits : LimitSettings) (rs : List SeenRecord) (b : SeenBase) (room : Rooms) → IsLegalBase limits b
     → ((i : ℕ) → copies_of i (known_in b rs) ≤ 1) → room ≡ rooms_for b rs → IsFollowing limits rs b 0 b room
 following_start limits rs b room legal apart is = record {
   legal = legal;
@@ -275,7 +276,7 @@ following_start limits rs b room legal apart is = record {
   folds = refl;
 }
 
-pub following_more : (limits : SeenLimits) (rs : List SeenRecord) (b : SeenBase) (k : ℕ) (now : SeenBase) (room : Rooms) (r : SeenRecord)
+pub following_more : (limits : LimitSettings) (rs : List SeenRecord) (b : SeenBase) (k : ℕ) (now : SeenBase) (room : Rooms) (r : SeenRecord)
     → drop k rs ≡ r ∷ drop (k + 1) rs → take (k + 1) rs ≡ take k rs ++ r ∷ [] → may_follow limits r now ≡ true
     → IsFollowing limits rs b k now room → IsFollowing limits rs b (k + 1) (folded limits r now) room
 following_more limits rs b k now room r next front may h =
@@ -295,7 +296,7 @@ following_more limits rs b k now room r next front may h =
       folds = ap (λ (l : List SeenRecord). replay limits l b) front ∙ (replay-push limits (take k rs) r b ∙ ap (folded limits r) h.folds);
     }
 
-pub following_stop : (limits : SeenLimits) (rs : List SeenRecord) (b : SeenBase) (k : ℕ) (now : SeenBase) (room : Rooms) (r : SeenRecord)
+pub following_stop : (limits : LimitSettings) (rs : List SeenRecord) (b : SeenBase) (k : ℕ) (now : SeenBase) (room : Rooms) (r : SeenRecord)
     → take (k + 1) rs ≡ take k rs ++ r ∷ [] → may_follow limits r now ≡ false
     → IsFollowing limits rs b k now room → all_follow limits (take (k + 1) rs) b ≡ false
 following_stop limits rs b k now room r front may h =
@@ -303,7 +304,7 @@ following_stop limits rs b k now room r front may h =
     ∙ (follow-push limits (take k rs) r b
     ∙ (ap (λ c. c && may_follow limits r (replay limits (take k rs) b)) h.may ∙ (ap (may_follow limits r) h.folds ∙ may)))
 
-pub following_fits : (limits : SeenLimits) (rs : List SeenRecord) (b : SeenBase) (k : ℕ) (now : SeenBase) (room : Rooms) (r : SeenRecord)
+pub following_fits : (limits : LimitSettings) (rs : List SeenRecord) (b : SeenBase) (k : ℕ) (now : SeenBase) (room : Rooms) (r : SeenRecord)
     → drop k rs ≡ r ∷ drop (k + 1) rs → IsFollowing limits rs b k now room
     → (length now.idle + made_idle_by r ≤ room.idle) × (length now.lent + made_lent_by r ≤ room.lent)
 following_fits limits rs b k now room r next h =
@@ -313,7 +314,7 @@ following_fits limits rs b k now room r next h =
     (λ (l : List SeenRecord). length now.lent + made_lent_in l ≤ room.lent) next h.lent_room in
     (omega (arith, idle_room), omega (arith, lent_room))
 
-pub following_end : (limits : SeenLimits) (rs : List SeenRecord) (b : SeenBase) (k : ℕ) (now : SeenBase) (room : Rooms) → length rs ≤ k
+pub following_end : (limits : LimitSettings) (rs : List SeenRecord) (b : SeenBase) (k : ℕ) (now : SeenBase) (room : Rooms) → length rs ≤ k
     → IsFollowing limits rs b k now room → replay limits rs b ≡ now
 following_end limits rs b k now room past h = ap (λ (l : List SeenRecord). replay limits l b) (sym (take_all k rs past)) ∙ h.folds
 
@@ -358,17 +359,17 @@ pub added_more : {X : Type 0} (old now ids front front' : List X) (x : X) → no
 added_more old now ids front front' x e f h = e ∙ (ap (λ l. l ++ x ∷ []) f ∙ (append_assoc old front (x ∷ []) ∙ ap (λ l. old ++ l) (sym h)))
 
 next_admitted : {P : Type 0} (seen : P → SeenRecord) (xs : List P) (k : ℕ) (d : P) → k < length xs
-    → admitted_in (take (suc k) (map seen xs)) ≡ admitted_in (take k (map seen xs)) ++ admitted_by (seen (get_or xs k d))
+    → flat_map admitted_by (take (suc k) (map seen xs)) ≡ flat_map admitted_by (take k (map seen xs)) ++ admitted_by (seen (get_or xs k d))
 next_admitted seen [] k d lt = absurd (omega (arith, lt))
 next_admitted seen (x ∷ xs) zero d lt = append-nil (admitted_by (seen x))
 next_admitted seen (x ∷ xs) (suc k) d lt =
     ap (λ l. admitted_by (seen x) ++ l) (next_admitted seen xs k d (omega (arith, lt)))
-    ∙ sym (append_assoc (admitted_by (seen x)) (admitted_in (take k (map seen xs))) (admitted_by (seen (get_or xs k d))))
+    ∙ sym (append_assoc (admitted_by (seen x)) (flat_map admitted_by (take k (map seen xs))) (admitted_by (seen (get_or xs k d))))
 
 pub admitted_next : {P : Type 0} (seen : P → SeenRecord) (xs : List P) (k : ℕ) (d : P) (ids : List ℕ) → k < length xs → admitted_by (seen (get_or xs k d)) ≡ ids
-    → admitted_in (take (k + 1) (map seen xs)) ≡ admitted_in (take k (map seen xs)) ++ ids
-admitted_next seen xs k d ids lt e = ap (λ n. admitted_in (take n (map seen xs))) (add-one k)
-    ∙ (next_admitted seen xs k d lt ∙ ap (λ l. admitted_in (take k (map seen xs)) ++ l) e)
+    → flat_map admitted_by (take (k + 1) (map seen xs)) ≡ flat_map admitted_by (take k (map seen xs)) ++ ids
+admitted_next seen xs k d ids lt e = ap (λ n. flat_map admitted_by (take n (map seen xs))) (add-one k)
+    ∙ (next_admitted seen xs k d lt ∙ ap (λ l. flat_map admitted_by (take k (map seen xs)) ++ l) e)
 
 rest-push : (rs : List SeenRecord) (r : SeenRecord) → made_idle_in (rs ++ r ∷ []) ≡ made_idle_in rs + made_idle_by r
 rest-push [] r = omega arith
@@ -421,57 +422,57 @@ IsPut b room made = MatchOption made ((are_in_order b.at 0 b.idle && are_born b.
     (λ there. ((are_in_order b.at 0 b.idle && are_born b.at b.lent) ≡ true) × (there ≡ running_base b room))
 
 -- it is put where it is legal, and there alone
-abbrev pub IsStart : SeenLimits → SeenBase → Rooms → Option SeenRunningBase → Type 0
+abbrev pub IsStart : LimitSettings → SeenBase → Rooms → Option SeenRunningBase → Type 0
 IsStart limits b room made = MatchOption made (IsLegalBase limits b → ⊥) (λ there. IsLegalBase limits b × (there ≡ running_base b room))
 
-pub starts : (limits : SeenLimits) (b : SeenBase) (room : Rooms) (made : Option SeenRunningBase) → counts_fit limits b ≡ true
+pub starts : (limits : LimitSettings) (b : SeenBase) (room : Rooms) (made : Option SeenRunningBase) → counts_fit limits b ≡ true
     → ((i : ℕ) → copies_of i (ids_in_base b) ≤ 1) → IsPut b room made → IsStart limits b room made
 starts limits b room None counts apart none = λ legal. cc (none, order_in limits b legal)
 starts limits b room (Some there) counts apart put = (legal_by limits b counts apart put.0, put.1)
 
-pub no_start : (limits : SeenLimits) (b : SeenBase) → counts_fit limits b ≡ false → IsLegalBase limits b → ⊥
+pub no_start : (limits : LimitSettings) (b : SeenBase) → counts_fit limits b ≡ false → IsLegalBase limits b → ⊥
 no_start limits b wrong legal = cc (wrong, counts_of_legal limits b legal)
 
-pub start_there : (limits : SeenLimits) (b : SeenBase) (room : Rooms) (made : Option SeenRunningBase) (s : SeenRunningBase) → made ≡ Some s
+pub start_there : (limits : LimitSettings) (b : SeenBase) (room : Rooms) (made : Option SeenRunningBase) (s : SeenRunningBase) → made ≡ Some s
     → IsStart limits b room made → IsLegalBase limits b × (s ≡ running_base b room)
 start_there limits b room made s is h = subst (IsStart limits b room) is h
 
-pub start_none : (limits : SeenLimits) (b : SeenBase) (room : Rooms) (made : Option SeenRunningBase) → made ≡ None → IsStart limits b room made
+pub start_none : (limits : LimitSettings) (b : SeenBase) (room : Rooms) (made : Option SeenRunningBase) → made ≡ None → IsStart limits b room made
     → IsLegalBase limits b → ⊥
 start_none limits b room made is h = subst (IsStart limits b room) is h
 
 -- the ids of a base are apart where those that are known are
 pub base_apart : (b : SeenBase) (rs : List SeenRecord) → ((i : ℕ) → copies_of i (known_in b rs) ≤ 1) → (i : ℕ) → copies_of i (ids_in_base b) ≤ 1
-base_apart b rs apart i = omega (arith, apart i, copies_of-append i (ids_in_base b) (admitted_in rs))
+base_apart b rs apart i = omega (arith, apart i, copies_of-append i (ids_in_base b) (flat_map admitted_by rs))
 
 -- fewer records admit no more
-admitted_before : (i k : ℕ) (rs : List SeenRecord) → copies_of i (admitted_in (take k rs)) ≤ copies_of i (admitted_in rs)
+admitted_before : (i k : ℕ) (rs : List SeenRecord) → copies_of i (flat_map admitted_by (take k rs)) ≤ copies_of i (flat_map admitted_by rs)
 admitted_before i zero rs = omega arith
 admitted_before i (suc k) [] = omega arith
 admitted_before i (suc k) (r ∷ rs) =
-    omega (arith, admitted_before i k rs, copies_of-append i (admitted_by r) (admitted_in (take k rs)), copies_of-append i (admitted_by r) (admitted_in rs))
+    omega (arith, admitted_before i k rs, copies_of-append i (admitted_by r) (flat_map admitted_by (take k rs)), copies_of-append i (admitted_by r) (flat_map admitted_by rs))
 
 pub known_before : (i k : ℕ) (b : SeenBase) (rs : List SeenRecord) → copies_of i (known_in b (take k rs)) ≤ copies_of i (known_in b rs)
 known_before i k b rs = omega (
   arith,
   admitted_before i k rs,
-  copies_of-append i (ids_in_base b) (admitted_in (take k rs)),
-  copies_of-append i (ids_in_base b) (admitted_in rs),
+  copies_of-append i (ids_in_base b) (flat_map admitted_by (take k rs)),
+  copies_of-append i (ids_in_base b) (flat_map admitted_by rs),
 )
 
-follow_before : (limits : SeenLimits) (k : ℕ) (rs : List SeenRecord) (b : SeenBase) → all_follow limits rs b ≡ true → all_follow limits (take k rs) b ≡ true
+follow_before : (limits : LimitSettings) (k : ℕ) (rs : List SeenRecord) (b : SeenBase) → all_follow limits rs b ≡ true → all_follow limits (take k rs) b ≡ true
 follow_before limits zero rs b all = refl
 follow_before limits (suc k) [] b all = refl
 follow_before limits (suc k) (r ∷ rs) b all = let f = split _ _ all in both _ _ f.0 (follow_before limits k rs (folded limits r b) f.1)
 
-pub legal_before : (limits : SeenLimits) (k : ℕ) (rs : List SeenRecord) (b : SeenBase) → AreLegalFrom limits b rs → AreLegalFrom limits b (take k rs)
+pub legal_before : (limits : LimitSettings) (k : ℕ) (rs : List SeenRecord) (b : SeenBase) → AreLegalFrom limits b rs → AreLegalFrom limits b (take k rs)
 legal_before limits k rs b are = record {
   follow = follow_before limits k rs b are.follow;
   apart = λ i. omega (arith, known_before i k b rs, are.apart i);
 }
 
 -- where all follow, none stops them
-pub follows_all : (limits : SeenLimits) (rs : List SeenRecord) (b : SeenBase) (n : ℕ) → n ≤ length rs → all_follow limits rs b ≡ true
+pub follows_all : (limits : LimitSettings) (rs : List SeenRecord) (b : SeenBase) (n : ℕ) → n ≤ length rs → all_follow limits rs b ≡ true
     → (n < length rs → all_follow limits (take (n + 1) rs) b ≡ false) → n ≡ length rs
 follows_all limits rs b n within all stops = ⊎_elim (λ lt. absurd (cc (stops lt, follow_before limits (n + 1) rs b all))) (λ le. omega (arith, within, le))
     (cases_lt n (length rs))

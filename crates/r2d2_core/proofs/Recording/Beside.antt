@@ -3,7 +3,8 @@ use Rattle.std.proofs.Common.{◌≡◌, ℕ, zero, suc, ◌<◌, ◌≤◌, ◌
 use Rattle.std.proofs.Common.{ap, subst, arith}
 use Rattle.std.specs.Prelude.{nat_lt}
 use Rattle.std.proofs.lemmas.Bool.Decides.{nat_tests}
-use Rattle.r2d2_core.specs.Limits.{SeenLimits, wanted_of}
+use Rattle.r2d2_core.specs.declared.schedule.limits.LimitSettings.{LimitSettings}
+use Rattle.r2d2_core.specs.Limits.{wanted_of}
 use Rattle.r2d2_core.specs.Picture.{Picture, IsSound}
 use Rattle.r2d2_core.specs.Table.{first_picture}
 use Rattle.r2d2_core.specs.Records.{SeenRecord}
@@ -17,7 +18,7 @@ use Rattle.r2d2_core.proofs.Recording.Books.{KeepsWith, recorded, recorded_made}
 use Rattle.r2d2_core.proofs.Recording.Keeping.{none_lost}
 use Rattle.r2d2_core.proofs.Recording.Replaying.{is_shown, at_folded}
 
-abbrev journal : SeenLimits → ℕ → SeenBase → List SeenRecord → ℕ → ℕ → ℕ → SeenJournal
+abbrev journal : LimitSettings → ℕ → SeenBase → List SeenRecord → ℕ → ℕ → ℕ → SeenJournal
 journal limits since b rs room lost takes = record { limits = limits; made = since; base = b; records = rs; room = room; lost = lost; takes = takes }
 
 not_zero : (n : ℕ) → 0 < n → (n == 0) ≡ false
@@ -68,7 +69,7 @@ room_noted None l = refl
 room_noted (Some r) l = room_by l r (nat_lt (length l.records) l.room)
 
 -- without room nothing comes to be kept
-none_at : (limits : SeenLimits) (since : ℕ) (b : SeenBase) (rs : List SeenRecord) (room lost takes : ℕ) (r : SeenRecord) → (room ≡ 0 → rs ≡ []) → room ≡ 0
+none_at : (limits : LimitSettings) (since : ℕ) (b : SeenBase) (rs : List SeenRecord) (room lost takes : ℕ) (r : SeenRecord) → (room ≡ 0 → rs ≡ []) → room ≡ 0
     → (let n = with_noted (Some r) (journal limits since b rs room lost takes) in n.records ≡ [])
 none_at limits since b [] zero lost takes r none e = refl
 none_at limits since b (x ∷ rs) zero lost takes r none e = absurd (let no : x ∷ rs ≡ [] = none refl in cc)
@@ -92,7 +93,7 @@ module _ {T : Type 0} where
   before_folded p l some = ap (λ (n : SeenJournal). n.base) (sym (beside_same p l some))
 
   -- one without room, by what the machine shows before and after a step
-  noted_bare : (limits : SeenLimits) (since : ℕ) (b : SeenBase) (lost takes : ℕ) (made : Option SeenRecord) (p p' : Picture T) (m : SeenJournal)
+  noted_bare : (limits : LimitSettings) (since : ℕ) (b : SeenBase) (lost takes : ℕ) (made : Option SeenRecord) (p p' : Picture T) (m : SeenJournal)
       → KeepsWith (beside p (journal limits since b [] 0 lost takes)) made p' → m ≡ kept_alone made (journal limits since b [] 0 lost takes)
       → beside p' m ≡ with_noted made (beside p (journal limits since b [] 0 lost takes))
   noted_bare limits since b lost takes None p p' m k is =
@@ -102,7 +103,7 @@ module _ {T : Type 0} where
       ∙ ap (λ (x : SeenBase). journal limits since x [] 0 (next_count lost) (takes_with r takes))
       (sym (is_shown (folded limits r (shown_at b.at p)) p' k.replays.shows ∙ ap (λ n. shown_at n p') (at_folded limits r (shown_at b.at p))))
 
-  noted_at : (limits : SeenLimits) (since : ℕ) (b : SeenBase) (rs : List SeenRecord) (room lost takes : ℕ) (made : Option SeenRecord) (p p' : Picture T)
+  noted_at : (limits : LimitSettings) (since : ℕ) (b : SeenBase) (rs : List SeenRecord) (room lost takes : ℕ) (made : Option SeenRecord) (p p' : Picture T)
       (m : SeenJournal) → (room ≡ 0 → rs ≡ [])
       → KeepsWith (beside p (journal limits since b rs room lost takes)) made p' → m ≡ kept_alone made (journal limits since b rs room lost takes)
       → beside p' m ≡ with_noted made (beside p (journal limits since b rs room lost takes))
@@ -149,12 +150,12 @@ same_by true b = refl
 same_by false b = refl
 
 -- at the making the machine shows what the journal begins with
-pub beside_first : (T : Type 0) (limits : SeenLimits) (now first_id room : ℕ)
+pub beside_first : (T : Type 0) (limits : LimitSettings) (now first_id room : ℕ)
     → beside (first_picture {T = T} limits now first_id) (first_journal limits now room) ≡ first_journal limits now room
 beside_first T limits now first_id room = ap (λ (b : SeenBase). record (first_journal limits now room) { base = b })
     (same_by (room == 0) (first_base limits now))
 
-pub faithful_first : (T : Type 0) (limits : SeenLimits) (now first_id room : ℕ) → wanted_of limits ≤ limits.max_size
+pub faithful_first : (T : Type 0) (limits : LimitSettings) (now first_id room : ℕ) → wanted_of limits ≤ limits.max_size
     → IsSound (first_picture {T = T} limits now first_id)
     → IsFaithful (book_in (first_picture {T = T} limits now first_id) (first_journal limits now room))
 faithful_first T limits now first_id room within sound =

@@ -6,7 +6,8 @@ use Rattle.std.proofs.lemmas.List.{length-map}
 use Rattle.std.proofs.lemmas.Bool.{cases_eq}
 use Rattle.r2d2_core.specs.declared.machine.answers.Refusal.{Refusal}
 use Rattle.r2d2_core.specs.declared.machine.answers.Refusal.TheVariants as refusal
-use Rattle.r2d2_core.specs.Limits.{SeenLimits, wanted_of}
+use Rattle.r2d2_core.specs.declared.schedule.limits.LimitSettings.{LimitSettings}
+use Rattle.r2d2_core.specs.Limits.{wanted_of}
 use Rattle.r2d2_core.specs.Ids.{copies_of}
 use Rattle.r2d2_core.specs.Lending.{next_to_lend}
 use Rattle.r2d2_core.specs.Connections.{SeenIdleConnection, id_of_idle, id_of_lent, released_at, is_expired, birth_in}
@@ -73,7 +74,7 @@ module _ {T : Type 0} where
   -- MAKING
 
   -- a book just made
-  pub recorded_made : (limits : SeenLimits) (now first_id room : ℕ) → wanted_of limits ≤ limits.max_size
+  pub recorded_made : (limits : LimitSettings) (now first_id room : ℕ) → wanted_of limits ≤ limits.max_size
       → KeepReplaying {T = T} limits (first_base limits now) [] (first_picture limits now first_id)
   recorded_made limits now first_id room within =
       record {
@@ -210,7 +211,7 @@ module _ {T : Type 0} where
   keeps_return t id value broken a sound old = return_by_refusal t id value broken a (lent_refusal id a.picture) refl sound old
 
   -- a text changes nothing that records tell
-  replaying_told : {A : Type 0} (text : Option (String A)) (limits : SeenLimits) (b : SeenBase) (rs : List SeenRecord) (p : Picture T)
+  replaying_told : {A : Type 0} (text : Option (String A)) (limits : LimitSettings) (b : SeenBase) (rs : List SeenRecord) (p : Picture T)
       → KeepReplaying limits b rs p → KeepReplaying limits b rs (with_text text p)
   replaying_told text limits b rs p k = with_none_more limits b rs p (with_text text p) refl refl refl refl refl refl (omega arith) (λ i past. past)
       (λ i n few none. few) k

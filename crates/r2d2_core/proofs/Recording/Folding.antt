@@ -11,14 +11,16 @@ use Rattle.std.proofs.lemmas.List.Kept.{IsNonDecreasingBy-filter}
 use Rattle.std.proofs.lemmas.List.Sorted.{IsNonDecreasingBy-push}
 use Rattle.std.proofs.lemmas.Bool.{eqb-true}
 use Rattle.std.proofs.lemmas.Bool.Decides.{nat_tests}
-use Rattle.r2d2_core.specs.Limits.{SeenLimits, wanted_of, top_up}
+use Rattle.r2d2_core.specs.declared.schedule.limits.LimitSettings.{LimitSettings}
+use Rattle.r2d2_core.specs.Limits.{wanted_of, top_up}
 use Rattle.r2d2_core.specs.Ids.{found, without, copies_of}
 use Rattle.r2d2_core.specs.Lending.{next_to_lend, still_idle}
 use Rattle.r2d2_core.specs.Connections.{SeenLentConnection, idle_connection, lent_connection, birth_in, id_of_idle, id_of_lent, since_of, is_expired, is_kept}
 use Rattle.r2d2_core.specs.Records.{SeenRecord, Taken, Ordered, Admitted, Kept, Closed, Reaped, ClosedAll}
 use Rattle.r2d2_core.specs.Bases.{SeenBase, BareConnection, ids_in_base, IsLegalBase}
-use Rattle.r2d2_core.specs.Folding.{moment_of_record, birth_of_idle, birth_of_lent, expired_in, up_to, folded, replay, is_next, fits, may_follow, all_follow}
-use Rattle.r2d2_core.specs.Folding.{admitted_by, admitted_in, known_in, AreLegalFrom}
+use Rattle.r2d2_core.specs.Folding.{birth_of_idle, birth_of_lent, expired_in, up_to, folded, replay, is_next, fits, may_follow, all_follow}
+use Rattle.std.specs.Prelude.{flat_map}
+use Rattle.r2d2_core.specs.Folding.{admitted_by, known_in, AreLegalFrom}
 use Rattle.r2d2_core.proofs.Lists.Filters.{copies_of-filter}
 use Rattle.r2d2_core.proofs.Lists.Ids.{copies_of-append, copies_of-push, copies_of-without, length-without, All-without, All-found, All-push, All-weaker}
 use Rattle.r2d2_core.proofs.Lists.Lending.{found-next, without-next, IsNonDecreasingBy-still_idle}
@@ -55,26 +57,26 @@ ordered_fits false n wanted size idle connections pending le e = omega (arith, l
 
 -- THE ONE THAT A RECORD NAMES
 
-pub record NextIs (limits : SeenLimits) (id : ℕ) (b : SeenBase) : Type 0 where
+pub record NextIs (limits : LimitSettings) (id : ℕ) (b : SeenBase) : Type 0 where
   pub c : BareConnection
   pub next : next_to_lend limits.order b.idle ≡ Some c
   pub same : c.id ≡ id
 
-next_by : (limits : SeenLimits) (id : ℕ) (b : SeenBase) (o : Option BareConnection) → next_to_lend limits.order b.idle ≡ o
+next_by : (limits : LimitSettings) (id : ℕ) (b : SeenBase) (o : Option BareConnection) → next_to_lend limits.order b.idle ≡ o
     → unwrap_or (option_map (λ c. c.id == id) o) false ≡ true → NextIs limits id b
 next_by limits id b None e is = absurd cc
 next_by limits id b (Some c) e is = record { c = c; next = e; same = eqb-true c.id id is }
 
-pub next_is : (limits : SeenLimits) (id : ℕ) (b : SeenBase) → is_next limits id b ≡ true → NextIs limits id b
+pub next_is : (limits : LimitSettings) (id : ℕ) (b : SeenBase) → is_next limits id b ≡ true → NextIs limits id b
 next_is limits id b is = next_by limits id b (next_to_lend limits.order b.idle) refl is
 
 -- it is the one with the id
-pub record StandsNext (limits : SeenLimits) (id : ℕ) (b : SeenBase) : Type 0 where
+pub record StandsNext (limits : LimitSettings) (id : ℕ) (b : SeenBase) : Type 0 where
   pub c : BareConnection
   pub there : found id_of_idle id b.idle ≡ Some c
   pub others : without id_of_idle id b.idle ≡ still_idle limits.order b.idle
 
-pub stands_next : (limits : SeenLimits) (id : ℕ) (b : SeenBase) → ((i : ℕ) → copies_of i (map id_of_idle b.idle) ≤ 1) → is_next limits id b ≡ true
+pub stands_next : (limits : LimitSettings) (id : ℕ) (b : SeenBase) → ((i : ℕ) → copies_of i (map id_of_idle b.idle) ≤ 1) → is_next limits id b ≡ true
     → StandsNext limits id b
 stands_next limits id b apart is =
     let n = next_is limits id b is in
@@ -105,7 +107,7 @@ pub lent_apart : (b : SeenBase) → ((i : ℕ) → copies_of i (ids_in_base b) �
 lent_apart b apart i = omega (arith, apart i, copies_of-append i (map id_of_idle b.idle) (map id_of_lent b.lent))
 
 -- a record that fits brings no ids but those that it admits
-pub ids_folded : (limits : SeenLimits) (r : SeenRecord) (b : SeenBase) → ((i : ℕ) → copies_of i (ids_in_base b) ≤ 1) → fits limits r b ≡ true → (i : ℕ)
+pub ids_folded : (limits : LimitSettings) (r : SeenRecord) (b : SeenBase) → ((i : ℕ) → copies_of i (ids_in_base b) ≤ 1) → fits limits r b ≡ true → (i : ℕ)
     → copies_of i (ids_in_base (folded limits r b)) ≤ copies_of i (ids_in_base b) + copies_of i (admitted_by r)
 ids_folded limits (Taken at id n) b apart fit i =
     let l = lent_connection id (birth_of_idle id b.idle) in
@@ -155,7 +157,7 @@ ids_folded limits (ClosedAll at) b apart fit i = omega (arith, copies_of-append 
 -- THE BASE
 
 -- what is seen and born before stays so
-module _ (limits : SeenLimits) (b : SeenBase) (legal : IsLegalBase limits b) where
+module _ (limits : LimitSettings) (b : SeenBase) (legal : IsLegalBase limits b) where
   seen_at : (at : ℕ) → b.at ≤ at → All (λ c. c.since ≤ at) b.idle
   seen_at at later = All-weaker (λ c. c.since ≤ b.at) (λ c. c.since ≤ at) b.idle (λ c le. omega (arith, le, later)) legal.seen
 
@@ -298,7 +300,7 @@ module _ (limits : SeenLimits) (b : SeenBase) (legal : IsLegalBase limits b) whe
     none_pending = λ closed. refl;
   }
 
-  legal_by : (r : SeenRecord) → b.at ≤ moment_of_record r → fits limits r b ≡ true → ((i : ℕ) → copies_of i (ids_in_base (folded limits r b)) ≤ 1)
+  legal_by : (r : SeenRecord) → b.at ≤ (folded limits r b).at → fits limits r b ≡ true → ((i : ℕ) → copies_of i (ids_in_base (folded limits r b)) ≤ 1)
       → IsLegalBase limits (folded limits r b)
   legal_by (Taken at id n) later fit apart = legal_taken at id n later fit apart
   legal_by (Ordered at n) later fit apart = legal_ordered at n later fit apart
@@ -309,7 +311,7 @@ module _ (limits : SeenLimits) (b : SeenBase) (legal : IsLegalBase limits b) whe
   legal_by (ClosedAll at) later fit apart = legal_closed_all at later apart
 
 -- a base with a record that may follow it is legal
-pub legal_folded : (limits : SeenLimits) (r : SeenRecord) (b : SeenBase) → IsLegalBase limits b → may_follow limits r b ≡ true
+pub legal_folded : (limits : LimitSettings) (r : SeenRecord) (b : SeenBase) → IsLegalBase limits b → may_follow limits r b ≡ true
     → ((i : ℕ) → copies_of i (ids_in_base b) + copies_of i (admitted_by r) ≤ 1) → IsLegalBase limits (folded limits r b)
 legal_folded limits r b legal may apart =
     let f = split _ _ may in
@@ -318,23 +320,23 @@ legal_folded limits r b legal may apart =
 -- THE LAW
 
 -- records that are legal from a base with one before them are legal from the base with that one
-pub record FoldsFirst (limits : SeenLimits) (r : SeenRecord) (rs : List SeenRecord) (b : SeenBase) : Type 0 where
+pub record FoldsFirst (limits : LimitSettings) (r : SeenRecord) (rs : List SeenRecord) (b : SeenBase) : Type 0 where
   pub legal : IsLegalBase limits (folded limits r b)
   pub rest : AreLegalFrom limits (folded limits r b) rs
   pub same : replay limits (r ∷ rs) b ≡ replay limits rs (folded limits r b)
 
 pub known_first : (i : ℕ) (b : SeenBase) (r : SeenRecord) (rs : List SeenRecord)
-    → copies_of i (known_in b (r ∷ rs)) ≡ copies_of i (ids_in_base b) + (copies_of i (admitted_by r) + copies_of i (admitted_in rs))
-known_first i b r rs = omega (arith, copies_of-append i (ids_in_base b) (admitted_in (r ∷ rs)), copies_of-append i (admitted_by r) (admitted_in rs))
+    → copies_of i (known_in b (r ∷ rs)) ≡ copies_of i (ids_in_base b) + (copies_of i (admitted_by r) + copies_of i (flat_map admitted_by rs))
+known_first i b r rs = omega (arith, copies_of-append i (ids_in_base b) (flat_map admitted_by (r ∷ rs)), copies_of-append i (admitted_by r) (flat_map admitted_by rs))
 
 -- and no more ids are known
-pub known_folded : (limits : SeenLimits) (r : SeenRecord) (rs : List SeenRecord) (b : SeenBase) → ((i : ℕ) → copies_of i (ids_in_base b) ≤ 1)
+pub known_folded : (limits : LimitSettings) (r : SeenRecord) (rs : List SeenRecord) (b : SeenBase) → ((i : ℕ) → copies_of i (ids_in_base b) ≤ 1)
     → may_follow limits r b ≡ true → (i : ℕ)
     → copies_of i (known_in (folded limits r b) rs) ≤ copies_of i (known_in b (r ∷ rs))
 known_folded limits r rs b apart may i =
-    omega (arith, ids_folded limits r b apart ((split _ _ may).1) i, known_first i b r rs, copies_of-append i (ids_in_base (folded limits r b)) (admitted_in rs))
+    omega (arith, ids_folded limits r b apart ((split _ _ may).1) i, known_first i b r rs, copies_of-append i (ids_in_base (folded limits r b)) (flat_map admitted_by rs))
 
-pub folds_first : (limits : SeenLimits) (r : SeenRecord) (rs : List SeenRecord) (b : SeenBase) → IsLegalBase limits b → AreLegalFrom limits b (r ∷ rs)
+pub folds_first : (limits : LimitSettings) (r : SeenRecord) (rs : List SeenRecord) (b : SeenBase) → IsLegalBase limits b → AreLegalFrom limits b (r ∷ rs)
     → FoldsFirst limits r rs b
 folds_first limits r rs b legal are =
     let f = split _ _ are.follow in
@@ -346,7 +348,7 @@ folds_first limits r rs b legal are =
 
 -- ONE MORE
 
-pub replay-push : (limits : SeenLimits) (rs : List SeenRecord) (r : SeenRecord) (b : SeenBase)
+pub replay-push : (limits : LimitSettings) (rs : List SeenRecord) (r : SeenRecord) (b : SeenBase)
     → replay limits (rs ++ r ∷ []) b ≡ folded limits r (replay limits rs b)
 replay-push limits [] r b = refl
 replay-push limits (s ∷ rs) r b = replay-push limits rs r (folded limits s b)
@@ -359,32 +361,32 @@ and_true : (a : Bool) → (a && true) ≡ a
 and_true true = refl
 and_true false = refl
 
-pub follow-push : (limits : SeenLimits) (rs : List SeenRecord) (r : SeenRecord) (b : SeenBase)
+pub follow-push : (limits : LimitSettings) (rs : List SeenRecord) (r : SeenRecord) (b : SeenBase)
     → all_follow limits (rs ++ r ∷ []) b ≡ (all_follow limits rs b && may_follow limits r (replay limits rs b))
 follow-push limits [] r b = and_true (may_follow limits r b)
 follow-push limits (s ∷ rs) r b = ap (λ c. may_follow limits s b && c) (follow-push limits rs r (folded limits s b)) ∙ and_assoc (may_follow limits s b) _ _
 
-pub admitted-push : (i : ℕ) (rs : List SeenRecord) (r : SeenRecord) → copies_of i (admitted_in (rs ++ r ∷ [])) ≡ copies_of i (admitted_in rs) + copies_of i
+pub admitted-push : (i : ℕ) (rs : List SeenRecord) (r : SeenRecord) → copies_of i (flat_map admitted_by (rs ++ r ∷ [])) ≡ copies_of i (flat_map admitted_by rs) + copies_of i
     (admitted_by r)
 admitted-push i [] r = omega (arith, copies_of-append i (admitted_by r) [])
 admitted-push i (s ∷ rs) r =
-    omega (arith, admitted-push i rs r, copies_of-append i (admitted_by s) (admitted_in (rs ++ r ∷ [])), copies_of-append i (admitted_by s) (admitted_in rs))
+    omega (arith, admitted-push i rs r, copies_of-append i (admitted_by s) (flat_map admitted_by (rs ++ r ∷ [])), copies_of-append i (admitted_by s) (flat_map admitted_by rs))
 
 pub known-push : (i : ℕ) (b : SeenBase) (rs : List SeenRecord) (r : SeenRecord)
     → copies_of i (known_in b (rs ++ r ∷ [])) ≡ copies_of i (known_in b rs) + copies_of i (admitted_by r)
 known-push i b rs r = omega (
   arith,
   admitted-push i rs r,
-  copies_of-append i (ids_in_base b) (admitted_in (rs ++ r ∷ [])),
-  copies_of-append i (ids_in_base b) (admitted_in rs),
+  copies_of-append i (ids_in_base b) (flat_map admitted_by (rs ++ r ∷ [])),
+  copies_of-append i (ids_in_base b) (flat_map admitted_by rs),
 )
 
 -- records that are legal from a legal base come to a legal one, with no more ids
-pub record ComeToLegal (limits : SeenLimits) (rs : List SeenRecord) (b : SeenBase) : Type 0 where
+pub record ComeToLegal (limits : LimitSettings) (rs : List SeenRecord) (b : SeenBase) : Type 0 where
   pub legal : IsLegalBase limits (replay limits rs b)
   pub ids : (i : ℕ) → copies_of i (ids_in_base (replay limits rs b)) ≤ copies_of i (known_in b rs)
 
-pub comes_to_legal : (limits : SeenLimits) (rs : List SeenRecord) (b : SeenBase) → IsLegalBase limits b → AreLegalFrom limits b rs → ComeToLegal limits rs b
+pub comes_to_legal : (limits : LimitSettings) (rs : List SeenRecord) (b : SeenBase) → IsLegalBase limits b → AreLegalFrom limits b rs → ComeToLegal limits rs b
 comes_to_legal limits [] b legal are = record { legal = legal; ids = λ i. omega (arith, copies_of-append i (ids_in_base b) []) }
 comes_to_legal limits (r ∷ rs) b legal are =
     let first = folds_first limits r rs b legal are in

@@ -6,7 +6,7 @@ use Rattle.std.proofs.lemmas.List.{length-map, map-append, length_push, length-d
 use Rattle.std.proofs.lemmas.Bool.Decides.{nat_tests}
 use Rattle.circular_buffer.specs.Buffer.{Buffer, buffer, keep_last}
 use Rattle.r2d2_core.specs.declared.journal.record.Record.{Record}
-use Rattle.r2d2_core.specs.Limits.{SeenLimits}
+use Rattle.r2d2_core.specs.declared.schedule.limits.LimitSettings.{LimitSettings}
 use Rattle.r2d2_core.specs.Records.{SeenRecord, Taken, Ordered, Admitted, Kept, Closed, Reaped, ClosedAll, seen_record}
 use Rattle.r2d2_core.specs.Bases.{SeenBase, IsLegalBase}
 use Rattle.r2d2_core.specs.Connections.{SeenLentConnection, birth_in}
@@ -21,11 +21,11 @@ away_some : (id : ℕ) (lent : List SeenLentConnection) → is_some (birth_in id
 away_some id [] is = absurd cc
 away_some id (l ∷ ls) is = omega arith
 
-next_some : (limits : SeenLimits) (id : ℕ) (b : SeenBase) → is_next limits id b ≡ true → 0 < length b.idle
+next_some : (limits : LimitSettings) (id : ℕ) (b : SeenBase) → is_next limits id b ≡ true → 0 < length b.idle
 next_some limits id b is = let n = next_is limits id b is in omega (arith, length-still_idle limits.order b.idle n.c n.next)
 
 -- a base with room for `max_size`, idle and lent, has room for what a record brings
-rest_room : (limits : SeenLimits) (r : SeenRecord) (b : SeenBase) → IsLegalBase limits b → may_follow limits r b ≡ true
+rest_room : (limits : LimitSettings) (r : SeenRecord) (b : SeenBase) → IsLegalBase limits b → may_follow limits r b ≡ true
     → length b.idle + made_idle_by r ≤ limits.max_size
 rest_room limits (Taken at id n) b legal may = omega (arith, legal.counted, legal.fits)
 rest_room limits (Ordered at n) b legal may = omega (arith, legal.counted, legal.fits)
@@ -36,7 +36,7 @@ rest_room limits (Closed at id n) b legal may = omega (arith, legal.counted, leg
 rest_room limits (Reaped at n) b legal may = omega (arith, legal.counted, legal.fits)
 rest_room limits (ClosedAll at) b legal may = omega (arith, legal.counted, legal.fits)
 
-leave_room : (limits : SeenLimits) (r : SeenRecord) (b : SeenBase) → IsLegalBase limits b → may_follow limits r b ≡ true
+leave_room : (limits : LimitSettings) (r : SeenRecord) (b : SeenBase) → IsLegalBase limits b → may_follow limits r b ≡ true
     → length b.lent + made_lent_by r ≤ limits.max_size
 leave_room limits (Taken at id n) b legal may = let some = next_some limits id b ((split _ _ ((split _ _ may).1)).0) in
     omega (arith, legal.counted, legal.fits, some)
@@ -48,14 +48,14 @@ leave_room limits (Reaped at n) b legal may = omega (arith, legal.counted, legal
 leave_room limits (ClosedAll at) b legal may = omega (arith, legal.counted, legal.fits)
 
 -- the oldest record is given up, and folded into the base
-pub record GivesUp (limits : SeenLimits) (b : SeenBase) (items : List Record) (made oldest : Record) (capacity : ℕ) : Type 0 where
+pub record GivesUp (limits : LimitSettings) (b : SeenBase) (items : List Record) (made oldest : Record) (capacity : ℕ) : Type 0 where
   pub full : nat_lt (length items) capacity ≡ false
   pub may : may_follow limits (seen_record oldest) b ≡ true
   pub base : folded limits (seen_record oldest) b ≡ with_oldest limits (map seen_record items ++ seen_record made ∷ []) b
   pub idle_room : length b.idle + made_idle_by (seen_record oldest) ≤ limits.max_size
   pub lent_room : length b.lent + made_lent_by (seen_record oldest) ≤ limits.max_size
 
-first_may : (limits : SeenLimits) (b : SeenBase) (items : List Record) (made oldest : Record)
+first_may : (limits : LimitSettings) (b : SeenBase) (items : List Record) (made oldest : Record)
     → all_follow limits (map seen_record items ++ seen_record made ∷ []) b ≡ true → slice_get (items ++ made ∷ []) 0 ≡ Some oldest
     → (may_follow limits (seen_record oldest) b ≡ true) × (folded limits (seen_record oldest) b ≡ with_oldest limits
     (map seen_record items ++ seen_record made ∷ []) b)
@@ -75,7 +75,7 @@ given_by : (has_room : Bool) (given first : Option Record) (oldest : Record) →
 given_by true given first oldest e is = absurd cc
 given_by false given first oldest e is = (refl, sym e ∙ is)
 
-pub gives_up : (limits : SeenLimits) (b : SeenBase) (items : List Record) (made oldest : Record) (capacity : ℕ) (given : Option Record) → IsLegalBase limits b
+pub gives_up : (limits : LimitSettings) (b : SeenBase) (items : List Record) (made oldest : Record) (capacity : ℕ) (given : Option Record) → IsLegalBase limits b
     → AreLegalFrom limits b (map seen_record items ++ seen_record made ∷ [])
     → given ≡ cond (nat_lt (length items) capacity) None (slice_get (items ++ made ∷ []) 0) → given ≡ Some oldest
     → GivesUp limits b items made oldest capacity
@@ -95,14 +95,14 @@ without_first : {X Y : Type 0} (f : X → Y) (xs : List X) → map f (drop 1 xs)
 without_first f [] = refl
 without_first f (x ∷ xs) = refl
 
-full_by : (limits : SeenLimits) (b b' : SeenBase) (rs rs' : List SeenRecord) (r : SeenRecord) (made room lost takes takes' : ℕ) (has_room : Bool)
+full_by : (limits : LimitSettings) (b b' : SeenBase) (rs rs' : List SeenRecord) (r : SeenRecord) (made room lost takes takes' : ℕ) (has_room : Bool)
     → nat_lt (length rs) room ≡ has_room → has_room ≡ false
     → b' ≡ with_oldest limits (rs ++ r ∷ []) b → rs' ≡ drop 1 (rs ++ r ∷ []) → takes' ≡ takes_with r takes
     → ◌≡◌ {A = SeenJournal} (record { limits = limits; made = made; base = b'; records = rs'; room = room; lost = next_count lost; takes = takes' })
     (with_record r (record { limits = limits; made = made; base = b; records = rs; room = room; lost = lost; takes = takes }))
 full_by limits b b' rs rs' r made room lost takes takes' has_room e none e1 e2 e3 = rw (e1, e2, e3, e, none) refl
 
-pub full_noted : (limits : SeenLimits) (b b' : SeenBase) (items : List Record) (now : Buffer Record) (made : Record)
+pub full_noted : (limits : LimitSettings) (b b' : SeenBase) (items : List Record) (now : Buffer Record) (made : Record)
     (since capacity lost lost' takes takes' : ℕ) → length items ≤ capacity → nat_lt (length items) capacity ≡ false
     → now ≡ buffer (keep_last capacity (items ++ made ∷ [])) capacity → b' ≡ with_oldest limits (map seen_record items ++ seen_record made ∷ []) b
     → lost' ≡ next_count lost → takes' ≡ takes_with (seen_record made) takes

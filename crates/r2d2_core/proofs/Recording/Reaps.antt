@@ -4,9 +4,9 @@ use Rattle.std.specs.Prelude.{filter, nat_lt, ◌&&◌}
 use Rattle.std.proofs.lemmas.List.{length-map}
 use Rattle.std.proofs.lemmas.Bool.{eq-eqb, eqb-true}
 use Rattle.std.proofs.lemmas.Bool.Decides.{nat_tests}
-use Rattle.r2d2_core.specs.Limits.{SeenLimits, wanted_of}
+use Rattle.r2d2_core.specs.declared.schedule.limits.LimitSettings.{LimitSettings}
+use Rattle.r2d2_core.specs.Limits.{wanted_of}
 use Rattle.r2d2_core.specs.Connections.{SeenIdleConnection, is_expired, is_kept}
-use Rattle.r2d2_core.specs.OnOrder.{IsEmpty}
 use Rattle.r2d2_core.specs.Picture.{Picture, IsSound}
 use Rattle.r2d2_core.specs.Table.{top_up_of, topped_up, swept, after_close}
 use Rattle.r2d2_core.specs.Records.{SeenRecord, Reaped, ClosedAll}
@@ -63,12 +63,12 @@ module _ {T : Type 0} where
   filter_bare p (x ∷ xs) = ap (λ l. cond (p (bare x)) (bare x ∷ l) l) (filter_bare p xs) ∙ sym (map_cond bare (p (bare x)) x (filter (λ c. p (bare c)) xs))
 
   -- a payload is not asked for
-  expired_bare : (limits : SeenLimits) (now : ℕ) (xs : List (SeenIdleConnection T))
+  expired_bare : (limits : LimitSettings) (now : ℕ) (xs : List (SeenIdleConnection T))
       → filter (is_expired limits now) (map bare xs) ≡ map bare (filter (is_expired limits now) xs)
   unfolding is_expired
   expired_bare limits now xs = filter_bare (is_expired limits now) xs
 
-  kept_bare : (limits : SeenLimits) (now : ℕ) (xs : List (SeenIdleConnection T))
+  kept_bare : (limits : LimitSettings) (now : ℕ) (xs : List (SeenIdleConnection T))
       → filter (is_kept limits now) (map bare xs) ≡ map bare (filter (is_kept limits now) xs)
   unfolding is_expired is_kept
   kept_bare limits now xs = filter_bare (is_kept limits now) xs
@@ -97,7 +97,7 @@ module _ {T : Type 0} where
         not_after = omega arith;
       }
 
-  reap_step : (limits : SeenLimits) (b : SeenBase) (rs : List SeenRecord) (p : Picture T) (none : Bool)
+  reap_step : (limits : LimitSettings) (b : SeenBase) (rs : List SeenRecord) (p : Picture T) (none : Bool)
       → ((length (gone_in p) == 0) && (top_up_of (swept p) == 0)) ≡ none → IsSound p
       → KeepReplaying limits b rs p → KeepReplaying limits b (added (cond none None (Some (Reaped p.latest (top_up_of (swept p))))) rs) (topped_up (swept p))
   unfolding is_expired is_kept
@@ -109,7 +109,7 @@ module _ {T : Type 0} where
   reap_step limits b rs p false e sound k = with_one_more limits b rs _ p _ sound (λ m. says_reaped m p e) refl refl (λ i. omega arith) k
 
   -- a reap, at its moment
-  pub replaying_reap : (limits : SeenLimits) (b : SeenBase) (rs : List SeenRecord) (p : Picture T) → IsSound p → KeepReplaying limits b rs p
+  pub replaying_reap : (limits : LimitSettings) (b : SeenBase) (rs : List SeenRecord) (p : Picture T) → IsSound p → KeepReplaying limits b rs p
       → KeepReplaying limits b (added (record_of_reap p.latest (length (filter (is_expired p.on_order.limits p.latest) p.idle)) (top_up_of (swept p))) rs)
       (topped_up (swept p))
   replaying_reap limits b rs p sound k = reap_step limits b rs p _ refl sound k
@@ -124,17 +124,16 @@ module _ {T : Type 0} where
     not_after = omega arith;
   }
 
-  close_step : (limits : SeenLimits) (b : SeenBase) (rs : List SeenRecord) (p : Picture T) (closed : Bool) → p.on_order.closed ≡ closed → IsSound p
+  close_step : (limits : LimitSettings) (b : SeenBase) (rs : List SeenRecord) (p : Picture T) (closed : Bool) → p.on_order.closed ≡ closed → IsSound p
       → KeepReplaying limits b rs p
       → KeepReplaying limits b (added (cond closed None (Some (ClosedAll p.latest))) rs) (after_close p)
   close_step limits b rs p true e sound k =
-      let empty : IsEmpty p.on_order = sound.steady.accounted.empty_once_closed e in
       with_none_more limits b rs p (after_close p) refl
-      (ap (map bare) (sound.steady.none_once_closed e)) refl (omega (arith, ap length (sound.steady.none_once_closed e))) empty.pending e (omega arith)
+      (ap (map bare) (sound.steady.none_once_closed e)) refl (omega (arith, ap length (sound.steady.none_once_closed e))) (sound.steady.accounted.none_once_closed e) e (omega arith)
       (λ i past. past) (λ i n few none. omega (arith, few)) k
   close_step limits b rs p false e sound k = with_one_more limits b rs _ p _ sound (λ m. says_closed m p e) refl refl (λ i. omega arith) k
 
   -- a close
-  pub replaying_close : (limits : SeenLimits) (b : SeenBase) (rs : List SeenRecord) (p : Picture T) → IsSound p → KeepReplaying limits b rs p
+  pub replaying_close : (limits : LimitSettings) (b : SeenBase) (rs : List SeenRecord) (p : Picture T) → IsSound p → KeepReplaying limits b rs p
       → KeepReplaying limits b (added (record_of_close p.latest p.on_order.closed) rs) (after_close p)
   replaying_close limits b rs p sound k = close_step limits b rs p _ refl sound k

@@ -2,13 +2,14 @@
 use Rattle.std.proofs.Common.{◌≡◌, ℕ, ◌+◌, ◌≤◌, Bool, true, List, [], ◌∷◌, ◌++◌, map, drop, refl, sym, ◌∙◌, ap, subst, arith}
 use Rattle.std.specs.Prelude.{nat_le, nat_lt}
 use Rattle.std.proofs.lemmas.Bool.Decides.{nat_tests}
-use Rattle.r2d2_core.specs.Limits.{SeenLimits}
+use Rattle.r2d2_core.specs.declared.schedule.limits.LimitSettings.{LimitSettings}
 use Rattle.r2d2_core.specs.Ids.{copies_of}
 use Rattle.r2d2_core.specs.Connections.{SeenIdleConnection, SeenLentConnection, id_of_idle, id_of_lent}
 use Rattle.r2d2_core.specs.Picture.{Picture, IsSound}
 use Rattle.r2d2_core.specs.Records.{SeenRecord, Taken, Ordered, Admitted, Kept, Closed, Reaped, ClosedAll}
 use Rattle.r2d2_core.specs.Bases.{SeenBase, BareConnection}
-use Rattle.r2d2_core.specs.Folding.{moment_of_record, folded, replay, fits, may_follow, all_follow, admitted_by, known_in}
+use Rattle.r2d2_core.specs.Records.{moment_of_record}
+use Rattle.r2d2_core.specs.Folding.{folded, replay, fits, may_follow, all_follow, admitted_by, known_in}
 use Rattle.r2d2_core.specs.Book.{ComesTo, bare}
 use Rattle.r2d2_core.specs.BookParts.{KeepReplaying, shown_at}
 use Rattle.r2d2_core.specs.Journal.{with_oldest}
@@ -21,7 +22,7 @@ le_is a b x = grind (arith, nat_tests)
 pub lt_is : (a b : ℕ) → a + 1 ≤ b → nat_lt a b ≡ true
 lt_is a b h = grind (arith, nat_tests)
 
-pub at_folded : (limits : SeenLimits) (r : SeenRecord) (b : SeenBase) → (let now = folded limits r b in now.at) ≡ moment_of_record r
+pub at_folded : (limits : LimitSettings) (r : SeenRecord) (b : SeenBase) → (let now = folded limits r b in now.at) ≡ moment_of_record r
 at_folded limits (Taken at id n) b = refl
 at_folded limits (Ordered at n) b = refl
 at_folded limits (Admitted at id) b = refl
@@ -64,7 +65,7 @@ module _ {T : Type 0} where
     pub not_after : moment_of_record r ≤ p'.latest
 
   -- then the records with it are legal, and replay to the picture after it
-  pub with_one_more : (limits : SeenLimits) (b : SeenBase) (rs : List SeenRecord) (r : SeenRecord) (p p' : Picture T) → IsSound p → ((m : ℕ) → Says m p r p')
+  pub with_one_more : (limits : LimitSettings) (b : SeenBase) (rs : List SeenRecord) (r : SeenRecord) (p p' : Picture T) → IsSound p → ((m : ℕ) → Says m p r p')
       → p.on_order.limits ≡ p'.on_order.limits → p.on_order.next_id ≡ p'.on_order.next_id
       → ((i : ℕ) → copies_of i (admitted_by r) + copies_of i p'.on_order.numbered ≤ copies_of i p.on_order.numbered)
       → KeepReplaying limits b rs p → KeepReplaying limits b (rs ++ r ∷ []) p'
@@ -72,11 +73,12 @@ module _ {T : Type 0} where
       let now = replay limits rs b in
       let is = is_shown now p k.replays.shows in
       let s = says now.at in
-      let fit : fits limits r now ≡ true = subst (λ (l : SeenLimits). fits l r now ≡ true) (sym k.same)
+      let fit : fits limits r now ≡ true = subst (λ (l : LimitSettings). fits l r now ≡ true) (sym k.same)
       (subst (λ (x : SeenBase). fits p.on_order.limits r x ≡ true) (sym is) s.fit) in
-      let comes : ComesTo (folded limits r now) p' = subst (λ (l : SeenLimits). ComesTo (folded l r now) p') (sym k.same)
+      let comes : ComesTo (folded limits r now) p' = subst (λ (l : LimitSettings). ComesTo (folded l r now) p') (sym k.same)
       (subst (λ (x : SeenBase). ComesTo (folded p.on_order.limits r x) p') (sym is) s.comes) in
-      let late : nat_le now.at (moment_of_record r) ≡ true = le_is now.at (moment_of_record r) (omega (arith, k.not_after, s.later)) in
+      let late : nat_le now.at (folded limits r now).at ≡ true = le_is now.at (folded limits r now).at
+      (omega (arith, k.not_after, s.later, at_folded limits r now)) in
       let numbered = λ (i : ℕ). copies_of-append3 i (map id_of_idle p.idle) (map id_of_lent p.lent) p.on_order.numbered in
       let fresh : (i : ℕ) → copies_of i (known_in b (rs ++ r ∷ [])) + copies_of i p'.on_order.numbered ≤ 1 = λ i. omega
       (arith, known-push i b rs r, numbers i, k.fresh i) in
@@ -86,7 +88,7 @@ module _ {T : Type 0} where
           base = k.replays.base;
           legal = record {
             follow = follow-push limits rs r b ∙ both (all_follow limits rs b) (may_follow limits r now) k.replays.legal.follow
-                (both (nat_le now.at (moment_of_record r)) (fits limits r now) late fit);
+                (both (nat_le now.at (folded limits r now).at) (fits limits r now) late fit);
             apart = λ i. omega (arith, fresh i);
           };
           shows = subst (λ (x : SeenBase). ComesTo x p') (sym (replay-push limits rs r b)) comes;
@@ -104,7 +106,7 @@ module _ {T : Type 0} where
       }
 
   -- a step with no record
-  pub with_none_more : (limits : SeenLimits) (b : SeenBase) (rs : List SeenRecord) (p p' : Picture T) → p.on_order.limits ≡ p'.on_order.limits
+  pub with_none_more : (limits : LimitSettings) (b : SeenBase) (rs : List SeenRecord) (p p' : Picture T) → p.on_order.limits ≡ p'.on_order.limits
       → map bare p.idle ≡ map bare p'.idle → p.lent ≡ p'.lent → p.connections ≡ p'.connections → p.on_order.pending ≡ p'.on_order.pending
       → p.on_order.closed ≡ p'.on_order.closed → p.latest ≤ p'.latest
       → ((i : ℕ) → p'.on_order.next_id ≤ i → p.on_order.next_id ≤ i) → ((i : ℕ) (n : ℕ) → n + copies_of i p.on_order.numbered ≤ 1
@@ -131,7 +133,7 @@ module _ {T : Type 0} where
       }
 
   -- the oldest record is folded into the base
-  pub with_one_folded : (limits : SeenLimits) (b : SeenBase) (r : SeenRecord) (rs : List SeenRecord) (p : Picture T) → KeepReplaying limits b (r ∷ rs) p
+  pub with_one_folded : (limits : LimitSettings) (b : SeenBase) (r : SeenRecord) (rs : List SeenRecord) (p : Picture T) → KeepReplaying limits b (r ∷ rs) p
       → KeepReplaying limits (folded limits r b) rs p
   with_one_folded limits b r rs p k =
       let first = folds_first limits r rs b k.replays.base k.replays.legal in
@@ -144,7 +146,7 @@ module _ {T : Type 0} where
         below_next = λ i past. omega (arith, known i, k.below_next i past);
       }
 
-  pub with_oldest_folded : (limits : SeenLimits) (b : SeenBase) (rs : List SeenRecord) (p : Picture T) → KeepReplaying limits b rs p
+  pub with_oldest_folded : (limits : LimitSettings) (b : SeenBase) (rs : List SeenRecord) (p : Picture T) → KeepReplaying limits b rs p
       → KeepReplaying limits (with_oldest limits rs b) (drop 1 rs) p
   with_oldest_folded limits b [] p k = k
   with_oldest_folded limits b (r ∷ rs) p k = with_one_folded limits b r rs p k

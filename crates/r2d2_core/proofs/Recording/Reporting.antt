@@ -2,7 +2,8 @@
 use Rattle.std.proofs.Common.{◌≡◌, List, length, map, sym, ◌∙◌, ap, subst, arith, inl, inr}
 use Rattle.std.proofs.lemmas.List.{length-map}
 use Rattle.std.specs.Duration.{as_nanos}
-use Rattle.r2d2_core.specs.Limits.{SeenLimits, wanted_of, seen_limits}
+use Rattle.r2d2_core.specs.declared.schedule.limits.LimitSettings.{LimitSettings}
+use Rattle.r2d2_core.specs.Limits.{wanted_of, seen_limits}
 use Rattle.r2d2_core.specs.Picture.{IsSound}
 use Rattle.r2d2_core.specs.declared.journal.report.Report.{Report}
 use Rattle.r2d2_core.specs.Connections.{id_of_idle, id_of_lent}
@@ -16,13 +17,13 @@ use Rattle.r2d2_core.proofs.Recording.Replaying.{ids_bare}
 
 -- what the type of a book keeps is what its callers see
 pub is_replayed : {T : Type 0} (a : SeenBook T) → IsRecorded a → IsReplayed a
-is_replayed a k = subst (λ (l : SeenLimits). ReplayTo l a.journal.base a.journal.records a.picture) k.same k.replays
+is_replayed a k = subst (λ (l : LimitSettings). ReplayTo l a.journal.base a.journal.records a.picture) k.same k.replays
 
 -- the records of a book replay, so those of its report do
 pub report_replays : {T B : Type 0} (a : SeenBook T) (r : Report B) → IsReportOf a r → IsReplayed a → DoesReplay r
 report_replays a r is replayed =
     let k : ReplayTo (seen_limits r.limits) (seen_base r.base) (seen_records r) a.picture =
-    subst (λ (l : SeenLimits). ReplayTo l (seen_base r.base) (seen_records r) a.picture) (sym is.limits)
+    subst (λ (l : LimitSettings). ReplayTo l (seen_base r.base) (seen_records r) a.picture) (sym is.limits)
     (subst (λ (b : SeenBase). ReplayTo a.picture.on_order.limits b (seen_records r) a.picture) (sym is.base)
     (subst (λ (rs : List SeenRecord). ReplayTo a.picture.on_order.limits a.journal.base rs a.picture) (sym is.records) replayed)) in
     record {
@@ -40,7 +41,7 @@ pub report_sound : {T B : Type 0} (a : SeenBook T) (r : Report B) → IsReportOf
 report_sound a r is s =
     let idle : length r.idle.items ≡ length a.picture.idle = ap length is.idle ∙ length-map a.picture.idle id_of_idle in
     let lent : length r.lent.items ≡ length a.picture.lent = ap length is.lent ∙ length-map a.picture.lent id_of_lent in
-    let size : r.limits.max_size ≡ a.picture.on_order.limits.max_size = ap (λ (ls : SeenLimits). ls.max_size) is.limits in
+    let size : (seen_limits r.limits).max_size ≡ a.picture.on_order.limits.max_size = ap (λ (ls : LimitSettings). ls.max_size) is.limits in
     let wanted : wanted_of (seen_limits r.limits) ≡ wanted_of a.picture.on_order.limits = ap wanted_of is.limits in
     record {
       counted = omega (arith, is.connections, s.steady.counted, idle, lent);
@@ -59,7 +60,7 @@ report_counts a r is counted none = is.takes ∙ counted (sym is.lost ∙ none) 
 pub report_begins : {T B : Type 0} (a : SeenBook T) (r : Report B) → IsReportOf a r → IsRecorded a → BeginsAtTheMaking a.journal → r.lost ≡ 0
     → seen_base r.base ≡ first_base (seen_limits r.limits) a.journal.made
 report_begins a r is recorded begins none =
-    is.base ∙ begins (sym is.lost ∙ none) ∙ ap (λ (l : SeenLimits). first_base l a.journal.made) (recorded.same ∙ sym is.limits)
+    is.base ∙ begins (sym is.lost ∙ none) ∙ ap (λ (l : LimitSettings). first_base l a.journal.made) (recorded.same ∙ sym is.limits)
 
 pub report_since : {T B : Type 0} (a : SeenBook T) (r : Report B) → IsReportOf a r → IsRecorded a → BeginsAtTheMaking a.journal → r.lost ≡ 0
     → as_nanos r.base.at ≡ a.journal.made

@@ -2,7 +2,8 @@
 use Rattle.std.proofs.Common.{◌≡◌, ℕ, ◌-◌, Bool, true, false, ◌||◌, not, List, [], ◌∷◌, ◌++◌, map, length, Ok, refl, sym, ap, arith}
 use Rattle.std.specs.Prelude.{is_some}
 use Rattle.std.proofs.lemmas.List.{map-append, length-map}
-use Rattle.r2d2_core.specs.Limits.{SeenLimits, wanted_of, has_reached}
+use Rattle.r2d2_core.specs.declared.schedule.limits.LimitSettings.{LimitSettings}
+use Rattle.r2d2_core.specs.Limits.{wanted_of, has_reached}
 use Rattle.r2d2_core.specs.Connections.{SeenIdleConnection, idle_connection, birth_in}
 use Rattle.r2d2_core.specs.OnOrder.{room_beside}
 use Rattle.r2d2_core.specs.Picture.{Picture, IsSound}
@@ -47,13 +48,13 @@ module _ {T : Type 0} where
         not_after = omega arith;
       }
 
-  pub replaying_lost : (limits : SeenLimits) (b : SeenBase) (rs : List SeenRecord) (p : Picture T) (id : ℕ) → is_some (birth_in id p.lent) ≡ true → IsSound p
+  pub replaying_lost : (limits : LimitSettings) (b : SeenBase) (rs : List SeenRecord) (p : Picture T) (id : ℕ) → is_some (birth_in id p.lent) ≡ true → IsSound p
       → KeepReplaying limits b rs p
       → KeepReplaying limits b (rs ++ Closed p.latest id (top_up_of (gone_one id p)) ∷ []) (topped_up (gone_one id p))
   replaying_lost limits b rs p id lent sound k = with_one_more limits b rs _ p _ sound (λ m. says_lost m p id lent) refl refl (λ i. omega arith) k
 
   -- a return, at its moment
-  pub replaying_returned : (closes : Bool) (limits : SeenLimits) (b : SeenBase) (rs : List SeenRecord) (p : Picture T) (id : ℕ) (value : T) (broken : Bool)
+  pub replaying_returned : (closes : Bool) (limits : LimitSettings) (b : SeenBase) (rs : List SeenRecord) (p : Picture T) (id : ℕ) (value : T) (broken : Bool)
       → is_closing (lent_birth id p) broken p ≡ closes → is_some (birth_in id p.lent) ≡ true
       → IsSound p → KeepReplaying limits b rs p
       → KeepReplaying limits b (added (record_of_return p.latest id (Ok (return_by closes id (lent_birth id p) value p))) rs)

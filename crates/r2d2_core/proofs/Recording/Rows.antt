@@ -2,7 +2,8 @@
 use Rattle.std.proofs.Common.{◌≡◌, ℕ, ◌*◌, Bool, true, false, List, [], ◌∷◌, Option, Some, None, refl}
 use Rattle.std.specs.declared.time.Duration.{Duration}
 use Rattle.r2d2_core.specs.declared.schedule.limits.LendingOrder.TheVariants as lending
-use Rattle.r2d2_core.specs.Limits.{SeenLimits, settings, with_order}
+use Rattle.r2d2_core.specs.declared.schedule.limits.LimitSettings.{LimitSettings}
+use Rattle.r2d2_core.specs.Limits.{settings, with_order}
 use Rattle.r2d2_core.specs.Ids.{copies_of}
 use Rattle.r2d2_core.specs.Connections.{idle_connection, lent_connection, is_expired, is_kept}
 use Rattle.r2d2_core.specs.Records.{SeenRecord, Taken, Ordered, Admitted, Kept, Closed, Reaped, ClosedAll}
@@ -17,21 +18,21 @@ abbrev ms : ℕ → ℕ
 ms n = n * 1_000_000
 
 -- so many at most, so many wanted; closed at these ages and idle times
-abbrev limited : ℕ → Option ℕ → Option Duration → Option Duration → SeenLimits
+abbrev limited : ℕ → Option ℕ → Option Duration → Option Duration → LimitSettings
 limited size least life idle = settings size least life idle (seconds 30) (seconds 30)
 
-abbrev small : SeenLimits
+abbrev small : LimitSettings
 small = limited 1 None None None
 
-abbrev pair : SeenLimits
+abbrev pair : LimitSettings
 pair = limited 2 None None None
 
 -- whether records are legal from the making on, but for their ids
-abbrev legal : SeenLimits → List SeenRecord → Bool
+abbrev legal : LimitSettings → List SeenRecord → Bool
 legal limits rs = all_follow limits rs (first_base limits 0)
 
 -- what records come to from the making on
-abbrev replay : SeenLimits → List SeenRecord → SeenBase
+abbrev replay : LimitSettings → List SeenRecord → SeenBase
 replay limits rs = replay_from limits rs (first_base limits 0)
 
 abbrev running_base : ℕ → ℕ → ℕ → Bool → SeenBase
@@ -56,7 +57,7 @@ one_lent-replays = refl
 
 -- TWO CONNECTIONS, reaped when they were idle for a second, and closed
 
-abbrev idling : SeenLimits
+abbrev idling : LimitSettings
 idling = limited 2 None None (Some (seconds 1))
 
 abbrev two_reaped : List SeenRecord

@@ -3,8 +3,8 @@ use Rattle.std.proofs.Common.{◌≡◌, ℕ, ◌+◌, ◌-◌, ◌≤◌, Bool,
 use Rattle.std.specs.Prelude.{option_map, unwrap_or, filter}
 use Rattle.std.proofs.lemmas.List.{length_push}
 use Rattle.r2d2_core.specs.declared.schedule.limits.LendingOrder.{LendingOrder}
-use Rattle.r2d2_core.specs.Limits.{SeenLimits}
-use Rattle.r2d2_core.specs.Roster.{SeenRoster, roster}
+use Rattle.r2d2_core.specs.declared.schedule.limits.LimitSettings.{LimitSettings}
+use Rattle.circular_buffer.specs.Buffer.{Buffer, buffer}
 use Rattle.r2d2_core.specs.Ids.{found, without, copies_of}
 use Rattle.r2d2_core.specs.Lending.{next_to_lend, still_idle}
 use Rattle.r2d2_core.specs.Connections.{SeenLentConnection, lent_connection, id_of_idle, is_expired, is_kept}
@@ -43,14 +43,14 @@ lends o at pending closed idle lent room id birth c apart next is born_then =
     (omega (arith, length-still_idle o idle c next, length_push lent l)))
 
 -- the expired ones are gone
-pub sweeps : (limits : SeenLimits) (at pending : ℕ) (closed : Bool) (idle : List BareConnection) (lent : List SeenLentConnection) (room lent_room : ℕ)
-    (now : SeenRoster BareConnection) → now ≡ roster (filter (is_kept limits at) idle) room
+pub sweeps : (limits : LimitSettings) (at pending : ℕ) (closed : Bool) (idle : List BareConnection) (lent : List SeenLentConnection) (room lent_room : ℕ)
+    (now : Buffer BareConnection) → now ≡ buffer (filter (is_kept limits at) idle) room
     → length now.items + length (filter (is_expired limits at) idle) ≡ length idle
-    → running_base (base_of at now.items lent (length now.items + length lent) pending closed) (rooms now.room lent_room) ≡ running_base
+    → running_base (base_of at now.items lent (length now.items + length lent) pending closed) (rooms now.capacity lent_room) ≡ running_base
     (swept_of limits (base_of at idle lent (length idle + length lent) pending closed)) (rooms room lent_room)
 sweeps limits at pending closed idle lent room lent_room now is count =
-    let kept : now.items ≡ filter (is_kept limits at) idle = ap (λ (r : SeenRoster BareConnection). r.items) is in
-    let same : now.room ≡ room = ap (λ (r : SeenRoster BareConnection). r.room) is in
+    let kept : now.items ≡ filter (is_kept limits at) idle = ap (λ (r : Buffer BareConnection). r.items) is in
+    let same : now.capacity ≡ room = ap (λ (r : Buffer BareConnection). r.capacity) is in
     ap (λ n. running_base (base_of at now.items lent (length now.items + length lent) pending closed) (rooms n lent_room)) same
     ∙ ap (λ b. running_base b (rooms room lent_room)) (same_base at pending closed now.items (filter (is_kept limits at) idle) lent lent _
     (length idle + length lent - length (filter (is_expired limits at) idle)) kept refl (omega (arith, count)))

@@ -5,7 +5,8 @@ use Rattle.std.specs.Prelude.{unwrap_or, option_map}
 use Rattle.std.proofs.lemmas.List.{map-append, length-map, map-id}
 use Rattle.std.proofs.lemmas.Bool.{eq-eqb, eqb-true}
 use Rattle.std.proofs.lemmas.Bool.Decides.{nat_tests}
-use Rattle.r2d2_core.specs.Limits.{SeenLimits, wanted_of}
+use Rattle.r2d2_core.specs.declared.schedule.limits.LimitSettings.{LimitSettings}
+use Rattle.r2d2_core.specs.Limits.{wanted_of}
 use Rattle.r2d2_core.specs.Ids.{found, without, same_id, copies_of}
 use Rattle.r2d2_core.specs.Lending.{next_to_lend, still_idle}
 use Rattle.r2d2_core.specs.Connections.{SeenIdleConnection, idle_connection, lent_connection, id_of_idle}
@@ -36,7 +37,7 @@ miss_is false false room h = absurd (omega arith)
 
 module _ {T : Type 0} where
   -- a step's moment changes nothing that records tell
-  pub replaying_at : (t : ℕ) (limits : SeenLimits) (b : SeenBase) (rs : List SeenRecord) (p : Picture T) → KeepReplaying limits b rs p
+  pub replaying_at : (t : ℕ) (limits : LimitSettings) (b : SeenBase) (rs : List SeenRecord) (p : Picture T) → KeepReplaying limits b rs p
       → KeepReplaying limits b rs (raised_to t p)
   replaying_at t limits b rs p k = with_none_more limits b rs p (raised_to t p) refl refl refl refl refl refl (omega arith) (λ i past. past)
       (λ i n few none. few) k
@@ -88,7 +89,7 @@ module _ {T : Type 0} where
         not_after = omega arith;
       }
 
-  miss_step : (limits : SeenLimits) (b : SeenBase) (rs : List SeenRecord) (p : Picture T) (o none : Bool) → next_to_lend p.on_order.limits.order p.idle ≡ None
+  miss_step : (limits : LimitSettings) (b : SeenBase) (rs : List SeenRecord) (p : Picture T) (o none : Bool) → next_to_lend p.on_order.limits.order p.idle ≡ None
       → (miss_order_of o p == 0) ≡ none → IsSound p → KeepReplaying limits b rs p
       → KeepReplaying limits b (added (cond none None (Some (Ordered p.latest (miss_order_of o p)))) rs) (ordered (miss_order_of o p) p)
   miss_step limits b rs p o true e n sound k =
@@ -100,7 +101,7 @@ module _ {T : Type 0} where
         some k f = grind (arith, nat_tests)
 
   -- a take, at its moment
-  pub replaying_taken : (limits : SeenLimits) (b : SeenBase) (rs : List SeenRecord) (p : Picture T) (o : Bool) (m : Option (SeenIdleConnection T))
+  pub replaying_taken : (limits : LimitSettings) (b : SeenBase) (rs : List SeenRecord) (p : Picture T) (o : Bool) (m : Option (SeenIdleConnection T))
       → next_to_lend p.on_order.limits.order p.idle ≡ m → IsSound p → KeepReplaying limits b rs p
       → KeepReplaying limits b (added (record_of_take p.latest (take_with m (take_orders m o p))) rs) (taken m o p)
   replaying_taken limits b rs p o None e sound k = miss_step limits b rs p o (miss_order_of o p == 0) e refl sound k
@@ -121,7 +122,7 @@ module _ {T : Type 0} where
         not_after = omega arith;
       }
 
-  pub replaying_admitted : (limits : SeenLimits) (b : SeenBase) (rs : List SeenRecord) (p : Picture T) (id : ℕ) (value : T)
+  pub replaying_admitted : (limits : LimitSettings) (b : SeenBase) (rs : List SeenRecord) (p : Picture T) (id : ℕ) (value : T)
       → found same_id id p.on_order.numbered ≡ Some id → IsSound p
       → KeepReplaying limits b rs p → KeepReplaying limits b (rs ++ Admitted p.latest id ∷ []) (admitted_at p.latest id value p)
   replaying_admitted limits b rs p id value there sound k =

@@ -6,7 +6,14 @@ use Rattle.std.specs.declared.time.Duration.{Duration}
 use Rattle.std.proofs.lemmas.Bool.{cond-true, cond-false, ltb-true, ltb-false, le-leb, lt-leb}
 use Rattle.r2d2_core.specs.Openings.{SeenOpening}
 use Rattle.r2d2_core.specs.Schedule.{is_due_before}
-use Rattle.r2d2_core.specs.Jobs.{Wait, Open, Reap, first_job, open_or_wait, reap_or_wait}
+use Rattle.r2d2_core.specs.Jobs.{SeenJob, Wait, Open, Reap, once_due, first_job}
+
+-- an opening, and a reap, once they are due
+abbrev pub open_or_wait : ℕ → SeenOpening → SeenJob
+open_or_wait now x = once_due now x.due (Open x.tries)
+
+abbrev pub reap_or_wait : ℕ → ℕ → SeenJob
+reap_or_wait now reap = once_due now reap Reap
 
 -- the opening is the entry
 pub opening_first : (now : ℕ) (xs rest : List SeenOpening) (x : SeenOpening) (reap : Option Duration) → xs ≡ x ∷ rest → is_due_before reap x.due ≡ false

@@ -30,7 +30,8 @@ pub enum Record {
 impl Record {
     ghost use Rattle.r2d2_core.specs.Seen.{seen_take, seen_returned, seen_gone, map_ok};
     ghost use Rattle.r2d2_core.specs.Records.{seen_record};
-    ghost use Rattle.r2d2_core.specs.Folding.{moment_of_record, admitted_by};
+    ghost use Rattle.r2d2_core.specs.Records.{moment_of_record};
+    ghost use Rattle.r2d2_core.specs.Folding.{admitted_by};
     ghost use Rattle.r2d2_core.specs.RunningBase.{made_idle_by, made_lent_by};
     ghost use Rattle.r2d2_core.specs.Recorded.{record_of_take, record_of_admission};
     ghost use Rattle.r2d2_core.specs.Recorded.{record_of_return, record_of_check, record_of_reap};

@@ -6,7 +6,8 @@ ghost use Rattle.r2d2_core.specs.Ids.{copies_of};
 ghost use Rattle.r2d2_core.specs.Connections.{id_of_idle, id_of_lent};
 ghost use Rattle.r2d2_core.specs.Records.{seen_record};
 ghost use Rattle.r2d2_core.specs.Bases.{seen_bare, seen_lent, ids_in_base, IsLegalBase};
-ghost use Rattle.r2d2_core.specs.Folding.{admitted_in, known_in};
+ghost use Rattle.std.specs.Prelude.{flat_map};
+ghost use Rattle.r2d2_core.specs.Folding.{known_in, admitted_by};
 ghost use Rattle.r2d2_core.specs.Reports.{seen_base, DoesReplay};
 ghost use Rattle.r2d2_core.specs.Auditing.{counts_fit, ShowsCounts};
 ghost use Rattle.r2d2_core.specs.RunningBase.{running_base, rooms_for};
@@ -205,7 +206,7 @@ fn add_lent<A: Allocator>(ids: &mut Vec<u64, A>, lent: &[(u64, Duration)]) -> Re
 
 fn add_admitted<A: Allocator>(ids: &mut Vec<u64, A>, records: &[Record]) -> Result<(), AllocError>
     ensures { OnOk result (ids.new.items
-        ≡ ids.old.items ++ admitted_in (map seen_record records.now)) }
+        ≡ ids.old.items ++ flat_map admitted_by (map seen_record records.now)) }
 {
     for record in records {
         if let Some(id) = record.admitted() {

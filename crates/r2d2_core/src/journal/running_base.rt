@@ -66,7 +66,7 @@ impl<A: Allocator> Model for RunningBase<A> {
 
     ghost Value = { SeenRunningBase };
 
-    ghost view = { λ s. running_base (base_in s) (rooms s.idle.room s.lent.room) };
+    ghost view = { λ s. running_base (base_in s) (rooms s.idle.capacity s.lent.capacity) };
 }
 
 impl<A: Allocator> RunningBase<A> {
@@ -156,6 +156,7 @@ impl<A: Allocator> RunningBase<A> {
         ensures more { IsTrue result
             → self.new ≡ running_base (with_more ordered self.old.base) self.old.room }
     {
+        let _max_size = limits.max_size();
         let idle = self.idle.len();
         let connections = idle + self.lent.len();
         if ordered != limits.top_up(self.closed, idle, connections, self.pending) {
@@ -178,9 +179,10 @@ impl<A: Allocator> RunningBase<A> {
         ensures more { IsTrue result
             → self.new ≡ running_base (with_more ordered self.old.base) self.old.room }
     {
+        let max_size = limits.max_size();
         let connections = (self.idle.len() + self.lent.len()) as u32;
         let is_missed = self.idle.len() == 0 && !self.closed;
-        if !is_missed || ordered != 1 || connections + self.pending >= limits.max_size() {
+        if !is_missed || ordered != 1 || connections + self.pending >= max_size {
             return false;
         }
         self.pending += 1;

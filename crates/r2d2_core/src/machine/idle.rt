@@ -9,7 +9,6 @@ ghost use Rattle.r2d2_core.specs.Limits.{seen_limits};
 ghost use Rattle.r2d2_core.specs.Lending.{next_to_lend, still_idle};
 ghost use Rattle.r2d2_core.specs.Connections.{id_of_idle, since_of, is_expired, is_kept, closed_of};
 ghost use Rattle.r2d2_core.specs.Connections.{pair_of};
-ghost use Rattle.r2d2_core.specs.Roster.{roster};
 ghost use Rattle.r2d2_core.specs.Seen.{seen_released};
 
 use super::answers::Released;
@@ -36,9 +35,10 @@ pub(crate) struct Idle<T, A: Allocator = Global> {
 
 impl<T, A: Allocator> Model for Idle<T, A> {
     ghost use Rattle.r2d2_core.specs.Connections.{SeenIdleConnection};
-    ghost use Rattle.r2d2_core.specs.Roster.{SeenRoster, roster_of};
+    ghost use Rattle.circular_buffer.specs.Buffer.{Buffer};
+    ghost use Rattle.r2d2_core.specs.Roster.{roster_of};
 
-    ghost Value = { SeenRoster (SeenIdleConnection T) };
+    ghost Value = { Buffer (SeenIdleConnection T) };
 
     ghost view = { λ a. roster_of a.ring };
 }
@@ -47,7 +47,7 @@ impl<T, A: Allocator> Idle<T, A> {
     pub(crate) fn new(alloc: A, room: usize) -> Result<Idle<T, A>, AllocError>
     where
         T: Drop,
-        ensures { IfOk result (λ idle. idle ≡ roster [] room) }
+        ensures { IfOk result (λ idle. idle ≡ buffer [] room) }
     {
         let ring = Ring::with_capacity(alloc, room)?;
         Ok(Idle { ring: Some(ring) })
@@ -85,7 +85,7 @@ impl<T, A: Allocator> Idle<T, A> {
     /// The one that is lent next, which is idle no more.
     pub(crate) fn take(&mut self, order: LendingOrder) -> Option<IdleConnection<T>>
         ensures next { result ≡ next_to_lend order self.old.items }
-        ensures others { self.new ≡ roster (still_idle order self.old.items) self.old.room }
+        ensures others { self.new ≡ buffer (still_idle order self.old.items) self.old.capacity }
         ensures same { IfNone result (self.new ≡ self.old) }
     {
         match &mut self.ring {
@@ -96,8 +96,8 @@ impl<T, A: Allocator> Idle<T, A> {
 
     /// Adds the newest one.
     pub(crate) fn add(&mut self, entry: IdleConnection<T>)
-        requires { length self.old.items < self.old.room }
-        ensures { self.new ≡ roster (self.old.items ++ entry ∷ []) self.old.room }
+        requires { length self.old.items < self.old.capacity }
+        ensures { self.new ≡ buffer (self.old.items ++ entry ∷ []) self.old.capacity }
     {
         match &mut self.ring {
             Some(ring) => ring.push_back(entry),
@@ -121,8 +121,8 @@ impl<T, A: Allocator> Idle<T, A> {
         ensures released { map seen_released out.new.items
             ≡ closed_of (seen_limits limits.now) (as_nanos now) self.old.items }
         ensures kept { self.new
-            ≡ roster (filter (is_kept (seen_limits limits.now)
-            (as_nanos now)) self.old.items) self.old.room }
+            ≡ buffer (filter (is_kept (seen_limits limits.now)
+            (as_nanos now)) self.old.items) self.old.capacity }
         ensures count { length self.new.items
             + length (filter (is_expired (seen_limits limits.now) (as_nanos now)) self.old.items)
             ≡ length self.old.items }
@@ -149,8 +149,8 @@ impl<T, A: Allocator> Idle<T, A> {
         T: Drop,
         requires in_order { IsNonDecreasingBy since_of self.old.items }
         ensures kept { self.new
-            ≡ roster (filter (is_kept (seen_limits limits.now)
-            (as_nanos now)) self.old.items) self.old.room }
+            ≡ buffer (filter (is_kept (seen_limits limits.now)
+            (as_nanos now)) self.old.items) self.old.capacity }
         ensures count { length self.new.items
             + length (filter (is_expired (seen_limits limits.now) (as_nanos now)) self.old.items)
             ≡ length self.old.items }
@@ -168,7 +168,7 @@ impl<T, A: Allocator> Idle<T, A> {
     pub(crate) fn clear(&mut self)
     where
         T: Drop,
-        ensures { self.new ≡ roster [] self.old.room }
+        ensures { self.new ≡ buffer [] self.old.capacity }
     {
         if let Some(ring) = &mut self.ring {
             ring.clear();
@@ -178,7 +178,7 @@ impl<T, A: Allocator> Idle<T, A> {
     /// Hands all of them out; there is no room from then on.
     pub(crate) fn close(&mut self) -> Leftover<T, A>
         ensures handed { result ≡ map pair_of self.old.items }
-        ensures closed { self.new ≡ roster [] 0 }
+        ensures closed { self.new ≡ buffer [] 0 }
     {
         match self.ring.take() {
             Some(ring) => Leftover::of(Some(ring.into_held())),

@@ -5,8 +5,8 @@ ghost use Rattle.std.specs.Prelude.{◌≡◌, ◌↔◌, ℕ, ◌+◌, ◌<◌,
 ghost use Rattle.std.specs.Prelude.{IfNone, IsSome, IsTrue, MatchOption, Option, None, slice_set};
 ghost use Rattle.std.specs.Prelude.{slice_index_or, vec_capacity, vec_len};
 ghost use Rattle.std.specs.Iterator.{item_count, YieldsFirstRef};
+ghost use Rattle.circular_buffer.specs.Buffer.{buffer};
 ghost use Rattle.r2d2_core.specs.Ids.{found, without, copies_of};
-ghost use Rattle.r2d2_core.specs.Roster.{roster};
 ghost use Rattle.r2d2_core.specs.Slots.{held, holds, NoneHeldFrom, HeldAt};
 
 use std::alloc::{AllocError, Allocator, Global};
@@ -43,13 +43,13 @@ pub(crate) struct Roster<X, A: Allocator = Global> {
 
 impl<X, A: Allocator> Model for Roster<X, A> {
     ghost use Rattle.std.specs.Prelude.{◌≡◌, ◌≤◌, length, vec_capacity};
-    ghost use Rattle.r2d2_core.specs.Roster.{SeenRoster, roster};
+    ghost use Rattle.circular_buffer.specs.Buffer.{Buffer, buffer};
 
-    ghost Value = { SeenRoster X };
+    ghost Value = { Buffer X };
 
     ghost use Rattle.r2d2_core.specs.Slots.{held};
 
-    ghost view = { λ a. roster (held a.slots.items) a.room };
+    ghost view = { λ a. buffer (held a.slots.items) a.room };
 
     ghost invariant = { λ a. (a.count ≡ length (held a.slots.items))
         × (a.room ≤ vec_capacity a.slots) };
@@ -59,7 +59,7 @@ impl<X: HasId, A: Allocator> Roster<X, A> {
     pub(crate) fn new(alloc: A, room: usize) -> Result<Roster<X, A>, AllocError>
     where
         A: Copy,
-        ensures { IfOk result (λ roster'. roster' ≡ roster [] room) }
+        ensures { IfOk result (λ made. made ≡ buffer [] room) }
     {
         let places = room.checked_add(room / 4).ok_or(AllocError)?;
         // The next power of two is to be a number too.
@@ -81,7 +81,7 @@ impl<X: HasId, A: Allocator> Roster<X, A> {
     pub(crate) fn tight(alloc: A, room: usize) -> Result<Roster<X, A>, AllocError>
     where
         A: Copy,
-        ensures { IfOk result (λ roster'. roster' ≡ roster [] room) }
+        ensures { IfOk result (λ made. made ≡ buffer [] room) }
     {
         let slots = Vec::with_capacity(alloc, room)?;
         Ok(Roster {
@@ -136,8 +136,8 @@ impl<X: HasId, A: Allocator> Roster<X, A> {
     /// Adds one at the end.
     #[inline(always)]
     pub(crate) fn add(&mut self, x: X)
-        requires { length self.old.items < self.old.room }
-        ensures { self.new ≡ roster (self.old.items ++ x ∷ []) self.old.room }
+        requires { length self.old.items < self.old.capacity }
+        ensures { self.new ≡ buffer (self.old.items ++ x ∷ []) self.old.capacity }
     {
         make_room(&mut self.slots, &mut self.hints, self.count);
         note(&mut self.hints, x.id(), self.slots.len());
@@ -151,7 +151,7 @@ impl<X: HasId, A: Allocator> Roster<X, A> {
     pub(crate) fn remove(&mut self, id: u64) -> Option<X>
         requires { copies_of id (map X.id_of self.old.items) ≤ 1 }
         ensures gone { result ≡ found X.id_of id self.old.items }
-        ensures rest { self.new ≡ roster (without X.id_of id self.old.items) self.old.room }
+        ensures rest { self.new ≡ buffer (without X.id_of id self.old.items) self.old.capacity }
         ensures same { IfNone result (self.new ≡ self.old) }
         ensures len { IsSome result → length self.new.items + 1 ≡ length self.old.items }
     {
@@ -167,7 +167,7 @@ impl<X: HasId, A: Allocator> Roster<X, A> {
     }
 
     pub(crate) fn clear(&mut self)
-        ensures { self.new ≡ roster [] self.old.room }
+        ensures { self.new ≡ buffer [] self.old.capacity }
     {
         self.slots.clear();
         self.count = 0;

@@ -14,7 +14,7 @@ use Rattle.r2d2_core.proofs.run.run.Goals as goal
 
 pub loop-step-init : goal.loop-step-init
 loop-step-init g c =
-    let legal : wanted_of (seen_limits c.args.limits) ≤ c.args.limits.max_size = search rules in
+    let legal : wanted_of (seen_limits c.args.limits) ≤ (seen_limits c.args.limits).max_size = search rules in
     record {
       answers_are = ap (map seen_answer) c.in_ok-answers.ensures.items;
       picture_is = c.in_ok-core.ensures ∙ sym (picture_of-made (seen_limits c.args.limits) (as_nanos c.args.now) 0);

@@ -1,6 +1,6 @@
 use Rattle.std.proofs.Common.{ap, sym, subst, arith}
 use Rattle.r2d2_core.specs.declared.journal.bounded.Before.{Before}
-use Rattle.r2d2_core.specs.Limits.{SeenLimits}
+use Rattle.r2d2_core.specs.declared.schedule.limits.LimitSettings.{LimitSettings}
 use Rattle.r2d2_core.specs.Bases.{SeenBase, IsLegalBase}
 use Rattle.r2d2_core.specs.JournalParts.{IsBefore}
 use Rattle.r2d2_core.proofs.Recording.Beside.{before_folded}
@@ -16,7 +16,7 @@ copied-requires g c =
       arith,
       legal.fits,
       ap (λ (b : SeenBase). b.connections) folded.1,
-      ap (λ (limits : SeenLimits). limits.max_size) c.self.invariant.recorded.same,
-      ap (λ (limits : SeenLimits). limits.max_size) c.limits.ensures.value,
+      ap (λ (limits : LimitSettings). limits.max_size) c.self.invariant.recorded.same,
+      ap (λ (limits : LimitSettings). limits.max_size) c.limits.ensures.value,
       c.max_size-max_size.ensures,
     )

@@ -12,7 +12,7 @@ use Rattle.r2d2_core.proofs.journal.Book.with_first_id.Goals as goal
 
 pub invariant_of-result : goal.invariant_of-result
 invariant_of-result g c =
-    let le : wanted_of (seen_limits c.args.limits) ≤ c.args.limits.max_size = search rules in
+    let le : wanted_of (seen_limits c.args.limits) ≤ (seen_limits c.args.limits).max_size = search rules in
     let first = first_picture (seen_limits c.args.limits) (as_nanos c.args.now) c.args.first_id in
     subst (λ (p : Picture _). IsFaithful (book_in p c.in_ok-journal.journal)) (sym c.in_ok-machine.ensures)
     (subst (λ (l : SeenJournal). IsFaithful (book_in first l)) (sym c.in_ok-journal.ensures)

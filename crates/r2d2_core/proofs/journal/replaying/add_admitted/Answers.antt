@@ -1,7 +1,8 @@
 use Rattle.std.proofs.Common.{◌≡◌, map, take, get_or, arith, [], ◌∷◌, ◌∙◌, ap, sym, ◌++◌}
 use Rattle.std.proofs.lemmas.List.{append-nil}
 use Rattle.r2d2_core.specs.Records.{seen_record}
-use Rattle.r2d2_core.specs.Folding.{admitted_by, admitted_in}
+use Rattle.std.specs.Prelude.{flat_map}
+use Rattle.r2d2_core.specs.Folding.{admitted_by}
 use Rattle.r2d2_core.proofs.Recording.Auditing.{some_record, admitted_next, added_more}
 use Rattle.r2d2_core.proofs.journal.replaying.add_admitted.Goals as goal
 use Rattle.r2d2_core.proofs.journal.replaying.add_admitted.Goals.{in-Some+in_ok-push, in_default}
@@ -11,7 +12,7 @@ loop-record-preserved g c =
     let all = c.args.records.now in
     let old = c.args.ids.now.items in
     let k = c.loop-record.record-index in
-    let before = admitted_in (take k (map seen_record all)) in
+    let before = flat_map admitted_by (take k (map seen_record all)) in
     record {
       added = elim c.match-admitted.branch [
         | in-Some+in_ok-push w ↦

@@ -6,7 +6,8 @@ use Rattle.std.proofs.lemmas.List.{get_or_read}
 use Rattle.r2d2_core.specs.Openings.{SeenOpening, sorted}
 use Rattle.r2d2_core.specs.Heap.{binary_digits}
 use Rattle.r2d2_core.specs.Schedule.{SeenSchedule, is_due_before}
-use Rattle.r2d2_core.specs.Jobs.{Wait, Open, first_job, reap_or_wait}
+use Rattle.r2d2_core.specs.Jobs.{Wait, Open, first_job}
+use Rattle.r2d2_core.proofs.Scheduling.Jobs.{reap_or_wait}
 use Rattle.r2d2_core.proofs.Scheduling.Jobs.{opening_first, reap_first, opening_waits, opening_opens, reap_waits, reap_reaps}
 use Rattle.r2d2_core.proofs.Scheduling.Held.{length-held, first_held}
 use Rattle.r2d2_core.proofs.schedule.Schedule.next.Goals as goal

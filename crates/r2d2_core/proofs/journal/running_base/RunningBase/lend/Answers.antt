@@ -24,5 +24,5 @@ returns-else-id-clause-lent g c =
     let apart : (i : ℕ) → copies_of i (map id_of_idle s.idle.items) ≤ 1 = subst (λ (v : SeenRunningBase). (i : ℕ)
     → copies_of i (map id_of_idle v.base.idle) ≤ 1) (sym c.self.view_is) c.requires.apart in
     rw (← c.self.view_is, c.take.ensures.others, c.add.ensures, c.new.ensures)
-    (lends c.order.result (as_nanos s.at) s.pending s.closed s.idle.items s.lent.items (rooms s.idle.room s.lent.room) c.args.id
+    (lends c.order.result (as_nanos s.at) s.pending s.closed s.idle.items s.lent.items (rooms s.idle.capacity s.lent.capacity) c.args.id
     (as_nanos c.birth.result) c.in-Some.entry apart next is birth)

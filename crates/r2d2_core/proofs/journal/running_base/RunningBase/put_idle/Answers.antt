@@ -4,7 +4,7 @@ use Rattle.std.specs.Duration.{as_nanos}
 use Rattle.std.specs.declared.time.Duration.{Duration}
 use Rattle.r2d2_core.specs.Bases.{BareConnection, seen_bare}
 use Rattle.r2d2_core.specs.Auditing.{are_in_order}
-use Rattle.r2d2_core.specs.Roster.{SeenRoster}
+use Rattle.circular_buffer.specs.Buffer.{Buffer}
 use Rattle.r2d2_core.proofs.Recording.Auditing.{seen_next, seen_taken, order_more, order_stops}
 use Rattle.r2d2_core.proofs.journal.running_base.RunningBase.put_idle.Goals as goal
 
@@ -32,9 +32,9 @@ loop-entry-preserved g c =
     record {
       order = order_more at (as_nanos c.loop-entry.last) k (map seen_bare all) e (are_in_order at 0 (map seen_bare all))
           (seen_next seen_bare all k none (omega arith)) fits c.loop-entry.invariant.order;
-      put = ap (λ (r : SeenRoster BareConnection). r.items) c.add.ensures ∙ rw made (ap (λ l. l ++ e ∷ []) c.loop-entry.invariant.put
+      put = ap (λ (r : Buffer BareConnection). r.items) c.add.ensures ∙ rw made (ap (λ l. l ++ e ∷ []) c.loop-entry.invariant.put
           ∙ sym (seen_taken seen_bare all k none (omega arith)));
-      room = ap (λ (r : SeenRoster BareConnection). r.room) c.add.ensures ∙ c.loop-entry.invariant.room;
+      room = ap (λ (r : Buffer BareConnection). r.capacity) c.add.ensures ∙ c.loop-entry.invariant.room;
       lent_room = c.loop-entry.invariant.lent_room;
       at = c.loop-entry.invariant.at;
       lent = c.loop-entry.invariant.lent;

@@ -9,8 +9,8 @@ invariant-loop-entry g l = record {
   order : are_in_order (as_nanos l.self-inside.at) 0 (map seen_bare l.idle) ≡ are_in_order (as_nanos l.self-inside.at) (as_nanos l.last)
       (drop l.entry-index (map seen_bare l.idle));
   put : l.self-inside.idle.items ≡ take l.entry-index (map seen_bare l.idle);
-  room : l.self-inside.idle.room ≡ l.fn.self.room.idle;
-  lent_room : l.self-inside.lent.room ≡ l.fn.self.room.lent;
+  room : l.self-inside.idle.capacity ≡ l.fn.self.room.idle;
+  lent_room : l.self-inside.lent.capacity ≡ l.fn.self.room.lent;
   at : as_nanos l.self-inside.at ≡ l.fn.self.base.at;
   lent : l.self-inside.lent.items ≡ l.fn.self.base.lent;
   pending : l.self-inside.pending ≡ l.fn.self.base.pending;

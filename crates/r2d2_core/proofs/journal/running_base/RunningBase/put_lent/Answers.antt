@@ -6,7 +6,7 @@ use Rattle.std.proofs.lemmas.Bool.Decides.{nat_tests}
 use Rattle.r2d2_core.specs.Connections.{SeenLentConnection}
 use Rattle.r2d2_core.specs.Bases.{seen_lent}
 use Rattle.r2d2_core.specs.Auditing.{are_born}
-use Rattle.r2d2_core.specs.Roster.{SeenRoster}
+use Rattle.circular_buffer.specs.Buffer.{Buffer}
 use Rattle.r2d2_core.proofs.Recording.Auditing.{seen_next, seen_taken, born_more, born_stops}
 use Rattle.r2d2_core.proofs.journal.running_base.RunningBase.put_lent.Goals as goal
 
@@ -22,11 +22,11 @@ loop-entry-preserved g c =
     record {
       order = born_more at k (map seen_lent all) e (are_born at (map seen_lent all)) (seen_next seen_lent all k none
           (omega arith)) fits c.loop-entry.invariant.order;
-      put = ap (λ (r : SeenRoster SeenLentConnection). r.items) c.add.ensures
+      put = ap (λ (r : Buffer SeenLentConnection). r.items) c.add.ensures
           ∙ (ap (λ l. l ++ c.new.result ∷ []) c.loop-entry.invariant.put ∙ (ap (λ x. take k (map seen_lent all) ++ x ∷ []) same
           ∙ sym (seen_taken seen_lent all k none (omega arith))));
       room = c.loop-entry.invariant.room;
-      lent_room = ap (λ (r : SeenRoster SeenLentConnection). r.room) c.add.ensures ∙ c.loop-entry.invariant.lent_room;
+      lent_room = ap (λ (r : Buffer SeenLentConnection). r.capacity) c.add.ensures ∙ c.loop-entry.invariant.lent_room;
       at = c.loop-entry.invariant.at;
       idle = c.loop-entry.invariant.idle;
       pending = c.loop-entry.invariant.pending;

@@ -14,5 +14,5 @@ returns-clause-closed g c =
 pub returns-clause-swept : goal.returns-clause-swept
 returns-clause-swept g c =
     rw (← c.self.view_is) (sweeps (seen_limits c.args.limits.now) (as_nanos c.self.inside.at) c.self.inside.pending c.self.inside.closed
-    c.self.inside.idle.items c.self.inside.lent.items c.self.inside.idle.room c.self.inside.lent.room c.shed.new.self c.shed.ensures.kept
+    c.self.inside.idle.items c.self.inside.lent.items c.self.inside.idle.capacity c.self.inside.lent.capacity c.shed.new.self c.shed.ensures.kept
     c.shed.ensures.count)

@@ -3,14 +3,15 @@ use Rattle.std.specs.Duration.{as_nanos}
 use Rattle.std.proofs.lemmas.List.Filters.{length-filter_both}
 use Rattle.r2d2_core.specs.Limits.{seen_limits}
 use Rattle.r2d2_core.specs.Connections.{is_expired, is_kept}
-use Rattle.r2d2_core.specs.Roster.{roster_of, roster}
+use Rattle.circular_buffer.specs.Buffer.{buffer}
+use Rattle.r2d2_core.specs.Roster.{roster_of}
 use Rattle.r2d2_core.proofs.machine.idle.Idle.shed.Goals as goal
 
 pub returns-clause-count : goal.returns-clause-count
 unfolding is_kept is_expired
 returns-clause-count g c =
-    let kept : roster_of c.match-self.self-inside.ring ≡ roster (filter (is_kept (seen_limits c.args.limits.now)
-    (as_nanos c.args.now)) c.args.self.now.items) c.args.self.now.room = search rules in
+    let kept : roster_of c.match-self.self-inside.ring ≡ buffer (filter (is_kept (seen_limits c.args.limits.now)
+    (as_nanos c.args.now)) c.args.self.now.items) c.args.self.now.capacity = search rules in
     rw kept (omega (
       arith,
       length-filter_both (is_expired (seen_limits c.args.limits.now) (as_nanos c.args.now))

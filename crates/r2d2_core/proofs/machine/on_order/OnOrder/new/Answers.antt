@@ -9,6 +9,6 @@ use Rattle.r2d2_core.proofs.machine.on_order.OnOrder.new.Goals as goal
 
 pub invariant_of-result : goal.invariant_of-result
 invariant_of-result g c =
-    let le : wanted_of (seen_limits c.args.limits) ≤ c.args.limits.max_size = search rules in
+    let le : wanted_of (seen_limits c.args.limits) ≤ (seen_limits c.args.limits).max_size = search rules in
     keeping (first_on_order (seen_limits c.args.limits) (as_nanos c.args.now) c.args.first_id) (grind (arith, common_steps))
     (accounted_first (seen_limits c.args.limits) (as_nanos c.args.now) c.args.first_id le) (search rules)

@@ -1,6 +1,6 @@
 use Rattle.std.proofs.Common.{◌≡◌, ◌++◌, ◌∷◌, [], ◌∙◌, ap, length, arith}
 use Rattle.std.proofs.lemmas.List.{length_push}
-use Rattle.r2d2_core.specs.Roster.{roster}
+use Rattle.circular_buffer.specs.Buffer.{buffer}
 use Rattle.r2d2_core.specs.Slots.{held}
 use Rattle.r2d2_core.proofs.Lists.Slots.{held-push}
 use Rattle.r2d2_core.proofs.machine.roster.Roster.add.Goals as goal
@@ -19,4 +19,4 @@ returns g c =
     let xs = c.self.inside.slots.items in
     let more : held c.push_reserved.new.self.items ≡ held xs ++ c.args.x ∷ [] =
     ap held c.push_reserved.ensures.items ∙ held-push c.make_room.new.slots.items c.args.x ∙ ap (λ l. l ++ c.args.x ∷ []) c.make_room.ensures.held in
-    rw (← c.self.view_is) (ap (λ l. roster l c.self.inside.room) more)
+    rw (← c.self.view_is) (ap (λ l. buffer l c.self.inside.room) more)

@@ -1,6 +1,6 @@
 use Rattle.std.proofs.Common.{◌≡◌, ◌≤◌, ◌∙◌, sym, ap, subst, map, length, set, None, refl, arith}
 use Rattle.r2d2_core.specs.Ids.{copies_of}
-use Rattle.r2d2_core.specs.Roster.{SeenRoster, roster}
+use Rattle.circular_buffer.specs.Buffer.{Buffer, buffer}
 use Rattle.r2d2_core.specs.Slots.{held, holds, HeldAt, NoneHeldFrom}
 use Rattle.r2d2_core.proofs.Lists.Slots.{found-held, without-held, length-held, found-none_held, without-none_held, full}
 use Rattle.r2d2_core.proofs.machine.roster.Roster.remove.Goals as goal
@@ -27,7 +27,7 @@ returns-in-Some-clause-gone g c =
     let id_of = g.X.HasId.id_of in
     let xs = c.self.inside.slots.items in
     let there : HeldAt id_of c.args.id xs c.in-Some.place = rw c.deref.ensures.value at c.in-Some.ensures in
-    let apart : copies_of c.args.id (map id_of (held xs)) ≤ 1 = subst (λ (r : SeenRoster _). copies_of c.args.id (map id_of r.items) ≤ 1)
+    let apart : copies_of c.args.id (map id_of (held xs)) ≤ 1 = subst (λ (r : Buffer _). copies_of c.args.id (map id_of r.items) ≤ 1)
     (sym c.self.view_is) c.requires in
     rw (← c.self.view_is) (c.take_at-gone.ensures.gone c.take_at-gone.result
     ∙ sym (found-held id_of c.args.id xs c.in-Some.place c.take_at-gone.result apart there.within there.here))
@@ -37,10 +37,10 @@ returns-in-Some-clause-rest g c =
     let id_of = g.X.HasId.id_of in
     let xs = c.self.inside.slots.items in
     let there : HeldAt id_of c.args.id xs c.in-Some.place = rw c.deref.ensures.value at c.in-Some.ensures in
-    let apart : copies_of c.args.id (map id_of (held xs)) ≤ 1 = subst (λ (r : SeenRoster _). copies_of c.args.id (map id_of r.items) ≤ 1)
+    let apart : copies_of c.args.id (map id_of (held xs)) ≤ 1 = subst (λ (r : Buffer _). copies_of c.args.id (map id_of r.items) ≤ 1)
     (sym c.self.view_is) c.requires in
     let rest : held c.shorten.new.slots.items ≡ held (set xs c.in-Some.place None) = c.shorten.ensures.held ∙ ap held c.take_at-gone.ensures.rest in
-    rw (← c.self.view_is) (ap (λ l. roster l c.self.inside.room) (rest ∙ sym (without-held id_of c.args.id xs c.in-Some.place apart there.within there.here)))
+    rw (← c.self.view_is) (ap (λ l. buffer l c.self.inside.room) (rest ∙ sym (without-held id_of c.args.id xs c.in-Some.place apart there.within there.here)))
 
 pub returns-in-Some-clause-same : goal.returns-in-Some-clause-same
 returns-in-Some-clause-same g c =
@@ -56,7 +56,7 @@ returns-in-Some-clause-len g c =
     let there : HeldAt id_of c.args.id xs c.in-Some.place = rw c.deref.ensures.value at c.in-Some.ensures in
     let less = length-held id_of c.args.id xs c.in-Some.place there.within there.here in
     let rest : held c.shorten.new.slots.items ≡ held (set xs c.in-Some.place None) = c.shorten.ensures.held ∙ ap held c.take_at-gone.ensures.rest in
-    λ some. omega (arith, less, ap length rest, ap (λ (r : SeenRoster _). length r.items) c.self.view_is)
+    λ some. omega (arith, less, ap length rest, ap (λ (r : Buffer _). length r.items) c.self.view_is)
 
 pub returns-in-None-clause-gone : goal.returns-in-None-clause-gone
 returns-in-None-clause-gone g c =
