@@ -1,11 +1,11 @@
 // Why a call of the pool failed.
-ghost use Rattle.std.specs.Prelude.{◌≡◌, Some, None, IsSome, IfSome, option_map, string_bytes};
+ghost use Rattle.std.specs.Prelude.{◌≡◌, None, IsSome, IfSome, option_map, string_bytes};
 ghost use Rattle.r2d2.specs.declared.error.ErrorKind.TheVariants.{Timeout};
 ghost use Rattle.r2d2.specs.Failures.{Failure};
 ghost use Rattle.r2d2.specs.Status.{IsStatus};
 
 use crate::pool::Status;
-use std::alloc::Allocator;
+use std::alloc::{Allocator, Global};
 use std::fmt;
 use std::marker::Model;
 use std::time::Duration;
@@ -30,7 +30,8 @@ pub enum ErrorKind {
 pub struct Error {
     kind: ErrorKind,
     message: Option<String>,
-    gave_up: Option<GaveUp>,
+    /// On the heap, since each `get` moves what it answers.
+    gave_up: Option<Box<GaveUp>>,
 }
 
 /// What a call that gave up saw.
@@ -50,28 +51,34 @@ impl Model for Error {
     ghost view = { λ e. record {
       kind = e.kind;
       message = option_map string_bytes e.message;
-      status = option_map (λ g. g.status) e.gave_up;
-      waited = option_map (λ g. g.waited) e.gave_up;
+      status = option_map (λ g. g.value.status) e.gave_up;
+      waited = option_map (λ g. g.value.waited) e.gave_up;
     } };
 
     ghost invariant = { λ e. (IsSome e.message → e.kind ≡ Timeout)
-        × IfSome e.gave_up (λ g. IsStatus g.status) };
+        × IfSome e.gave_up (λ g. IsStatus g.value.status) };
 }
 
 impl Error {
     /// No connection came in time; the text is the latest error's, if one is known. The call gave up
-    /// after so long, while the pool showed this.
-    pub(crate) fn timeout(message: Option<String>, status: Status, waited: Duration) -> Error
+    /// after so long, while the pool showed this; where memory for both is refused they are left out.
+    pub(crate) fn timeout(
+        alloc: Global,
+        message: Option<String>,
+        status: Status,
+        waited: Duration,
+    ) -> Error
         requires { IsStatus status }
         ensures kind { result.kind ≡ ErrorKind.Timeout }
         ensures message { result.message ≡ option_map string_bytes message }
-        ensures status { result.status ≡ Some status }
-        ensures waited { result.waited ≡ Some waited }
+        ensures status { IfSome result.status (λ shown. shown ≡ status) }
+        ensures waited { IfSome result.waited (λ length. length ≡ waited) }
     {
+        let gave_up = Box::new(alloc, GaveUp { status, waited });
         Error {
             kind: ErrorKind::Timeout,
             message,
-            gave_up: Some(GaveUp { status, waited }),
+            gave_up: gave_up.ok(),
         }
     }
 
@@ -130,19 +137,25 @@ impl Error {
     }
 
     /// What the pool showed as the call gave up, with those who waited beside it. Only a timeout has
-    /// it.
+    /// it, and none where memory for it was refused.
     pub fn status(&self) -> Option<Status>
         ensures status { result ≡ self.now.status }
         ensures sums { IfSome result IsStatus }
     {
-        self.gave_up.map(|gave_up| gave_up.status)
+        match &self.gave_up {
+            Some(gave_up) => Some(gave_up.status),
+            None => None,
+        }
     }
 
-    /// How long the call lasted until it gave up. Only a timeout has it.
+    /// How long the call lasted until it gave up: where there is a status.
     pub fn waited(&self) -> Option<Duration>
         ensures { result ≡ self.now.waited }
     {
-        self.gave_up.map(|gave_up| gave_up.waited)
+        match &self.gave_up {
+            Some(gave_up) => Some(gave_up.waited),
+            None => None,
+        }
     }
 }
 

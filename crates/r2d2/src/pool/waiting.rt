@@ -13,6 +13,7 @@ use super::locking::{Guarded, Shared, pause};
 use crate::engine::{CountTakes, CountingBook, TakeCounter, Wakes};
 use crate::{Error, ErrorKind};
 use r2d2_core::Take;
+use std::alloc::AllocGlobal;
 use std::rt::Clock;
 use std::sync::{MutexGuard, Wait};
 use std::time::Duration;
@@ -20,7 +21,12 @@ use std::time::Duration;
 /// How often a caller looks again before it waits.
 const LOOKS: u32 = 20;
 
-impl<P: Drop, C: CountTakes, M, K, R: Clock + Wait> Shared<CountingBook<P, C>, M, K, R> {
+impl<P: Drop, C: CountTakes, M, K, R: Clock + Wait + AllocGlobal> Shared<
+    CountingBook<P, C>,
+    M,
+    K,
+    R,
+> {
     /// Takes the idle connection that is lent next. Where there is none it orders one and waits,
     /// until the call's timeout has passed, or until the pool is closed: each is an error. With no
     /// timeout it neither orders nor waits, and answers None.
@@ -91,7 +97,12 @@ impl<P: Drop, C: CountTakes, M, K, R: Clock + Wait> Shared<CountingBook<P, C>, M
     }
 }
 
-impl<P: Drop, C: TakeCounter, M, K, R: Clock + Wait> Shared<CountingBook<P, C>, M, K, R> {
+impl<P: Drop, C: TakeCounter, M, K, R: Clock + Wait + AllocGlobal> Shared<
+    CountingBook<P, C>,
+    M,
+    K,
+    R,
+> {
     // Takes the lock for a call. One that has to wait for it, and looked at no clock before, does
     // so first.
     fn lock_for(&self, time: &mut CallTime) -> MutexGuard<'_, Guarded<CountingBook<P, C>>> {
@@ -137,7 +148,7 @@ impl<P: Drop, C: TakeCounter, M, K, R: Clock + Wait> Shared<CountingBook<P, C>, 
         let wakes = guarded.needed_wakes(Wakes::a_caller());
         drop(guarded);
         self.wake(wakes);
-        Error::timeout(error, status, time.waited())
+        Error::timeout(self.rt.alloc(), error, status, time.waited())
     }
 
     /// Gives up for a call whose time is over; None where some is left, or where it brought no
@@ -178,7 +189,7 @@ impl<P: Drop, C: TakeCounter, M, K, R: Clock + Wait> Shared<CountingBook<P, C>, 
             time.look(self.moment());
             let status = guarded.status();
             let error = guarded.book.take_error();
-            return Err(Error::timeout(error, status, time.waited()));
+            return Err(Error::timeout(self.rt.alloc(), error, status, time.waited()));
         }
         Ok(())
     }
