@@ -23,13 +23,17 @@
 #![tactic(auto)]
 
 mod buckets;
+mod closings;
+mod errors;
 mod histogram;
 mod loans;
 mod recording;
 mod text;
 mod timed;
 
-pub use buckets::{BOUNDS, BUCKETS, Scale, bucket_of};
+pub use buckets::{BOUNDS, BUCKETS, OwnBounds, Scale, Scales, bucket_of};
+pub use closings::Closings;
+pub use errors::CountingErrorHandler;
 pub use histogram::{Bucket, Distribution, UpTo};
 pub use loans::LongLoan;
 pub use recording::{Metrics, Snapshot};
