@@ -303,7 +303,7 @@ took: /* Shared::wake, after a take that found */
 has: /* Shared::if_sound, then the caller's own use, then AnyConnection::drop */
   if
   :: MAY_STAY -> goto stays
-  :: atomic { CHECKS -> lent--; top_up(); orders = ordered > 0; wakes = somebody_waits };  /* Shared::settle, of one that is unsound */
+  :: atomic { CHECKS -> lent--; top_up(); orders = ordered > 0; wakes = somebody_waits };  /* Guarded::fail_check; and of one that is distrusted, Guarded::give_back */
      if :: wakes -> atomic { wakes = false; wake_caller(CHECK) } :: else fi;
      if :: orders -> atomic { orders = false; wake_workers(CHECK) } :: else fi;
      if :: MAY_STAY -> goto stays :: true fi;                       /* Hooks::release */

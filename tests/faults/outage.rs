@@ -165,23 +165,6 @@ fn where_none_is_checked_none_is_checked_for_that(rt: HostRuntime) -> Result<(),
     Ok(())
 }
 
-// An opening that failed is tried again within this time, however long callers wait: by the clock
-// of the machine. Without the setting the sixth failure alone delays it for 6.4 s.
-#[test]
-fn an_opening_is_tried_again_soon(rt: HostRuntime) -> Result<(), Fail> {
-    let place = Place::new(rt, 1, |settings| {
-        settings.retry_at_most(Duration::from_millis(50))
-    })?;
-    place.dies();
-    assert!(rt; place.pool.try_get()?.is_none());
-    assert!(rt; watched(&rt, &place.server.opened, 7, 300) >= 7);
-    assert!(rt; place.pool.status().failed_openings >= 5);
-    place.ends();
-    let lent = place.pool.get_timeout(Duration::from_secs(10))?;
-    assert!(rt; *lent >= 7);
-    Ok(())
-}
-
 #[test]
 fn what_failed_is_counted(rt: HostRuntime) -> Result<(), Fail> {
     let place = Place::new(rt, 2, |settings| settings)?;
@@ -191,6 +174,9 @@ fn what_failed_is_counted(rt: HostRuntime) -> Result<(), Fail> {
     place.ends();
     let lent = place.pool.get()?;
     crate::kind::PooledConnection::detach(lent);
+    // The clock moves past the delay of the one that was refused.
+    assert!(rt; watched(&rt, &place.server.opened, 3, 500) >= 3);
+    place.hand.set(10, 0);
     assert!(rt; watched(&rt, &place.server.opened, 4, 500) >= 4);
     let status = place.pool.status();
     assert_eq!(rt; (status.failed_openings, status.failed_checks), (1, 0));

@@ -207,3 +207,66 @@ fn min_idle(rt: HostRuntime) -> Result<(), Fail> {
     assert_eq!(rt; (state.idle_connections, state.connections), (5, 5));
     Ok(())
 }
+
+/// The first six of its openings fail.
+#[derive(Drop)]
+struct SixFail {
+    begun: AtomicU64,
+}
+
+impl ManageConnection for SixFail {
+    type Connection = u64;
+
+    type Error = Blammo;
+
+    type Extension = Value;
+
+    fn connect(&self) -> Result<u64, Blammo> {
+        let number = self.begun.fetch_add(1, Ordering::SeqCst);
+        if number < 6 { Err(Blammo) } else { Ok(number) }
+    }
+
+    fn is_valid(&self, _connection: &mut u64) -> Result<(), Blammo> {
+        Ok(())
+    }
+
+    fn has_broken(&self, _connection: &mut u64) -> bool {
+        false
+    }
+}
+
+// With the delays of `connection_timeout` alone the sixth failure comes after six seconds, and the
+// seventh try after twelve.
+#[test]
+fn an_opening_is_tried_again_soon(rt: HostRuntime) -> Result<(), Fail> {
+    let pool = Builder::new()
+        .max_size(1)
+        .retry_at_most(Duration::from_millis(50))
+        .make_unchecked(
+            rt,
+            SixFail {
+                begun: AtomicU64::new(0),
+            },
+        )?;
+    let lent = pool.get_timeout(Duration::from_secs(5))?;
+    assert_eq!(rt; *lent, 6);
+    let status = pool.status();
+    assert_eq!(rt; (status.failed_openings, status.failed_checks), (6, 0));
+    Ok(())
+}
+
+// A report shows the limits of the book, whose delays grow to half of this; the settings and their
+// limits are as without.
+#[test]
+fn what_is_shown_of_that_time(rt: HostRuntime) -> Result<(), Fail> {
+    let settings = Builder::new()
+        .max_size(1)
+        .connection_timeout(Duration::from_secs(7))
+        .retry_at_most(Duration::from_millis(50));
+    let limits = settings.limits().ok_or("no limits")?;
+    assert_eq!(rt; limits.connection_timeout(), Duration::from_secs(7));
+    let pool = settings.make(rt, Sevens)?;
+    let report = pool.journal()?;
+    assert_eq!(rt; report.limits.connection_timeout(), Duration::from_millis(100));
+    Ok(())
+}

@@ -15,6 +15,7 @@ pub(crate) struct Plan {
     pub(crate) drainers: u64,
     pub(crate) fails: bool,
     pub(crate) checks: bool,
+    pub(crate) distrusts: bool,
     pub(crate) breaks: bool,
     pub(crate) reaps: bool,
     pub(crate) evicts: bool,
@@ -48,6 +49,7 @@ impl Plan {
             drainers: 0,
             fails: false,
             checks: false,
+            distrusts: false,
             breaks: false,
             reaps: false,
             evicts: false,
@@ -81,6 +83,7 @@ impl Plan {
         match word {
             "fails" => self.fails = true,
             "checks" => self.checks = true,
+            "distrusts" => self.distrusts = true,
             "breaks" => self.breaks = true,
             "reaps" => self.reaps = true,
             "evicts" => self.evicts = true,

@@ -30,6 +30,7 @@ pub(crate) fn play<R: Host>(rt: R, plan: Plan, seen: &Arc<Seen<R>>) -> Result<()
         .thread_pool(usize::try_from(plan.workers.max(1))?)
         .min_idle(Some(u32::try_from(plan.wanted)?))
         .test_on_check_out(plan.checks)
+        .distrust_idle(plan.distrusts)
         .max_lifetime(None)
         .idle_timeout(if plan.reaps {
             Some(Duration::from_secs(4))

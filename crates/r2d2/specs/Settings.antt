@@ -1,5 +1,5 @@
 -- The settings of a pool. Lengths of time are compared in nanoseconds.
-use Rattle.std.specs.Prelude.{◌≡◌, ℕ, ◌*◌, ◌-◌, ◌<◌, nat_lt, nat_le, Bool, true, false, ◌||◌, Option, Some, None, option_map}
+use Rattle.std.specs.Prelude.{◌≡◌, ℕ, ◌*◌, ◌<◌, true, false, Some, None, option_map}
 use Rattle.std.specs.Option.{ForSome}
 use Rattle.std.specs.Duration.{as_nanos}
 use Rattle.std.specs.declared.time.Duration.{Duration}
@@ -40,12 +40,6 @@ pub record ArePositive {H V Z : Type 0} (config : Config H V Z) : Type 0 where
   pub idles : ForSome config.idle_timeout (λ d. 0 < as_nanos d)
   pub waits : 0 < as_nanos config.connection_timeout
   pub reaps : 0 < as_nanos config.reaper_rate
-
--- a connection is to be checked that is idle since a moment: where no least idle time is set, or where it was idle for that long; also
--- where that moment is past now, as after a clock that failed
-abbrev pub is_check_due : Option Duration → ℕ → ℕ → Bool
-is_check_due None since now = true
-is_check_due (Some least) since now = nat_lt now since || nat_le (as_nanos least) (now - since)
 
 -- the limits among the settings, with this connection timeout, and with the settings' own
 abbrev pub limits_within : {H V Z : Type 0} → Duration → Config H V Z → SeenLimits

@@ -476,9 +476,9 @@ impl<
         self.listens
     }
 
-    /// The settings that r2d2 has not.
-    pub(crate) fn tuning(&self) -> Tuning {
-        self.tuning
+    /// Whether a handler of events was set, and the settings that r2d2 has not.
+    pub(crate) fn beside_config(&self) -> (bool, Tuning) {
+        (self.listens, self.tuning)
     }
 
     /// The settings alone.
@@ -504,7 +504,10 @@ impl<
     pub(crate) fn limits_of_book(&self) -> Option<Limits>
         ensures { IsSome result ↔ ForSome self.now.min_idle (λ n. n ≤ self.now.max_size) }
     {
-        self.limits_within(self.tuning.connection_timeout(self.config.connection_timeout))
+        self.limits_within(
+            self.tuning
+                .connection_timeout(self.config.connection_timeout),
+        )
     }
 
     // The limits with this connection timeout.

@@ -1,6 +1,6 @@
 // The settings that r2d2 has not, each off by default: what a pool does in an outage, and how the
 // lifetimes of its connections differ.
-ghost use Rattle.std.specs.Prelude.{◌≡◌, ◌≤◌, ◌<◌, ◌-◌, ◌*◌, min, MatchOption};
+ghost use Rattle.std.specs.Prelude.{◌≡◌, ◌≤◌, ◌<◌, ◌-◌, ◌*◌, ◌↔◌, min, MatchOption};
 ghost use Rattle.std.specs.Option.{ForSome};
 ghost use Rattle.std.specs.Duration.{as_nanos, max_nanos};
 
@@ -27,7 +27,7 @@ pub struct Tuning {
 impl Tuning {
     ghost use Rattle.std.specs.Prelude.{IsTrue, IsFalse, IsSome, IfSome};
     ghost use Rattle.std.specs.Option.{IsNone};
-    ghost use Rattle.r2d2.specs.Settings.{IsOff, is_check_due};
+    ghost use Rattle.r2d2.specs.Settings.{IsOff};
 
     /// Each is off.
     pub fn off() -> Tuning
@@ -58,13 +58,15 @@ impl Tuning {
     /// Whether what is idle since this moment is idle for long enough to be checked. A clock that
     /// went back tells nothing: then it is.
     pub fn is_check_due(&self, idle_since: Duration, now: Duration) -> bool
-        ensures { result ≡ is_check_due self.now.check_after_idle (as_nanos idle_since)
-            (as_nanos now) }
+        ensures always { IsNone self.now.check_after_idle → IsTrue result }
+        ensures went_back { as_nanos now < as_nanos idle_since → IsTrue result }
+        ensures after { as_nanos idle_since ≤ as_nanos now → IfSome self.now.check_after_idle
+            (λ least. IsTrue result ↔ (as_nanos least ≤ as_nanos now - as_nanos idle_since)) }
     {
         let (Some(least), Some(idle)) = (self.check_after_idle, now.checked_sub(idle_since)) else {
             return true;
         };
-        idle >= least
+        idle.checked_sub(least).is_some()
     }
 
     /// Whether a connection has outlived its own lifetime, where lifetimes differ.
@@ -82,7 +84,10 @@ impl Tuning {
             (λ longest. as_nanos longest ≤ as_nanos age → IsTrue result) }
     {
         match (longest, self.lifetime_jitter) {
-            (Some(longest), Some(jitter)) => age >= own_lifetime(longest, jitter, made_at, id),
+            (Some(longest), Some(jitter)) => {
+                let lifetime = own_lifetime(longest, jitter, made_at, id);
+                age.checked_sub(lifetime).is_some()
+            }
             _ => false,
         }
     }

@@ -58,7 +58,7 @@ impl<
         ensures settings { IfOk result (λ pool. pool ≡ self) }
         ensures refused { IfErr result IsOfMemoryOrThreads }
     {
-        let (listens, tuning) = (self.listens(), self.tuning());
+        let (listens, tuning) = self.beside_config();
         let (config, book, lists) = self.prepare(rt.alloc()).map_err(|_| Error::memory())?;
         let book = CountingBook::plain(book);
         open_pool(rt, book, config, listens, tuning, manager, lists)
@@ -80,7 +80,7 @@ impl<
         ensures settings { IfOk result (λ pool. pool ≡ self) }
         ensures refused { IfErr result IsOfMemoryOrThreads }
     {
-        let (listens, tuning) = (self.listens(), self.tuning());
+        let (listens, tuning) = self.beside_config();
         let (config, book, lists) = self.prepare(rt.alloc()).map_err(|_| Error::memory())?;
         let book = Counted::new(book, total);
         open_pool(rt, book, config, listens, tuning, manager, lists)
@@ -124,7 +124,9 @@ fn open_pool<C: TakeCounter + Send + 'static, M: ManageConnection, K: Hooks<M>, 
     ensures settings { IfOk result (λ pool. pool ≡ hooks) }
     ensures refused { IfErr result IsOfMemoryOrThreads }
 {
-    let closer = shared_state(rt, book, hooks, listens, tuning, manager).map_err(|_| Error::memory())?;
+    let closer = shared_state(rt, book, hooks, listens, tuning, manager).map_err(
+        |_| Error::memory(),
+    )?;
     start_workers(&closer, lists)?;
     Ok(AnyPool { closer })
 }

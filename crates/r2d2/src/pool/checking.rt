@@ -47,13 +47,22 @@ impl<C: TakeCounter, M: ManageConnection, K: Hooks<M>, R: PoolRuntime> SharedOf<
         let text = text_of(self.rt.alloc(), &error);
         self.hooks.error(error);
         let Lent { id, payload, .. } = lent;
-        let Payload { connection, idle_since, .. } = payload;
+        let Payload {
+            connection,
+            idle_since,
+            ..
+        } = payload;
         let distrusted_before = if self.tuning.distrust_idle {
             idle_since
         } else {
             Duration::ZERO
         };
-        let settled = self.step(|guarded, now| guarded.fail_check(now, id, text, distrusted_before));
+        let settled = self.step(|guarded, now| guarded.fail_check(
+            now,
+            id,
+            text,
+            distrusted_before,
+        ));
         if let Settled::Gone(gone) = settled {
             self.hooks.release(Closed {
                 id,

@@ -46,6 +46,6 @@ impl Failures {
     pub(super) fn tell_of(&self, idle_since: Duration) -> bool
         ensures { IsTrue result ↔ (as_nanos idle_since < as_nanos self.now.distrusted_before) }
     {
-        idle_since < self.distrusted_before
+        idle_since.checked_sub(self.distrusted_before).is_none()
     }
 }

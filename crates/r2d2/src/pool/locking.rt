@@ -98,17 +98,16 @@ impl<P, C: TakeCounter> Guarded<CountingBook<P, C>> {
     }
 }
 
-impl<P: Drop, C: TakeCounter> Guarded<CountingBook<P, C>> {
+impl<P, C: TakeCounter> Guarded<CountingBook<P, C>> {
     ghost use Rattle.std.specs.Duration.{as_nanos};
-    ghost use Rattle.r2d2_core.specs.Seen.{seen_returned, seen_released, map_ok};
+    ghost use Rattle.r2d2_core.specs.Seen.{seen_returned, map_ok};
     ghost use Rattle.r2d2_core.specs.BookSteps.{IsReturn};
     ghost use Rattle.r2d2.specs.declared.engine.Outcome.TheVariants as outcome;
     ghost use Rattle.r2d2.specs.Wakes.{wakes_of_return};
     ghost use Rattle.r2d2.specs.Settled.{seen_settled, wakes_of_settled, IsSettling};
     ghost use Rattle.r2d2.specs.Events.{reason_of_return};
     ghost use Rattle.r2d2.specs.Failed.{IsOneOpeningMore, IsOneCheckMore};
-    ghost use Rattle.r2d2.specs.Evicted.{is_evicted, is_to_close, evicted_of, after_eviction};
-    ghost use Rattle.r2d2.specs.Evicted.{IsEvicted};
+    ghost use Rattle.r2d2.specs.Evicted.{is_evicted, is_to_close};
 
     /// Puts a lent connection back. One that is unfit for some reason, has outlived its own
     /// lifetime, or was opened before the latest eviction is closed, as a broken one is. The reason
@@ -181,6 +180,12 @@ impl<P: Drop, C: TakeCounter> Guarded<CountingBook<P, C>> {
         self.failures.add_check(distrusted_before);
         self.book.settle(now, Outcome::Unsound { id, text })
     }
+}
+
+impl<P: Drop, C: CountTakes> Guarded<CountingBook<P, C>> {
+    ghost use Rattle.std.specs.Duration.{as_nanos};
+    ghost use Rattle.r2d2_core.specs.Seen.{seen_released};
+    ghost use Rattle.r2d2.specs.Evicted.{evicted_of, after_eviction, IsEvicted};
 
     /// Closes all that is idle, into the list, and has what is lent closed as it comes back. What
     /// is opened from now on stays.
@@ -190,8 +195,6 @@ impl<P: Drop, C: TakeCounter> Guarded<CountingBook<P, C>> {
         tally: &mut C::Tally,
         evicted: &mut Vec<Released<P>>,
     )
-    where
-        C: CountTakes,
         requires parts { 0 < C.parts tally.old }
         requires empty { vec_len evicted.old ≡ 0 }
         requires room { self.old.book.book.picture.on_order.limits.max_size

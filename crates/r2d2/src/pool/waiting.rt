@@ -55,7 +55,10 @@ impl<P: Drop, C: CountTakes, M, K, R: Clock + Wait> Shared<CountingBook<P, C>, M
             let (taken, wakes) = guarded.book.lend(now, timeout.is_some(), tally);
             let found = match taken {
                 Take::Found {
-                    id, birth, value, ..
+                    id,
+                    birth,
+                    value,
+                    ..
                 } => Some(Lent {
                     id,
                     birth,
