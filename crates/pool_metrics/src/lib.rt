@@ -6,6 +6,7 @@
 //! let metrics = Metrics::new(rt, max_size)?;
 //! let pool = Builder::new()
 //!     .max_size(max_size)
+//!     .error_handler(metrics.around(NopErrorHandler)?)
 //!     .event_handler(metrics.try_clone()?)
 //!     .build(rt, Timed::new(Numbers, &metrics)?)?;
 //! // ..
@@ -18,8 +19,9 @@
 //! write(&[reading], &mut page)?;
 //! ```
 //!
-//! [`Metrics`] is the handler, and what is read of it; its `lent_longer_than` lists the connections
-//! that somebody forgot to give back. [`Timed`] round a manager times its openings too.
+//! [`Metrics`] is the handler of events, and what is read of it; its `around` makes a handler of
+//! errors, and its `lent_longer_than` lists the connections that somebody forgot to give back.
+//! [`Timed`] round a manager times its openings too.
 #![tactic(auto)]
 
 mod buckets;
