@@ -1,6 +1,6 @@
 // Which bucket a length falls in, and where the buckets end.
 
-use pool_metrics::{BOUNDS, Distribution, Scale, UpTo, bucket_of};
+use pool_metrics::{BOUNDS, Distribution, Scale, Scales, UpTo, bucket_of};
 use std::alloc::{AllocError, Global};
 
 use std::test::Fail;
@@ -57,4 +57,33 @@ fn a_count_that_is_too_great_stays_the_greatest(rt: HostRuntime) {
     counts[2] = u64::MAX;
     counts[3] = 1;
     assert_eq!(rt; Distribution::of(Scale::Long, counts, 0).count(), u64::MAX);
+}
+
+#[test]
+fn bounds_of_a_service_have_to_rise(rt: HostRuntime) -> Result<(), Fail> {
+    let mut bounds = [10, 20, 30, 40, 50, 60, 70, 80, 90, 100, 110, 120, 130];
+    let scale = Scale::of(bounds).ok_or("bounds that rise")?;
+    assert_eq!(rt; scale.bounds(), &bounds);
+    let mut counts = [0; 14];
+    counts[bucket_of(scale.bounds(), 20)] += 1;
+    let buckets = Distribution::of(scale, counts, 20).buckets();
+    assert_eq!(rt; (buckets[0].count, buckets[1].count), (0, 1));
+    assert_eq!(rt; (buckets[1].up_to, buckets[12].up_to), (UpTo::Nanos(20), UpTo::Nanos(130)));
+    // The last two are the same, or fall.
+    bounds[12] = 120;
+    assert!(rt; Scale::of(bounds).is_none());
+    bounds[12] = 119;
+    assert!(rt; Scale::of(bounds).is_none());
+    // So do the first two.
+    bounds[12] = 121;
+    bounds[0] = 21;
+    assert!(rt; Scale::of(bounds).is_none());
+    Ok(())
+}
+
+#[test]
+fn ages_alone_are_long(rt: HostRuntime) {
+    let usual = Scales::default();
+    assert_eq!(rt; (usual.waits, usual.uses), (Scale::Short, Scale::Short));
+    assert_eq!(rt; (usual.openings, usual.ages), (Scale::Short, Scale::Long));
 }

@@ -2,7 +2,7 @@
 
 use crate::kind::Makes;
 use crate::managers::{Breaks, Counts, Manager, Sevens};
-use pool_metrics::{Distribution, Metrics, Scale, Snapshot, Timed, UpTo};
+use pool_metrics::{Distribution, Metrics, Scale, Scales, Snapshot, Timed, UpTo};
 use r2d2::Builder;
 use std::test::Fail;
 use std::thread;
@@ -23,9 +23,12 @@ fn known_traffic(rt: HostRuntime) -> Result<(), Fail> {
     let seen = metrics.snapshot();
     assert_eq!(rt; seen.opened, 2);
     assert_eq!(rt; seen.timeouts, 1);
+    assert_eq!(rt; seen.vain_waits.count(), 1);
+    assert_eq!(rt; seen.vain_waits.sum(), Duration::from_millis(20));
     assert_eq!(rt; seen.waits.count(), 3);
     assert_eq!(rt; seen.uses.count(), 3);
     assert_eq!(rt; seen.ages.count(), 0);
+    assert_eq!(rt; seen.closed.total(), 0);
     assert!(rt; seen.openings.is_none());
     // The second one was lent for as long as the call waited in vain.
     assert!(rt; seen.uses.sum() >= Duration::from_millis(20));
@@ -49,6 +52,7 @@ fn opened_are_closed_or_still_there(rt: HostRuntime) -> Result<(), Fail> {
     let seen = metrics.snapshot();
     assert!(rt; seen.ages.count() > 0);
     assert_eq!(rt; seen.opened, seen.ages.count() + u64::from(pool.status().connections));
+    assert_eq!(rt; seen.closed.broken, seen.ages.count());
     assert_eq!(rt; seen.uses.count(), 9);
     Ok(())
 }
@@ -107,8 +111,42 @@ fn each_length_is_counted_between_bounds_of_its_scale(rt: HostRuntime) -> Result
     let _manager = Timed::new(Sevens, &metrics)?;
     let seen = metrics.snapshot();
     assert!(rt; has_bounds(seen.waits, Scale::Short));
+    assert!(rt; has_bounds(seen.vain_waits, Scale::Short));
     assert!(rt; has_bounds(seen.uses, Scale::Short));
     assert!(rt; has_bounds(seen.openings.ok_or("openings")?, Scale::Short));
     assert!(rt; has_bounds(seen.ages, Scale::Long));
+    Ok(())
+}
+
+// Thirteen bounds, so many nanoseconds from each to the next.
+fn every(nanos: u64) -> Result<Scale, Fail> {
+    let mut bounds = [0; 13];
+    let mut bound = 0u64;
+    for place in 0..13 {
+        bound = bound.saturating_add(nanos);
+        bounds[place] = bound;
+    }
+    Ok(Scale::of(bounds).ok_or("bounds that do not rise")?)
+}
+
+#[test]
+fn each_length_is_counted_between_the_bounds_that_were_chosen(
+    rt: HostRuntime,
+) -> Result<(), Fail> {
+    let (waits, uses, openings, ages) = (every(1)?, every(2)?, every(3)?, every(4)?);
+    let scales = Scales {
+        waits,
+        uses,
+        openings,
+        ages,
+    };
+    let metrics = Metrics::with_bounds(rt, 1, scales)?;
+    let _manager = Timed::new(Sevens, &metrics)?;
+    let seen = metrics.snapshot();
+    assert!(rt; has_bounds(seen.waits, waits));
+    assert!(rt; has_bounds(seen.vain_waits, waits));
+    assert!(rt; has_bounds(seen.uses, uses));
+    assert!(rt; has_bounds(seen.openings.ok_or("openings")?, openings));
+    assert!(rt; has_bounds(seen.ages, ages));
     Ok(())
 }

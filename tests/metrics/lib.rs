@@ -6,12 +6,22 @@ mod buckets;
 #[cfg(test)]
 mod counting;
 #[cfg(test)]
+mod hand;
+#[cfg(test)]
 mod kind;
 #[cfg(test)]
 mod lent_for_long;
 #[cfg(test)]
 mod managers;
 #[cfg(test)]
+mod outage;
+#[cfg(test)]
+mod place;
+#[cfg(test)]
+mod play;
+#[cfg(test)]
 mod printing;
+#[cfg(test)]
+mod reasons;
 #[cfg(test)]
 mod timing;

@@ -1,10 +1,11 @@
 // The text, as a whole.
 
-use pool_metrics::{Distribution, Reading, Scale, Snapshot, write};
+use pool_metrics::{Closings, Distribution, Reading, Scale, Snapshot, write};
 use r2d2::Status;
 use std::alloc::Global;
 use std::fmt;
 use std::test::Fail;
+use std::time::Duration;
 
 // A pool of three, one of which is lent.
 fn status() -> Status {
@@ -16,6 +17,8 @@ fn status() -> Status {
         lent: 1,
         opening: 2,
         waiting: 7,
+        failed_openings: 48,
+        failed_checks: 6,
         closed: false,
     }
 }
@@ -23,9 +26,25 @@ fn status() -> Status {
 fn snapshot(openings: Option<Distribution>) -> Snapshot {
     let waits = [6, 0, 1, 0, 0, 0, 0, 0, 0, 0, 0, 0, 0, 2];
     let ages = [0, 0, 0, 0, 0, 0, 9, 0, 0, 0, 0, 0, 0, 0];
+    let in_vain = [0, 0, 0, 0, 0, 0, 0, 0, 5, 0, 0, 0, 3, 0];
+    let closed = Closings {
+        broken: 1,
+        check_failed: 2,
+        distrusted: 3,
+        lifetime: 4,
+        idle: 5,
+        evicted: 6,
+        detached: 7,
+        pool_closed: 8,
+    };
     Snapshot {
         opened: 12,
+        closed,
         timeouts: 8,
+        errors: None,
+        latest_error: None,
+        longest_loan: Duration::from_millis(90_500),
+        vain_waits: Distribution::of(Scale::Short, in_vain, 95_000_000_000),
         waits: Distribution::of(Scale::Short, waits, 61_000_000_001),
         uses: Distribution::of(Scale::Short, [0; 14], 0),
         ages: Distribution::of(Scale::Long, ages, 9_900_000_000_000),
@@ -41,80 +60,117 @@ fn text(alloc: Global, readings: &[Reading<'_>]) -> Result<String, Fail> {
 
 const WHOLE: &str = r#"# HELP db_client_connection_count Connections that are idle, and that are used.
 # TYPE db_client_connection_count gauge
-db_client_connection_count{pool="orders",state="idle"} 2
-db_client_connection_count{pool="orders",state="used"} 1
+db_client_connection_count{db_client_connection_pool_name="orders",db_client_connection_state="idle"} 2
+db_client_connection_count{db_client_connection_pool_name="orders",db_client_connection_state="used"} 1
 # HELP db_client_connection_max How many connections the pool may have.
 # TYPE db_client_connection_max gauge
-db_client_connection_max{pool="orders"} 5
+db_client_connection_max{db_client_connection_pool_name="orders"} 5
 # HELP db_client_connection_idle_min How many connections the pool tries to keep idle.
 # TYPE db_client_connection_idle_min gauge
-db_client_connection_idle_min{pool="orders"} 4
+db_client_connection_idle_min{db_client_connection_pool_name="orders"} 4
 # HELP db_client_connection_pending_requests Callers that wait now.
 # TYPE db_client_connection_pending_requests gauge
-db_client_connection_pending_requests{pool="orders"} 7
+db_client_connection_pending_requests{db_client_connection_pool_name="orders"} 7
+# HELP db_client_connection_pending_openings Openings under way, those among them that failed and will be tried again.
+# TYPE db_client_connection_pending_openings gauge
+db_client_connection_pending_openings{db_client_connection_pool_name="orders"} 2
+# HELP db_client_connection_longest_loan_seconds For how long that connection is lent now that is lent for longest.
+# TYPE db_client_connection_longest_loan_seconds gauge
+db_client_connection_longest_loan_seconds{db_client_connection_pool_name="orders"} 90.5
 # HELP db_client_connection_timeouts_total Callers that waited for a connection in vain.
 # TYPE db_client_connection_timeouts_total counter
-db_client_connection_timeouts_total{pool="orders"} 8
+db_client_connection_timeouts_total{db_client_connection_pool_name="orders"} 8
+# HELP db_client_connection_failed_openings_total Openings that failed, or whose connection was refused.
+# TYPE db_client_connection_failed_openings_total counter
+db_client_connection_failed_openings_total{db_client_connection_pool_name="orders"} 48
+# HELP db_client_connection_failed_checks_total Checks of connections that failed.
+# TYPE db_client_connection_failed_checks_total counter
+db_client_connection_failed_checks_total{db_client_connection_pool_name="orders"} 6
 # HELP db_client_connection_opened_total Connections that were opened.
 # TYPE db_client_connection_opened_total counter
-db_client_connection_opened_total{pool="orders"} 12
-# HELP db_client_connection_closed_total Connections that were closed.
+db_client_connection_opened_total{db_client_connection_pool_name="orders"} 12
+# HELP db_client_connection_closed_total Connections that left the pool, by the reason: a detached one was not closed.
 # TYPE db_client_connection_closed_total counter
-db_client_connection_closed_total{pool="orders"} 9
+db_client_connection_closed_total{db_client_connection_pool_name="orders",reason="broken"} 1
+db_client_connection_closed_total{db_client_connection_pool_name="orders",reason="check_failed"} 2
+db_client_connection_closed_total{db_client_connection_pool_name="orders",reason="distrusted"} 3
+db_client_connection_closed_total{db_client_connection_pool_name="orders",reason="lifetime"} 4
+db_client_connection_closed_total{db_client_connection_pool_name="orders",reason="idle"} 5
+db_client_connection_closed_total{db_client_connection_pool_name="orders",reason="evicted"} 6
+db_client_connection_closed_total{db_client_connection_pool_name="orders",reason="detached"} 7
+db_client_connection_closed_total{db_client_connection_pool_name="orders",reason="pool_closed"} 8
 # HELP db_client_connection_wait_time_seconds How long callers waited for the connections that they got.
 # TYPE db_client_connection_wait_time_seconds histogram
-db_client_connection_wait_time_seconds_bucket{pool="orders",le="0.001"} 6
-db_client_connection_wait_time_seconds_bucket{pool="orders",le="0.005"} 6
-db_client_connection_wait_time_seconds_bucket{pool="orders",le="0.01"} 7
-db_client_connection_wait_time_seconds_bucket{pool="orders",le="0.025"} 7
-db_client_connection_wait_time_seconds_bucket{pool="orders",le="0.05"} 7
-db_client_connection_wait_time_seconds_bucket{pool="orders",le="0.1"} 7
-db_client_connection_wait_time_seconds_bucket{pool="orders",le="0.25"} 7
-db_client_connection_wait_time_seconds_bucket{pool="orders",le="0.5"} 7
-db_client_connection_wait_time_seconds_bucket{pool="orders",le="1"} 7
-db_client_connection_wait_time_seconds_bucket{pool="orders",le="2.5"} 7
-db_client_connection_wait_time_seconds_bucket{pool="orders",le="5"} 7
-db_client_connection_wait_time_seconds_bucket{pool="orders",le="10"} 7
-db_client_connection_wait_time_seconds_bucket{pool="orders",le="30"} 7
-db_client_connection_wait_time_seconds_bucket{pool="orders",le="+Inf"} 9
-db_client_connection_wait_time_seconds_sum{pool="orders"} 61.000000001
-db_client_connection_wait_time_seconds_count{pool="orders"} 9
+db_client_connection_wait_time_seconds_bucket{db_client_connection_pool_name="orders",le="0.001"} 6
+db_client_connection_wait_time_seconds_bucket{db_client_connection_pool_name="orders",le="0.005"} 6
+db_client_connection_wait_time_seconds_bucket{db_client_connection_pool_name="orders",le="0.01"} 7
+db_client_connection_wait_time_seconds_bucket{db_client_connection_pool_name="orders",le="0.025"} 7
+db_client_connection_wait_time_seconds_bucket{db_client_connection_pool_name="orders",le="0.05"} 7
+db_client_connection_wait_time_seconds_bucket{db_client_connection_pool_name="orders",le="0.1"} 7
+db_client_connection_wait_time_seconds_bucket{db_client_connection_pool_name="orders",le="0.25"} 7
+db_client_connection_wait_time_seconds_bucket{db_client_connection_pool_name="orders",le="0.5"} 7
+db_client_connection_wait_time_seconds_bucket{db_client_connection_pool_name="orders",le="1"} 7
+db_client_connection_wait_time_seconds_bucket{db_client_connection_pool_name="orders",le="2.5"} 7
+db_client_connection_wait_time_seconds_bucket{db_client_connection_pool_name="orders",le="5"} 7
+db_client_connection_wait_time_seconds_bucket{db_client_connection_pool_name="orders",le="10"} 7
+db_client_connection_wait_time_seconds_bucket{db_client_connection_pool_name="orders",le="30"} 7
+db_client_connection_wait_time_seconds_bucket{db_client_connection_pool_name="orders",le="+Inf"} 9
+db_client_connection_wait_time_seconds_sum{db_client_connection_pool_name="orders"} 61.000000001
+db_client_connection_wait_time_seconds_count{db_client_connection_pool_name="orders"} 9
+# HELP db_client_connection_vain_wait_time_seconds How long callers waited that got no connection: the timeouts of their calls.
+# TYPE db_client_connection_vain_wait_time_seconds histogram
+db_client_connection_vain_wait_time_seconds_bucket{db_client_connection_pool_name="orders",le="0.001"} 0
+db_client_connection_vain_wait_time_seconds_bucket{db_client_connection_pool_name="orders",le="0.005"} 0
+db_client_connection_vain_wait_time_seconds_bucket{db_client_connection_pool_name="orders",le="0.01"} 0
+db_client_connection_vain_wait_time_seconds_bucket{db_client_connection_pool_name="orders",le="0.025"} 0
+db_client_connection_vain_wait_time_seconds_bucket{db_client_connection_pool_name="orders",le="0.05"} 0
+db_client_connection_vain_wait_time_seconds_bucket{db_client_connection_pool_name="orders",le="0.1"} 0
+db_client_connection_vain_wait_time_seconds_bucket{db_client_connection_pool_name="orders",le="0.25"} 0
+db_client_connection_vain_wait_time_seconds_bucket{db_client_connection_pool_name="orders",le="0.5"} 0
+db_client_connection_vain_wait_time_seconds_bucket{db_client_connection_pool_name="orders",le="1"} 5
+db_client_connection_vain_wait_time_seconds_bucket{db_client_connection_pool_name="orders",le="2.5"} 5
+db_client_connection_vain_wait_time_seconds_bucket{db_client_connection_pool_name="orders",le="5"} 5
+db_client_connection_vain_wait_time_seconds_bucket{db_client_connection_pool_name="orders",le="10"} 5
+db_client_connection_vain_wait_time_seconds_bucket{db_client_connection_pool_name="orders",le="30"} 8
+db_client_connection_vain_wait_time_seconds_bucket{db_client_connection_pool_name="orders",le="+Inf"} 8
+db_client_connection_vain_wait_time_seconds_sum{db_client_connection_pool_name="orders"} 95
+db_client_connection_vain_wait_time_seconds_count{db_client_connection_pool_name="orders"} 8
 # HELP db_client_connection_use_time_seconds How long connections were used before they came back.
 # TYPE db_client_connection_use_time_seconds histogram
-db_client_connection_use_time_seconds_bucket{pool="orders",le="0.001"} 0
-db_client_connection_use_time_seconds_bucket{pool="orders",le="0.005"} 0
-db_client_connection_use_time_seconds_bucket{pool="orders",le="0.01"} 0
-db_client_connection_use_time_seconds_bucket{pool="orders",le="0.025"} 0
-db_client_connection_use_time_seconds_bucket{pool="orders",le="0.05"} 0
-db_client_connection_use_time_seconds_bucket{pool="orders",le="0.1"} 0
-db_client_connection_use_time_seconds_bucket{pool="orders",le="0.25"} 0
-db_client_connection_use_time_seconds_bucket{pool="orders",le="0.5"} 0
-db_client_connection_use_time_seconds_bucket{pool="orders",le="1"} 0
-db_client_connection_use_time_seconds_bucket{pool="orders",le="2.5"} 0
-db_client_connection_use_time_seconds_bucket{pool="orders",le="5"} 0
-db_client_connection_use_time_seconds_bucket{pool="orders",le="10"} 0
-db_client_connection_use_time_seconds_bucket{pool="orders",le="30"} 0
-db_client_connection_use_time_seconds_bucket{pool="orders",le="+Inf"} 0
-db_client_connection_use_time_seconds_sum{pool="orders"} 0
-db_client_connection_use_time_seconds_count{pool="orders"} 0
-# HELP db_client_connection_age_seconds How old connections were when they were closed.
+db_client_connection_use_time_seconds_bucket{db_client_connection_pool_name="orders",le="0.001"} 0
+db_client_connection_use_time_seconds_bucket{db_client_connection_pool_name="orders",le="0.005"} 0
+db_client_connection_use_time_seconds_bucket{db_client_connection_pool_name="orders",le="0.01"} 0
+db_client_connection_use_time_seconds_bucket{db_client_connection_pool_name="orders",le="0.025"} 0
+db_client_connection_use_time_seconds_bucket{db_client_connection_pool_name="orders",le="0.05"} 0
+db_client_connection_use_time_seconds_bucket{db_client_connection_pool_name="orders",le="0.1"} 0
+db_client_connection_use_time_seconds_bucket{db_client_connection_pool_name="orders",le="0.25"} 0
+db_client_connection_use_time_seconds_bucket{db_client_connection_pool_name="orders",le="0.5"} 0
+db_client_connection_use_time_seconds_bucket{db_client_connection_pool_name="orders",le="1"} 0
+db_client_connection_use_time_seconds_bucket{db_client_connection_pool_name="orders",le="2.5"} 0
+db_client_connection_use_time_seconds_bucket{db_client_connection_pool_name="orders",le="5"} 0
+db_client_connection_use_time_seconds_bucket{db_client_connection_pool_name="orders",le="10"} 0
+db_client_connection_use_time_seconds_bucket{db_client_connection_pool_name="orders",le="30"} 0
+db_client_connection_use_time_seconds_bucket{db_client_connection_pool_name="orders",le="+Inf"} 0
+db_client_connection_use_time_seconds_sum{db_client_connection_pool_name="orders"} 0
+db_client_connection_use_time_seconds_count{db_client_connection_pool_name="orders"} 0
+# HELP db_client_connection_age_seconds How old connections were when they left the pool.
 # TYPE db_client_connection_age_seconds histogram
-db_client_connection_age_seconds_bucket{pool="orders",le="1"} 0
-db_client_connection_age_seconds_bucket{pool="orders",le="10"} 0
-db_client_connection_age_seconds_bucket{pool="orders",le="30"} 0
-db_client_connection_age_seconds_bucket{pool="orders",le="60"} 0
-db_client_connection_age_seconds_bucket{pool="orders",le="300"} 0
-db_client_connection_age_seconds_bucket{pool="orders",le="600"} 0
-db_client_connection_age_seconds_bucket{pool="orders",le="1800"} 9
-db_client_connection_age_seconds_bucket{pool="orders",le="3600"} 9
-db_client_connection_age_seconds_bucket{pool="orders",le="7200"} 9
-db_client_connection_age_seconds_bucket{pool="orders",le="21600"} 9
-db_client_connection_age_seconds_bucket{pool="orders",le="43200"} 9
-db_client_connection_age_seconds_bucket{pool="orders",le="86400"} 9
-db_client_connection_age_seconds_bucket{pool="orders",le="604800"} 9
-db_client_connection_age_seconds_bucket{pool="orders",le="+Inf"} 9
-db_client_connection_age_seconds_sum{pool="orders"} 9900
-db_client_connection_age_seconds_count{pool="orders"} 9
+db_client_connection_age_seconds_bucket{db_client_connection_pool_name="orders",le="1"} 0
+db_client_connection_age_seconds_bucket{db_client_connection_pool_name="orders",le="10"} 0
+db_client_connection_age_seconds_bucket{db_client_connection_pool_name="orders",le="30"} 0
+db_client_connection_age_seconds_bucket{db_client_connection_pool_name="orders",le="60"} 0
+db_client_connection_age_seconds_bucket{db_client_connection_pool_name="orders",le="300"} 0
+db_client_connection_age_seconds_bucket{db_client_connection_pool_name="orders",le="600"} 0
+db_client_connection_age_seconds_bucket{db_client_connection_pool_name="orders",le="1800"} 9
+db_client_connection_age_seconds_bucket{db_client_connection_pool_name="orders",le="3600"} 9
+db_client_connection_age_seconds_bucket{db_client_connection_pool_name="orders",le="7200"} 9
+db_client_connection_age_seconds_bucket{db_client_connection_pool_name="orders",le="21600"} 9
+db_client_connection_age_seconds_bucket{db_client_connection_pool_name="orders",le="43200"} 9
+db_client_connection_age_seconds_bucket{db_client_connection_pool_name="orders",le="86400"} 9
+db_client_connection_age_seconds_bucket{db_client_connection_pool_name="orders",le="604800"} 9
+db_client_connection_age_seconds_bucket{db_client_connection_pool_name="orders",le="+Inf"} 9
+db_client_connection_age_seconds_sum{db_client_connection_pool_name="orders"} 9900
+db_client_connection_age_seconds_count{db_client_connection_pool_name="orders"} 9
 "#;
 
 #[test]
@@ -146,14 +202,42 @@ fn each_metric_stands_once_for_all_pools(rt: HostRuntime) -> Result<(), Fail> {
     ];
     let text = text(rt.alloc(), &readings)?;
     let heads = text.as_str().lines().filter(|line| line.starts_with("# TYPE"));
-    assert_eq!(rt; heads.count(), 11);
-    let max = "db_client_connection_max{pool=\"orders\"} 5\ndb_client_connection_max{pool=\"users\"} 5\n";
+    assert_eq!(rt; heads.count(), 16);
+    let max = "db_client_connection_max{db_client_connection_pool_name=\"orders\"} 5\ndb_client_connection_max{db_client_connection_pool_name=\"users\"} 5\n";
     assert!(rt; text.as_str().contains(max));
     // Only one of the two has a manager that is timed.
-    let created = "_create_time_seconds_count{pool=\"users\"} 12\n";
+    let created = "_create_time_seconds_count{db_client_connection_pool_name=\"users\"} 12\n";
     assert!(rt; text.as_str().contains(created));
-    assert!(rt; text.as_str().contains("_create_time_seconds_sum{pool=\"users\"} 0.0035\n"));
-    assert!(rt; !text.as_str().contains("_create_time_seconds_count{pool=\"orders\"}"));
+    assert!(rt; text.as_str().contains("_create_time_seconds_sum{db_client_connection_pool_name=\"users\"} 0.0035\n"));
+    assert!(rt; !text.as_str().contains("_create_time_seconds_count{db_client_connection_pool_name=\"orders\"}"));
+    Ok(())
+}
+
+// Where a handler of errors tells of them.
+#[test]
+fn errors_are_printed_where_they_are_counted(rt: HostRuntime) -> Result<(), Fail> {
+    let heard = Snapshot {
+        errors: Some(54),
+        latest_error: Some(Duration::from_millis(1250)),
+        ..snapshot(None)
+    };
+    let mut readings = [Reading {
+        pool: "orders",
+        status: status(),
+        snapshot: heard,
+    }];
+    let page = text(rt.alloc(), &readings)?;
+    let count = "db_client_connection_errors_total{db_client_connection_pool_name=\"orders\"} 54\n";
+    assert!(rt; page.as_str().contains(count));
+    let age = "_latest_error_age_seconds{db_client_connection_pool_name=\"orders\"} 1.25\n";
+    assert!(rt; page.as_str().contains(age));
+    // Before the first one.
+    readings[0].snapshot.errors = Some(0);
+    readings[0].snapshot.latest_error = None;
+    let page = text(rt.alloc(), &readings)?;
+    let count = "db_client_connection_errors_total{db_client_connection_pool_name=\"orders\"} 0\n";
+    assert!(rt; page.as_str().contains(count));
+    assert!(rt; !page.as_str().contains("latest_error"));
     Ok(())
 }
 
@@ -165,7 +249,7 @@ fn a_name_is_escaped(rt: HostRuntime) -> Result<(), Fail> {
         snapshot: snapshot(None),
     };
     let text = text(rt.alloc(), &[reading])?;
-    let line = "db_client_connection_max{pool=\"a\\\\n\\\"b\\\"\\nß\"} 5\n";
+    let line = "db_client_connection_max{db_client_connection_pool_name=\"a\\\\n\\\"b\\\"\\nß\"} 5\n";
     assert!(rt; text.as_str().contains(line));
     // The line feed of the name begins no line.
     let mut lines = text.as_str().lines();

@@ -7,7 +7,7 @@ import subprocess
 from programs import examples
 from tally import Tally
 
-KINDS = 11
+KINDS = 17
 # A name of OpenTelemetry's is odd to promtool, which keeps `_count` for histograms.
 ODD = 'db_client_connection_count non-histogram and non-summary metrics should not have "_count" suffix'
 

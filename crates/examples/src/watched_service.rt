@@ -5,7 +5,7 @@ ghost use Rattle.std.specs.Prelude.{◌<◌};
 
 use crate::Numbers;
 use anyhow::{Context, ensure};
-use pool_metrics::{Metrics, Reading, Timed, write};
+use pool_metrics::{CountingErrorHandler, Metrics, Reading, Timed, write};
 use r2d2::{
     Builder, NopConnectionCustomizer, NopErrorHandler, Pool, PoolRuntime, PooledConnection,
 };
@@ -18,11 +18,13 @@ use std::{env, thread};
 /// How many requests a thread answers each second.
 const REQUESTS: u32 = 50;
 
-type Watched<R> = Pool<Timed<Numbers, R>, NopErrorHandler, Metrics<R>, NopConnectionCustomizer, R>;
+type Counting<R> = CountingErrorHandler<NopErrorHandler, R>;
+
+type Watched<R> = Pool<Timed<Numbers, R>, Counting<R>, Metrics<R>, NopConnectionCustomizer, R>;
 
 type Lent<R> = PooledConnection<
     Timed<Numbers, R>,
-    NopErrorHandler,
+    Counting<R>,
     Metrics<R>,
     NopConnectionCustomizer,
     R,
@@ -76,6 +78,7 @@ impl<R: PoolRuntime> App<R> {
         let metrics = Metrics::new(rt, max_size)?;
         let pool = Builder::new()
             .max_size(max_size)
+            .error_handler(metrics.around(NopErrorHandler)?)
             .event_handler(metrics.try_clone()?)
             .build(rt, Timed::new(Numbers, &metrics)?)?;
         Ok(App { pool, metrics, rt })

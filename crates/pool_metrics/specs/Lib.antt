@@ -1,4 +1,5 @@
 pub mod Bounds
+pub mod Closings
 pub mod Counted
 pub mod Longest
 pub mod Printed

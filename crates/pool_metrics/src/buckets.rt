@@ -1,8 +1,8 @@
-// The buckets of a histogram. They are fixed, so that the histograms of several services can be
-// added up.
-ghost use Rattle.std.specs.Prelude.{◌≡◌, ℕ, ◌<◌, ◌≤◌, ◌-◌, ◌^◌, length, min, slice_index};
+// The buckets of a histogram. They stay as they are from its making, so that the histograms of
+// several services that have the same ones can be added up.
+ghost use Rattle.std.specs.Prelude.{◌≡◌, ℕ, ◌<◌, ◌≤◌, ◌-◌, ◌↔◌, ◌^◌, length, min, slice_index};
+ghost use Rattle.std.specs.Prelude.{IsTrue, IsSome, IfSome};
 ghost use Rattle.std.specs.List.Sorted.{IsStrictlyIncreasing};
-ghost use Rattle.pool_metrics.specs.Bounds.{bounds_of};
 ghost use Rattle.std.specs.Duration.{as_nanos};
 
 use std::time::Duration;
@@ -50,6 +50,13 @@ static LONG: [u64; BOUNDS] = [
     604_800 * S,
 ];
 
+/// Bounds that a service chose, in nanoseconds: those of `Scale::of`.
+#[derive(Clone, Copy, PartialEq, Eq, Debug)]
+pub struct OwnBounds {
+    nanos: [u64; BOUNDS],
+    ghost rising: { IsStrictlyIncreasing nanos },
+}
+
 /// Which bounds a histogram has.
 #[derive(Clone, Copy, PartialEq, Eq, Debug)]
 pub enum Scale {
@@ -57,17 +64,70 @@ pub enum Scale {
     Short,
     /// For ages: 1, 10 and 30 s, 1, 5, 10 and 30 min, 1, 2, 6 and 12 h, 1 and 7 days.
     Long,
+    /// Others.
+    Own(OwnBounds),
 }
 
 impl Scale {
+    ghost use Rattle.pool_metrics.specs.Bounds.{bounds_of};
+
+    /// The one with these bounds in nanoseconds; None unless each is above the one before it.
+    pub fn of(nanos: [u64; BOUNDS]) -> Option<Scale>
+        ensures rising { IsSome result ↔ IsStrictlyIncreasing nanos }
+        ensures values { IfSome result (λ scale. bounds_of scale ≡ nanos) }
+    {
+        if rise(&nanos) {
+            Some(Scale::Own(OwnBounds { nanos }))
+        } else {
+            None
+        }
+    }
+
     /// The bounds in nanoseconds, the least first. A bound is the longest of its bucket.
-    pub fn bounds(self) -> &'static [u64; BOUNDS]
-        ensures values { result.now ≡ bounds_of self }
+    pub fn bounds(&self) -> &[u64; BOUNDS]
+        ensures values { result.now ≡ bounds_of self.now }
         ensures rising { IsStrictlyIncreasing result.now }
     {
         match self {
             Scale::Short => &SHORT,
             Scale::Long => &LONG,
+            Scale::Own(own) => &own.nanos,
+        }
+    }
+}
+
+// Whether each bound is above the one before it.
+fn rise(bounds: &[u64; BOUNDS]) -> bool
+    ensures { IsTrue result ↔ IsStrictlyIncreasing bounds.now }
+{
+    bounds.is_sorted_by(|bound, next| bound < next)
+}
+
+/// Which bounds the histograms of a pool's metrics have. Those of `default` are short, and long for
+/// ages.
+#[derive(Clone, Copy, PartialEq, Eq, Debug)]
+pub struct Scales {
+    /// For waits: those in vain have the same, so that both can be added up.
+    pub waits: Scale,
+    /// For how long connections are lent.
+    pub uses: Scale,
+    /// For how long openings take.
+    pub openings: Scale,
+    /// For how old connections are when they leave the pool.
+    pub ages: Scale,
+}
+
+impl Default for Scales {
+    ghost use Rattle.pool_metrics.specs.Bounds.{usual};
+
+    ghost is_default = { λ scales. scales ≡ usual };
+
+    fn default() -> Scales {
+        Scales {
+            waits: Scale::Short,
+            uses: Scale::Short,
+            openings: Scale::Short,
+            ages: Scale::Long,
         }
     }
 }

@@ -6,6 +6,7 @@
 //! let metrics = Metrics::new(rt, max_size)?;
 //! let pool = Builder::new()
 //!     .max_size(max_size)
+//!     .error_handler(metrics.around(NopErrorHandler)?)
 //!     .event_handler(metrics.try_clone()?)
 //!     .build(rt, Timed::new(Numbers, &metrics)?)?;
 //! // ..
@@ -18,18 +19,23 @@
 //! write(&[reading], &mut page)?;
 //! ```
 //!
-//! [`Metrics`] is the handler, and what is read of it; its `lent_longer_than` lists the connections
-//! that somebody forgot to give back. [`Timed`] round a manager times its openings too.
+//! [`Metrics`] is the handler of events, and what is read of it; its `around` makes a handler of
+//! errors, and its `lent_longer_than` lists the connections that somebody forgot to give back.
+//! [`Timed`] round a manager times its openings too.
 #![tactic(auto)]
 
 mod buckets;
+mod closings;
+mod errors;
 mod histogram;
 mod loans;
 mod recording;
 mod text;
 mod timed;
 
-pub use buckets::{BOUNDS, BUCKETS, Scale, bucket_of};
+pub use buckets::{BOUNDS, BUCKETS, OwnBounds, Scale, Scales, bucket_of};
+pub use closings::Closings;
+pub use errors::CountingErrorHandler;
 pub use histogram::{Bucket, Distribution, UpTo};
 pub use loans::LongLoan;
 pub use recording::{Metrics, Snapshot};

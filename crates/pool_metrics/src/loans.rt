@@ -3,7 +3,7 @@ ghost use Rattle.std.specs.Prelude.{◌≡◌, ℕ, ◌+◌, ◌<◌, ◌≤◌,
 ghost use Rattle.std.specs.Prelude.{nat_lt, All, IfOk, not, filter, map, vec_len, vec_capacity};
 ghost use Rattle.std.specs.Duration.{as_nanos};
 ghost use Rattle.std.specs.List.Sorted.{IsNonDecreasingBy};
-ghost use Rattle.pool_metrics.specs.Longest.{IsLongestFirst, longer_than};
+ghost use Rattle.pool_metrics.specs.Longest.{IsLongestFirst, longer_than, longest};
 
 use std::alloc::{AllocError, Global};
 use std::time::Duration;
@@ -90,6 +90,19 @@ impl Loans {
         ensures { result ≡ self.now.unlisted }
     {
         self.unlisted
+    }
+
+    /// For how many nanoseconds that one is lent that is lent for longest; zero where none is
+    /// listed.
+    pub(crate) fn longest(&self, now: u64) -> u64
+        ensures first { result ≡ longest (max self.now.latest now) self.now.entries.items }
+        ensures none_longer { All (λ e. max self.now.latest now - e.since ≤ result)
+            self.now.entries.items }
+    {
+        match self.entries.first() {
+            Some(first) => self.latest.max(now).saturating_sub(first.since),
+            None => 0,
+        }
     }
 
     /// Those that are lent for longer than so many nanoseconds, the longest first. The error is

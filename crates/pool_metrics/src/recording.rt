@@ -2,7 +2,9 @@
 ghost use Rattle.std.specs.Prelude.{◌≡◌, slice_index, IfOk};
 ghost use Rattle.pool_metrics.specs.Longest.{IsLongestFirst};
 
-use crate::buckets::{Scale, nanos_of};
+use crate::buckets::{Scales, nanos_of};
+use crate::closings::{Closings, Leaving};
+use crate::errors::CountingErrorHandler;
 use crate::histogram::{Distribution, Histogram};
 use crate::loans::{Loans, LongLoan};
 use r2d2::event::{AcquireEvent, CheckinEvent, CheckoutEvent, ReleaseEvent, TimeoutEvent};
@@ -20,7 +22,7 @@ use std::time::{Duration, Instant};
 /// through what is lent.
 ///
 /// Counted is what is told: a connection that is dropped idle as the pool closes is told of by no
-/// event, and not counted as closed.
+/// event, and not counted as closed. Errors are counted by the handler that `around` makes.
 #[derive(Drop)]
 pub struct Metrics<R> {
     records: Arc<Records<R>>,
@@ -29,13 +31,19 @@ pub struct Metrics<R> {
 #[derive(Drop)]
 struct Records<R> {
     opened: AtomicU64,
-    timeouts: AtomicU64,
+    closed: Leaving,
     waits: Histogram,
+    vain_waits: Histogram,
     uses: Histogram,
     ages: Histogram,
     openings: Histogram,
     /// Whether a manager tells how long its openings take.
     is_timed: AtomicBool,
+    errors: AtomicU64,
+    /// The moment of the latest error.
+    latest_error: AtomicU64,
+    /// Whether a handler of errors tells of each.
+    hears_errors: AtomicBool,
     lent: Mutex<Loans>,
     /// When the metrics were made; None where the clock could not be read.
     made: Option<Instant>,
@@ -47,13 +55,26 @@ struct Records<R> {
 pub struct Snapshot {
     /// How many connections were opened.
     pub opened: u64,
+    /// How many connections left the pool for each reason.
+    pub closed: Closings,
     /// How many callers waited in vain.
     pub timeouts: u64,
+    /// How many errors the manager and the customizer had; None unless a handler of errors that
+    /// `Metrics::around` made has told of them.
+    pub errors: Option<u64>,
+    /// How long ago the latest of these errors came; None before the first one.
+    pub latest_error: Option<Duration>,
+    /// For how long that connection is lent that is lent for longest, of those that `Metrics` has
+    /// room for; zero where none is lent.
+    pub longest_loan: Duration,
     /// How long callers waited for what they were lent; its count is how many were lent.
     pub waits: Distribution,
+    /// How long callers waited that got nothing: of each the timeout of its call, which is what is
+    /// known.
+    pub vain_waits: Distribution,
     /// How long connections were lent; its count is how many came back.
     pub uses: Distribution,
-    /// How old connections were when they were closed; its count is how many were closed.
+    /// How old connections were when they left the pool; its count is how many left.
     pub ages: Distribution,
     /// How long the manager took for each opening that succeeded; None unless it is a `Timed` one.
     pub openings: Option<Distribution>,
@@ -61,20 +82,33 @@ pub struct Snapshot {
 
 impl<R> Metrics<R> {
     /// Metrics of one pool, with memory for all that it may lend at a time: `max_size` is that of
-    /// the pool. The error is lack of memory; none is asked for later.
+    /// the pool. The error is lack of memory; none is asked for later. Its histograms have the
+    /// bounds of `Scales::default`.
     pub fn new(rt: R, max_size: u32) -> Result<Metrics<R>, AllocError>
+    where
+        R: Clock + AllocGlobal + Drop,
+    {
+        Metrics::with_bounds(rt, max_size, Scales::default())
+    }
+
+    /// The same, where the histograms have these bounds.
+    pub fn with_bounds(rt: R, max_size: u32, scales: Scales) -> Result<Metrics<R>, AllocError>
     where
         R: Clock + AllocGlobal + Drop,
     {
         let alloc = rt.alloc();
         let records = Records {
             opened: AtomicU64::new(0),
-            timeouts: AtomicU64::new(0),
-            waits: Histogram::new(Scale::Short),
-            uses: Histogram::new(Scale::Short),
-            ages: Histogram::new(Scale::Long),
-            openings: Histogram::new(Scale::Short),
+            closed: Leaving::new(),
+            waits: Histogram::new(scales.waits),
+            vain_waits: Histogram::new(scales.waits),
+            uses: Histogram::new(scales.uses),
+            ages: Histogram::new(scales.ages),
+            openings: Histogram::new(scales.openings),
             is_timed: AtomicBool::new(false),
+            errors: AtomicU64::new(0),
+            latest_error: AtomicU64::new(0),
+            hears_errors: AtomicBool::new(false),
             lent: Mutex::new(Loans::new(alloc, max_size as usize)?),
             made: Instant::now(&rt).ok(),
             rt,
@@ -92,19 +126,43 @@ impl<R> Metrics<R> {
         })
     }
 
+    /// A handler of errors, for the builder of the pool: it counts each error, and then passes it
+    /// to this one, which may log it. From now on a snapshot tells how many there were. The error is
+    /// lack of memory.
+    pub fn around<H: Drop>(&self, handler: H) -> Result<CountingErrorHandler<H, R>, AllocError>
+        ensures { IfOk result (λ counting. counting ≡ handler) }
+    {
+        let metrics = self.try_clone()?;
+        self.records.hears_errors.store(true, Ordering::SeqCst);
+        Ok(CountingErrorHandler::new(handler, metrics))
+    }
+
     /// What was counted so far.
-    pub fn snapshot(&self) -> Snapshot {
+    pub fn snapshot(&self) -> Snapshot
+    where
+        R: Clock + Wait,
+    {
         let records = &*self.records;
         // What ends is read before what begins it, so that no more are closed than were opened.
-        let (ages, uses) = (records.ages.read(), records.uses.read());
+        let (closed, ages, uses) = (
+            records.closed.read(),
+            records.ages.read(),
+            records.uses.read(),
+        );
         let is_timed = records.is_timed.load(Ordering::SeqCst);
+        let (vain_waits, errors) = (records.vain_waits.read(), records.errors());
         Snapshot {
+            closed,
             ages,
             uses,
             waits: records.waits.read(),
             openings: is_timed.then(|| records.openings.read()),
             opened: records.opened.load(Ordering::SeqCst),
-            timeouts: records.timeouts.load(Ordering::SeqCst),
+            timeouts: vain_waits.count(),
+            vain_waits,
+            errors,
+            latest_error: records.since_latest(errors),
+            longest_loan: records.longest_loan(),
         }
     }
 
@@ -132,6 +190,19 @@ impl<R> Metrics<R> {
     {
         let records = &*self.records;
         records.lent.lock(&records.rt).unlisted()
+    }
+
+    /// The manager or the customizer failed now.
+    pub(crate) fn count_error(&self)
+    where
+        R: Clock,
+    {
+        let records = &*self.records;
+        // The moment of an error that is counted is there.
+        records
+            .latest_error
+            .store(records.moment(), Ordering::SeqCst);
+        records.errors.fetch_add(1, Ordering::SeqCst);
     }
 
     /// From now on openings are timed.
@@ -170,9 +241,38 @@ impl<R> Records<R> {
             None => 0,
         }
     }
+
+    // How many errors came; None where no handler tells of them.
+    fn errors(&self) -> Option<u64> {
+        if self.hears_errors.load(Ordering::SeqCst) {
+            Some(self.errors.load(Ordering::SeqCst))
+        } else {
+            None
+        }
+    }
+
+    // How long ago the latest of so many errors came; None where none came.
+    fn since_latest(&self, errors: Option<u64>) -> Option<Duration>
+    where
+        R: Clock,
+    {
+        match errors {
+            None | Some(0) => None,
+            Some(_) => {
+                let latest = self.latest_error.load(Ordering::SeqCst);
+                Some(Duration::from_nanos(self.moment().saturating_sub(latest)))
+            }
+        }
+    }
 }
 
 impl<R: Clock + Wait> Records<R> {
+    // For how long that connection is lent that is lent for longest.
+    fn longest_loan(&self) -> Duration {
+        let lent = self.lent.lock(&self.rt);
+        Duration::from_nanos(lent.longest(self.moment()))
+    }
+
     fn lend(&self, id: u64, waited: Duration) {
         self.waits.observe(waited);
         // The moment is read under the lock, so that those in the list are in the order of their
@@ -194,14 +294,15 @@ impl<R: PoolRuntime> HandleEvent for Metrics<R> {
 
     fn handle_release(&self, event: ReleaseEvent) {
         self.records.ages.observe(event.age());
+        self.records.closed.add(event.reason());
     }
 
     fn handle_checkout(&self, event: CheckoutEvent) {
         self.records.lend(event.connection_id(), event.duration());
     }
 
-    fn handle_timeout(&self, _event: TimeoutEvent) {
-        self.records.timeouts.fetch_add(1, Ordering::SeqCst);
+    fn handle_timeout(&self, event: TimeoutEvent) {
+        self.records.vain_waits.observe(event.timeout());
     }
 
     fn handle_checkin(&self, event: CheckinEvent) {

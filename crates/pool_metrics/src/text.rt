@@ -1,16 +1,18 @@
 // Prometheus' text format, version 0.0.4.
 ghost use Rattle.std.specs.Prelude.{◌≡◌};
-ghost use Rattle.pool_metrics.specs.Printed.{number_of, timing_of};
+ghost use Rattle.pool_metrics.specs.Printed.{figure_of, timing_of};
 
+use crate::buckets::nanos_of;
 use crate::histogram::Distribution;
 use crate::recording::Snapshot;
 use r2d2::Status;
+use r2d2::event::ReleaseReason;
 use std::fmt;
 
 /// What is printed of one pool.
 #[derive(Clone, Copy, Debug)]
 pub struct Reading<'a> {
-    /// The pool's name, any text: the label `pool`.
+    /// The pool's name, any text: the label `db_client_connection_pool_name`.
     pub pool: &'a str,
     /// What the pool is doing now.
     pub status: Status,
@@ -26,6 +28,7 @@ pub fn write<W: fmt::Write>(readings: &[Reading<'_>], out: &mut W) -> fmt::Resul
     for number in &NUMBERS {
         number.write(readings, out)?;
     }
+    write_closings(readings, out)?;
     for timing in &TIMINGS {
         timing.write(readings, out)?;
     }
@@ -71,9 +74,60 @@ impl<'a> Reading<'a> {
         count: u32,
         out: &mut W,
     ) -> fmt::Result {
-        let pool = Escaped(self.pool);
-        writeln!(out, "{name}{{pool=\"{pool}\",state=\"{state}\"}} {count}")
+        let pool = Pool(self.pool);
+        writeln!(
+            out,
+            "{name}{{{pool},db_client_connection_state=\"{state}\"}} {count}"
+        )
     }
+
+    // One line for each reason.
+    fn write_closings<W: fmt::Write>(&self, name: &str, out: &mut W) -> fmt::Result {
+        let pool = Pool(self.pool);
+        for reason in &REASONS {
+            let (count, reason) = (self.snapshot.closed.count(*reason), name_of(*reason));
+            writeln!(out, "{name}{{{pool},reason=\"{reason}\"}} {count}")?;
+        }
+        Ok(())
+    }
+}
+
+const REASONS: [ReleaseReason; 8] = [
+    ReleaseReason::Broken,
+    ReleaseReason::CheckFailed,
+    ReleaseReason::Distrusted,
+    ReleaseReason::Lifetime,
+    ReleaseReason::Idle,
+    ReleaseReason::Evicted,
+    ReleaseReason::Detached,
+    ReleaseReason::PoolClosed,
+];
+
+fn name_of(reason: ReleaseReason) -> &'static str {
+    match reason {
+        ReleaseReason::Broken => "broken",
+        ReleaseReason::CheckFailed => "check_failed",
+        ReleaseReason::Distrusted => "distrusted",
+        ReleaseReason::Lifetime => "lifetime",
+        ReleaseReason::Idle => "idle",
+        ReleaseReason::Evicted => "evicted",
+        ReleaseReason::Detached => "detached",
+        ReleaseReason::PoolClosed => "pool_closed",
+    }
+}
+
+// How many connections left each pool, for each reason.
+fn write_closings<W: fmt::Write>(readings: &[Reading<'_>], out: &mut W) -> fmt::Result {
+    let family = Family {
+        name: "db_client_connection_closed_total",
+        kind: "counter",
+        help: "Connections that left the pool, by the reason: a detached one was not closed.",
+    };
+    family.write(out)?;
+    for reading in readings {
+        reading.write_closings(family.name, out)?;
+    }
+    Ok(())
 }
 
 /// A metric that is one number.
@@ -82,81 +136,138 @@ pub(crate) enum Number {
     Max,
     IdleMin,
     PendingRequests,
+    PendingOpenings,
+    LongestLoan,
     Timeouts,
+    FailedOpenings,
+    FailedChecks,
+    Errors,
+    LatestError,
     Opened,
-    Closed,
 }
 
-const NUMBERS: [Number; 6] = [
+const NUMBERS: [Number; 11] = [
     Number::Max,
     Number::IdleMin,
     Number::PendingRequests,
+    Number::PendingOpenings,
+    Number::LongestLoan,
     Number::Timeouts,
+    Number::FailedOpenings,
+    Number::FailedChecks,
+    Number::Errors,
+    Number::LatestError,
     Number::Opened,
-    Number::Closed,
 ];
 
 impl Number {
-    fn family(self) -> Family {
-        let (name, kind, help) = match self {
-            Number::Max => (
-                "db_client_connection_max",
-                "gauge",
-                "How many connections the pool may have.",
-            ),
-            Number::IdleMin => (
-                "db_client_connection_idle_min",
-                "gauge",
-                "How many connections the pool tries to keep idle.",
-            ),
-            Number::PendingRequests => (
-                "db_client_connection_pending_requests",
-                "gauge",
-                "Callers that wait now.",
-            ),
-            Number::Timeouts => (
-                "db_client_connection_timeouts_total",
-                "counter",
-                "Callers that waited for a connection in vain.",
-            ),
-            Number::Opened => (
-                "db_client_connection_opened_total",
-                "counter",
-                "Connections that were opened.",
-            ),
-            Number::Closed => (
-                "db_client_connection_closed_total",
-                "counter",
-                "Connections that were closed.",
-            ),
-        };
-        Family { name, kind, help }
+    fn name(self) -> &'static str {
+        match self {
+            Number::Max => "db_client_connection_max",
+            Number::IdleMin => "db_client_connection_idle_min",
+            Number::PendingRequests => "db_client_connection_pending_requests",
+            Number::PendingOpenings => "db_client_connection_pending_openings",
+            Number::LongestLoan => "db_client_connection_longest_loan_seconds",
+            Number::Timeouts => "db_client_connection_timeouts_total",
+            Number::FailedOpenings => "db_client_connection_failed_openings_total",
+            Number::FailedChecks => "db_client_connection_failed_checks_total",
+            Number::Errors => "db_client_connection_errors_total",
+            Number::LatestError => "db_client_connection_latest_error_age_seconds",
+            Number::Opened => "db_client_connection_opened_total",
+        }
     }
 
-    // What it is for this pool.
-    fn of(self, status: &Status, snapshot: &Snapshot) -> u64
-        ensures { result ≡ number_of self status.now snapshot.now }
+    fn help(self) -> &'static str {
+        match self {
+            Number::Max => "How many connections the pool may have.",
+            Number::IdleMin => "How many connections the pool tries to keep idle.",
+            Number::PendingRequests => "Callers that wait now.",
+            Number::PendingOpenings => {
+                "Openings under way, those among them that failed and will be tried again."
+            }
+            Number::LongestLoan => {
+                "For how long that connection is lent now that is lent for longest."
+            }
+            Number::Timeouts => "Callers that waited for a connection in vain.",
+            Number::FailedOpenings => "Openings that failed, or whose connection was refused.",
+            Number::FailedChecks => "Checks of connections that failed.",
+            Number::Errors => "Errors of the manager and of the customizer.",
+            Number::LatestError => "How long ago the latest of these errors came.",
+            Number::Opened => "Connections that were opened.",
+        }
+    }
+
+    fn kind(self) -> &'static str {
+        match self {
+            Number::Max
+            | Number::IdleMin
+            | Number::PendingRequests
+            | Number::PendingOpenings
+            | Number::LongestLoan
+            | Number::LatestError => "gauge",
+            Number::Timeouts
+            | Number::FailedOpenings
+            | Number::FailedChecks
+            | Number::Errors
+            | Number::Opened => "counter",
+        }
+    }
+
+    // What it is for this pool, if it is known.
+    fn of(self, status: &Status, snapshot: &Snapshot) -> Option<Figure>
+        ensures { result ≡ figure_of self status.now snapshot.now }
     {
         match self {
-            Number::Max => u64::from(status.max_size),
-            Number::IdleMin => u64::from(status.wanted),
-            Number::PendingRequests => status.waiting,
-            Number::Timeouts => snapshot.timeouts,
-            Number::Opened => snapshot.opened,
-            Number::Closed => snapshot.ages.count(),
+            Number::Max => Some(Figure::Count(u64::from(status.max_size))),
+            Number::IdleMin => Some(Figure::Count(u64::from(status.wanted))),
+            Number::PendingRequests => Some(Figure::Count(status.waiting)),
+            Number::PendingOpenings => Some(Figure::Count(u64::from(status.opening))),
+            Number::LongestLoan => Some(Figure::Length(nanos_of(snapshot.longest_loan))),
+            Number::Timeouts => Some(Figure::Count(snapshot.timeouts)),
+            Number::FailedOpenings => Some(Figure::Count(status.failed_openings)),
+            Number::FailedChecks => Some(Figure::Count(status.failed_checks)),
+            Number::Errors => snapshot.errors.map(|count| Figure::Count(count)),
+            Number::LatestError => {
+                let latest = snapshot.latest_error;
+                latest.map(|length| Figure::Length(nanos_of(length)))
+            }
+            Number::Opened => Some(Figure::Count(snapshot.opened)),
         }
     }
 
     fn write<W: fmt::Write>(self, readings: &[Reading<'_>], out: &mut W) -> fmt::Result {
-        let family = self.family();
-        family.write(out)?;
-        let name = family.name;
+        if readings
+            .iter()
+            .all(|it| self.of(&it.status, &it.snapshot).is_none())
+        {
+            return Ok(());
+        }
+        let (name, kind, help) = (self.name(), self.kind(), self.help());
+        Family { name, kind, help }.write(out)?;
         for reading in readings {
-            let pool = Escaped(reading.pool);
-            let number = self.of(&reading.status, &reading.snapshot);
-            writeln!(out, "{name}{{pool=\"{pool}\"}} {number}")?;
+            let pool = Pool(reading.pool);
+            if let Some(figure) = self.of(&reading.status, &reading.snapshot) {
+                writeln!(out, "{name}{{{pool}}} {figure}")?;
+            }
         }
         Ok(())
+    }
+}
+
+/// What a metric tells.
+#[derive(Clone, Copy, PartialEq, Eq, Debug)]
+pub(crate) enum Figure {
+    Count(u64),
+    /// In nanoseconds; in seconds where it is printed.
+    Length(u64),
+}
+
+impl fmt::Display for Figure {
+    fn fmt<W: fmt::Write>(&self, f: &mut fmt::Formatter<W>) -> fmt::Result {
+        match *self {
+            Figure::Count(count) => write!(f, "{count}"),
+            Figure::Length(nanos) => fmt::Display::fmt(&Seconds(nanos), f),
+        }
     }
 }
 
@@ -164,12 +275,19 @@ impl Number {
 #[derive(Clone, Copy, PartialEq, Eq, Debug)]
 pub(crate) enum Timing {
     Wait,
+    VainWait,
     Use,
     Create,
     Age,
 }
 
-const TIMINGS: [Timing; 4] = [Timing::Wait, Timing::Use, Timing::Create, Timing::Age];
+const TIMINGS: [Timing; 5] = [
+    Timing::Wait,
+    Timing::VainWait,
+    Timing::Use,
+    Timing::Create,
+    Timing::Age,
+];
 
 impl Timing {
     fn family(self) -> Family {
@@ -177,6 +295,10 @@ impl Timing {
             Timing::Wait => (
                 "db_client_connection_wait_time_seconds",
                 "How long callers waited for the connections that they got.",
+            ),
+            Timing::VainWait => (
+                "db_client_connection_vain_wait_time_seconds",
+                "How long callers waited that got no connection: the timeouts of their calls.",
             ),
             Timing::Use => (
                 "db_client_connection_use_time_seconds",
@@ -188,7 +310,7 @@ impl Timing {
             ),
             Timing::Age => (
                 "db_client_connection_age_seconds",
-                "How old connections were when they were closed.",
+                "How old connections were when they left the pool.",
             ),
         };
         Family {
@@ -204,6 +326,7 @@ impl Timing {
     {
         match self {
             Timing::Wait => Some(snapshot.waits),
+            Timing::VainWait => Some(snapshot.vain_waits),
             Timing::Use => Some(snapshot.uses),
             Timing::Create => snapshot.openings,
             Timing::Age => Some(snapshot.ages),
@@ -232,17 +355,14 @@ fn write_histogram<W: fmt::Write>(
     distribution: &Distribution,
     out: &mut W,
 ) -> fmt::Result {
-    let pool = Escaped(pool);
+    let pool = Pool(pool);
     for bucket in &distribution.buckets() {
         let (up_to, count) = (bucket.up_to, bucket.count);
-        writeln!(
-            out,
-            "{name}_bucket{{pool=\"{pool}\",le=\"{up_to}\"}} {count}"
-        )?;
+        writeln!(out, "{name}_bucket{{{pool},le=\"{up_to}\"}} {count}")?;
     }
     let (sum, count) = (Seconds(distribution.nanos()), distribution.count());
-    writeln!(out, "{name}_sum{{pool=\"{pool}\"}} {sum}")?;
-    writeln!(out, "{name}_count{{pool=\"{pool}\"}} {count}")
+    writeln!(out, "{name}_sum{{{pool}}} {sum}")?;
+    writeln!(out, "{name}_count{{{pool}}} {count}")
 }
 
 // What a digit counts behind the point, in nanoseconds.
@@ -279,6 +399,17 @@ impl fmt::Display for Seconds {
             rest %= place;
         }
         Ok(())
+    }
+}
+
+/// The label with a pool's name.
+#[derive(Clone, Copy)]
+struct Pool<'a>(&'a str);
+
+impl<'a> fmt::Display for Pool<'a> {
+    fn fmt<W: fmt::Write>(&self, f: &mut fmt::Formatter<W>) -> fmt::Result {
+        let name = Escaped(self.0);
+        write!(f, "db_client_connection_pool_name=\"{name}\"")
     }
 }
 
