@@ -1,6 +1,8 @@
 // How a caller comes to a connection.
 ghost use Rattle.std.specs.Prelude.{◌≡◌, ◌≤◌, ◌<◌, ◌+◌, IfOk, IfErr, IfSome, IsSome};
+ghost use Rattle.std.specs.Prelude.{Some, false, is_some};
 ghost use Rattle.std.specs.Option.{IsNone};
+ghost use Rattle.std.specs.Duration.{as_nanos};
 
 use super::call_time::CallTime;
 use super::lent::{AnyConnection, Lent};
@@ -62,7 +64,9 @@ impl<C: CountTakes, M: ManageConnection, K: Hooks<M>, R: PoolRuntime> AnyPool<C,
 
 impl<C: TakeCounter, M: ManageConnection, K: Hooks<M>, R: PoolRuntime> SharedOf<C, M, K, R> {
     // The moment at which a call begins, where somebody sees it.
-    fn start_of_call(&self) -> Option<Duration> {
+    fn start_of_call(&self) -> Option<Duration>
+        ensures { is_some result ≡ self.now.listens }
+    {
         if !self.listens {
             return None;
         }
@@ -72,7 +76,10 @@ impl<C: TakeCounter, M: ManageConnection, K: Hooks<M>, R: PoolRuntime> SharedOf<
     // Tells that a connection is lent, and answers when. Where nobody listens and nothing was
     // checked since, that is when it was taken.
     #[inline(always)]
-    fn check_out(&self, id: u64, time: &CallTime) -> Duration {
+    fn check_out(&self, id: u64, time: &CallTime) -> Duration
+        ensures { self.now.listens ≡ false → K.tests self.now.hooks ≡ false
+            → as_nanos result ≡ time.now.step }
+    {
         if !self.listens && !self.hooks.test_on_check_out() {
             return time.step();
         }
@@ -97,7 +104,12 @@ impl<C: TakeCounter, M: ManageConnection, K: Hooks<M>, R: PoolRuntime> SharedOf<
     /// The connection, where it need not be checked, or its check finds it sound. Else it is
     /// closed.
     #[inline(always)]
-    fn if_sound(&self, mut lent: Lent<PayloadOf<M>>) -> Option<Lent<PayloadOf<M>>> {
+    fn if_sound(&self, mut lent: Lent<PayloadOf<M>>) -> Option<Lent<PayloadOf<M>>>
+        ensures unchecked { K.tests self.now.hooks ≡ false → result ≡ Some lent }
+        ensures id { IfSome result (λ sound. sound.id ≡ lent.id) }
+        ensures extensions { IfSome result
+            (λ sound. sound.payload.extensions ≡ lent.payload.extensions) }
+    {
         if self.hooks.test_on_check_out() {
             if let Err(error) = self.manager.is_valid(&mut lent.payload.connection) {
                 self.close_unsound(lent, error);

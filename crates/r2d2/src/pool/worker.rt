@@ -1,4 +1,8 @@
 // What a worker does: it opens connections, closes expired ones, and waits for either.
+ghost use Rattle.std.specs.Prelude.{◌≡◌, length};
+ghost use Rattle.r2d2_core.specs.BookSteps.{IsReap};
+ghost use Rattle.r2d2.specs.Room.{HasRoom};
+ghost use Rattle.r2d2.specs.Wakes.{wakes_of_reap};
 
 use super::PoolRuntime;
 use super::evicting::has_room;
@@ -82,8 +86,14 @@ impl<C: TakeCounter, M: ManageConnection, K: Hooks<M>, R: PoolRuntime> SharedOf<
 }
 
 impl<P: Drop, C: TakeCounter> Guarded<CountingBook<P, C>> {
-    // Closes what is expired, into the list.
-    fn reap(&mut self, now: Duration, expired: &mut Vec<Released<P>>) -> Wakes {
+    // Closes what is expired, into the list, which is empty and has room for all.
+    fn reap(&mut self, now: Duration, expired: &mut Vec<Released<P>>) -> Wakes
+        ensures step { HasRoom self.old.book.book.picture.on_order.limits.max_size expired.old
+            → (ordered : _) × (result ≡ wakes_of_reap (length expired.new.items) ordered)
+            × IsReap now expired.new.items ordered self.old.book.book self.new.book.book }
+        ensures kept { self.new.evicted_below ≡ self.old.evicted_below }
+        ensures waiting { self.new.waiting ≡ self.old.waiting }
+    {
         if !has_room(self.book.book(), expired) {
             return Wakes::nobody();
         }
