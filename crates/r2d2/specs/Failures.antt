@@ -37,3 +37,7 @@ IsOfAGet e = (e.kind ≡ Memory) ⊎ ((e.kind ≡ Timeout) ⊎ (e.kind ≡ Close
 -- memory was refused, or a thread
 abbrev pub IsOfMemoryOrThreads : Failure → Type 0
 IsOfMemoryOrThreads e = (e.kind ≡ Memory) ⊎ (e.kind ≡ Threads)
+
+-- or fewer connections came in time than are wanted idle
+abbrev pub IsOfABuild : Failure → Type 0
+IsOfABuild e = IsOfMemoryOrThreads e ⊎ (e.kind ≡ Timeout)

@@ -10,3 +10,5 @@ pub mod Counted
 pub mod Lent
 pub mod Status
 pub mod Evicted
+pub mod CallTime
+pub mod Room

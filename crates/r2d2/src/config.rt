@@ -502,7 +502,9 @@ impl<
 
     /// The limits of a pool's book, whose delays grow to half of their connection timeout.
     pub(crate) fn limits_of_book(&self) -> Option<Limits>
-        ensures { IsSome result ↔ ForSome self.now.min_idle (λ n. n ≤ self.now.max_size) }
+        ensures legal { IsSome result ↔ ForSome self.now.min_idle (λ n. n ≤ self.now.max_size) }
+        ensures given { IfSome result
+            (λ limits. (timeout : _) × (seen_limits limits ≡ limits_within timeout self.now)) }
     {
         self.limits_within(
             self.tuning

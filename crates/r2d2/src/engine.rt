@@ -2,7 +2,8 @@
 //! whom to wake when the lock is free again. Beside it `Payload`, which a pool's book keeps, and
 //! `open`, which needs no book and no lock.
 ghost use Rattle.std.specs.Prelude.{◌≡◌, ◌≤◌, length, vec_len, vec_capacity};
-ghost use Rattle.r2d2_core.specs.Seen.{seen_take, seen_returned, map_ok};
+ghost use Rattle.std.specs.Duration.{as_nanos};
+ghost use Rattle.r2d2_core.specs.Seen.{seen_take, seen_returned, seen_gone, map_ok};
 ghost use Rattle.r2d2_core.specs.BookSteps.{IsTake, IsReturn, IsReap};
 ghost use Rattle.r2d2.specs.Wakes.{wakes_of_take, wakes_of_return, wakes_of_reap};
 ghost use Rattle.r2d2.specs.Settled.{seen_settled, wakes_of_settled, IsSettling};
@@ -96,6 +97,38 @@ pub enum Settled<T> {
 }
 
 impl<T> Settled<T> {
+    ghost use Rattle.r2d2.specs.Settled.{settled_admission, settled_failure, settled_check};
+
+    // By the book's answer to an admission.
+    fn of_admission(answer: Result<(), (Refusal, T)>) -> Settled<T>
+        ensures { seen_settled result ≡ settled_admission answer }
+    {
+        match answer {
+            Ok(()) => Settled::Admitted,
+            Err((why, value)) => Settled::Refused(why, Some(value)),
+        }
+    }
+
+    // To a failed opening.
+    fn of_failure(answer: Result<Duration, Refusal>) -> Settled<T>
+        ensures { seen_settled result ≡ settled_failure (map_ok as_nanos answer) }
+    {
+        match answer {
+            Ok(due) => Settled::Retry(due),
+            Err(why) => Settled::Refused(why, None),
+        }
+    }
+
+    // To a failed check.
+    fn of_check(answer: Result<Gone, Refusal>) -> Settled<T>
+        ensures { seen_settled result ≡ settled_check (map_ok seen_gone answer) }
+    {
+        match answer {
+            Ok(gone) => Settled::Gone(gone),
+            Err(why) => Settled::Refused(why, None),
+        }
+    }
+
     // Whom to wake after it.
     fn wakes(&self) -> Wakes
         ensures { result ≡ wakes_of_settled (seen_settled self.now) }
@@ -160,18 +193,9 @@ pub fn settle<T, A: Allocator>(
     ensures wakes { result.1 ≡ wakes_of_settled (seen_settled result.0) }
 {
     let settled = match outcome {
-        Outcome::Opened { id, value } => match book.admit(now, id, value) {
-            Ok(()) => Settled::Admitted,
-            Err((why, value)) => Settled::Refused(why, Some(value)),
-        },
-        Outcome::Failed { tries, text } => match book.fail(now, tries, text) {
-            Ok(due) => Settled::Retry(due),
-            Err(why) => Settled::Refused(why, None),
-        },
-        Outcome::Unsound { id, text } => match book.fail_check(now, id, text) {
-            Ok(gone) => Settled::Gone(gone),
-            Err(why) => Settled::Refused(why, None),
-        },
+        Outcome::Opened { id, value } => Settled::of_admission(book.admit(now, id, value)),
+        Outcome::Failed { tries, text } => Settled::of_failure(book.fail(now, tries, text)),
+        Outcome::Unsound { id, text } => Settled::of_check(book.fail_check(now, id, text)),
     };
     let wakes = settled.wakes();
     (settled, wakes)

@@ -1,4 +1,5 @@
 // What the pool tells its handlers, and asks its customizer: one bound for the three of them.
+ghost use Rattle.std.specs.Prelude.{◌≡◌, Bool};
 
 use crate::config::Config;
 use crate::event::{
@@ -25,8 +26,12 @@ pub trait Hooks<M: ManageConnection>: Send + Sync + Drop + 'static {
     /// The customizer.
     fn customizer(&self) -> &Self::Customizer;
 
+    // Whether a connection is checked before it is lent.
+    ghost tests: { Self → Bool };
+
     /// Whether a connection is checked before it is lent.
-    fn test_on_check_out(&self) -> bool;
+    fn test_on_check_out(&self) -> bool
+        ensures { result ≡ tests self.now };
 
     /// The manager or the customizer failed.
     fn error(&self, error: M::Error);
@@ -57,6 +62,8 @@ impl<
     Z: CustomizeConnection<M::Connection, M::Error>,
 > Hooks<M> for Config<H, V, Z> {
     type Customizer = Z;
+
+    ghost tests = { λ config. config.test_on_check_out };
 
     fn customizer(&self) -> &Z {
         &self.connection_customizer

@@ -299,10 +299,12 @@ impl<
 
 impl<M: ManageConnection, R: PoolRuntime> PlainPool<M, R> {
     ghost use Rattle.r2d2.specs.Settings.{AreDefaults};
+    ghost use Rattle.r2d2.specs.Failures.{IsOfABuild};
 
     /// A pool with the default settings: see `Builder::build`.
     pub fn new(rt: R, manager: M) -> Result<Self, Error>
-        ensures { IfOk result AreDefaults }
+        ensures settings { IfOk result AreDefaults }
+        ensures refused { IfErr result IsOfABuild }
     {
         Builder::new().build(rt, manager)
     }

@@ -1,6 +1,7 @@
 // A book whose takes a ledger counts.
 ghost use Rattle.std.specs.Prelude.{ℕ, ⊤, ◌≡◌, ◌+◌, ◌*◌, ◌<◌, ◌≤◌, length, vec_len, vec_capacity};
 ghost use Rattle.std.specs.Prelude.{IfOk};
+ghost use Rattle.std.specs.Duration.{as_nanos};
 ghost use Rattle.r2d2_core.specs.Seen.{seen_take, seen_returned, map_ok};
 ghost use Rattle.r2d2_core.specs.BookSteps.{IsTake, IsBegin, IsNumbering, IsReturn, IsReap};
 ghost use Rattle.r2d2_core.specs.BookSteps.{IsTelling, IsClose};
@@ -168,6 +169,8 @@ impl<T, L: Ledger> Counted<T, L> {
         requires { all.old.parts ≡ L.parts }
         ensures given { IfOk result (λ report. IsReportOf self.old.book report) }
         ensures sound { IfOk result IsSoundReport }
+        ensures since { IfOk result
+            (λ report. report.lost ≡ 0 → as_nanos report.base.at ≡ self.old.book.journal.made) }
         ensures takes { IfOk result (λ report. report.takes ≡ counted_up_to all.old.amount) }
         ensures book { self.new.book ≡ self.old.book }
         ensures total { self.new.total ≡ self.old.total }
@@ -259,6 +262,8 @@ impl<T, C: TakeCounter> CountingBook<T, C> {
     pub fn report(&self) -> Result<Report, AllocError>
         ensures given { IfOk result (λ report. IsReportOf self.now.book report) }
         ensures sound { IfOk result IsSoundReport }
+        ensures since { IfOk result
+            (λ report. report.lost ≡ 0 → as_nanos report.base.at ≡ self.now.book.journal.made) }
     {
         self.book.report()
     }

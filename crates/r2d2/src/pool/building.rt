@@ -1,8 +1,13 @@
 // How a pool is made from its settings.
-ghost use Rattle.std.specs.Prelude.{◌≡◌, ◌≤◌, IfOk, IfErr};
+ghost use Rattle.std.specs.Prelude.{◌≡◌, ◌≤◌, length, All, IfOk, IfErr};
 ghost use Rattle.std.specs.Option.{ForSome};
 ghost use Rattle.std.specs.Arc.{arc_value};
-ghost use Rattle.r2d2.specs.Failures.{IsOfMemoryOrThreads};
+ghost use Rattle.r2d2_core.specs.Table.{first_picture};
+ghost use Rattle.r2d2_core.specs.Journal.{first_journal};
+ghost use Rattle.r2d2_core.specs.Book.{seen_book};
+ghost use Rattle.r2d2.specs.Settings.{limits_within};
+ghost use Rattle.r2d2.specs.Room.{HasRoom};
+ghost use Rattle.r2d2.specs.Failures.{IsOfMemoryOrThreads, IsOfABuild};
 
 use super::closing::Closer;
 use super::locking::{Guarded, Shared, SharedOf};
@@ -13,7 +18,7 @@ use crate::event::HandleEvent;
 use crate::hooks::Hooks;
 use crate::payload::PayloadOf;
 use crate::tuning::Tuning;
-use crate::{CustomizeConnection, Error, HandleError, ManageConnection};
+use crate::{CustomizeConnection, Error, ErrorKind, HandleError, ManageConnection};
 use r2d2_core::{Book, Released};
 use std::alloc::{AllocError, Global};
 use std::sync::ledger::Ledger;
@@ -36,6 +41,7 @@ impl<
     pub fn build<R: PoolRuntime>(self, rt: R, manager: M) -> Result<Pool<M, H, V, Z, R>, Error>
         requires { ForSome self.min_idle (λ n. n ≤ self.max_size) }
         ensures settings { IfOk result (λ pool. pool ≡ self) }
+        ensures refused { IfErr result IsOfABuild }
     {
         let pool = self.build_unchecked(rt, manager)?;
         wait_for_connections(&pool)?;
@@ -91,6 +97,11 @@ impl<
         requires { ForSome self.min_idle (λ n. n ≤ self.max_size) }
         ensures settings { IfOk result (λ made. made.0 ≡ self) }
         ensures takes { IfOk result (λ made. made.1.journal.takes ≡ 0) }
+        ensures book { IfOk result (λ made. (first_id : _) × (timeout : _) × (made.1
+            ≡ seen_book (first_picture (limits_within timeout self) 0 first_id)
+            (first_journal (limits_within timeout self) 0 self.journal_room))) }
+        ensures workers { IfOk result (λ made. length made.2.items ≡ self.thread_pool) }
+        ensures room { IfOk result (λ made. All (HasRoom self.max_size) made.2.items) }
     {
         let Some(limits) = self.limits_of_book() else {
             unreachable!()
@@ -138,7 +149,9 @@ fn wait_for_connections<
     V: HandleEvent + 'static,
     Z: CustomizeConnection<M::Connection, M::Error>,
     R: PoolRuntime,
->(pool: &Pool<M, H, V, Z, R>) -> Result<(), Error> {
+>(pool: &Pool<M, H, V, Z, R>) -> Result<(), Error>
+    ensures { IfErr result (λ error. error.kind ≡ ErrorKind.Timeout) }
+{
     let shared = pool.shared();
     let config = &shared.hooks;
     let wanted = config.min_idle.unwrap_or(config.max_size);
@@ -150,7 +163,10 @@ fn reap_lists<P: Drop>(
     alloc: Global,
     workers: usize,
     room: u32,
-) -> Result<Vec<Vec<Released<P>>>, AllocError> {
+) -> Result<Vec<Vec<Released<P>>>, AllocError>
+    ensures workers { IfOk result (λ lists. length lists.items ≡ workers) }
+    ensures room { IfOk result (λ lists. All (HasRoom room) lists.items) }
+{
     let mut lists = Vec::with_capacity(alloc, workers)?;
     for _ in 0..workers {
         lists.push(Vec::with_capacity(alloc, room as usize)?)?;

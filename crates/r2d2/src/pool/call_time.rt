@@ -1,9 +1,12 @@
 // What a call that wants a connection saw of the clock.
+ghost use Rattle.std.specs.Prelude.{◌≡◌, ◌≤◌, nat_lt, is_some, option_map};
+ghost use Rattle.std.specs.Duration.{as_nanos};
 
+use std::marker::Model;
 use std::time::Duration;
 
 /// What a call saw of the clock, which may fail for one reading.
-#[derive(Clone, Copy)]
+#[derive(Drop)]
 pub struct CallTime {
     /// When it began: its first reading, from which its timeout counts.
     start: Option<Duration>,
@@ -15,9 +18,33 @@ pub struct CallTime {
     left: u32,
 }
 
+// Contracts see it with moments in nanoseconds.
+impl Model for CallTime {
+    ghost use Rattle.std.specs.Prelude.{◌≤◌, option_map};
+    ghost use Rattle.std.specs.Option.{ForSome};
+    ghost use Rattle.std.specs.Duration.{as_nanos};
+    ghost use Rattle.r2d2.specs.CallTime.{SeenCallTime};
+
+    ghost Value = { SeenCallTime };
+
+    ghost view = { λ c. record {
+      start = option_map as_nanos c.start;
+      step = as_nanos c.step;
+      seen = as_nanos c.seen;
+      left = c.left;
+    } };
+
+    ghost invariant = { λ c. ForSome c.start (λ start. as_nanos start ≤ as_nanos c.seen) };
+}
+
 impl CallTime {
+    ghost use Rattle.r2d2.specs.CallTime.{begun_at, looked_at, start_of, left_of};
+    ghost use Rattle.r2d2.specs.CallTime.{may_still_take, with_one_less};
+
     /// Of a call that looked at the clock as it began, or did not.
-    pub(super) fn new(start: Option<Duration>) -> CallTime {
+    pub(super) fn new(start: Option<Duration>) -> CallTime
+        ensures { result ≡ begun_at (option_map as_nanos start) }
+    {
         CallTime {
             start,
             step: Duration::ZERO,
@@ -28,43 +55,62 @@ impl CallTime {
 
     /// Whether a call that does not wait may take one of so many idle connections: each of those
     /// that it takes may fail its check, so it takes no more than were idle at its first look.
-    pub(super) fn may_take(&mut self, idle: u32) -> bool {
+    pub(super) fn may_take(&mut self, idle: u32) -> bool
+        ensures value { result ≡ nat_lt 0 (may_still_take idle self.old) }
+        ensures after { self.new ≡ with_one_less idle self.old }
+    {
         let left = self.left.min(idle);
         self.left = left.saturating_sub(1);
         left > 0
     }
 
     /// It looks at the clock, which shows this.
-    pub(super) fn look(&mut self, now: Duration) {
+    pub(super) fn look(&mut self, now: Duration)
+        ensures { self.new ≡ looked_at (as_nanos now) self.old }
+    {
         if self.start.is_none() {
             self.start = Some(now);
         }
         self.step = now;
-        self.seen = self.seen.max(now);
+        // A clock that can't be read shows zero.
+        if now.checked_sub(self.seen).is_some() {
+            self.seen = now;
+        }
     }
 
     /// Whether it looked at the clock.
-    pub(super) fn has_begun(&self) -> bool {
+    pub(super) fn has_begun(&self) -> bool
+        ensures { result ≡ is_some self.now.start }
+    {
         self.start.is_some()
     }
 
     /// When it began.
-    pub(super) fn start(&self) -> Duration {
+    pub(super) fn start(&self) -> Duration
+        ensures { as_nanos result ≡ start_of self.now }
+    {
         self.start.unwrap_or(self.seen)
     }
 
     /// The moment of its latest step.
-    pub(super) fn step(&self) -> Duration {
+    pub(super) fn step(&self) -> Duration
+        ensures { as_nanos result ≡ self.now.step }
+    {
         self.step
     }
 
     /// How long it has lasted.
-    pub(super) fn waited(&self) -> Duration {
+    pub(super) fn waited(&self) -> Duration
+        ensures { as_nanos result ≡ self.now.seen - start_of self.now }
+    {
         self.seen.saturating_sub(self.start())
     }
 
     /// How much is left of its timeout.
-    pub(super) fn left_of(&self, timeout: Duration) -> Duration {
+    pub(super) fn left_of(&self, timeout: Duration) -> Duration
+        ensures left { as_nanos result ≡ left_of (as_nanos timeout) self.now }
+        ensures within { as_nanos result ≤ as_nanos timeout }
+    {
         let end = self.start().saturating_add(timeout);
         end.saturating_sub(self.seen)
     }

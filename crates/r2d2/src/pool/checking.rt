@@ -1,4 +1,5 @@
 // What is lent is checked first, and what a failed check tells of the others.
+ghost use Rattle.std.specs.Prelude.{◌≡◌, Some, false, IfSome};
 
 use super::PoolRuntime;
 use super::lent::Lent;
@@ -14,7 +15,9 @@ use std::time::Duration;
 impl<C: TakeCounter, M: ManageConnection, K: Hooks<M>, R: PoolRuntime> SharedOf<C, M, K, R> {
     /// Whether a connection that is idle since this moment is checked before it is lent now.
     #[inline(always)]
-    pub(super) fn is_to_check(&self, idle_since: Duration, now: Duration) -> bool {
+    pub(super) fn is_to_check(&self, idle_since: Duration, now: Duration) -> bool
+        ensures { K.tests self.now.hooks ≡ false → result ≡ false }
+    {
         self.hooks.test_on_check_out() && self.tuning.is_check_due(idle_since, now)
     }
 
@@ -25,7 +28,13 @@ impl<C: TakeCounter, M: ManageConnection, K: Hooks<M>, R: PoolRuntime> SharedOf<
         &self,
         mut lent: Lent<PayloadOf<M>>,
         is_checked: bool,
-    ) -> Option<Lent<PayloadOf<M>>> {
+    ) -> Option<Lent<PayloadOf<M>>>
+        ensures unchecked { is_checked ≡ false → self.now.tuning.distrust_idle ≡ false
+            → result ≡ Some lent }
+        ensures id { IfSome result (λ sound. sound.id ≡ lent.id) }
+        ensures extensions { IfSome result
+            (λ sound. sound.payload.extensions ≡ lent.payload.extensions) }
+    {
         if self.tuning.distrust_idle && self.is_distrusted(lent.payload.idle_since) {
             if let Some(closed) = self.give_back(lent, Some(ReleaseReason::Distrusted)) {
                 self.hooks.release(closed);

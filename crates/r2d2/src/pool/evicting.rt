@@ -1,6 +1,6 @@
 // What closes many connections at once: an eviction, and what it shares with a worker's reap.
-ghost use Rattle.std.specs.Prelude.{◌≡◌, ◌≤◌, ◌<◌, ◌+◌, ◌*◌, IsTrue, IfOk, OnErr};
-ghost use Rattle.std.specs.Prelude.{vec_len, vec_capacity};
+ghost use Rattle.std.specs.Prelude.{◌≡◌, ◌<◌, ◌+◌, ◌*◌, ◌↔◌, IsTrue, IfOk, OnErr};
+ghost use Rattle.r2d2.specs.Room.{HasRoom};
 
 use super::PoolRuntime;
 use super::locking::SharedOf;
@@ -57,9 +57,7 @@ impl<C: TakeCounter, M: ManageConnection, K: Hooks<M>, R: PoolRuntime> SharedOf<
 /// Whether a reap or an eviction can use the list. It has room from the making on; but of a locked
 /// book its type alone is known, so this asks.
 pub(super) fn has_room<P>(book: &Book<P>, expired: &Vec<Released<P>>) -> bool
-    ensures { IsTrue result
-        → (vec_len expired.now ≡ 0)
-        × (book.now.picture.on_order.limits.max_size ≤ vec_capacity expired.now) }
+    ensures { IsTrue result ↔ HasRoom book.now.picture.on_order.limits.max_size expired.now }
 {
     expired.is_empty() && expired.capacity() >= book.limits().max_size() as usize
 }

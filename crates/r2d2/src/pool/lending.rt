@@ -1,6 +1,8 @@
 // How a caller comes to a connection.
 ghost use Rattle.std.specs.Prelude.{◌≡◌, ◌≤◌, ◌<◌, ◌+◌, IfOk, IfErr, IfSome, IsSome};
+ghost use Rattle.std.specs.Prelude.{Some, false, is_some};
 ghost use Rattle.std.specs.Option.{IsNone};
+ghost use Rattle.std.specs.Duration.{as_nanos};
 
 use super::call_time::CallTime;
 use super::lent::AnyConnection;
@@ -61,7 +63,9 @@ impl<C: CountTakes, M: ManageConnection, K: Hooks<M>, R: PoolRuntime> AnyPool<C,
 
 impl<C: TakeCounter, M: ManageConnection, K: Hooks<M>, R: PoolRuntime> SharedOf<C, M, K, R> {
     // The moment at which a call begins, where somebody sees it.
-    fn start_of_call(&self) -> Option<Duration> {
+    fn start_of_call(&self) -> Option<Duration>
+        ensures { is_some result ≡ self.now.listens }
+    {
         if !self.listens {
             return None;
         }
@@ -71,7 +75,10 @@ impl<C: TakeCounter, M: ManageConnection, K: Hooks<M>, R: PoolRuntime> SharedOf<
     // Tells that a connection is lent, and answers when. Where nobody listens and it was not checked
     // since, that is when it was taken.
     #[inline(always)]
-    fn check_out(&self, id: u64, is_checked: bool, time: &CallTime) -> Duration {
+    fn check_out(&self, id: u64, is_checked: bool, time: &CallTime) -> Duration
+        ensures { self.now.listens ≡ false → is_checked ≡ false
+            → as_nanos result ≡ time.now.step }
+    {
         if !self.listens && !is_checked {
             return time.step();
         }

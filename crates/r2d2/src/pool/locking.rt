@@ -82,17 +82,23 @@ impl<B> Guarded<B> {
 }
 
 impl<P, C: TakeCounter> Guarded<CountingBook<P, C>> {
-    ghost use Rattle.r2d2.specs.Status.{IsStatus};
+    ghost use Rattle.r2d2.specs.Status.{IsStatus, is_all_lent};
 
     /// The counts, with those of the callers who wait.
     pub(super) fn status(&self) -> Status
-        ensures { IsStatus result }
+        ensures sums { IsStatus result }
+        ensures idle { result.idle ≡ length self.now.book.book.picture.idle }
+        ensures lent { result.lent ≡ length self.now.book.book.picture.lent }
+        ensures waiting { result.waiting ≡ self.now.waiting }
+        ensures closed { result.closed ≡ self.now.book.book.picture.on_order.closed }
     {
         Status::of(self.book.book(), self.waiting, &self.failures)
     }
 
     /// Whether nothing is idle, and something is to come back.
-    pub(super) fn is_all_lent(&self) -> bool {
+    pub(super) fn is_all_lent(&self) -> bool
+        ensures { result ≡ is_all_lent self.now.book.book.picture }
+    {
         let book = self.book.book();
         book.idle() == 0 && book.connections() > 0 && !book.is_closed()
     }
@@ -242,10 +248,14 @@ pub struct Shared<B, M, K, R> {
 pub type SharedOf<C, M, K, R> = Shared<CountingBook<PayloadOf<M>, C>, M, K, R>;
 
 impl<B, M, K, R> Shared<B, M, K, R> {
+    ghost use Rattle.std.specs.Option.{IsNone};
+    ghost use Rattle.std.specs.Duration.{as_nanos};
+
     /// The time since the pool was made; zero where the clock can't be read.
     pub(super) fn moment(&self) -> Duration
     where
         R: Clock,
+        ensures { IsNone self.now.made → as_nanos result ≡ 0 }
     {
         match &self.made {
             Some(made) => made.elapsed(&self.rt).unwrap_or(Duration::ZERO),

@@ -1,8 +1,10 @@
 // Those who wait at the callers' variable: a caller, the maker of a pool, and who drains one.
-ghost use Rattle.std.specs.Prelude.{◌≡◌, ◌<◌, ◌+◌, IsSome, IfSome, MatchOption, IfOk, IfErr};
+ghost use Rattle.std.specs.Prelude.{◌≡◌, ◌<◌, ◌+◌, ◌↔◌, IsSome, IfSome, MatchOption, IfOk, IfErr};
 ghost use Rattle.std.specs.Prelude.{OnErr};
 ghost use Rattle.std.specs.Option.{IsNone};
 ghost use Rattle.std.specs.Result.{IsOk};
+ghost use Rattle.std.specs.Duration.{as_nanos};
+ghost use Rattle.r2d2.specs.CallTime.{looked_at, left_of};
 ghost use Rattle.r2d2.specs.Status.{IsStatus};
 ghost use Rattle.r2d2.specs.Failures.{IsOfAGet};
 
@@ -46,6 +48,7 @@ impl<P: Drop, C: CountTakes, M, K, R: Clock + Wait + AllocGlobal> Shared<
         ensures error { IfErr result IsOfAGet }
         ensures waits { IsSome timeout → IfOk result IsSome }
         ensures at_once { IsNone timeout → IsOk result }
+        ensures looks { IfOk result (λ found. IsSome found → IsSome time.new.start) }
     {
         // Modelled in model/waiting.pml: keep both alike.
         let mut guarded = self.lock_for(time);
@@ -105,7 +108,9 @@ impl<P: Drop, C: TakeCounter, M, K, R: Clock + Wait + AllocGlobal> Shared<
 > {
     // Takes the lock for a call. One that has to wait for it, and looked at no clock before, does
     // so first.
-    fn lock_for(&self, time: &mut CallTime) -> MutexGuard<'_, Guarded<CountingBook<P, C>>> {
+    fn lock_for(&self, time: &mut CallTime) -> MutexGuard<'_, Guarded<CountingBook<P, C>>>
+        ensures { IsSome time.old.start → time.new ≡ time.old }
+    {
         if let Some(guarded) = self.guarded.try_lock() {
             return guarded;
         }
@@ -160,6 +165,10 @@ impl<P: Drop, C: TakeCounter, M, K, R: Clock + Wait + AllocGlobal> Shared<
     ) -> Option<Error>
         ensures late { IfSome result (λ error. error.kind ≡ ErrorKind.Timeout) }
         ensures at_once { IsNone timeout → IsNone result }
+        ensures looks { IfSome timeout
+            (λ _. (now : _) × (time.new ≡ looked_at (as_nanos now) time.old)) }
+        ensures left { IfSome timeout
+            (λ longest. IsNone result ↔ (0 < left_of (as_nanos longest) time.new)) }
     {
         let timeout = timeout?;
         time.look(self.moment());

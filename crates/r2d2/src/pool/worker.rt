@@ -1,8 +1,11 @@
 // What a worker does: it opens connections, closes expired ones, and waits for either.
-ghost use Rattle.std.specs.Prelude.{◌≡◌};
+ghost use Rattle.std.specs.Prelude.{◌≡◌, length};
 ghost use Rattle.std.specs.Duration.{as_nanos};
 ghost use Rattle.r2d2_core.specs.Limits.{seen_limits, has_reached};
+ghost use Rattle.r2d2_core.specs.BookSteps.{IsReap};
 ghost use Rattle.r2d2.specs.Events.{reason_of_reap};
+ghost use Rattle.r2d2.specs.Room.{HasRoom};
+ghost use Rattle.r2d2.specs.Wakes.{wakes_of_reap};
 
 use super::PoolRuntime;
 use super::evicting::has_room;
@@ -110,8 +113,14 @@ fn reason_of_reap(limits: &Limits, age: Duration) -> ReleaseReason
 }
 
 impl<P: Drop, C: TakeCounter> Guarded<CountingBook<P, C>> {
-    // Closes what is expired, into the list.
-    fn reap(&mut self, now: Duration, expired: &mut Vec<Released<P>>) -> Wakes {
+    // Closes what is expired, into the list, which is empty and has room for all.
+    fn reap(&mut self, now: Duration, expired: &mut Vec<Released<P>>) -> Wakes
+        ensures step { HasRoom self.old.book.book.picture.on_order.limits.max_size expired.old
+            → (ordered : _) × (result ≡ wakes_of_reap (length expired.new.items) ordered)
+            × IsReap now expired.new.items ordered self.old.book.book self.new.book.book }
+        ensures kept { self.new.evicted_below ≡ self.old.evicted_below }
+        ensures waiting { self.new.waiting ≡ self.old.waiting }
+    {
         if !has_room(self.book.book(), expired) {
             return Wakes::nobody();
         }
