@@ -1,5 +1,5 @@
 // What a call that wants a connection saw of the clock.
-ghost use Rattle.std.specs.Prelude.{◌≡◌, ◌≤◌, nat_lt, is_some, option_map};
+ghost use Rattle.std.specs.Prelude.{◌≡◌, ◌≤◌, ◌-◌, nat_lt, is_some, option_map};
 ghost use Rattle.std.specs.Duration.{as_nanos};
 
 use std::marker::Model;

@@ -90,6 +90,8 @@ impl<P, C: TakeCounter> Guarded<CountingBook<P, C>> {
         ensures idle { result.idle ≡ length self.now.book.book.picture.idle }
         ensures lent { result.lent ≡ length self.now.book.book.picture.lent }
         ensures waiting { result.waiting ≡ self.now.waiting }
+        ensures openings { result.failed_openings ≡ self.now.failures.openings }
+        ensures checks { result.failed_checks ≡ self.now.failures.checks }
         ensures closed { result.closed ≡ self.now.book.book.picture.on_order.closed }
     {
         Status::of(self.book.book(), self.waiting, &self.failures)
