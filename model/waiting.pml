@@ -380,12 +380,12 @@ unlocked:
 opens: /* Shared::open: the manager, the customizer, and the event between the number and the admission */
   if
   :: WORKER_MAY_STAY -> goto stays
-  :: atomic {                                                       /* Shared::settle, of one that was opened */
+  :: atomic {                                                       /* Shared::admit, of one that was opened */
        if :: closed -> goto begins :: else -> in_work--; idle++; sound(); wakes = somebody_waits fi
      };
      if :: wakes -> atomic { wakes = false; wake_caller(ADMISSION) } :: else fi
   :: FAILURES ->
-     atomic {                                                       /* Shared::settle, of one that failed */
+     atomic {                                                       /* Shared::fail */
        if :: closed -> goto begins :: else -> in_work--; later++; sound() fi
      };
      atomic { wake_workers(FAILURE) };
@@ -393,7 +393,7 @@ opens: /* Shared::open: the manager, the customizer, and the event between the n
   fi;
   goto begins;
 
-reaped: /* Shared::wake, then Shared::release_all. Nobody would miss these two wakes: no worker rests beyond the next reap,
+reaped: /* Shared::wake, then Shared::release_expired. Nobody would miss these two wakes: no worker rests beyond the next reap,
            and where a caller sleeps while a connection is idle, another wake is still to reach it. */
   if :: wakes -> atomic { wakes = false; wake_caller(REAP) } :: else fi;
   if :: orders -> atomic { orders = false; wake_workers(REAP) } :: else fi;

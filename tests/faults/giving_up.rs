@@ -13,37 +13,31 @@ fn told<R: PoolRuntime>(pool: PoolOf<R>, timeout: Duration) -> Option<(Status, D
     Some((error.status()?, error.waited()?))
 }
 
-// Whether so many callers wait, at last.
-fn once_waiting<R: PoolRuntime>(rt: &R, place: &Place<R>, callers: u64) -> bool {
-    for _ in 0..1000 {
-        if place.pool.status().waiting == callers {
-            return true;
-        }
-        thread::sleep(rt, Duration::from_millis(1));
-    }
-    false
-}
-
-// Another caller waits too. The call begins at 3 s and gives up at 10 s, by the clock of the test.
+// One caller waits before it, and another begins to wait after it. The call begins at 3 s and gives
+// up at 10 s, by the clock of the test.
 #[test]
 fn a_call_that_waited_tells_what_it_saw(rt: HostRuntime) -> Result<(), Fail> {
     let place = Place::new(rt, 2, |settings| settings)?;
     let (one, other) = (place.pool.get()?, place.pool.get()?);
     let patient = place.pool.try_clone()?;
     let patient = thread::spawn(&rt, move || told(patient, Duration::from_secs(1000)))?;
-    assert!(rt; once_waiting(&rt, &place, 1));
+    assert!(rt; place.once_waiting(1));
     place.hand.set(3, 0);
     let hasty = place.pool.try_clone()?;
-    let hasty = thread::spawn(&rt, move || told(hasty, Duration::from_millis(500)))?;
-    assert!(rt; once_waiting(&rt, &place, 2));
+    let hasty = thread::spawn(&rt, move || told(hasty, Duration::from_secs(2)))?;
+    assert!(rt; place.once_waiting(2));
+    let later = place.pool.try_clone()?;
+    let later = thread::spawn(&rt, move || told(later, Duration::from_secs(1000)))?;
+    assert!(rt; place.once_waiting(3));
     place.hand.set(10, 0);
     let (status, waited) = hasty.join(&rt).ok_or("nothing told")?;
     assert_eq!(rt; waited, Duration::from_secs(7));
-    assert_eq!(rt; (status.lent, status.idle, status.waiting), (2, 0, 1));
+    assert_eq!(rt; (status.lent, status.idle, status.waiting), (2, 0, 2));
     assert_eq!(rt; (status.max_size, status.connections, status.opening), (2, 2, 0));
     drop(one);
-    assert!(rt; patient.join(&rt).is_none());
     drop(other);
+    assert!(rt; patient.join(&rt).is_none());
+    assert!(rt; later.join(&rt).is_none());
     Ok(())
 }
 

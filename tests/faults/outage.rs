@@ -51,31 +51,34 @@ fn it_tells_nothing_of_those_that_came_back_later(rt: HostRuntime) -> Result<(),
     Ok(())
 }
 
-#[test]
-fn one_that_was_not_lent_yet_is_idle_since_its_opening(rt: HostRuntime) -> Result<(), Fail> {
+// How many of two connections a `try_get` checks: one came back at 0, the newer one was opened at
+// 1 s, in the place of one that came back broken.
+fn checked_of_a_new_one<R: r2d2::PoolRuntime>(rt: R, order: LendingOrder) -> Result<u64, Fail> {
     let place = Place::new(rt, 2, |settings| {
-        settings
-            .distrust_idle(true)
-            .lending_order(LendingOrder::OldestFirst)
+        settings.distrust_idle(true).lending_order(order)
     })?;
-    // The first comes back broken at 1, so that a third is opened at 1, and the second at 0.
-    place.server.broken.store(1, Ordering::SeqCst);
     place.ends();
     let (first, second) = (place.pool.get()?, place.pool.get()?);
+    place.server.broken.store(*first + 1, Ordering::SeqCst);
     drop(second);
     place.hand.set(1, 0);
     drop(first);
-    for _ in 0..500 {
-        if place.pool.state().idle_connections == 2 {
-            break;
-        }
-        thread::sleep(&rt, Duration::from_millis(10));
+    if !place.once_idle(2) {
+        return Err(Fail::from("none was opened"));
     }
     place.server.answers.store(0, Ordering::SeqCst);
     let before = place.checks();
     place.dies();
-    assert!(rt; place.pool.try_get()?.is_none());
-    assert_eq!(rt; place.checks() - before, 2);
+    if place.pool.try_get()?.is_some() {
+        return Err(Fail::from("a connection"));
+    }
+    Ok(place.checks() - before)
+}
+
+#[test]
+fn one_that_was_not_lent_yet_is_idle_since_its_opening(rt: HostRuntime) -> Result<(), Fail> {
+    assert_eq!(rt; checked_of_a_new_one(rt, LendingOrder::OldestFirst)?, 2);
+    assert_eq!(rt; checked_of_a_new_one(rt, LendingOrder::NewestFirst)?, 1);
     Ok(())
 }
 
@@ -83,12 +86,10 @@ fn one_that_was_not_lent_yet_is_idle_since_its_opening(rt: HostRuntime) -> Resul
 fn a_caller_closes_them_and_is_lent_a_new_one(rt: HostRuntime) -> Result<(), Fail> {
     let place = Place::new(rt, 3, |settings| settings.distrust_idle(true))?;
     place.return_at(&[1, 2, 3])?;
+    let before = place.checks();
     place.dies();
-    place.ends();
-    let lent = place.pool.get_timeout(Duration::from_secs(1000))?;
-    assert!(rt; *lent >= 3);
-    // Those of the lending before it, one that failed, and one of a new connection.
-    assert_eq!(rt; place.checks(), 3 + 1 + 1);
+    assert!(rt; place.pool.try_get()?.is_none());
+    assert_eq!(rt; place.checks() - before, 1);
     // By the order of their lending: the ids are 2, 1, 0, and they came back at 1, 2, 3.
     let wanted = [
         (0, 3 + CHECK, CheckFailed),
@@ -96,6 +97,26 @@ fn a_caller_closes_them_and_is_lent_a_new_one(rt: HostRuntime) -> Result<(), Fai
         (2, 3 + CHECK, Distrusted),
     ];
     assert_eq!(rt; place.released()?.as_slice(), wanted.as_slice());
+    // The clock moves past the delays of the openings that failed.
+    place.ends();
+    place.hand.set(1000, 0);
+    let lent = place.pool.get_timeout(Duration::from_secs(1000))?;
+    assert!(rt; *lent >= 3);
+    Ok(())
+}
+
+// The check takes five seconds, and each closing two more. The call has eight.
+#[test]
+fn a_caller_looks_at_its_time_after_each_of_them(rt: HostRuntime) -> Result<(), Fail> {
+    let place = Place::new(rt, 3, |settings| settings.distrust_idle(true))?;
+    place.return_at(&[1, 2, 3])?;
+    place.dies();
+    place.server.closing_takes.store(2, Ordering::SeqCst);
+    let error = place.pool.get_timeout(Duration::from_secs(8)).err();
+    let error = error.ok_or("a connection")?;
+    assert_eq!(rt; error.waited(), Some(Duration::from_secs(CHECK + 2 + 2)));
+    let status = error.status().ok_or("no status")?;
+    assert_eq!(rt; (status.idle, status.failed_checks), (1, 1));
     Ok(())
 }
 
@@ -152,6 +173,44 @@ fn a_connection_is_checked_after_it_was_idle_for_so_long(rt: HostRuntime) -> Res
     Ok(())
 }
 
+// It is lent before its first return for 100 s, and then the next is opened in its place.
+#[test]
+fn it_is_idle_since_its_return_or_its_opening(rt: HostRuntime) -> Result<(), Fail> {
+    let after = Some(Duration::from_secs(5));
+    let place = Place::new(rt, 1, |settings| settings.check_after_idle(after))?;
+    let lent = place.pool.get()?;
+    place.hand.set(100, 0);
+    drop(lent);
+    place.hand.set(104, 0);
+    let lent = place.pool.get()?;
+    assert_eq!(rt; place.checks(), 0);
+    place.server.broken.store(*lent + 1, Ordering::SeqCst);
+    place.ends();
+    place.hand.set(200, 0);
+    drop(lent);
+    assert!(rt; place.once_idle(1));
+    place.hand.set(204, 0);
+    drop(place.pool.get()?);
+    assert_eq!(rt; place.checks(), 0);
+    Ok(())
+}
+
+// It waits from 0 on for the one connection, which comes back at 100 s.
+#[test]
+fn who_waited_long_is_lent_one_that_was_not_idle(rt: HostRuntime) -> Result<(), Fail> {
+    let after = Some(Duration::from_secs(5));
+    let place = Place::new(rt, 1, |settings| settings.check_after_idle(after))?;
+    let lent = place.pool.get()?;
+    let (theirs, patience) = (place.pool.try_clone()?, Duration::from_secs(1000));
+    let caller = thread::spawn(&rt, move || theirs.get_timeout(patience).is_ok())?;
+    assert!(rt; place.once_waiting(1));
+    place.hand.set(100, 0);
+    drop(lent);
+    assert!(rt; caller.join(&rt));
+    assert_eq!(rt; place.checks(), 0);
+    Ok(())
+}
+
 #[test]
 fn where_none_is_checked_none_is_checked_for_that(rt: HostRuntime) -> Result<(), Fail> {
     let place = Place::new(rt, 1, |settings| {
@@ -162,6 +221,23 @@ fn where_none_is_checked_none_is_checked_for_that(rt: HostRuntime) -> Result<(),
     place.hand.set(100, 0);
     drop(place.pool.get()?);
     assert_eq!(rt; place.checks(), 0);
+    Ok(())
+}
+
+// The check takes five seconds. Its caller has the thirty of the default.
+#[test]
+fn callers_wait_for_as_long_as_they_would(rt: HostRuntime) -> Result<(), Fail> {
+    let place = Place::new(rt, 1, |settings| {
+        settings.retry_at_most(Duration::from_secs(1))
+    })?;
+    place.dies();
+    place.ends();
+    let lent = place.pool.get()?;
+    assert_eq!(rt; *lent, 1);
+    // One that failed, and one of a new connection.
+    assert_eq!(rt; place.checks(), 2);
+    let status = place.pool.status();
+    assert_eq!(rt; (status.failed_openings, status.failed_checks), (0, 1));
     Ok(())
 }
 

@@ -93,6 +93,16 @@ fn a_check_is_followed_by_a_look_at_the_clock(rt: HostRuntime) -> Result<(), Fai
 }
 
 #[test]
+fn one_that_need_not_be_checked_is_lent_at_its_take(rt: HostRuntime) -> Result<(), Fail> {
+    let after = Some(Duration::from_secs(3600));
+    let came = used(rt, silent().check_after_idle(after))?;
+    assert_eq!(rt; came, seen(10, 2, 0));
+    let came = used(rt, silent().event_handler(Deaf).check_after_idle(after))?;
+    assert_eq!(rt; came, seen(12, 5, 1));
+    Ok(())
+}
+
+#[test]
 fn who_listens_is_told_of_five_readings(rt: HostRuntime) -> Result<(), Fail> {
     let came = used(rt, silent().event_handler(Deaf).test_on_check_out(false))?;
     assert_eq!(rt; came, seen(12, 5, 1));

@@ -102,8 +102,9 @@ fn a_detached_one(rt: HostRuntime) -> Result<(), Fail> {
     Ok(())
 }
 
-// One of three comes back broken at 700 s, which wakes the worker, for which a reap is due too. The
-// two others are idle since 0. It answers what the reap released.
+// One of three, the newest, comes back broken at 700 s, which wakes the worker, for which a reap is
+// due too. The two others are idle since 0. It answers what was released, by the ids: the reap may
+// tell first.
 fn reaped<R: PoolRuntime>(
     rt: R,
     lifetime: u64,
@@ -125,25 +126,81 @@ fn reaped<R: PoolRuntime>(
         thread::sleep(&rt, Duration::from_millis(10));
     }
     let mut released = place.released()?;
-    released.swap_remove(0);
     released.sort_unstable_by_key(|(id, _, _)| *id);
     Ok(released)
 }
 
 #[test]
 fn one_that_a_reap_closed(rt: HostRuntime) -> Result<(), Fail> {
-    use ReleaseReason::{Idle, Lifetime};
-    let idle = [(0, 700, Idle), (1, 700, Idle)];
+    use ReleaseReason::{Broken, Idle, Lifetime};
+    let broken = (2, 700, Broken);
+    let idle = [(0, 700, Idle), (1, 700, Idle), broken];
     assert_eq!(rt; reaped(rt, 701, 700)?.as_slice(), idle.as_slice());
-    let old = [(0, 700, Lifetime), (1, 700, Lifetime)];
+    let old = [(0, 700, Lifetime), (1, 700, Lifetime), broken];
     assert_eq!(rt; reaped(rt, 700, 701)?.as_slice(), old.as_slice());
     assert_eq!(rt; reaped(rt, 700, 700)?.as_slice(), old.as_slice());
+    Ok(())
+}
+
+// The first connection comes back broken at 10,000 s, and another is opened then.
+#[test]
+fn a_lifetime_begins_with_the_opening(rt: HostRuntime) -> Result<(), Fail> {
+    let place = Place::new(rt, 1, |settings| {
+        settings
+            .max_lifetime(Some(Duration::from_secs(1800)))
+            .lifetime_jitter(Duration::from_secs(180))
+    })?;
+    place.ends();
+    place.server.broken.store(1, Ordering::SeqCst);
+    let lent = place.pool.get()?;
+    place.hand.set(10_000, 0);
+    drop(lent);
+    assert!(rt; place.once_idle(1));
+    place.hand.set(11_619, 0);
+    drop(place.pool.get()?);
+    assert_eq!(rt; place.pool.state().idle_connections, 1);
+    let lent = place.pool.get()?;
+    place.hand.set(11_800, 0);
+    drop(lent);
+    let wanted = [
+        (0, 10_000, ReleaseReason::Broken),
+        (1, 1800, ReleaseReason::Lifetime),
+    ];
+    assert_eq!(rt; place.released()?.as_slice(), wanted.as_slice());
+    Ok(())
+}
+
+#[test]
+fn without_a_lifetime_none_is_too_old(rt: HostRuntime) -> Result<(), Fail> {
+    let place = Place::new(rt, 1, |settings| {
+        settings.lifetime_jitter(Duration::from_secs(180))
+    })?;
+    let lent = place.pool.get()?;
+    place.hand.set(1_000_000, 0);
+    drop(lent);
+    assert!(rt; place.released()?.is_empty());
     Ok(())
 }
 
 // At which ages connections are closed that all come back each second from 1,600 to 1,800 s, and
 // how many of them in the worst second.
 fn ages<R: PoolRuntime + Abort>(rt: R, jitter: Option<u64>) -> Result<(u64, u64, usize), Fail> {
+    let released = closed_at_last(rt, jitter)?;
+    let mut worst = 0;
+    for second in 1600..1801 {
+        let closed = released.iter().filter(|(_, age, _)| *age == second).count();
+        worst = worst.max(closed);
+    }
+    let least = released.iter().map(|(_, age, _)| *age).min();
+    let most = released.iter().map(|(_, age, _)| *age).max();
+    Ok((least.ok_or("none")?, most.ok_or("none")?, worst))
+}
+
+// What is released of 64 connections that all come back each second from 1,600 to 1,800 s.
+fn closed_at_last<R: PoolRuntime + Abort>(
+    rt: R,
+    jitter: Option<u64>,
+) -> Result<Vec<(u64, u64, ReleaseReason)>, Fail> {
     let place = Place::new(rt, 64, |settings| {
         let settings = settings.max_lifetime(Some(Duration::from_secs(1800)));
         match jitter {
@@ -161,16 +218,9 @@ fn ages<R: PoolRuntime + Abort>(rt: R, jitter: Option<u64>) -> Result<(u64, u64,
     }
     assert_eq!(rt; place.pool.state().connections, 0);
     let released = place.released()?;
-    let mut worst = 0;
-    for second in 1600..1801 {
-        let closed = released.iter().filter(|(_, age, _)| *age == second).count();
-        worst = worst.max(closed);
-    }
     let lifetime = |(_, _, reason): &(u64, u64, ReleaseReason)| *reason == ReleaseReason::Lifetime;
     assert!(rt; released.iter().all(lifetime) && released.len() == 64);
-    let least = released.iter().map(|(_, age, _)| *age).min();
-    let most = released.iter().map(|(_, age, _)| *age).max();
-    Ok((least.ok_or("none")?, most.ok_or("none")?, worst))
+    Ok(released)
 }
 
 #[test]
@@ -181,5 +231,14 @@ fn lifetimes_differ_by_at_most_the_jitter(rt: HostRuntime) -> Result<(), Fail> {
     assert!(rt; 1620 <= least && least < 1680);
     assert!(rt; 1740 < most && most <= 1800);
     assert!(rt; worst <= 8);
+    Ok(())
+}
+
+// The wall clock shows other nanoseconds when the second one is made.
+#[test]
+fn lifetimes_differ_from_pool_to_pool(rt: HostRuntime) -> Result<(), Fail> {
+    let one = closed_at_last(rt, Some(180))?;
+    let other = closed_at_last(rt, Some(180))?;
+    assert!(rt; one.as_slice() != other.as_slice());
     Ok(())
 }

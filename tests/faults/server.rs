@@ -13,6 +13,7 @@ use std::fmt;
 use std::sync::atomic::{AtomicU64, Ordering};
 use std::sync::{Arc, Mutex};
 use std::test::Fail;
+use std::thread;
 use std::time::Duration;
 
 /// How many seconds a check takes that fails.
@@ -33,6 +34,8 @@ pub(crate) struct Server {
     pub(crate) refused: AtomicU64,
     /// The moment, in seconds, at which the clock stands after each return's event; 0 to leave it.
     pub(crate) returns_at: AtomicU64,
+    /// How many seconds it takes to close a connection.
+    pub(crate) closing_takes: AtomicU64,
     /// The ids and ages of what was released, and why.
     pub(crate) released: Mutex<Vec<(u64, u64, ReleaseReason)>>,
 }
@@ -98,7 +101,10 @@ impl<R: PoolRuntime> CustomizeConnection<u64, Silence> for Client<R> {
         Ok(())
     }
 
-    fn on_release(&self, _connection: u64) {}
+    fn on_release(&self, _connection: u64) {
+        let seconds = self.server.closing_takes.load(Ordering::SeqCst);
+        self.hand.move_on(seconds);
+    }
 }
 
 impl<R: PoolRuntime> HandleEvent for Client<R> {
@@ -151,6 +157,7 @@ impl<R: PoolRuntime> Place<R> {
             broken: AtomicU64::new(0),
             refused: AtomicU64::new(0),
             returns_at: AtomicU64::new(0),
+            closing_takes: AtomicU64::new(0),
             released: Mutex::new(Vec::new(rt.alloc())),
         };
         let server = Arc::new(rt.alloc(), server)?;
@@ -195,6 +202,28 @@ impl<R: PoolRuntime> Place<R> {
     /// Ends it: openings are answered again.
     pub(crate) fn ends(&self) {
         self.server.answers.store(u64::MAX, Ordering::SeqCst);
+    }
+
+    /// Whether so many are idle, at last.
+    pub(crate) fn once_idle(&self, idle: u32) -> bool {
+        for _ in 0..500 {
+            if self.pool.state().idle_connections == idle {
+                return true;
+            }
+            thread::sleep(&self.hand, Duration::from_millis(10));
+        }
+        false
+    }
+
+    /// Whether so many callers wait, at last.
+    pub(crate) fn once_waiting(&self, callers: u64) -> bool {
+        for _ in 0..1000 {
+            if self.pool.status().waiting == callers {
+                return true;
+            }
+            thread::sleep(&self.hand, Duration::from_millis(1));
+        }
+        false
     }
 
     /// Lends all, so many, and gives them back in the order of their lending, at these seconds.

@@ -92,19 +92,40 @@ fn events_and_what_does_nothing(rt: HostRuntime) -> Result<(), Fail> {
     Ok(())
 }
 
+// What a pool of two shows that are both lent.
+fn both_lent() -> Status {
+    Status {
+        max_size: 2,
+        wanted: 2,
+        connections: 2,
+        idle: 0,
+        lent: 2,
+        opening: 0,
+        waiting: 3,
+        failed_openings: 4,
+        failed_checks: 5,
+        closed: false,
+    }
+}
+
 #[test]
 fn error_texts(rt: HostRuntime) -> Result<(), Fail> {
-    let plain = Error::timeout(None);
+    let waited = Duration::from_secs(6);
+    let plain = Error::timeout(None, both_lent(), waited);
     assert_eq!(rt;
         plain.to_string(rt.alloc())?.as_str(),
         "timed out waiting for connection"
     );
-    let told = Error::timeout(Some(String::from_str(rt.alloc(), "blammo")?));
+    let text = String::from_str(rt.alloc(), "blammo")?;
+    let told = Error::timeout(Some(text), both_lent(), waited);
     assert_eq!(rt;
         told.to_string(rt.alloc())?.as_str(),
         "timed out waiting for connection: blammo"
     );
     assert_eq!(rt; told.message(), Some("blammo"));
+    assert_eq!(rt; (told.status(), told.waited()), (Some(both_lent()), Some(waited)));
+    let memory = Error::memory();
+    assert_eq!(rt; (memory.status(), memory.waited()), (None, None));
     assert_eq!(rt;
         Error::memory().to_string(rt.alloc())?.as_str(),
         "out of memory"

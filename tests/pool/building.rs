@@ -2,9 +2,10 @@
 
 use crate::callers::watched;
 use crate::listening::Listener;
-use crate::managers::{Breaks, Counts, Manager, Sevens};
+use crate::managers::{Breaks, Counts, Manager, Sevens, Wrong, WrongOnce};
 use r2d2::{
-    Builder, ErrorKind, NopConnectionCustomizer, NopErrorHandler, NopEventHandler, PlainPool, Pool,
+    Builder, Error, ErrorKind, NopConnectionCustomizer, NopErrorHandler, NopEventHandler,
+    PlainPool, Pool, PoolRuntime,
 };
 use std::sync::{Arc, Mutex};
 use std::test::Fail;
@@ -76,6 +77,43 @@ fn a_build_short_of_connections_leaves_nothing(rt: HostRuntime) -> Result<(), Fa
     assert_eq!(rt; error.message(), Some("blammo"));
     assert_eq!(rt; watched(&rt, &counts.managers_dropped, 1, 1000), 1);
     assert_eq!(rt; counts.dropped(), 2);
+    Ok(())
+}
+
+// A `build` that waits half a second for three connections of which there are two.
+fn given_up<R: PoolRuntime>(rt: R) -> Result<Error, Fail> {
+    let counts = Counts::new(rt.alloc())?;
+    let manager = Manager::new(&counts, 2, Breaks::Never)?;
+    let builder = Builder::new()
+        .max_size(5)
+        .min_idle(Some(3))
+        .connection_timeout(Duration::from_millis(500));
+    Ok(builder.build(rt, manager).err().ok_or("a pool")?)
+}
+
+#[test]
+fn a_build_that_gives_up_tells_what_there_is(rt: HostRuntime) -> Result<(), Fail> {
+    let status = given_up(rt)?.status().ok_or("no status")?;
+    assert_eq!(rt; (status.max_size, status.wanted), (5, 3));
+    assert_eq!(rt; (status.connections, status.idle, status.waiting), (2, 2, 0));
+    assert!(rt; status.failed_openings > 0 && !status.closed);
+    Ok(())
+}
+
+#[test]
+fn a_build_that_gives_up_tells_how_long_it_took(rt: HostRuntime) -> Result<(), Fail> {
+    assert!(rt; given_up(rt)?.waited() > Some(Duration::from_millis(500)));
+    Ok(())
+}
+
+// The first opening fails, after a while. `retry_at_most` is no bound of the wait.
+#[test]
+fn build_waits_as_long_as_a_caller(rt: HostRuntime) -> Result<(), Fail> {
+    let builder = Builder::new()
+        .max_size(1)
+        .retry_at_most(Duration::from_millis(1));
+    let pool = builder.build(rt, WrongOnce::new(rt, Wrong::Connect))?;
+    assert_eq!(rt; pool.state().connections, 1);
     Ok(())
 }
 

@@ -76,6 +76,38 @@ fn settings(rt: HostRuntime) -> Result<(), Fail> {
     Ok(())
 }
 
+// Those that r2d2 has not are not shown.
+#[test]
+fn an_outage_changes_no_text(rt: HostRuntime) -> Result<(), Fail> {
+    let builder = Settings::new()
+        .check_after_idle(Some(Duration::from_millis(500)))
+        .distrust_idle(true)
+        .retry_at_most(Duration::from_millis(50))
+        .lifetime_jitter(Duration::from_secs(180));
+    let shown = format!(in rt.alloc(); "{builder:?}")?;
+    let without = Settings::new();
+    let without = format!(in rt.alloc(); "{without:?}")?;
+    assert_eq!(rt; shown.as_str(), without.as_str());
+    Ok(())
+}
+
+#[test]
+fn a_longest_delay_may_be_longer_than_callers_wait(rt: HostRuntime) -> Result<(), Fail> {
+    let default = Duration::from_secs(30);
+    let pool = Settings::new().max_size(1).build(rt, Sevens)?;
+    assert_eq!(rt; pool.journal()?.limits.connection_timeout(), default);
+    for (longest, twice) in [
+        (Duration::from_secs(60), Duration::from_secs(120)),
+        (Duration::MAX, Duration::MAX),
+    ] {
+        let builder = Settings::new().max_size(1).retry_at_most(longest);
+        let pool = builder.build(rt, Sevens)?;
+        assert_eq!(rt; pool.connection_timeout(), default);
+        assert_eq!(rt; pool.journal()?.limits.connection_timeout(), twice);
+    }
+    Ok(())
+}
+
 #[test]
 fn the_lending_order_is_among_the_limits(rt: HostRuntime) -> Result<(), Fail> {
     let limits = Settings::new().limits().ok_or("limits")?;

@@ -1,4 +1,5 @@
-// What only this crate can see: no clause speaks of the first id, nor of who listens.
+// What only this crate can see: no clause speaks of the first id, nor of who listens, nor of the
+// settings that r2d2 has not.
 
 use super::*;
 use crate::tests::Numbers;
@@ -23,16 +24,116 @@ where
         .journal_room(4)
         .reaper_rate(Duration::from_secs(2))
         .lending_order(LendingOrder::OldestFirst)
+}
+
+// With those that r2d2 has not.
+fn with_tuning<H, V, Z>(builder: Builder<Numbers, H, V, Z>) -> Builder<Numbers, H, V, Z>
+where
+    H: HandleError<&'static str>,
+    V: HandleEvent + 'static,
+    Z: CustomizeConnection<u32, &'static str>,
+{
+    builder
+        .retry_at_most(Duration::from_millis(100))
         .check_after_idle(Some(Duration::from_millis(500)))
         .distrust_idle(true)
-        .retry_at_most(Duration::from_millis(100))
         .lifetime_jitter(Duration::from_secs(180))
+}
+
+type Seen = (Option<Duration>, bool, Option<Duration>, Option<Duration>);
+
+fn seen<H, V, Z>(builder: &Builder<Numbers, H, V, Z>) -> Seen
+where
+    H: HandleError<&'static str>,
+    V: HandleEvent + 'static,
+    Z: CustomizeConnection<u32, &'static str>,
+{
+    let tuning = builder.tuning;
+    (
+        tuning.check_after_idle,
+        tuning.distrust_idle,
+        tuning.retry_at_most,
+        tuning.lifetime_jitter,
+    )
+}
+
+fn off() -> Seen {
+    (None, false, None, None)
+}
+
+// What `with_tuning` sets.
+fn all() -> Seen {
+    (
+        Some(Duration::from_millis(500)),
+        true,
+        Some(Duration::from_millis(100)),
+        Some(Duration::from_secs(180)),
+    )
+}
+
+#[test]
+fn those_that_r2d2_has_not_are_off_until_they_are_set(rt: HostRuntime) -> Result<(), Fail> {
+    let builder = Builder::<Numbers>::new();
+    assert_eq!(rt; seen(&builder), off());
+    let builder = with_settings(builder);
+    assert_eq!(rt; seen(&builder), off());
+    let builder = with_settings(with_tuning(builder));
+    assert_eq!(rt; seen(&builder), all());
+    Ok(())
+}
+
+#[test]
+fn a_handler_of_errors_keeps_them(rt: HostRuntime) -> Result<(), Fail> {
+    let builder = with_tuning(Builder::<Numbers>::new()).error_handler(NopErrorHandler);
+    assert_eq!(rt; seen(&builder), all());
+    Ok(())
+}
+
+#[test]
+fn a_handler_of_events_keeps_them(rt: HostRuntime) -> Result<(), Fail> {
+    let builder = with_tuning(Builder::<Numbers>::new()).event_handler(NopEventHandler);
+    assert_eq!(rt; seen(&builder), all());
+    Ok(())
+}
+
+#[test]
+fn a_customizer_keeps_them(rt: HostRuntime) -> Result<(), Fail> {
+    let builder = with_tuning(Builder::<Numbers>::new());
+    let builder = builder.connection_customizer(NopConnectionCustomizer);
+    assert_eq!(rt; seen(&builder), all());
+    Ok(())
+}
+
+#[test]
+fn each_of_them_keeps_the_others_and_the_first_id(rt: HostRuntime) -> Result<(), Fail> {
+    let builder = with_tuning(with_settings(Builder::<Numbers>::new()));
+    let builder = builder.check_after_idle(Some(Duration::from_millis(500)));
+    assert_eq!(rt; (seen(&builder), builder.first_id), (all(), 7));
+    let builder = builder.distrust_idle(true);
+    assert_eq!(rt; (seen(&builder), builder.first_id), (all(), 7));
+    let builder = builder.retry_at_most(Duration::from_millis(100));
+    assert_eq!(rt; (seen(&builder), builder.first_id), (all(), 7));
+    let builder = builder.lifetime_jitter(Duration::from_secs(180));
+    assert_eq!(rt; (seen(&builder), builder.first_id), (all(), 7));
+    Ok(())
+}
+
+#[test]
+fn each_of_them_can_be_set_anew(rt: HostRuntime) -> Result<(), Fail> {
+    let builder = with_tuning(Builder::<Numbers>::new())
+        .check_after_idle(None)
+        .distrust_idle(false)
+        .retry_at_most(Duration::from_secs(9))
+        .lifetime_jitter(Duration::from_secs(8));
+    let wanted = (None, false, Some(Duration::from_secs(9)), Some(Duration::from_secs(8)));
+    assert_eq!(rt; seen(&builder), wanted);
+    Ok(())
 }
 
 #[test]
 fn the_first_id_is_kept_by_all_other_settings(rt: HostRuntime) -> Result<(), Fail> {
     assert_eq!(rt; Builder::<Numbers>::new().first_id, 0);
-    let builder = with_settings(Builder::<Numbers>::new())
+    let builder = with_tuning(with_settings(Builder::<Numbers>::new()))
         .error_handler(NopErrorHandler)
         .event_handler(NopEventHandler)
         .connection_customizer(NopConnectionCustomizer);
@@ -70,6 +171,6 @@ fn who_listens_is_known_after_all_other_settings(rt: HostRuntime) -> Result<(), 
     assert!(rt; heard.listens());
     let heard = heard.connection_customizer(NopConnectionCustomizer);
     assert!(rt; heard.listens());
-    assert!(rt; with_settings(heard).listens());
+    assert!(rt; with_tuning(with_settings(heard)).listens());
     Ok(())
 }

@@ -69,5 +69,6 @@ fn ids_used_up(rt: HostRuntime) -> Result<(), Fail> {
         assert!(rt; opened.load(Ordering::SeqCst) > before);
         assert_eq!(rt; pool.state().connections, 1);
     }
+    assert!(rt; pool.status().failed_openings > 1);
     Ok(())
 }
