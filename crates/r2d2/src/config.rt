@@ -500,20 +500,16 @@ impl<
         self.limits_within(self.config.connection_timeout)
     }
 
-    /// The limits of a pool's book, whose delays grow to half of their connection timeout.
-    pub(crate) fn limits_of_book(&self) -> Option<Limits>
-        ensures legal { IsSome result ↔ ForSome self.now.min_idle (λ n. n ≤ self.now.max_size) }
-        ensures given { IfSome result
-            (λ limits. (timeout : _) × (seen_limits limits ≡ limits_within timeout self.now)) }
+    /// The connection timeout of a pool's book, to half of which its delays grow.
+    pub(crate) fn timeout_of_book(&self) -> Duration
+        ensures { 0 < as_nanos result }
     {
-        self.limits_within(
-            self.tuning
-                .connection_timeout(self.config.connection_timeout),
-        )
+        self.tuning
+            .connection_timeout(self.config.connection_timeout)
     }
 
-    // The limits with this connection timeout.
-    fn limits_within(&self, connection_timeout: Duration) -> Option<Limits>
+    /// The limits with this connection timeout.
+    pub(crate) fn limits_within(&self, connection_timeout: Duration) -> Option<Limits>
         requires { 0 < as_nanos connection_timeout }
         ensures legal { IsSome result ↔ ForSome self.now.min_idle (λ n. n ≤ self.now.max_size) }
         ensures given { IfSome result

@@ -103,7 +103,8 @@ impl<
         ensures workers { IfOk result (λ made. length made.2.items ≡ self.thread_pool) }
         ensures room { IfOk result (λ made. All (HasRoom self.max_size) made.2.items) }
     {
-        let Some(limits) = self.limits_of_book() else {
+        let timeout = self.timeout_of_book();
+        let Some(limits) = self.limits_within(timeout) else {
             unreachable!()
         };
         let first_id = self.id_of_the_first();
