@@ -111,13 +111,13 @@ fn both_lent() -> Status {
 #[test]
 fn error_texts(rt: HostRuntime) -> Result<(), Fail> {
     let waited = Duration::from_secs(6);
-    let plain = Error::timeout(None, both_lent(), waited);
+    let plain = Error::timeout(rt.alloc(), None, both_lent(), waited);
     assert_eq!(rt;
         plain.to_string(rt.alloc())?.as_str(),
         "timed out waiting for connection"
     );
     let text = String::from_str(rt.alloc(), "blammo")?;
-    let told = Error::timeout(Some(text), both_lent(), waited);
+    let told = Error::timeout(rt.alloc(), Some(text), both_lent(), waited);
     assert_eq!(rt;
         told.to_string(rt.alloc())?.as_str(),
         "timed out waiting for connection: blammo"

@@ -64,6 +64,8 @@ fn a_status_tells_what_there_is(rt: HostRuntime) -> Result<(), Fail> {
         lent: 3,
         opening: 0,
         waiting: 0,
+        failed_openings: 0,
+        failed_checks: 0,
         closed: false,
     };
     assert_eq!(rt; pool.status(), all_lent);
