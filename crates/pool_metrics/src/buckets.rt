@@ -100,7 +100,12 @@ impl Scale {
 fn rise(bounds: &[u64; BOUNDS]) -> bool
     ensures { IsTrue result ↔ IsStrictlyIncreasing bounds.now }
 {
-    bounds.is_sorted_by(|bound, next| bound < next)
+    for i in 1..BOUNDS {
+        if bounds[i] <= bounds[i - 1] {
+            return false;
+        }
+    }
+    true
 }
 
 /// Which bounds the histograms of a pool's metrics have. Those of `default` are short, and long for

@@ -99,8 +99,15 @@ impl Loans {
         ensures none_longer { All (λ e. max self.now.latest now - e.since ≤ result)
             self.now.entries.items }
     {
+        self.since_the_first_lending(self.latest.max(now))
+    }
+
+    // The same. That none is lent for longer follows from the order of the list.
+    fn since_the_first_lending(&self, now: u64) -> u64
+        ensures { result ≡ longest now self.now.entries.items }
+    {
         match self.entries.first() {
-            Some(first) => self.latest.max(now).saturating_sub(first.since),
+            Some(first) => now.saturating_sub(first.since),
             None => 0,
         }
     }

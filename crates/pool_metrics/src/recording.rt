@@ -19,7 +19,7 @@ use std::time::{Duration, Instant};
 /// Counts and times what a pool tells. It is the pool's event handler, and what the service reads:
 /// `try_clone` makes another one over the same counts. An event costs some atomic additions; a
 /// checkout and a checkin also take a lock of the metrics' own, for as long as it takes to look
-/// through what is lent.
+/// through what is lent, and so do a snapshot and `lent_longer_than`.
 ///
 /// Counted is what is told: a connection that is dropped idle as the pool closes is told of by no
 /// event, and not counted as closed. Errors are counted by the handler that `around` makes.
