@@ -9,7 +9,7 @@ use r2d2::{
 };
 use r2d2_core::reuse::{Move, compare, is_in_order};
 use r2d2_core::run::run;
-use r2d2_core::{LimitSettings, Record, Report, Step};
+use r2d2_core::{LendingOrder, LimitSettings, Record, Report, Step};
 use std::alloc::{AllocError, Global};
 use std::process::Abort;
 use std::sync::Arc;
@@ -66,6 +66,7 @@ fn values_of_a_run(rt: HostRuntime) -> Result<(), Fail> {
         idle_timeout: None,
         connection_timeout: second,
         reap_every: second,
+        order: LendingOrder::NewestFirst,
     }
     .limits()
     .ok_or("limits")?;

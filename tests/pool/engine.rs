@@ -5,7 +5,7 @@ use crate::managers::{Blammo, Sevens};
 use pairs::{Call, Stage, row};
 use r2d2::engine::{Wakes, open};
 use r2d2::{CustomizeConnection, NopConnectionCustomizer};
-use r2d2_core::{LimitSettings, Limits};
+use r2d2_core::{LendingOrder, LimitSettings, Limits};
 use std::test::Fail;
 use std::time::Duration;
 
@@ -21,6 +21,7 @@ pub(crate) fn limits_of(max_size: u32, min_idle: Option<u32>) -> Option<Limits> 
         idle_timeout: Some(second),
         connection_timeout: second,
         reap_every: second,
+        order: LendingOrder::NewestFirst,
     };
     limits.limits()
 }

@@ -25,6 +25,7 @@ pub(crate) fn limits(
         idle_timeout: idle_timeout.map(|n| Duration::from_millis(n)),
         connection_timeout: ms(30_000),
         reap_every: ms(30_000),
+        order: LendingOrder::NewestFirst,
     }
     .limits()
 }
@@ -163,17 +164,17 @@ fn some_limits(rng: &mut Pcg32) -> Option<Limits> {
     let max_size = below(rng, 8).saturating_add(1);
     let min_idle = below(rng, max_size.saturating_add(1));
     let (lifetime, timeout) = (length(rng, 200), length(rng, 100));
-    let limits = LimitSettings {
+    let order = maybe(rng, LendingOrder::OldestFirst);
+    LimitSettings {
         max_size,
         min_idle: maybe(rng, min_idle),
         max_lifetime: maybe(rng, lifetime),
         idle_timeout: maybe(rng, timeout),
         connection_timeout: length(rng, 40),
         reap_every: length(rng, 40),
+        order: order.unwrap_or(LendingOrder::NewestFirst),
     }
-    .limits()?;
-    let order = maybe(rng, LendingOrder::OldestFirst);
-    Some(limits.with_order(order.unwrap_or(LendingOrder::NewestFirst)))
+    .limits()
 }
 
 /// What a book reports after so many steps at random, with room for so many records. Now and then a

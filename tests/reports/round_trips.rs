@@ -3,7 +3,7 @@
 use crate::books::seeded_report;
 use crate::same::are_same;
 use pool_reports::{from_json, to_json};
-use r2d2_core::{Base, LimitSettings, Record, Report};
+use r2d2_core::{Base, LendingOrder, LimitSettings, Record, Report};
 use std::alloc::Global;
 use std::test::Fail;
 use std::time::Duration;
@@ -39,6 +39,7 @@ fn greatest(alloc: Global) -> Result<Report, Fail> {
         idle_timeout: Some(at),
         connection_timeout: at,
         reap_every: at,
+        order: LendingOrder::NewestFirst,
     }
     .limits()
     .ok_or("limits")?;

@@ -27,10 +27,10 @@ fn a_report_has_this_text(rt: HostRuntime) -> Result<(), Fail> {
         idle_timeout: None,
         connection_timeout: wait,
         reap_every: Duration::MAX,
+        order: LendingOrder::OldestFirst,
     }
     .limits()
     .ok_or("limits")?;
-    let limits = limits.with_order(LendingOrder::OldestFirst);
     let mut book = Book::new(rt.alloc(), limits, Duration::ZERO, 2)?;
     book.begin(Duration::ZERO);
     let id = book.number(0).ok().ok_or("number")?;

@@ -149,15 +149,6 @@ def try_an_interrupt():
         check("the next call", (then.returncode, then.stdout) == (0, b"built\n"), then)
 
 
-def try_the_document():
-    """What docs/JOURNAL.md shows of a run is what the run looks like."""
-    blocks = re.findall(r"^```console\n\$ (.*)\n((?:.*\n)*?)```$", read("docs", "JOURNAL.md").decode(), re.MULTILINE)
-    check("the document shows runs", len(blocks) > 0, len(blocks))
-    for command, wanted in blocks:
-        done = subprocess.run(command, shell=True, cwd=TOP, stdout=subprocess.PIPE, stderr=subprocess.STDOUT, timeout=60)
-        check(f"the document's {command!r}", done.stdout.decode() == wanted, done.stdout.decode())
-
-
 def tried():
     try_an_interrupt()
     # The first run builds the program, where it is missing.
@@ -168,5 +159,5 @@ def tried():
         try_reports()
         try_pictures()
         try_streams()
-        try_the_document()
+        TALLY.check_runs_of("JOURNAL.md")
     return TALLY

@@ -1,7 +1,6 @@
 """The script `pool-steps`."""
 import glob
 import os
-import re
 import select
 import shutil
 import subprocess
@@ -15,11 +14,9 @@ check = TALLY.check
 SCRIPT = os.path.join(TOP, "pool-steps")
 PROGRAM = os.path.join(TOP, "crates", "pool_steps", "out", "pool_steps")
 LIMITS = "limits 1 - - - 30000 30000\n"
-# The forms of the first line and of the others, as `pool-steps` says them.
-FIRST = "limits MAX MIN LIFE IDLE TIMEOUT RATE [ORDER]"
-FORMS = ["take T", "want T", "begin T", "number K", "admit T ID V", "fail T K [TEXT]", "return T ID V", "broken T ID V",
-         "bad T ID [TEXT]", "reap T", "error", "close", "state"]
-NO_STEP = "no step begins like this: --help shows all"
+# The first words and fields of the lines, as `pool-steps` says them.
+FORMS = ["limits MAX MIN LIFE IDLE TIMEOUT RATE [ORDER]", "take T", "want T", "begin T", "number K", "admit T ID V", "fail T K [TEXT]",
+         "return T ID V", "broken T ID V", "bad T ID [TEXT]", "reap T", "error", "close", "state"]
 
 
 def run(words, given=b""):
@@ -35,34 +32,13 @@ def runs(what, words, given, status, output, *errors):
     check(what, seen == wanted, seen)
 
 
-def why(form):
-    """What is said of a line that is to have this form."""
-    return f"it has to be: {form}" if form else NO_STEP
-
-
-def fault(line, form, reads=None, number=2):
-    """A script whose last line is at fault is told of in three lines."""
-    given = line if isinstance(line, bytes) else line.encode()
-    runs(
-        f"the line {line!r}", [], (LIMITS + "state\n" * (number - 2)).encode() + given + b"\nstate\n", 1,
-        "state 0 0 1\n" * (number - 2), f"line {number}: not a step",
-        f"pool-steps: line {number} reads: {line if reads is None else reads}", f"pool-steps: {why(form)}",
-    )
-
-
-def refused(limits):
-    runs(f"the limits {limits}", [], limits + "\nstate\n", 1, "", "line 1: limits refused",
-         f"pool-steps: line 1 reads: {limits}", f"pool-steps: {why(FIRST)}")
-
-
 def try_words():
     status, output, errors = run(["--help"])
-    forms = [FIRST, *FORMS]
     lines = [line.strip() for line in output.splitlines()]
-    absent = [form for form in forms if not any(line.startswith(form + " ") for line in lines)]
+    absent = [form for form in FORMS if not any(line.startswith(form + " ") for line in lines)]
     check("--help names each line", (status, errors, absent) == (0, "", []), (status, errors, absent))
     # Each line has its example beside it: played in a row, none of them is at fault.
-    steps = [next(line for line in lines if line.startswith(form + " "))[len(form):].strip() for form in forms]
+    steps = [next(line for line in lines if line.startswith(form + " "))[len(form):].strip() for form in FORMS]
     examples = "".join(step.split("  ")[0] + "\n" for step in steps)
     status, output, errors = run([], examples.encode())
     check("the examples of --help are steps", (status, errors, len(output.splitlines())) == (0, "", 13), (examples, errors))
@@ -75,34 +51,12 @@ def try_words():
 
 
 def try_lines():
-    fault("tkae 5", None)
-    fault("take", "take T")
-    fault(" take 5", None)
-    fault("take 5 6", "take T")
-    fault("take 5\r", "take T", "take 5\\r")
-    fault("take\t5", None, "take\\t5")
-    fault("take 18446744073709551616", "take T")
-    fault("number 4294967296", "number K")
-    fault("admit 0 0", "admit T ID V", number=4)
-    fault("fail 5 x why", "fail T K [TEXT]")
-    fault("close now", "close")
-    fault(" ", None)
-    fault(b"take \xff", "take T", "take \\xff")
-    fault(b"\xff", None, "\\xff")
-    fault("nonsense" * 40, None, ("nonsense" * 40)[:100] + " ..")
-    runs("a number with zeros in front", [], LIMITS + "take " + "0" * 30 + "5\n", 0, "empty ordered 0\n")
-    runs("a text with spaces", [], LIMITS + "begin 0\nfail 5 0  a  b \n", 0, "open 0\nretry 405\n")
-
-
-def try_first_lines():
-    runs("no line at all", [], "", 1, "", "line 1: not a step", "pool-steps: there is no line 1", f"pool-steps: {why(FIRST)}")
-    for line in ["take 5", "limits 1 - - - 30000", "limits 1 - - - 30000 30000 ", "limits 1 - - - 30000 30000 middle"]:
-        runs(f"the first line {line!r}", [], line + "\n", 1, "", "line 1: not a step",
-             f"pool-steps: line 1 reads: {line}", f"pool-steps: {why(FIRST)}")
-    refused("limits 0 - - - 30000 30000")
-    refused("limits 2 3 - - 30000 30000")
-    runs("an order of lending", [], "limits 1 - - - 1 1 oldest\nstate\n", 0, "state 0 0 1\n")
-    runs("a min_idle of 0", [], "limits 1 0 - - 1 1\nstate\n", 0, "state 0 0 0\n")
+    for line in [b"tkae 5", b" take 5", b"take 5\r", b"take \xff"]:
+        runs(f"the line {line!r}", [], LIMITS.encode() + b"state\n" + line + b"\nstate\n", 1, "state 0 0 1\n", "line 3: not a step")
+    runs("a text with spaces", [], LIMITS + "begin 0\nfail 5 0  a  b \nerror\n", 0, "open 0\nretry 405\nerror  a  b \n")
+    runs("no line at all", [], "", 1, "", "line 1: not a step")
+    runs("another first line", [], "take 5\n", 1, "", "line 1: not a step")
+    runs("limits that are refused", [], "limits 2 3 - - 30000 30000\nstate\n", 1, "", "line 1: limits refused")
 
 
 def try_files(folder):
@@ -113,42 +67,33 @@ def try_files(folder):
         return path
 
     steps = f"# a pool for one\n\n{LIMITS}# what is there\nstate\n\nstate\n"
+    wrong = steps + "# wrong:\ntake  5\nstate\n"
     runs("a file with comments", [file(steps)], "", 0, "state 0 0 1\nstate 0 0 1\n")
-    runs("a fault behind comments", [file(steps + "# wrong:\ntake  5\nstate\n")], "", 1, "state 0 0 1\nstate 0 0 1\n",
-         "line 9: not a step", "pool-steps: line 9 reads: take  5", f"pool-steps: {why('take T')}")
-    runs("the same on standard input", [], steps + "# wrong:\ntake  5\nstate\n", 1, "state 0 0 1\nstate 0 0 1\n",
-         "line 9: not a step", "pool-steps: line 9 reads: take  5", f"pool-steps: {why('take T')}")
-    runs("a last line without its feed", [file("# one\n" + LIMITS + "state\ntake x")], "", 1, "state 0 0 1\n",
-         "line 4: not a step", "pool-steps: line 4 reads: take x",
-         f"pool-steps: {why('take T')}")
-    runs("limits behind comments", [file("\n# none\nlimits 0 - - - 1 1\n")], "", 1, "", "line 3: limits refused",
-         "pool-steps: line 3 reads: limits 0 - - - 1 1", f"pool-steps: {why(FIRST)}")
-    runs("comments alone", [file("# one\n\n")], "", 1, "", "line 3: not a step",
-         "pool-steps: there is no line 3", f"pool-steps: {why(FIRST)}")
+    runs("a fault behind comments", [file(wrong)], "", 1, "state 0 0 1\nstate 0 0 1\n", "line 9: not a step")
+    runs("the same on standard input", [], wrong, 1, "state 0 0 1\nstate 0 0 1\n", "line 9: not a step")
+    runs("a last line without its feed", [file("# one\n" + LIMITS + "state\ntake x")], "", 1, "state 0 0 1\n", "line 4: not a step")
+    runs("limits behind comments", [file("\n# none\nlimits 0 - - - 1 1\n")], "", 1, "", "line 3: limits refused")
+    runs("comments alone", [file("# one\n\n")], "", 1, "", "line 3: not a step")
     runs("a text that begins like a comment", [file(LIMITS + "begin 0\nfail 5 0 # why\nerror\n")], "", 0,
          "open 0\nretry 405\nerror # why\n")
-    runs("a space is no empty line", [file(LIMITS + " \nstate\n")], "", 1, "", "line 2: not a step",
-         "pool-steps: line 2 reads:  ", f"pool-steps: {NO_STEP}")
+    runs("a space is no empty line", [file(LIMITS + " \nstate\n")], "", 1, "", "line 2: not a step")
     with open(file("ignored\n" + LIMITS + "state\ntake\n"), "rb") as given:
         # Whoever redirects may have read the beginning.
         os.lseek(given.fileno(), len("ignored\n"), os.SEEK_SET)
         done = subprocess.run([SCRIPT], stdin=given, stdout=subprocess.PIPE, stderr=subprocess.PIPE, timeout=60)
-    wanted = (1, b"state 0 0 1\n", b"line 3: not a step\npool-steps: line 3 reads: take\npool-steps: it has to be: take T\n")
     seen = (done.returncode, done.stdout, done.stderr)
-    check("a file that is redirected", seen == wanted, seen)
+    check("a file that is redirected", seen == (1, b"state 0 0 1\n", b"line 3: not a step\n"), seen)
     for path in sorted(glob.glob(os.path.join(TOP, "scripts", "*.steps"))):
         with open(path[: -len("steps")] + "answers", encoding="utf-8") as answers:
             runs(os.path.basename(path), [path], "", 0, answers.read())
 
 
 def try_streams():
-    # A fault far behind what is kept of a stream, and one that is followed by more than a pipe holds.
+    # A fault that is followed by more than a pipe holds.
     many = 700_000
     given = LIMITS + "state\n" * many + "stat\n" + "state\n" * many
-    runs("a long stream", [], given, 1, "state 0 0 1\n" * many, f"line {many + 2}: not a step",
-         f"pool-steps: line {many + 2} reads: stat", f"pool-steps: {NO_STEP}")
-    runs("a long line of a stream", [], LIMITS + "state\ntake 5 " + "x" * 100_000_000 + "\n", 1, "state 0 0 1\n",
-         "line 3: not a step", "pool-steps: line 3 reads: take 5 " + "x" * 93 + " ..", f"pool-steps: {why('take T')}")
+    runs("a long stream", [], given, 1, "state 0 0 1\n" * many, f"line {many + 2}: not a step")
+    runs("a long line of a stream", [], LIMITS + "state\ntake 5 " + "x" * 100_000_000 + "\n", 1, "state 0 0 1\n", "line 3: not a step")
     talk = subprocess.Popen([SCRIPT], stdin=subprocess.PIPE, stdout=subprocess.PIPE, stderr=subprocess.PIPE, bufsize=0)
     talk.stdin.write((LIMITS + "state\n").encode())
     first = talk.stdout.readline() if select.select([talk.stdout], [], [], 60)[0] else b""
@@ -231,16 +176,6 @@ def try_a_build(folder):
     holds("a build after a change", 0, "state 0 0 1\n", progress)
 
 
-def try_the_document():
-    """What docs/POOL-STEPS.md shows of a run is what the run looks like."""
-    with open(os.path.join(TOP, "docs", "POOL-STEPS.md"), encoding="utf-8") as document:
-        blocks = re.findall(r"^```console\n\$ (.*)\n((?:.*\n)*?)```$", document.read(), re.MULTILINE)
-    check("the document shows runs", len(blocks) > 0, len(blocks))
-    for command, wanted in blocks:
-        done = subprocess.run(command, shell=True, cwd=TOP, stdout=subprocess.PIPE, stderr=subprocess.STDOUT, timeout=60)
-        check(f"the document's {command!r}", done.stdout.decode() == wanted, done.stdout.decode())
-
-
 def tried():
     # The first run builds the program, where it is missing.
     build = subprocess.run([SCRIPT], input=LIMITS.encode())
@@ -248,12 +183,11 @@ def tried():
     if build.returncode == 0:
         try_words()
         try_lines()
-        try_first_lines()
         try_the_program()
         with tempfile.TemporaryDirectory() as folder:
             try_files(folder)
         with tempfile.TemporaryDirectory() as folder:
             try_a_build(folder)
         try_streams()
-        try_the_document()
+        TALLY.check_runs_of("POOL-STEPS.md")
     return TALLY

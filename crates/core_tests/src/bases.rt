@@ -1,6 +1,6 @@
 // The base of a report: what stood before the oldest of its records.
 
-use crate::checks::{book_of, is_replayed, last_report, legal, listed, same, take_all};
+use crate::checks::{book_of, does_replay, last_report, legal, listed, same, take_all};
 use crate::journal::one_kept;
 use core_uses::steps::{ms, sized};
 use r2d2_core::{Base, LendingOrder, Report};
@@ -14,12 +14,6 @@ fn report<R: Abort + AllocGlobal>(rt: &R, order: LendingOrder, room: usize) -> R
     let mut book = book_of(rt, limits, room);
     take_all(rt, &mut book, listed(rt, one_kept()));
     last_report(rt, book)
-}
-
-// Whether the report replays, as it says itself and by the second reading.
-fn does_replay<R: Abort + AllocGlobal>(rt: &R, report: &Report) -> (bool, bool) {
-    let does_say = report.replays().expect(rt, "a replay");
-    (does_say, is_replayed(rt, report))
 }
 
 // Its moment, and how many are idle and lent.
@@ -39,19 +33,19 @@ fn the_first_base_is_that_of_the_making(rt: HostRuntime) {
         same(&rt, standing(&report.base), (Duration::ZERO, 0, 0));
         same(&rt, counts(&report.base), (0, 1, false));
         same(&rt, report.lost, 0);
-        same(&rt, does_replay(&rt, &report), (true, true));
+        assert!(rt; does_replay(&rt, &report));
         drop(report);
     }
 }
 
 // The base of a report that lost so many records is that of the moment `since`.
-fn has_what_was_dropped<R: Abort + AllocGlobal>(rt: &R, report: &Report, lost: u64, since: u64) {
+fn has_what_was_dropped<R: Abort>(rt: &R, report: &Report, lost: u64, since: u64) {
     let base = &report.base;
     same(rt, standing(base), (ms(since), 1, 0));
     same(rt, base.idle.as_slice(), &[(0u64, ms(1), ms(since))][..]);
     same(rt, counts(base), (1, 0, false));
     same(rt, report.lost, lost);
-    same(rt, does_replay(rt, report), (true, true));
+    assert!(rt; does_replay(rt, report));
 }
 
 #[test]
@@ -70,6 +64,6 @@ fn the_base_has_what_was_dropped(rt: HostRuntime) {
 fn a_base_with_a_connection_too_many_is_found_out(rt: HostRuntime) {
     let mut report = report(&rt, LendingOrder::NewestFirst, 2);
     report.base.connections = 2;
-    same(&rt, does_replay(&rt, &report), (false, false));
+    assert!(rt; !does_replay(&rt, &report));
     drop(report);
 }

@@ -3,7 +3,6 @@
 // that a test is proved without their parts too.
 
 use core_uses::makers::{answered, book_in, core_in};
-use core_uses::replays::replays;
 use linked_list_allocator::LocalHeap;
 use r2d2_core::{Book, Core, Limits, Report, Step};
 use std::alloc::{AllocError, Allocator};
@@ -84,7 +83,6 @@ pub(crate) fn report_of<R: Abort>(rt: &R, book: &Book<u64>) -> Report {
     book.report().expect(rt, "a report")
 }
 
-// Whether the report replays by the second reading.
-pub(crate) fn is_replayed<R: Abort + AllocGlobal>(rt: &R, report: &Report) -> bool {
-    replays(rt.alloc(), report).expect(rt, "a replay")
+pub(crate) fn does_replay<R: Abort>(rt: &R, report: &Report) -> bool {
+    report.replays().expect(rt, "a replay")
 }

@@ -37,7 +37,7 @@ fn lines(alloc: Global, steps: Vec<Step<u64>>) -> Result<Vec<Line>, AllocError> 
     Ok(lines)
 }
 
-fn told_by<R: Abort + AllocGlobal, M: Machine + Drop>(
+fn written_by<R: Abort + AllocGlobal, M: Machine + Drop>(
     rt: &R,
     machine: M,
     steps: Vec<Step<u64>>,
@@ -54,7 +54,7 @@ fn by_a_core<R: Abort + AllocGlobal>(
     steps: Vec<Step<u64>>,
 ) -> Vec<u8> {
     let core = core_from_id_in(rt.alloc(), limits, first_id);
-    told_by(rt, core.expect(rt, "a core"), steps)
+    written_by(rt, core.expect(rt, "a core"), steps)
 }
 
 fn by_a_book<R: Abort + AllocGlobal>(
@@ -64,7 +64,7 @@ fn by_a_book<R: Abort + AllocGlobal>(
     steps: Vec<Step<u64>>,
 ) -> Vec<u8> {
     let book = book_from_id_in(rt.alloc(), limits, first_id, 0);
-    told_by(rt, book.expect(rt, "a book"), steps)
+    written_by(rt, book.expect(rt, "a book"), steps)
 }
 
 // A core and a book of those limits, whose ids begin at the first one, answer the steps so.

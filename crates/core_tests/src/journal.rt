@@ -1,7 +1,7 @@
 // The journal of a book, and what it reports.
 
 use crate::checks::{
-    book_of, heap_of, is_made, is_replayed, last_report, legal, listed, rest_of, same, same_at,
+    book_of, does_replay, heap_of, is_made, last_report, legal, listed, rest_of, same, same_at,
     take_all,
 };
 use core_uses::makers::{book_from_id_in, book_in, report_in};
@@ -80,13 +80,13 @@ fn standing(report: &Report) -> (usize, usize, u64) {
 
 // How many it shows as connected and pending, whether it is closed, and whether its records come to
 // what it shows.
-fn counts<R: Abort + AllocGlobal>(rt: &R, report: &Report) -> (u32, u32, bool, bool) {
+fn counts<R: Abort>(rt: &R, report: &Report) -> (u32, u32, bool, bool) {
     let (connections, pending) = (report.connections, report.pending);
-    (connections, pending, report.closed, is_replayed(rt, report))
+    (connections, pending, report.closed, does_replay(rt, report))
 }
 
 // The report shows so many as idle and lent, so many lost, and these counts.
-fn stands<R: Abort + AllocGlobal>(
+fn stands<R: Abort>(
     rt: &R,
     report: Report,
     its_standing: (usize, usize, u64),
@@ -127,18 +127,6 @@ fn reports_what_a_close_did(rt: HostRuntime) {
     stands(&rt, report, (0, 0, 0), (0, 0, true, true));
 }
 
-// A report with other counts than its records come to is found out.
-#[test]
-fn finds_a_report_that_does_not_replay(rt: HostRuntime) {
-    let mut report = report_of_one_kept(&rt, 3);
-    assert!(rt; is_replayed(&rt, &report));
-    report.pending = 1;
-    assert!(rt; !is_replayed(&rt, &report));
-    report.pending = 0;
-    report.records = Vec::new(rt.alloc());
-    assert!(rt; !is_replayed(&rt, &report));
-}
-
 // A book with all that it left of its heap.
 fn beside_all<'a, R: Abort>(
     rt: &R,
@@ -171,7 +159,7 @@ fn a_report_takes_memory(rt: HostRuntime) {
     let report = report_of_a_full_heap(&rt, &heap);
     drop(heap);
     same(&rt, report.records.len(), 3);
-    assert!(rt; is_replayed(&rt, &report));
+    assert!(rt; does_replay(&rt, &report));
     drop(report);
 }
 

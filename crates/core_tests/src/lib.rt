@@ -10,13 +10,9 @@ mod bases;
 #[cfg(test)]
 mod caller;
 #[cfg(test)]
-mod changes;
-#[cfg(test)]
 mod checks;
 #[cfg(test)]
 mod closing;
-#[cfg(test)]
-mod drafts;
 #[cfg(test)]
 mod extremes;
 #[cfg(test)]
@@ -32,11 +28,11 @@ mod plain;
 #[cfg(test)]
 mod random;
 #[cfg(test)]
+mod random_steps;
+#[cfg(test)]
 mod refused;
 #[cfg(test)]
 mod reuse;
-#[cfg(test)]
-mod said;
 #[cfg(test)]
 mod schedule;
 #[cfg(test)]

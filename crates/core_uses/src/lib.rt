@@ -1,9 +1,7 @@
-//! What the tests of the core and its worked rows have in common: a proved caller, makers, steps,
-//! and a second reading of a replay.
+//! What the tests of the core and its worked rows have in common: a proved caller, makers and steps.
 #![tactic(auto)]
 
 pub mod caller;
 pub mod machine;
 pub mod makers;
-pub mod replays;
 pub mod steps;

@@ -5,8 +5,8 @@ use r2d2_core::Report;
 use std::alloc::Global;
 use std::time::SystemTime;
 
-// Each byte of a line may be passed so often in the search for the ends of objects; then the rest of
-// the line is passed over. So deep may a report stand in others, and so many objects may never
+// Each byte of a line may be passed so often in the search for the ends of objects; then the rest
+// of the line is passed over. So deep may a report stand in others, and so many objects may never
 // close.
 const MOST_PASSES: usize = 64;
 

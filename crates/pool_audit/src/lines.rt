@@ -3,7 +3,7 @@ ghost use Rattle.std.specs.Prelude.{◌≡◌};
 ghost use Rattle.pool_audit.specs.Faults.{status_of};
 
 use crate::finding::Reports;
-use crate::told::{self, Judged};
+use crate::report_text::{self, Judged};
 use pool_reports::{FromJsonError, Verdict, audit, from_json_of_pool};
 use r2d2_core::Report;
 use std::alloc::{AllocError, AllocFailed, Global};
@@ -165,8 +165,8 @@ fn audit_lines<R: Read + Drop, W: Write + Drop>(
 // Writes of a log how many of its lines were passed over. Says whether all reports are sound.
 fn end<W: Write + Drop>(task: &Task, output: &mut BufWriter<W>) -> Result<bool, Fault> {
     if task.lines == Lines::Log {
-        let told = told::of_the_rest(task.alloc, task.form, task.passed_over)?;
-        write(output, told)?;
+        let text = report_text::of_the_rest(task.alloc, task.form, task.passed_over)?;
+        write(output, text)?;
     }
     Ok(task.all_sound)
 }
@@ -185,7 +185,7 @@ fn audit_line<W: Write + Drop>(
         return search_line(task, number, line, output);
     }
     let report = report_on(task.alloc, number, line)?;
-    tell(task, number, report, output)
+    judge(task, number, report, output)
 }
 
 // The same of each report in a line of a log.
@@ -203,7 +203,7 @@ fn search_line<W: Write + Drop>(
         let Some(report) = next else {
             break;
         };
-        tell(task, number, report, output)?;
+        judge(task, number, report, output)?;
         has_none = false;
     }
     if has_none {
@@ -212,20 +212,20 @@ fn search_line<W: Write + Drop>(
     Ok(())
 }
 
-// Tells of a report, and notes whether it is sound.
-fn tell<W: Write + Drop>(
+// Writes what there is to say of a report, and notes whether it is sound.
+fn judge<W: Write + Drop>(
     task: &mut Task,
     number: u64,
     (report, made_at): (Report, Option<SystemTime>),
     output: &mut BufWriter<W>,
 ) -> Result<(), Fault> {
-    let verdict = tell_of(task, number, &report, made_at, output);
+    let verdict = write_verdict(task, number, &report, made_at, output);
     drop(report);
     task.all_sound &= verdict? == Verdict::Sound;
     Ok(())
 }
 
-fn tell_of<W: Write + Drop>(
+fn write_verdict<W: Write + Drop>(
     task: &Task,
     line: u64,
     report: &Report,
@@ -239,12 +239,12 @@ fn tell_of<W: Write + Drop>(
         made_at,
         verdict,
     };
-    write(output, told::of(task.alloc, task.form, &judged)?)?;
+    write(output, report_text::of(task.alloc, task.form, &judged)?)?;
     Ok(verdict)
 }
 
-fn write<W: Write + Drop>(output: &mut BufWriter<W>, told: String) -> Result<(), Fault> {
-    output.write_all(told.as_bytes()).map_err(|_| Fault::Write)
+fn write<W: Write + Drop>(output: &mut BufWriter<W>, text: String) -> Result<(), Fault> {
+    output.write_all(text.as_bytes()).map_err(|_| Fault::Write)
 }
 
 fn report_on(

@@ -5,7 +5,7 @@
 mod answers;
 mod finding;
 mod lines;
-mod told;
+mod report_text;
 
 use lines::{Fault, Form, Lines};
 use std::env;

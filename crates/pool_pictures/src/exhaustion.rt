@@ -1,5 +1,5 @@
 // How long a pool was exhausted.
-ghost use Rattle.std.specs.Prelude.{◌≡◌, ◌≤◌, ◌-◌};
+ghost use Rattle.std.specs.Prelude.{◌≡◌, ◌≤◌, ◌-◌, min};
 ghost use Rattle.std.specs.Duration.{as_nanos};
 
 use crate::lengths::{Length, length_of};
@@ -34,32 +34,24 @@ impl Exhaustion {
 }
 
 impl Story {
-    /// For how much of the story a caller who came had to wait: the pool was open, and all
-    /// `max_size` were lent or opening.
+    /// For how much of the story a caller who came had to wait.
     pub fn exhaustion(&self) -> Exhaustion
-        ensures within { result.nanos ≤ as_nanos self.now.to - as_nanos self.now.from }
+        ensures nanos { result.nanos
+            ≡ min (as_nanos self.now.exhausted) (as_nanos self.now.to - as_nanos self.now.from) }
         ensures whole { result.whole ≡ as_nanos self.now.to - as_nanos self.now.from }
     {
-        let (from, to) = (self.from.as_nanos(), self.to.as_nanos());
-        let to = to.max(from);
-        let (mut at, mut nanos, mut times, mut is_still) = (from, 0u128, 0u32, false);
+        let whole = self.length().as_nanos();
+        let (mut times, mut is_still) = (0u32, false);
         for counts in self.counts.iter() {
-            let next = counts.at.as_nanos().max(at).min(to);
-            if is_still {
-                nanos += next - at;
-            }
             if counts.is_exhausted && !is_still {
                 times = times.saturating_add(1);
             }
-            (at, is_still) = (next, counts.is_exhausted);
-        }
-        if is_still {
-            nanos += to - at;
+            is_still = counts.is_exhausted;
         }
         Exhaustion {
             times,
-            nanos,
-            whole: to - from,
+            nanos: self.exhausted.as_nanos().min(whole),
+            whole,
             is_still,
         }
     }

@@ -5,7 +5,7 @@ use crate::lengths::{Length, Limit};
 use crate::marked::id_of;
 use crate::notes::{Finding, Notes};
 use crate::story::Story;
-use crate::words::{Escaped, dated, exhausted, order, told, verdict};
+use crate::words::{Escaped, dated, exhausted, order, span, verdict};
 use r2d2_core::{Limits, Record, Report};
 use std::alloc::{AllocError, Allocator, Global};
 use std::fmt;
@@ -52,7 +52,7 @@ p { margin: 0 0 6px }
 .is-sound { color: var(--sound); background: var(--sound-paper) }
 .is-wrong { color: var(--fault); background: var(--fault-paper) }
 .answers { margin: 0 0 12px; padding-left: 20px }
-.told { color: var(--dim); margin-bottom: 20px }
+.summary { color: var(--dim); margin-bottom: 20px }
 .moment { display: inline-block }
 .legend { list-style: none; margin: 0 0 12px; padding: 0; display: grid; gap: 4px 28px;
   grid-template-columns: repeat(auto-fill, minmax(180px, max-content)) }
@@ -96,7 +96,7 @@ fn about<A: Allocator>(
 ) -> Result<(), AllocError> {
     let story = Story::of(alloc, report)?;
     known(alloc, page, notes)?;
-    tell(alloc, page, &story, notes)?;
+    summary(alloc, page, &story, notes)?;
     numbers(page, report)?;
     draw(alloc, page, report, &story, notes)?;
     records(page, report, notes)
@@ -189,10 +189,15 @@ fn class_of(finding: Finding) -> &'static str {
     }
 }
 
-// What the story tells in words.
-fn tell(alloc: Global, page: &mut String, story: &Story, notes: &Notes) -> Result<(), AllocError> {
-    let (told, exhausted) = (told(alloc, story)?, exhausted(alloc, story.exhaustion())?);
-    put(page, "<p class=\"told\">", told)?;
+// When the story goes, and for how much of it the pool was exhausted.
+fn summary(
+    alloc: Global,
+    page: &mut String,
+    story: &Story,
+    notes: &Notes,
+) -> Result<(), AllocError> {
+    let (span, exhausted) = (span(alloc, story)?, exhausted(alloc, story.exhaustion())?);
+    put(page, "<p class=\"summary\">", span)?;
     if let Some(dated) = dated(alloc, story, notes.made_at)? {
         put(page, "<br>", dated)?;
     }

@@ -78,8 +78,7 @@ pub struct Counts {
     pub connections: u32,
     /// Openings that were ordered and not admitted.
     pub pending: u32,
-    /// Whether a caller who came had to wait: the pool was open, and all `max_size` were lent or
-    /// opening.
+    /// Whether a caller who came had to wait, as `Load` says it.
     pub is_exhausted: bool,
 }
 
@@ -136,6 +135,8 @@ pub struct Story {
     pub lives: Vec<Life>,
     /// The counts of the base, and those after each record.
     pub counts: Vec<Counts>,
+    /// For how long the pool was exhausted.
+    pub exhausted: Duration,
     /// How many records came before the base.
     pub lost: u64,
     /// Whether the pool is closed at the end.
@@ -224,7 +225,7 @@ impl Story {
         for record in &report.records {
             teller.follow(*record)?;
         }
-        Ok(teller.told(report))
+        Ok(teller.into_story(report))
     }
 
     /// How long it lasts.

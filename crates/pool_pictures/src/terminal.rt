@@ -7,7 +7,7 @@ use crate::marked::{Marked, find_marked};
 use crate::notes::Notes;
 use crate::scale::Scale;
 use crate::story::{Counts, Life, Series, Story};
-use crate::words::{self, dated, exhausted, order, settings, since, told};
+use crate::words::{self, dated, exhausted, order, settings, since, span};
 use cells::{bars, exhausted_signs, lane, put};
 use r2d2_core::{Limits, Report};
 use std::alloc::{AllocError, Allocator, Global};
@@ -99,7 +99,7 @@ impl Sheet {
         if let Some(last) = story.last_counts() {
             self.counts("end", last)?;
         }
-        self.tell(story, notes)
+        self.summary(story, notes)
     }
 
     fn limits(&mut self, limits: &Limits) -> Result<(), AllocError> {
@@ -111,9 +111,9 @@ impl Sheet {
         self.line(settings(self.alloc, limits)?, "")
     }
 
-    fn tell(&mut self, story: &Story, notes: &Notes) -> Result<(), AllocError> {
+    fn summary(&mut self, story: &Story, notes: &Notes) -> Result<(), AllocError> {
         let closed = if story.closed { ", closed" } else { "" };
-        self.line(told(self.alloc, story)?, closed)?;
+        self.line(span(self.alloc, story)?, closed)?;
         if let Some(dated) = dated(self.alloc, story, notes.made_at)? {
             self.line(dated, "")?;
         }

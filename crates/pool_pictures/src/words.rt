@@ -81,19 +81,19 @@ impl fmt::Display for Share {
 }
 
 /// From when to when a drawing goes, and what came before it.
-pub(crate) fn told(alloc: Global, story: &Story) -> Result<String, AllocError> {
+pub(crate) fn span(alloc: Global, story: &Story) -> Result<String, AllocError> {
     let (from, to) = (Length(story.from), Length(story.to));
     let count = u64::try_from(story.counts.len().saturating_sub(1)).unwrap_or(u64::MAX);
     let (records, folded) = (Many(count, "record"), story.lost);
     if folded == 0 {
         return format!(in alloc; "{records}, from the making at {from} to {to}");
     }
-    let mut told = format!(in alloc; "the newest {records}, to {to}")?;
+    let mut span = format!(in alloc; "the newest {records}, to {to}")?;
     write!(
-        told,
+        span,
         "; what {folded} older ones came to is folded into the base at {from}"
     )?;
-    Ok(told)
+    Ok(span)
 }
 
 /// How often, for how long, and for what part of the time a pool was exhausted.

@@ -1,6 +1,6 @@
 -- What a report that replays keeps, and that a verdict says just that.
 use Rattle.std.proofs.Common.{◌≡◌, ℕ, ◌+◌, ◌≤◌, List, [], ◌∷◌, length, refl, sym, ◌∙◌, ap, arith}
-use Rattle.std.specs.Prelude.{◌⊎◌, ◌↔◌, false}
+use Rattle.std.specs.Prelude.{◌↔◌}
 use Rattle.std.proofs.lemmas.List.{length-map}
 use Rattle.r2d2_core.specs.declared.journal.report.Report.{Report}
 use Rattle.r2d2_core.specs.declared.schedule.limits.LimitSettings.{LimitSettings}
@@ -9,6 +9,7 @@ use Rattle.r2d2_core.specs.Connections.{id_of_idle, id_of_lent}
 use Rattle.r2d2_core.specs.Records.{SeenRecord}
 use Rattle.r2d2_core.specs.Bases.{SeenBase, IsLegalBase}
 use Rattle.r2d2_core.specs.Folding.{replay, folded, AreLegalFrom}
+use Rattle.r2d2_core.specs.Sums.{IsReplenished}
 use Rattle.r2d2_core.specs.Reports.{seen_base, seen_records, told_in, DoesReplay, HasSoundCounts}
 use Rattle.r2d2_core.specs.Reports.{IsSoundReport}
 use Rattle.r2d2_core.proofs.Recording.Folding.{folds_first}
@@ -27,8 +28,9 @@ legal_told limits (r ∷ rs) b legal are =
 
 module _ {B : Type 0} (r : Report B) where
   -- so the counts of a report that replays are sound where what is wanted is there or on its way
-  pub sound_counts : DoesReplay r → (r.closed ≡ false → (wanted_of (seen_limits r.limits) ≤ length r.idle.items + r.pending)
-      ⊎ (r.connections + r.pending ≡ (seen_limits r.limits).max_size)) → HasSoundCounts r
+  pub sound_counts : DoesReplay r
+      → IsReplenished (wanted_of (seen_limits r.limits)) (seen_limits r.limits).max_size (length r.idle.items) r.connections r.pending r.closed
+      → HasSoundCounts r
   sound_counts d ready =
       let end = told_in r in
       let legal : IsLegalBase (seen_limits r.limits) end = legal_told (seen_limits r.limits) (seen_records r) (seen_base r.base) d.base d.legal in

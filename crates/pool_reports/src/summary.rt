@@ -21,8 +21,7 @@ pub struct Summary {
     pub until: Duration,
     /// The most connections that were lent at once.
     pub most_lent: usize,
-    /// For how long the pool was exhausted: it was open, none was idle, and lent and pending ones
-    /// were `max_size`.
+    /// For how long the pool was exhausted, as `Load` says it.
     pub exhausted: Duration,
     /// How many connections were opened.
     pub opened: u64,
@@ -71,15 +70,17 @@ pub fn summarize<A: Allocator>(alloc: Global, report: &Report<A>) -> Result<Summ
     let came = report.base.connections as u128 + opened as u128;
     let left = closed as u128 + report.connections as u128;
     let lent = loans(alloc, report.lent.as_slice(), records)?;
-    let mut now = Now::at_base(report);
+    let mut load = Load::of(report.limits, &report.base);
+    let mut most_lent = load.lent;
     for record in records {
-        now.follow(record);
+        load.follow(record);
+        most_lent = most_lent.max(load.lent);
     }
     Ok(Summary {
         from: report.base.at,
-        until: now.load.at,
-        most_lent: now.most_lent,
-        exhausted: now.exhausted,
+        until: load.at,
+        most_lent,
+        exhausted: load.exhausted,
         opened,
         closed,
         reaped: came.saturating_sub(left) as u64,
@@ -128,35 +129,6 @@ fn dates(
         }
     }
     Ok(dates)
-}
-
-// What stands after some records, and what was seen up to there.
-#[derive(Clone, Copy)]
-struct Now {
-    load: Load,
-    most_lent: usize,
-    exhausted: Duration,
-}
-
-impl Now {
-    fn at_base<A: Allocator>(report: &Report<A>) -> Now {
-        let load = Load::of(report.limits, &report.base);
-        Now {
-            load,
-            most_lent: load.lent,
-            exhausted: Duration::ZERO,
-        }
-    }
-
-    fn follow(&mut self, record: &Record) {
-        let before = self.load;
-        self.load.follow(record);
-        if before.is_exhausted() {
-            let passed = self.load.at.saturating_sub(before.at);
-            self.exhausted = self.exhausted.saturating_add(passed);
-        }
-        self.most_lent = self.most_lent.max(self.load.lent);
-    }
 }
 
 impl Described for Summary {}

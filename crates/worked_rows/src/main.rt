@@ -1,6 +1,6 @@
-//! The worked rows, which lie in the folder `data`: scripts, `NAME.steps`, with the answers that were
-//! worked out by hand, `NAME.answers`. The core, `run`, a book, and the text of `pool-steps` are each
-//! to answer them so.
+//! The worked rows, which lie in the folder `data`: scripts, `NAME.steps`, with the answers that
+//! were worked out by hand, `NAME.answers`. The core, `run`, a book, and the text of `pool-steps`
+//! are each to answer them so.
 #![tactic(auto)]
 
 mod rows;
@@ -68,7 +68,7 @@ fn fault_of<R: Files + AllocGlobal>(rt: &R, name: &str) -> io::Result<Option<Str
     let script = script_of(rt, name)?;
     let answers = text_of(rt, name, "answers")?;
     let who = rows::who_differs(rt.alloc(), script.as_str(), answers.as_str());
-    Ok(told(rt.alloc(), who)?)
+    Ok(fault_text(rt.alloc(), who)?)
 }
 
 fn script_of<R: Files + AllocGlobal>(rt: &R, name: &str) -> io::Result<String> {
@@ -81,7 +81,7 @@ fn text_of<R: Files + AllocGlobal>(rt: &R, name: &str, ending: &str) -> io::Resu
     fs::read_to_string(rt, format!(in rt.alloc(); "{name}.{ending}")?)
 }
 
-fn told(
+fn fault_text(
     alloc: Global,
     who: Result<Option<&'static str>, Fault>,
 ) -> Result<Option<String>, AllocError> {

@@ -2,7 +2,6 @@
 
 use core_uses::machine::{Machine, lines_of};
 use core_uses::makers::{book_in, core_in, report_in};
-use core_uses::replays::replays;
 use linked_list_allocator::LocalHeap;
 use pool_lines::program::answer::{id_of, write_answer, write_state};
 use pool_lines::program::line::{Line, limits};
@@ -71,7 +70,7 @@ fn by_run(alloc: Global, script: &str) -> Result<Vec<u8>, Fault> {
     let mut at_once = AtOnce {
         limits,
         steps: Vec::new(alloc),
-        told: 0,
+        answered: 0,
         written: Vec::new(alloc),
     };
     at_once.answer(alloc, lines)?;
@@ -84,7 +83,7 @@ struct AtOnce {
     limits: Limits,
     steps: Vec<Step<u64>>,
     // To how many of them the answers are written.
-    told: usize,
+    answered: usize,
     written: Vec<u8>,
 }
 
@@ -96,22 +95,22 @@ impl AtOnce {
                 Line::State => self.look(alloc)?,
             }
         }
-        self.tell(alloc)?;
+        self.write_answers(alloc)?;
         Ok(())
     }
 
     fn look(&mut self, alloc: Global) -> Result<(), Fault> {
-        let (connections, idle, pending) = self.tell(alloc)?;
+        let (connections, idle, pending) = self.write_answers(alloc)?;
         write_state(&mut self.written, connections, idle, pending)
     }
 
-    // Runs the steps, and writes what those are answered that were not told. It says the state.
-    fn tell(&mut self, alloc: Global) -> Result<(u32, u32, u32), Fault> {
+    // Runs the steps, and writes the answers that are not written yet. It says the state.
+    fn write_answers(&mut self, alloc: Global) -> Result<(u32, u32, u32), Fault> {
         let (state, answers) = ran(alloc, self.limits, self.steps.clone()?)?;
-        for (step, answer) in self.steps.iter().zip(answers).skip(self.told) {
+        for (step, answer) in self.steps.iter().zip(answers).skip(self.answered) {
             write_answer(&mut self.written, id_of(step), answer)?;
         }
-        self.told = self.steps.len();
+        self.answered = self.steps.len();
         Ok(state)
     }
 }
@@ -186,6 +185,5 @@ fn on_a_full_heap<M: Machine>(
 
 // By itself, so that it is proved without the script.
 fn is_replayed(alloc: Global, book: &Book<u64, &LocalHeap>) -> Result<bool, AllocError> {
-    let report = report_in(book, alloc)?;
-    replays(alloc, &report)
+    report_in(book, alloc)?.replays()
 }

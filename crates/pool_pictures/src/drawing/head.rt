@@ -4,7 +4,7 @@ use super::Canvas;
 use super::layout::{MARGIN, Tenths, WIDTH};
 use crate::notes::Notes;
 use crate::story::Story;
-use crate::words::{Escaped, dated, exhausted, order, settings, told, verdict};
+use crate::words::{Escaped, dated, exhausted, order, settings, span, verdict};
 use r2d2_core::Limits;
 use std::alloc::{AllocError, Global};
 
@@ -52,7 +52,7 @@ impl Head {
         };
         head.known(alloc, notes)?;
         head.limits(alloc, &story.limits)?;
-        head.tell(alloc, story, notes)?;
+        head.summary(alloc, story, notes)?;
         Ok(head)
     }
 
@@ -88,9 +88,9 @@ impl Head {
         self.add(Look::Dim, settings)
     }
 
-    // What the story tells in words.
-    fn tell(&mut self, alloc: Global, story: &Story, notes: &Notes) -> Result<(), AllocError> {
-        self.add(Look::Dim, told(alloc, story)?)?;
+    // When the story goes, and for how much of it the pool was exhausted.
+    fn summary(&mut self, alloc: Global, story: &Story, notes: &Notes) -> Result<(), AllocError> {
+        self.add(Look::Dim, span(alloc, story)?)?;
         if let Some(dated) = dated(alloc, story, notes.made_at)? {
             self.add(Look::Dim, dated)?;
         }

@@ -197,7 +197,7 @@ impl Teller {
     }
 
     /// The whole story of the report.
-    pub(super) fn told<A: Allocator>(mut self, report: &Report<A>) -> Story
+    pub(super) fn into_story<A: Allocator>(mut self, report: &Report<A>) -> Story
         ensures limits { result.limits ≡ report.now.limits }
         ensures begins { result.from ≡ report.now.base.at }
         ensures lost { result.lost ≡ report.now.lost }
@@ -213,6 +213,7 @@ impl Teller {
             to: self.load.at,
             lives: self.lives,
             counts: self.counts,
+            exhausted: self.load.exhausted,
             lost: report.lost,
             closed: self.load.closed,
             closing: self.closing,

@@ -1,8 +1,9 @@
 // What else is wrong with a report that replays: each report of a pool keeps more than that.
-ghost use Rattle.std.specs.Prelude.{◌≡◌, ◌≤◌, ◌+◌, ◌⊎◌, ◌↔◌, false, length, IsTrue};
+ghost use Rattle.std.specs.Prelude.{◌≡◌, ◌↔◌, length, IsTrue};
 ghost use Rattle.std.specs.Duration.{as_nanos};
 ghost use Rattle.r2d2_core.specs.Limits.{seen_limits, wanted_of};
 ghost use Rattle.r2d2_core.specs.Bases.{first_base};
+ghost use Rattle.r2d2_core.specs.Sums.{IsReplenished};
 ghost use Rattle.r2d2_core.specs.Reports.{seen_base, DoesReplay};
 ghost use Rattle.pool_reports.specs.Verdicts.{IsVerdictOn};
 
@@ -113,10 +114,9 @@ fn making_reason<A: Allocator>(limits: &Limits, base: &Base<A>) -> MakingReason 
 // Whether as many are idle or pending as are wanted, if there is room and the pool is open.
 fn is_replenished<A: Allocator>(report: &Report<A>) -> bool
     ensures { IsTrue result
-        ↔ (report.now.closed ≡ false
-        → (wanted_of (seen_limits report.now.limits) ≤ length report.now.idle.items
-        + report.now.pending)
-        ⊎ (report.now.connections + report.now.pending ≡ (seen_limits report.now.limits).max_size)) }
+        ↔ IsReplenished (wanted_of (seen_limits report.now.limits))
+        (seen_limits report.now.limits).max_size (length report.now.idle.items)
+        report.now.connections report.now.pending report.now.closed }
 {
     let ready = report.idle.len() as u128 + report.pending as u128;
     let all = report.connections as u64 + report.pending as u64;

@@ -78,18 +78,18 @@ impl Known {
 }
 
 fn with_timeline(alloc: Global, judged: &Judged<'_>) -> Result<String, AllocError> {
-    let mut told = in_words(alloc, judged)?;
+    let mut words = in_words(alloc, judged)?;
     let known = Known::of(alloc, judged)?;
-    answers::add(&mut told, text(alloc, judged.report, &known.notes()))?;
-    Ok(told)
+    answers::add(&mut words, text(alloc, judged.report, &known.notes()))?;
+    Ok(words)
 }
 
 // What an audit found, and below it the answers, in words.
 fn in_words(alloc: Global, judged: &Judged<'_>) -> Result<String, AllocError> {
     let (line, verdict) = (judged.line, judged.verdict);
-    let mut told = format!(in alloc; "line {line}: {verdict}\n")?;
-    answers::add(&mut told, answers_in_words(alloc, judged))?;
-    Ok(told)
+    let mut words = format!(in alloc; "line {line}: {verdict}\n")?;
+    answers::add(&mut words, answers_in_words(alloc, judged))?;
+    Ok(words)
 }
 
 fn answers_in_words(alloc: Global, judged: &Judged<'_>) -> Result<String, AllocError> {
@@ -111,15 +111,15 @@ fn answers_of(alloc: Global, judged: &Judged<'_>) -> Result<Option<Summary>, All
 
 // The same as an object of JSON.
 fn in_json(alloc: Global, judged: &Judged<'_>) -> Result<String, AllocError> {
-    let told = Told {
+    let object = JsonLine {
         line: judged.line,
         replays: judged.verdict == Verdict::Sound,
         record: place_of(judged.verdict),
         why: why(alloc, judged.verdict)?,
         summary: answers_of(alloc, judged)?,
     };
-    let text = serde_json::to_string(alloc, &told);
-    drop(told);
+    let text = serde_json::to_string(alloc, &object);
+    drop(object);
     // Nothing else fails: each part has a text.
     let mut text = text.map_err(|_| AllocError)?;
     text.push('\n')?;
@@ -127,7 +127,7 @@ fn in_json(alloc: Global, judged: &Judged<'_>) -> Result<String, AllocError> {
 }
 
 #[derive(Drop, Serialize)]
-struct Told {
+struct JsonLine {
     line: u64,
     replays: bool,
     #[serde(skip_serializing_if = "Option::is_none")]
