@@ -1,4 +1,5 @@
-//! What the tests of the core and its worked rows have in common: a proved caller, makers and steps.
+//! What the tests of the core and its worked rows have in common: a proved caller, makers, and
+//! steps.
 #![tactic(auto)]
 
 pub mod caller;

@@ -185,5 +185,6 @@ fn on_a_full_heap<M: Machine>(
 
 // By itself, so that it is proved without the script.
 fn is_replayed(alloc: Global, book: &Book<u64, &LocalHeap>) -> Result<bool, AllocError> {
-    report_in(book, alloc)?.replays()
+    let report = report_in(book, alloc)?;
+    report.replays()
 }
