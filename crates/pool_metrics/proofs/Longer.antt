@@ -1,6 +1,6 @@
 -- Who was lent first is lent for longest.
-use Rattle.std.proofs.Common.{◌≡◌, ℕ, ◌+◌, ◌-◌, ◌<◌, ◌≤◌, List, [], ◌∷◌, length, map, arith}
-use Rattle.std.specs.Prelude.{slice_index_or, All}
+use Rattle.std.proofs.Common.{ℕ, ◌-◌, ◌<◌, ◌≤◌, List, [], ◌∷◌, length, map, arith}
+use Rattle.std.specs.Prelude.{All}
 use Rattle.std.specs.List.Sorted.{IsNonDecreasingBy}
 use Rattle.std.proofs.lemmas.List.{get_or-map, length-map}
 use Rattle.pool_metrics.specs.declared.loans.LongLoan.{LongLoan}

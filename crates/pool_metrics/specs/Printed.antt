@@ -1,5 +1,5 @@
 -- Which number stands under which name.
-use Rattle.std.specs.Prelude.{ℕ, ◌-◌, ◌^◌, min, Option, Some, option_map}
+use Rattle.std.specs.Prelude.{◌-◌, ◌^◌, min, Option, Some, option_map}
 use Rattle.std.specs.Duration.{as_nanos}
 use Rattle.std.specs.declared.time.Duration.{Duration}
 use Rattle.r2d2.specs.declared.pool.state.Status.{Status}

@@ -1,6 +1,4 @@
-use Rattle.std.proofs.Common.{◌≡◌, ℕ, ◌+◌, ◌-◌, ◌^◌, min, take, length, arith, rules, length-set}
-use Rattle.std.specs.Prelude.{sum}
-use Rattle.std.proofs.lemmas.Grind.{common_steps}
+use Rattle.std.proofs.Common.{◌≡◌, arith, rules}
 use Rattle.std.proofs.lemmas.List.Sums.{sum_by_more}
 use Rattle.pool_metrics.specs.Counted.{counted_up_to}
 use Rattle.pool_metrics.proofs.Places.{set_below}

@@ -1,5 +1,5 @@
-use Rattle.std.proofs.Common.{◌≡◌, ◌≤◌, ◌<◌, ℕ, arith, rules, refl}
-use Rattle.std.specs.Prelude.{slice_index, slice_index_or}
+use Rattle.std.proofs.Common.{◌≡◌, arith, rules, refl}
+use Rattle.std.specs.Prelude.{slice_index}
 use Rattle.pool_metrics.specs.Bounds.{bounds_of}
 use Rattle.pool_metrics.specs.declared.histogram.Bucket.{Bucket}
 use Rattle.pool_metrics.specs.declared.histogram.UpTo.TheVariants.{Nanos, Infinity}

@@ -1,4 +1,4 @@
-use Rattle.std.proofs.Common.{◌≡◌, ◌==◌, ◌≤◌, ◌<◌, ℕ, not, rules, sym, subst}
+use Rattle.std.proofs.Common.{◌≡◌, ◌==◌, ◌≤◌, not, rules, sym, subst}
 use Rattle.std.proofs.lemmas.Fn.{filter_same}
 use Rattle.std.proofs.lemmas.List.Kept.{IsNonDecreasingBy-filter}
 use Rattle.std.proofs.lemmas.List.Elements.{All-filter}
