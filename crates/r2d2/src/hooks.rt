@@ -1,5 +1,4 @@
 // What the pool tells its handlers, and asks its customizer: one bound for the three of them.
-ghost use Rattle.std.specs.Prelude.{◌≡◌, Bool};
 
 use crate::config::Config;
 use crate::event::{
@@ -26,12 +25,8 @@ pub trait Hooks<M: ManageConnection>: Send + Sync + Drop + 'static {
     /// The customizer.
     fn customizer(&self) -> &Self::Customizer;
 
-    // Whether a connection is checked before it is lent.
-    ghost tests: { Self → Bool };
-
     /// Whether a connection is checked before it is lent.
-    fn test_on_check_out(&self) -> bool
-        ensures { result ≡ tests self.now };
+    fn test_on_check_out(&self) -> bool;
 
     /// The manager or the customizer failed.
     fn error(&self, error: M::Error);
@@ -62,8 +57,6 @@ impl<
     Z: CustomizeConnection<M::Connection, M::Error>,
 > Hooks<M> for Config<H, V, Z> {
     type Customizer = Z;
-
-    ghost tests = { λ config. config.test_on_check_out };
 
     fn customizer(&self) -> &Z {
         &self.connection_customizer

@@ -15,9 +15,7 @@ use std::time::Duration;
 impl<C: TakeCounter, M: ManageConnection, K: Hooks<M>, R: PoolRuntime> SharedOf<C, M, K, R> {
     /// Whether a connection that is idle since this moment is checked before it is lent now.
     #[inline(always)]
-    pub(super) fn is_to_check(&self, idle_since: Duration, now: Duration) -> bool
-        ensures { K.tests self.now.hooks ≡ false → result ≡ false }
-    {
+    pub(super) fn is_to_check(&self, idle_since: Duration, now: Duration) -> bool {
         self.hooks.test_on_check_out() && self.tuning.is_check_due(idle_since, now)
     }
 

@@ -111,8 +111,8 @@ impl<C: TakeCounter, M: ManageConnection, K: Hooks<M>, R: PoolRuntime> AnyConnec
         ensures value { result.now ≡ this.old.extensions }
         ensures* writes_back { sem 𝓛 (Lends (the_row C.row M.row K.row R.row M.Connection.row
             M.Error.row M.Extension.row M.Extension.Kind.row K.Customizer.row C.TakeCounter
-            M.Error.Display M.Extension.Extension M.Extension.Kind.PartialEq K.Hooks
-            K.Customizer.Debug ⟦<Global as Allocator>⟧ ⟦<Global as Clone>⟧)
+            M.Error.Display M.Extension.Extension M.Extension.Kind.PartialEq K.Customizer.Debug
+            ⟦<Global as Allocator>⟧ ⟦<Global as Clone>⟧)
             (extensions_row M.Extension.row M.Extension.Kind.row
             M.Extension.Extension M.Extension.Kind.PartialEq) this.entry result
             (λ w. record this.old { extensions = w })) }
@@ -143,8 +143,8 @@ impl<C: TakeCounter, M: ManageConnection, K: Hooks<M>, R: PoolRuntime> DerefMut
         ensures value { result.now ≡ self.old.connection }
         ensures* writes_back { sem 𝓛 (Lends (the_row C.row M.row K.row R.row M.Connection.row
             M.Error.row M.Extension.row M.Extension.Kind.row K.Customizer.row C.TakeCounter
-            M.Error.Display M.Extension.Extension M.Extension.Kind.PartialEq K.Hooks
-            K.Customizer.Debug ⟦<Global as Allocator>⟧ ⟦<Global as Clone>⟧) M.Connection.row
+            M.Error.Display M.Extension.Extension M.Extension.Kind.PartialEq K.Customizer.Debug
+            ⟦<Global as Allocator>⟧ ⟦<Global as Clone>⟧) M.Connection.row
             self.entry result
             (λ w. record self.old { connection = w })) }
     {
