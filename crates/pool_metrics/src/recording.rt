@@ -127,8 +127,8 @@ impl<R> Metrics<R> {
     }
 
     /// A handler of errors, for the builder of the pool: it counts each error, and then passes it
-    /// to this one, which may log it. From now on a snapshot tells how many there were. The error is
-    /// lack of memory.
+    /// to this one, which may log it. From now on a snapshot tells how many there were. The error
+    /// is lack of memory.
     pub fn around<H: Drop>(&self, handler: H) -> Result<CountingErrorHandler<H, R>, AllocError>
         ensures { IfOk result (λ counting. counting ≡ handler) }
     {
