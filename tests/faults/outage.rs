@@ -1,5 +1,5 @@
-// What a pool does in an outage, and soon after it: which connections it distrusts, which it checks,
-// and when it tries again.
+// What a pool does in an outage, and soon after it: which connections it distrusts, which it
+// checks, and when it tries again.
 
 use crate::play::watched;
 use crate::server::{CHECK, Place};

@@ -40,8 +40,8 @@ pub(crate) struct Server {
     pub(crate) released: Mutex<Vec<(u64, u64, ReleaseReason)>>,
 }
 
-/// The client of a server, the handler of its pool's events, and its customizer. A connection is its
-/// number.
+/// The client of a server, the handler of its pool's events, and its customizer. A connection is
+/// its number.
 #[derive(Drop)]
 pub(crate) struct Client<R> {
     hand: Hand<R>,

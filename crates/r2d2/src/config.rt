@@ -380,9 +380,9 @@ impl<
         self
     }
 
-    /// With `test_on_check_out`, how long a connection has to be idle before it is checked: one that
-    /// came back, or was opened, less than this ago is lent without a check. The default is None:
-    /// each is checked. r2d2 always checks.
+    /// With `test_on_check_out`, how long a connection has to be idle before it is checked: one
+    /// that came back, or was opened, less than this ago is lent without a check. The default is
+    /// None: each is checked. r2d2 always checks.
     ///
     /// Half a second spares a busy pool nearly all checks; a caller may then get a connection whose
     /// server went away within it.
@@ -421,8 +421,8 @@ impl<
     }
 
     /// By how much at most the lifetimes of connections differ, so that those that were opened
-    /// together are not closed together: each connection's own is `max_lifetime` less a part of this
-    /// length, which its id and the pool decide. The default is none, as r2d2: each lives for
+    /// together are not closed together: each connection's own is `max_lifetime` less a part of
+    /// this length, which its id and the pool decide. The default is none, as r2d2: each lives for
     /// `max_lifetime`. A tenth of that spreads them well; with more than `max_lifetime` some are
     /// closed at each return.
     ///

@@ -60,8 +60,8 @@ impl Model for Error {
 }
 
 impl Error {
-    /// No connection came in time; the text is the latest error's, if one is known. The call gave up
-    /// after so long, while the pool showed this; where memory for both is refused they are left out.
+    /// No connection came in time; the text is the latest error's, if one is known. The call gave
+    /// up after so long, while the pool showed this; both are left out where memory is refused.
     pub(crate) fn timeout(
         alloc: Global,
         message: Option<String>,
@@ -136,8 +136,8 @@ impl Error {
         }
     }
 
-    /// What the pool showed as the call gave up, with those who waited beside it. Only a timeout has
-    /// it, and none where memory for it was refused.
+    /// What the pool showed as the call gave up, with those who waited beside it. Only a timeout
+    /// has it, and none where memory for it was refused.
     pub fn status(&self) -> Option<Status>
         ensures status { result ≡ self.now.status }
         ensures sums { IfSome result IsStatus }

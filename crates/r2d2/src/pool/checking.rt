@@ -80,8 +80,8 @@ impl<C: TakeCounter, M: ManageConnection, K: Hooks<M>, R: PoolRuntime> SharedOf<
         }
     }
 
-    // Whether a check of a connection failed that was idle for less long than one that is idle since
-    // this moment.
+    // Whether a check of a connection failed that was idle for less long than one that is idle
+    // since this moment.
     fn is_distrusted(&self, idle_since: Duration) -> bool {
         self.lock().failures.tell_of(idle_since)
     }

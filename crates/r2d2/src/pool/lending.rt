@@ -72,8 +72,8 @@ impl<C: TakeCounter, M: ManageConnection, K: Hooks<M>, R: PoolRuntime> SharedOf<
         Some(self.moment())
     }
 
-    // Tells that a connection is lent, and answers when. Where nobody listens and it was not checked
-    // since, that is when it was taken.
+    // Tells that a connection is lent, and answers when. Where nobody listens and it was not
+    // checked since, that is when it was taken.
     #[inline(always)]
     fn check_out(&self, id: u64, is_checked: bool, time: &CallTime) -> Duration
         ensures { self.now.listens ≡ false → is_checked ≡ false
