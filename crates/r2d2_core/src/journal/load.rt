@@ -1,12 +1,13 @@
 // How much of a pool is in use, from record to record.
-ghost use Rattle.std.specs.Prelude.{◌≡◌, ◌+◌, ◌-◌, ◌&&◌, not, nat_le, true, if◌then◌else◌};
+ghost use Rattle.std.specs.Prelude.{◌≡◌, true};
 ghost use Rattle.std.specs.Duration.{as_nanos};
-ghost use Rattle.r2d2_core.specs.Limits.{seen_limits, later_by};
+ghost use Rattle.r2d2_core.specs.Limits.{seen_limits};
 ghost use Rattle.r2d2_core.specs.Records.{seen_record};
 ghost use Rattle.r2d2_core.specs.Bases.{SeenBase, IsLegalBase};
 ghost use Rattle.r2d2_core.specs.Folding.{folded, may_follow};
 ghost use Rattle.r2d2_core.specs.Reports.{seen_base};
-ghost use Rattle.r2d2_core.specs.Loads.{IsLoadOf, lent_after, pending_after, is_close};
+ghost use Rattle.r2d2_core.specs.Loads.{IsLoadOf, is_exhausted, exhausted_until};
+ghost use Rattle.r2d2_core.specs.Loads.{lent_after, pending_after, is_close};
 
 use super::base::Base;
 use super::record::Record;
@@ -61,11 +62,7 @@ impl Load {
             → IsLoadOf (folded (seen_limits self.old.limits) (seen_record made.now) base)
             self.new }
         ensures exhausted { as_nanos self.new.exhausted
-            ≡ (if not self.old.closed
-            && nat_le (seen_limits self.old.limits).max_size (self.old.lent + self.old.pending)
-            then later_by (as_nanos self.old.exhausted)
-            (as_nanos self.new.at - as_nanos self.old.at)
-            else as_nanos self.old.exhausted) }
+            ≡ exhausted_until (as_nanos self.new.at) self.old }
     {
         let _max_size = self.limits.max_size();
         let at = later(self.at, made.at());
@@ -76,13 +73,10 @@ impl Load {
         self.closed |= made.is_close();
     }
 
-    // For how long the pool was exhausted up to a moment, where nothing changes before it.
-    fn exhausted_until(&self, at: Duration) -> Duration
-        ensures { as_nanos result
-            ≡ (if not self.now.closed
-            && nat_le (seen_limits self.now.limits).max_size (self.now.lent + self.now.pending)
-            then later_by (as_nanos self.now.exhausted) (as_nanos at - as_nanos self.now.at)
-            else as_nanos self.now.exhausted) }
+    /// For how long the pool was exhausted up to a moment, if nothing changes before it. A moment
+    /// before the newest record adds nothing.
+    pub fn exhausted_until(&self, at: Duration) -> Duration
+        ensures { as_nanos result ≡ exhausted_until (as_nanos at) self.now }
     {
         if !self.is_exhausted() {
             return self.exhausted;
@@ -94,9 +88,7 @@ impl Load {
     /// Whether a caller who comes has to wait: the pool is open, and all `max_size` are lent or
     /// pending.
     pub fn is_exhausted(&self) -> bool
-        ensures { result
-            ≡ (not self.now.closed
-            && nat_le (seen_limits self.now.limits).max_size (self.now.lent + self.now.pending)) }
+        ensures { result ≡ is_exhausted self.now }
     {
         let all = self.lent.saturating_add(self.pending as usize);
         !self.closed && self.limits.max_size() as usize <= all
