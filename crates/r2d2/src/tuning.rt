@@ -83,6 +83,13 @@ impl Tuning {
         }
     }
 
+    /// Whether lifetimes differ.
+    pub fn has_jitter(&self) -> bool
+        ensures { result ≡ is_some self.now.lifetime_jitter }
+    {
+        self.lifetime_jitter.is_some()
+    }
+
     /// Whether a connection has outlived its own lifetime, where lifetimes differ.
     pub fn is_outlived(
         &self,

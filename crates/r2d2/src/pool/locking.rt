@@ -153,9 +153,22 @@ impl<P, C: TakeTotal> Guarded<CountingBook<P, C>> {
     ghost use Rattle.r2d2.specs.Failed.{IsOneOpeningMore, IsOneCheckMore};
     ghost use Rattle.r2d2.specs.Evicted.{is_evicted, is_to_close};
 
-    /// Puts a lent connection back. One that is unfit for some reason, has outlived its own
-    /// lifetime, or was opened before the latest eviction is closed, as a broken one is. The reason
-    /// is the one for which it was closed, if it was.
+    /// Why a connection is closed, if it is, that comes back now and is unfit for this reason or
+    /// for none.
+    pub(super) fn reason_of_return(&self, id: u64, unfit: Option<ReleaseReason>) -> ReleaseReason
+        ensures { result ≡ reason_of_return unfit (is_evicted id self.now.evicted_below)
+            self.now.book.book.picture.on_order.closed }
+    {
+        match unfit {
+            Some(reason) => reason,
+            None if id < self.evicted_below => ReleaseReason::Evicted,
+            None if self.book.book().is_closed() => ReleaseReason::PoolClosed,
+            None => ReleaseReason::Lifetime,
+        }
+    }
+
+    /// Puts a lent connection back. One that is unfit, has outlived its own lifetime, or was opened
+    /// before the latest eviction is closed, as a broken one is.
     #[inline(always)]
     pub(super) fn give_back(
         &mut self,
@@ -164,27 +177,17 @@ impl<P, C: TakeTotal> Guarded<CountingBook<P, C>> {
         value: P,
         unfit: Option<ReleaseReason>,
         outlived: bool,
-    ) -> ((Result<Returned<P>, (Refusal, P)>, ReleaseReason), Wakes)
+    ) -> (Result<Returned<P>, (Refusal, P)>, Wakes)
         ensures step { IsReturn now id value
-            (is_to_close unfit outlived id self.old.evicted_below) result.0.0 self.old.book.book
+            (is_to_close unfit outlived id self.old.evicted_below) result.0 self.old.book.book
             self.new.book.book }
-        ensures reason { result.0.1 ≡ reason_of_return unfit (is_evicted id self.old.evicted_below)
-            self.old.book.book.picture.on_order.closed }
-        ensures wakes { result.1 ≡ wakes_of_return (map_ok seen_returned result.0.0) }
+        ensures wakes { result.1 ≡ wakes_of_return (map_ok seen_returned result.0) }
         ensures kept { self.new.evicted_below ≡ self.old.evicted_below }
         ensures waiting { self.new.waiting ≡ self.old.waiting }
         ensures failures { self.new.failures ≡ self.old.failures }
     {
-        let is_evicted = id < self.evicted_below;
-        let reason = match unfit {
-            Some(reason) => reason,
-            None if is_evicted => ReleaseReason::Evicted,
-            None if self.book.book().is_closed() => ReleaseReason::PoolClosed,
-            None => ReleaseReason::Lifetime,
-        };
-        let is_to_close = unfit.is_some() || outlived || is_evicted;
-        let (returned, wakes) = self.book.give_back(now, id, value, is_to_close);
-        ((returned, reason), wakes)
+        let is_to_close = unfit.is_some() || outlived || id < self.evicted_below;
+        self.book.give_back(now, id, value, is_to_close)
     }
 
     /// Tells the book of an opening that failed.

@@ -87,7 +87,7 @@ impl<P: Drop, C: TakeCounter, M, K, R: Clock + Wait + AllocGlobal> Shared<
             guarded.end_wait();
             if outcome.timed_out() {
                 time.look(self.moment());
-                return Err(self.give_up(guarded, time));
+                return Err(self.give_up(guarded, time.waited()));
             }
         }
         unreachable!()
@@ -131,12 +131,12 @@ impl<P: Drop, C: TakeTotal, M, K, R: Clock + Wait + AllocGlobal> Shared<
         guarded
     }
 
-    // Gives up: the timeout has the latest error of an opening or a check, where one is known, and
-    // what the pool shows now.
+    // Gives up after so long: the timeout has the latest error of an opening or a check, where one
+    // is known, and what the pool shows now.
     fn give_up(
         &self,
         mut guarded: MutexGuard<'_, Guarded<CountingBook<P, C>>>,
-        time: &CallTime,
+        waited: Duration,
     ) -> Error
         ensures { result.kind ≡ ErrorKind.Timeout }
     {
@@ -147,7 +147,7 @@ impl<P: Drop, C: TakeTotal, M, K, R: Clock + Wait + AllocGlobal> Shared<
         let wakes = guarded.needed_wakes(Wakes::a_caller());
         drop(guarded);
         self.wake(wakes);
-        Error::timeout(self.rt.alloc(), error, status, time.waited())
+        Error::timeout(self.rt.alloc(), error, status, waited)
     }
 
     /// Gives up for a call whose time is over; None where some is left, or where it brought no
@@ -169,7 +169,7 @@ impl<P: Drop, C: TakeTotal, M, K, R: Clock + Wait + AllocGlobal> Shared<
         if !time.left_of(timeout).is_zero() {
             return None;
         }
-        Some(self.give_up(self.lock(), time))
+        Some(self.give_up(self.lock(), time.waited()))
     }
 
     /// Waits until there are so many connections, and as long as this at most. Past that it is a
