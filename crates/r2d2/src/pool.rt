@@ -259,8 +259,9 @@ impl<
     /// no other check.
     ///
     /// The error is a timeout, with the text of the latest error of an opening or a check if there
-    /// was one; or `ErrorKind::Closed`, at once, where the pool was closed; or lack of memory for a
-    /// shared pointer, and then nothing has changed.
+    /// was one; or `ErrorKind::Closed`, at once, where the pool was closed; or `ErrorKind::Full`, at
+    /// once, where it would have to wait and as many wait as `max_waiting` allows; or lack of memory
+    /// for a shared pointer, and then nothing has changed.
     pub fn get_timeout(&self, timeout: Duration) -> Result<PooledConnection<M, H, V, Z, R>, Error>
         ensures settings { IfOk result (λ lent. lent.settings ≡ self.now) }
         ensures refused { IfErr result IsOfAGet }

@@ -82,7 +82,7 @@ impl<B> Guarded<B> {
 }
 
 impl<P, C: TakeCounter> Guarded<CountingBook<P, C>> {
-    ghost use Rattle.r2d2.specs.Status.{IsStatus, is_all_lent};
+    ghost use Rattle.r2d2.specs.Status.{IsStatus, is_all_lent, is_full};
 
     /// The counts, with those of the callers who wait.
     pub(super) fn status(&self) -> Status
@@ -103,6 +103,18 @@ impl<P, C: TakeCounter> Guarded<CountingBook<P, C>> {
     {
         let book = self.book.book();
         book.idle() == 0 && book.connections() > 0 && !book.is_closed()
+    }
+
+    /// Whether a caller would have to wait, where as many wait as may. Nobody else waits while the
+    /// pool is open.
+    pub(super) fn is_full(&self, max_waiting: Option<u32>) -> bool
+        ensures { result ≡ is_full max_waiting self.now.waiting self.now.book.book.picture }
+    {
+        let Some(most) = max_waiting else {
+            return false;
+        };
+        let book = self.book.book();
+        book.idle() == 0 && !book.is_closed() && self.waiting >= u64::from(most)
     }
 }
 
