@@ -12,7 +12,7 @@ use super::Status;
 use super::call_time::CallTime;
 use super::lent::Lent;
 use super::locking::{Guarded, Shared, pause};
-use crate::engine::{CountTakes, CountingBook, TakeCounter, Wakes};
+use crate::engine::{CountingBook, TakeCounter, TakeTotal, Wakes};
 use crate::{Error, ErrorKind};
 use r2d2_core::Take;
 use std::alloc::AllocGlobal;
@@ -23,7 +23,7 @@ use std::time::Duration;
 /// How often a caller looks again before it waits.
 const LOOKS: u32 = 20;
 
-impl<P: Drop, C: CountTakes, M, K, R: Clock + Wait + AllocGlobal> Shared<
+impl<P: Drop, C: TakeCounter, M, K, R: Clock + Wait + AllocGlobal> Shared<
     CountingBook<P, C>,
     M,
     K,
@@ -64,18 +64,12 @@ impl<P: Drop, C: CountTakes, M, K, R: Clock + Wait + AllocGlobal> Shared<
         for _ in self.rt.forever() {
             let now = self.moment();
             time.look(now);
+            if self.tuning.asks_idle_times() {
+                time.find(guarded.book.book().next_idle_since());
+            }
             let (taken, wakes) = guarded.book.lend(now, timeout.is_some(), tally);
             let found = match taken {
-                Take::Found {
-                    id,
-                    birth,
-                    value,
-                    ..
-                } => Some(Lent {
-                    id,
-                    birth,
-                    payload: value,
-                }),
+                Take::Found { id, value, .. } => Some(Lent { id, payload: value }),
                 Take::Empty { .. } => None,
             };
             let (Some(timeout), None) = (timeout, &found) else {
@@ -106,7 +100,7 @@ impl<P: Drop, C: CountTakes, M, K, R: Clock + Wait + AllocGlobal> Shared<
     }
 }
 
-impl<P: Drop, C: TakeCounter, M, K, R: Clock + Wait + AllocGlobal> Shared<
+impl<P: Drop, C: TakeTotal, M, K, R: Clock + Wait + AllocGlobal> Shared<
     CountingBook<P, C>,
     M,
     K,
