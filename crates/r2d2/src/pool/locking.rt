@@ -5,7 +5,7 @@ ghost use Rattle.r2d2_core.specs.Reports.{IsSoundReport};
 
 use super::failures::Failures;
 use super::{State, Status};
-use crate::engine::{TakeCounter, CountingBook, Outcome, Settled, TakeTotal, Wakes};
+use crate::engine::{CountingBook, Outcome, Settled, TakeCounter, TakeTotal, Wakes};
 use crate::event::ReleaseReason;
 use crate::payload::PayloadOf;
 use crate::tuning::Tuning;
@@ -86,7 +86,7 @@ impl<P, C: TakeTotal> Guarded<CountingBook<P, C>> {
     ghost use Rattle.std.specs.Option.{IsNone};
     ghost use Rattle.std.specs.Duration.{as_nanos};
     ghost use Rattle.r2d2_core.specs.Connections.{birth_in};
-    ghost use Rattle.r2d2.specs.Status.{IsStatus, is_all_lent};
+    ghost use Rattle.r2d2.specs.Status.{IsStatus, is_all_lent, is_full};
 
     /// The counts, with those of the callers who wait.
     pub(super) fn status(&self) -> Status
@@ -139,6 +139,18 @@ impl<P, C: TakeTotal> Guarded<CountingBook<P, C>> {
     {
         let book = self.book.book();
         book.idle() == 0 && book.connections() > 0 && !book.is_closed()
+    }
+
+    /// Whether a caller would have to wait, where as many wait as may. Nobody else waits while the
+    /// pool is open.
+    pub(super) fn is_full(&self, max_waiting: Option<u32>) -> bool
+        ensures { result ≡ is_full max_waiting self.now.waiting self.now.book.book.picture }
+    {
+        let Some(most) = max_waiting else {
+            return false;
+        };
+        let book = self.book.book();
+        book.idle() == 0 && !book.is_closed() && self.waiting >= u64::from(most)
     }
 }
 
