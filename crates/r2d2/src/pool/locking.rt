@@ -40,6 +40,7 @@ pub struct Guarded<B> {
 impl<B> Guarded<B> {
     ghost use Rattle.r2d2.specs.Wakes.{needed_wakes};
     ghost use Rattle.r2d2.specs.Failed.{HaveNone};
+    ghost use Rattle.r2d2.specs.Evicted.{is_evicted};
 
     /// A book for which nobody waits yet, and of which nothing was evicted.
     pub(super) fn new(book: B) -> Guarded<B>
@@ -68,6 +69,13 @@ impl<B> Guarded<B> {
         ensures { self.new ≡ record self.old { waiting = self.old.waiting - 1 } }
     {
         self.waiting = self.waiting.saturating_sub(1);
+    }
+
+    // Whether an eviction reached the connection with this id.
+    fn is_evicted(&self, id: u64) -> bool
+        ensures { result ≡ is_evicted id self.now.evicted_below }
+    {
+        id < self.evicted_below
     }
 
     /// Of those to be woken, who is there: no caller where none waits.
@@ -173,7 +181,7 @@ impl<P, C: TakeTotal> Guarded<CountingBook<P, C>> {
     {
         match unfit {
             Some(reason) => reason,
-            None if id < self.evicted_below => ReleaseReason::Evicted,
+            None if self.is_evicted(id) => ReleaseReason::Evicted,
             None if self.book.book().is_closed() => ReleaseReason::PoolClosed,
             None => ReleaseReason::Lifetime,
         }
@@ -198,7 +206,7 @@ impl<P, C: TakeTotal> Guarded<CountingBook<P, C>> {
         ensures waiting { self.new.waiting ≡ self.old.waiting }
         ensures failures { self.new.failures ≡ self.old.failures }
     {
-        let is_to_close = unfit.is_some() || outlived || id < self.evicted_below;
+        let is_to_close = unfit.is_some() || outlived || self.is_evicted(id);
         self.book.give_back(now, id, value, is_to_close)
     }
 
