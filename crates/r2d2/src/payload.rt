@@ -4,7 +4,6 @@ ghost use Rattle.std.specs.Prelude.{◌≡◌, []};
 
 use crate::{CustomizeConnection, Extension, Extensions, ManageConnection};
 use std::alloc::Global;
-use std::time::Duration;
 
 /// A connection with its extensions, as a pool's book keeps it. The extensions stay with the
 /// connection over its returns; at its admission there are none.
@@ -14,8 +13,6 @@ pub struct Payload<C, X: Extension> {
     pub connection: C,
     /// What is kept beside it.
     pub extensions: Extensions<X>,
-    /// Since when it is idle, or was before it was lent: when it came back last, or was admitted.
-    pub idle_since: Duration,
 }
 
 /// What a pool of this manager keeps.
@@ -25,7 +22,7 @@ pub type PayloadOf<M> = Payload<
 >;
 
 impl<C, X: Extension> Payload<C, X> {
-    /// A new connection, without extensions, and not idle yet. It takes no memory.
+    /// A new connection, without extensions. It takes no memory.
     pub fn new(alloc: Global, connection: C) -> Payload<C, X>
         ensures connection { result.connection ≡ connection }
         ensures extensions { result.extensions ≡ [] }
@@ -33,7 +30,6 @@ impl<C, X: Extension> Payload<C, X> {
         Payload {
             connection,
             extensions: Extensions::new(alloc),
-            idle_since: Duration::ZERO,
         }
     }
 }

@@ -8,7 +8,7 @@ use self::lent::AnyConnection;
 use self::locking::SharedOf;
 pub use self::state::{State, Status};
 use crate::config::{Builder, Config};
-use crate::engine::{CountTakes, LedgerCounter, TakeCounter, Uncounted};
+use crate::engine::{LedgerCounter, TakeCounter, TakeTotal, Uncounted};
 use crate::event::{HandleEvent, NopEventHandler};
 use crate::hooks::Hooks;
 use crate::payload::PayloadOf;
@@ -78,19 +78,18 @@ pub type PlainPool<M, R> = Pool<M, NopErrorHandler, NopEventHandler, NopConnecti
 
 /// A pool of connections, whatever counts its takes.
 #[derive(Drop)]
-pub struct AnyPool<C: TakeCounter, M: ManageConnection, K: Hooks<M>, R: PoolRuntime> {
+pub struct AnyPool<C: TakeTotal, M: ManageConnection, K: Hooks<M>, R: PoolRuntime> {
     closer: Arc<Closer<PayloadOf<M>, C, M, K, R>>,
 }
 
 // Contracts see a pool as its settings: what its lock holds, other threads change.
-impl<C: TakeCounter, M: ManageConnection, K: Hooks<M>, R: PoolRuntime> Model
-    for AnyPool<C, M, K, R> {
+impl<C: TakeTotal, M: ManageConnection, K: Hooks<M>, R: PoolRuntime> Model for AnyPool<C, M, K, R> {
     ghost Value = { K };
 
     ghost view = { λ p. (arc_value (arc_value p.closer).shared).hooks };
 }
 
-impl<C: TakeCounter, M: ManageConnection, K: Hooks<M>, R: PoolRuntime> AnyPool<C, M, K, R> {
+impl<C: TakeTotal, M: ManageConnection, K: Hooks<M>, R: PoolRuntime> AnyPool<C, M, K, R> {
     ghost use Rattle.r2d2.specs.Failures.{IsOfMemory};
     ghost use Rattle.r2d2.specs.Status.{IsStatus};
 
@@ -151,7 +150,7 @@ impl<C: TakeCounter, M: ManageConnection, K: Hooks<M>, R: PoolRuntime> AnyPool<C
     // As `Pool::evict`, with what its takes are counted with.
     fn evict_with(&self, tally: &mut C::Tally) -> Result<usize, Error>
     where
-        C: CountTakes,
+        C: TakeCounter,
         requires { 0 < C.parts tally.old }
         ensures parts { C.parts tally.new ≡ C.parts tally.old }
         ensures amount { IfOk result
@@ -174,7 +173,7 @@ impl<C: TakeCounter, M: ManageConnection, K: Hooks<M>, R: PoolRuntime> AnyPool<C
 
 // What the settings say.
 impl<
-    C: TakeCounter,
+    C: TakeTotal,
     M: ManageConnection,
     H: HandleError<M::Error>,
     V: HandleEvent + 'static,
@@ -259,8 +258,9 @@ impl<
     /// no other check.
     ///
     /// The error is a timeout, with the text of the latest error of an opening or a check if there
-    /// was one; or `ErrorKind::Closed`, at once, where the pool was closed; or lack of memory for a
-    /// shared pointer, and then nothing has changed.
+    /// was one; or `ErrorKind::Closed`, at once, where the pool was closed; or `ErrorKind::Full`, at
+    /// once, where it would have to wait and as many wait as `max_waiting` allows; or lack of memory
+    /// for a shared pointer, and then nothing has changed.
     pub fn get_timeout(&self, timeout: Duration) -> Result<PooledConnection<M, H, V, Z, R>, Error>
         ensures settings { IfOk result (λ lent. lent.settings ≡ self.now) }
         ensures refused { IfErr result IsOfAGet }
@@ -311,7 +311,7 @@ impl<M: ManageConnection, R: PoolRuntime> PlainPool<M, R> {
 }
 
 impl<
-    C: TakeCounter,
+    C: TakeTotal,
     M: ManageConnection + fmt::Debug,
     K: Hooks<M> + fmt::Debug,
     R: PoolRuntime,

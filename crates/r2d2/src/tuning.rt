@@ -1,6 +1,7 @@
-// The settings that r2d2 has not, each off by default: what a pool does in an outage, and how the
-// lifetimes of its connections differ.
-ghost use Rattle.std.specs.Prelude.{◌≡◌, ◌≤◌, ◌<◌, ◌-◌, ◌*◌, ◌↔◌, min, MatchOption};
+// The settings that r2d2 has not, each off by default: what a pool does in an outage, how the
+// lifetimes of its connections differ, and how many callers wait.
+ghost use Rattle.std.specs.Prelude.{◌≡◌, ◌≤◌, ◌<◌, ◌-◌, ◌*◌, ◌↔◌, ◌||◌, min, is_some};
+ghost use Rattle.std.specs.Prelude.{MatchOption};
 ghost use Rattle.std.specs.Option.{ForSome};
 ghost use Rattle.std.specs.Duration.{as_nanos, max_nanos};
 
@@ -21,6 +22,8 @@ pub struct Tuning {
     pub retry_at_most: Option<Duration>,
     /// By how much at most the lifetime of a connection is less than `max_lifetime`.
     pub lifetime_jitter: Option<Duration>,
+    /// How many callers wait at most; None for as many as come.
+    pub max_waiting: Option<u32>,
     pub ghost retries: { ForSome retry_at_most (λ d. 0 < as_nanos d) },
 }
 
@@ -38,6 +41,7 @@ impl Tuning {
             distrust_idle: false,
             retry_at_most: None,
             lifetime_jitter: None,
+            max_waiting: None,
         }
     }
 
@@ -55,18 +59,31 @@ impl Tuning {
         }
     }
 
+    /// Whether a setting asks since when a connection was idle before it is lent.
+    pub fn asks_idle_times(&self) -> bool
+        ensures { result ≡ (self.now.distrust_idle || is_some self.now.check_after_idle) }
+    {
+        self.distrust_idle || self.check_after_idle.is_some()
+    }
+
     /// Whether what is idle since this moment is idle for long enough to be checked. A clock that
     /// went back tells nothing: then it is.
-    pub fn is_check_due(&self, idle_since: Duration, now: Duration) -> bool
+    pub fn is_check_due(&self, idle_since: Option<Duration>, now: Duration) -> bool
         ensures always { IsNone self.now.check_after_idle → IsTrue result }
-        ensures went_back { as_nanos now < as_nanos idle_since → IsTrue result }
-        ensures after { as_nanos idle_since ≤ as_nanos now → IfSome self.now.check_after_idle
-            (λ least. IsTrue result ↔ (as_nanos least ≤ as_nanos now - as_nanos idle_since)) }
+        ensures unknown { IsNone idle_since → IsTrue result }
+        ensures went_back { IfSome idle_since
+            (λ since. as_nanos now < as_nanos since → IsTrue result) }
+        ensures after { IfSome idle_since (λ since. as_nanos since ≤ as_nanos now
+            → IfSome self.now.check_after_idle
+            (λ least. IsTrue result ↔ (as_nanos least ≤ as_nanos now - as_nanos since))) }
     {
-        let (Some(least), Some(idle)) = (self.check_after_idle, now.checked_sub(idle_since)) else {
+        let (Some(least), Some(since)) = (self.check_after_idle, idle_since) else {
             return true;
         };
-        idle.checked_sub(least).is_some()
+        match now.checked_sub(since) {
+            Some(idle) => idle.checked_sub(least).is_some(),
+            None => true,
+        }
     }
 
     /// Whether a connection has outlived its own lifetime, where lifetimes differ.

@@ -1,5 +1,5 @@
 // A journal beside a machine: what each step did.
-ghost use Rattle.std.specs.Prelude.{◌≡◌, ◌≤◌, length, vec_len, vec_capacity, IfOk};
+ghost use Rattle.std.specs.Prelude.{◌≡◌, ◌≤◌, length, vec_len, vec_capacity, option_map, IfOk};
 ghost use Rattle.std.specs.Duration.{as_nanos};
 
 use crate::machine::{Core, Gone, Leftover, Refusal, Released, Returned, Take};
@@ -50,6 +50,8 @@ impl<T, A: Allocator> Model for Book<T, A> {
 
 impl<T, A: Allocator> Book<T, A> {
     ghost use Rattle.r2d2_core.specs.Limits.{seen_limits};
+    ghost use Rattle.r2d2_core.specs.Connections.{since_of, birth_in};
+    ghost use Rattle.r2d2_core.specs.Lending.{next_to_lend};
     ghost use Rattle.r2d2_core.specs.Table.{first_picture};
     ghost use Rattle.r2d2_core.specs.Journal.{first_journal, CountsTakes};
     ghost use Rattle.r2d2_core.specs.Book.{seen_book, HasFacts};
@@ -136,6 +138,23 @@ impl<T, A: Allocator> Book<T, A> {
         ensures facts { HasFacts self.now }
     {
         self.machine.next_id()
+    }
+
+    /// As `Core::next_idle_since`.
+    pub fn next_idle_since(&self) -> Option<Duration>
+        ensures value { option_map as_nanos result ≡ option_map since_of
+            (next_to_lend self.now.picture.on_order.limits.order self.now.picture.idle) }
+        ensures facts { HasFacts self.now }
+    {
+        self.machine.next_idle_since()
+    }
+
+    /// As `Core::lent_birth`.
+    pub fn lent_birth(&self, id: u64) -> Option<Duration>
+        ensures value { option_map as_nanos result ≡ birth_in id self.now.picture.lent }
+        ensures facts { HasFacts self.now }
+    {
+        self.machine.lent_birth(id)
     }
 
     /// The limits that the book was made with.

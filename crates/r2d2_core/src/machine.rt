@@ -53,7 +53,8 @@ impl<T, A: Allocator> Model for Core<T, A> {
 
 impl<T, A: Allocator> Core<T, A> {
     ghost use Rattle.r2d2_core.specs.Limits.{seen_limits};
-    ghost use Rattle.r2d2_core.specs.Connections.{id_of_idle, id_of_lent};
+    ghost use Rattle.r2d2_core.specs.Connections.{id_of_idle, id_of_lent, since_of, birth_in};
+    ghost use Rattle.r2d2_core.specs.Lending.{next_to_lend};
     ghost use Rattle.r2d2_core.specs.Picture.{IsSound};
     ghost use Rattle.r2d2_core.specs.Table.{first_picture};
 
@@ -142,6 +143,24 @@ impl<T, A: Allocator> Core<T, A> {
         ensures sound { IsSound self.now }
     {
         self.on_order.limits()
+    }
+
+    /// Since when the connection is idle that is lent next; None where none is idle.
+    pub fn next_idle_since(&self) -> Option<Duration>
+        ensures value { option_map as_nanos result ≡ option_map since_of
+            (next_to_lend self.now.on_order.limits.order self.now.idle) }
+        ensures sound { IsSound self.now }
+    {
+        let order = self.on_order.limits().order();
+        self.idle.next(order).map(|entry| entry.since())
+    }
+
+    /// When the connection was admitted that is lent and has the id; None where none has.
+    pub fn lent_birth(&self, id: u64) -> Option<Duration>
+        ensures value { option_map as_nanos result ≡ birth_in id self.now.lent }
+        ensures sound { IsSound self.now }
+    {
+        self.lent.get(id).map(|loan| loan.birth())
     }
 
     /// The latest moment so far.

@@ -22,15 +22,15 @@ use std::time::Duration;
 
 /// What counts the takes of a book that found: it stands at their number.
 ///
-/// It is public as far as the types of `Pool` and `Counted` ask, and so are `CountTakes`,
+/// It is public as far as the types of `Pool` and `Counted` ask, and so are `TakeCounter`,
 /// `Uncounted`, `LedgerCounter` and `CountingBook`: no user names or implements them.
-pub trait TakeCounter: Drop {
+pub trait TakeTotal: Drop {
     // Whether it stands at a count of takes.
     ghost stands_at: { Self → ℕ → Type 0 };
 }
 
 /// A counter that is told of each take that found, with a tally.
-pub trait CountTakes: TakeCounter {
+pub trait TakeCounter: TakeTotal {
     /// What a take is counted with.
     type Tally;
 
@@ -58,11 +58,11 @@ pub trait CountTakes: TakeCounter {
 #[derive(Drop)]
 pub struct Uncounted;
 
-impl TakeCounter for Uncounted {
+impl TakeTotal for Uncounted {
     ghost stands_at = { λ _ _. ⊤ };
 }
 
-impl CountTakes for Uncounted {
+impl TakeCounter for Uncounted {
     type Tally = ();
 
     ghost parts = { λ _. 1 };
@@ -92,11 +92,11 @@ impl<L: Ledger> Model for LedgerCounter<L> {
     ghost view = { λ t. t.book.total };
 }
 
-impl<L: Ledger> TakeCounter for LedgerCounter<L> {
+impl<L: Ledger> TakeTotal for LedgerCounter<L> {
     ghost stands_at = { λ total takes. takes ≡ counted_up_to total };
 }
 
-impl<L: Ledger> CountTakes for LedgerCounter<L> {
+impl<L: Ledger> TakeCounter for LedgerCounter<L> {
     type Tally = Share<L>;
 
     ghost parts = { λ share. share.parts };
@@ -118,12 +118,12 @@ impl<L: Ledger> CountTakes for LedgerCounter<L> {
 /// Outside of this crate it has no name but `Counted`, whose one take is `lend_counted`. All else
 /// is the book's, and leaves the counter.
 #[derive(Drop)]
-pub struct CountingBook<T, C: TakeCounter> {
+pub struct CountingBook<T, C: TakeTotal> {
     book: Book<T>,
     total: C,
 }
 
-impl<T, C: TakeCounter> Model for CountingBook<T, C> {
+impl<T, C: TakeTotal> Model for CountingBook<T, C> {
     ghost use Rattle.r2d2.specs.Counted.{SeenCounted, seen_counted};
 
     ghost Value = { SeenCounted T C };
@@ -182,7 +182,7 @@ impl<T, L: Ledger> Counted<T, L> {
     }
 }
 
-impl<T, C: TakeCounter> CountingBook<T, C> {
+impl<T, C: TakeTotal> CountingBook<T, C> {
     /// The book, to be read.
     pub fn book(&self) -> &Book<T>
         ensures value { result.now ≡ self.now.book }
@@ -269,7 +269,7 @@ impl<T, C: TakeCounter> CountingBook<T, C> {
     }
 }
 
-impl<T, C: CountTakes> CountingBook<T, C> {
+impl<T, C: TakeCounter> CountingBook<T, C> {
     /// As `lend` of a book. A take that found is counted with the tally, which has a part at least.
     #[inline(always)]
     pub(crate) fn lend(

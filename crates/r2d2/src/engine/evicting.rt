@@ -10,11 +10,11 @@ ghost use Rattle.r2d2_core.specs.Picture.{IsSound};
 ghost use Rattle.r2d2.specs.Counted.{number_of};
 ghost use Rattle.r2d2.specs.Evicted.{evicted_of, one_evicted, after_eviction, IsEvicted};
 
-use super::{CountTakes, CountingBook};
+use super::{CountingBook, TakeCounter};
 use r2d2_core::{Released, Returned, Take};
 use std::time::Duration;
 
-impl<T: Drop, C: CountTakes> CountingBook<T, C> {
+impl<T: Drop, C: TakeCounter> CountingBook<T, C> {
     /// Closes all that is idle: each connection is taken, and given back as a broken one. They are
     /// handed over in `out`, in the order in which they would have been lent. Each take is counted
     /// with the tally, which has a part at least.

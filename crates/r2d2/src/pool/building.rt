@@ -13,7 +13,7 @@ use super::closing::Closer;
 use super::locking::{Guarded, Shared, SharedOf};
 use super::{AnyPool, CountedPool, Pool, PoolRuntime};
 use crate::config::{Builder, Config};
-use crate::engine::{Counted, CountingBook, TakeCounter};
+use crate::engine::{Counted, CountingBook, TakeTotal};
 use crate::event::HandleEvent;
 use crate::hooks::Hooks;
 use crate::payload::PayloadOf;
@@ -124,7 +124,7 @@ type Prepared<M, H, V, Z> = (
 );
 
 // The pool over what its lock is to guard, with a worker for each list.
-fn open_pool<C: TakeCounter + Send + 'static, M: ManageConnection, K: Hooks<M>, R: PoolRuntime>(
+fn open_pool<C: TakeTotal + Send + 'static, M: ManageConnection, K: Hooks<M>, R: PoolRuntime>(
     rt: R,
     book: CountingBook<PayloadOf<M>, C>,
     hooks: K,
@@ -176,7 +176,7 @@ fn reap_lists<P: Drop>(
 }
 
 // The state that workers, pools and lent connections share.
-fn shared_state<P: Drop, C: TakeCounter, M: Drop, K: Drop, R: PoolRuntime>(
+fn shared_state<P: Drop, C: TakeTotal, M: Drop, K: Drop, R: PoolRuntime>(
     rt: R,
     book: CountingBook<P, C>,
     hooks: K,
@@ -205,7 +205,7 @@ fn shared_state<P: Drop, C: TakeCounter, M: Drop, K: Drop, R: PoolRuntime>(
 }
 
 // Starts a worker for each list, in a thread of its own.
-fn start_workers<C: TakeCounter + Send + 'static, M: ManageConnection, K: Hooks<M>, R: PoolRuntime>(
+fn start_workers<C: TakeTotal + Send + 'static, M: ManageConnection, K: Hooks<M>, R: PoolRuntime>(
     closer: &Arc<Closer<PayloadOf<M>, C, M, K, R>>,
     lists: Vec<Vec<Released<PayloadOf<M>>>>,
 ) -> Result<(), Error>
@@ -221,7 +221,7 @@ fn start_workers<C: TakeCounter + Send + 'static, M: ManageConnection, K: Hooks<
 }
 
 // Starts a worker; false where its thread can't be started.
-fn start<C: TakeCounter + Send + 'static, M: ManageConnection, K: Hooks<M>, R: PoolRuntime>(
+fn start<C: TakeTotal + Send + 'static, M: ManageConnection, K: Hooks<M>, R: PoolRuntime>(
     shared: Arc<SharedOf<C, M, K, R>>,
     expired: Vec<Released<PayloadOf<M>>>,
 ) -> bool {
@@ -230,7 +230,7 @@ fn start<C: TakeCounter + Send + 'static, M: ManageConnection, K: Hooks<M>, R: P
 }
 
 // The whole life of a worker.
-fn work<C: TakeCounter, M: ManageConnection, K: Hooks<M>, R: PoolRuntime>(
+fn work<C: TakeTotal, M: ManageConnection, K: Hooks<M>, R: PoolRuntime>(
     shared: Arc<SharedOf<C, M, K, R>>,
     expired: Vec<Released<PayloadOf<M>>>,
 ) {

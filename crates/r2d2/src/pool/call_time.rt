@@ -16,6 +16,8 @@ pub struct CallTime {
     seen: Duration,
     /// How many more it may take, of a call that does not wait.
     left: u32,
+    /// Since when it was idle what the call took last, where a setting asks for it.
+    idle_since: Option<Duration>,
 }
 
 // Contracts see it with moments in nanoseconds.
@@ -32,6 +34,7 @@ impl Model for CallTime {
       step = as_nanos c.step;
       seen = as_nanos c.seen;
       left = c.left;
+      idle_since = option_map as_nanos c.idle_since;
     } };
 
     ghost invariant = { λ c. ForSome c.start (λ start. as_nanos start ≤ as_nanos c.seen) };
@@ -50,6 +53,7 @@ impl CallTime {
             step: Duration::ZERO,
             seen: start.unwrap_or(Duration::ZERO),
             left: u32::MAX,
+            idle_since: None,
         }
     }
 
@@ -76,6 +80,21 @@ impl CallTime {
         if now.checked_sub(self.seen).is_some() {
             self.seen = now;
         }
+    }
+
+    /// What it takes next is idle since this moment.
+    pub(super) fn find(&mut self, idle_since: Option<Duration>)
+        ensures { self.new
+            ≡ record self.old { idle_since = option_map as_nanos idle_since } }
+    {
+        self.idle_since = idle_since;
+    }
+
+    /// Since when it was idle what the call took last, where it asked.
+    pub(super) fn idle_since(&self) -> Option<Duration>
+        ensures { option_map as_nanos result ≡ self.now.idle_since }
+    {
+        self.idle_since
     }
 
     /// Whether it looked at the clock.

@@ -2,21 +2,22 @@
 ghost use Rattle.std.specs.Prelude.{◌≡◌, Some, false, IfSome};
 
 use super::PoolRuntime;
+use super::call_time::CallTime;
 use super::lent::Lent;
 use super::locking::SharedOf;
 use crate::ManageConnection;
-use crate::engine::{Settled, TakeCounter};
+use crate::engine::{Settled, TakeTotal};
 use crate::error::text_of;
 use crate::event::ReleaseReason;
 use crate::hooks::{Closed, Hooks};
 use crate::payload::{Payload, PayloadOf};
 use std::time::Duration;
 
-impl<C: TakeCounter, M: ManageConnection, K: Hooks<M>, R: PoolRuntime> SharedOf<C, M, K, R> {
-    /// Whether a connection that is idle since this moment is checked before it is lent now.
+impl<C: TakeTotal, M: ManageConnection, K: Hooks<M>, R: PoolRuntime> SharedOf<C, M, K, R> {
+    /// Whether what a call took is checked before it is lent.
     #[inline(always)]
-    pub(super) fn is_to_check(&self, idle_since: Duration, now: Duration) -> bool {
-        self.hooks.test_on_check_out() && self.tuning.is_check_due(idle_since, now)
+    pub(super) fn is_to_check(&self, time: &CallTime) -> bool {
+        self.hooks.test_on_check_out() && self.tuning.is_check_due(time.idle_since(), time.step())
     }
 
     /// The connection, where it need not be checked, or its check finds it sound. Else it is
@@ -26,6 +27,7 @@ impl<C: TakeCounter, M: ManageConnection, K: Hooks<M>, R: PoolRuntime> SharedOf<
         &self,
         mut lent: Lent<PayloadOf<M>>,
         is_checked: bool,
+        time: &CallTime,
     ) -> Option<Lent<PayloadOf<M>>>
         ensures unchecked { is_checked ≡ false → self.now.tuning.distrust_idle ≡ false
             → result ≡ Some lent }
@@ -33,7 +35,7 @@ impl<C: TakeCounter, M: ManageConnection, K: Hooks<M>, R: PoolRuntime> SharedOf<
         ensures extensions { IfSome result
             (λ sound. sound.payload.extensions ≡ lent.payload.extensions) }
     {
-        if self.tuning.distrust_idle && self.is_distrusted(lent.payload.idle_since) {
+        if self.tuning.distrust_idle && self.is_distrusted(time.idle_since()) {
             if let Some(closed) = self.give_back(lent, Some(ReleaseReason::Distrusted)) {
                 self.hooks.release(closed);
             }
@@ -41,28 +43,28 @@ impl<C: TakeCounter, M: ManageConnection, K: Hooks<M>, R: PoolRuntime> SharedOf<
         }
         if is_checked {
             if let Err(error) = self.manager.is_valid(&mut lent.payload.connection) {
-                self.close_unsound(lent, error);
+                self.close_unsound(lent, error, time.idle_since());
                 return None;
             }
         }
         Some(lent)
     }
 
-    // Closes a connection whose check failed.
-    fn close_unsound(&self, lent: Lent<PayloadOf<M>>, error: M::Error) {
+    // Closes a connection whose check failed, and that was idle since this moment.
+    fn close_unsound(
+        &self,
+        lent: Lent<PayloadOf<M>>,
+        error: M::Error,
+        idle_since: Option<Duration>,
+    ) {
         // Modelled in model/waiting.pml: keep both alike.
         let text = text_of(self.rt.alloc(), &error);
         self.hooks.error(error);
-        let Lent { id, payload, .. } = lent;
-        let Payload {
-            connection,
-            idle_since,
-            ..
-        } = payload;
-        let distrusted_before = if self.tuning.distrust_idle {
-            idle_since
-        } else {
-            Duration::ZERO
+        let Lent { id, payload } = lent;
+        let Payload { connection, .. } = payload;
+        let distrusted_before = match idle_since {
+            Some(since) if self.tuning.distrust_idle => since,
+            _ => Duration::ZERO,
         };
         let settled = self.step(|guarded, now| guarded.fail_check(
             now,
@@ -82,7 +84,10 @@ impl<C: TakeCounter, M: ManageConnection, K: Hooks<M>, R: PoolRuntime> SharedOf<
 
     // Whether a check of a connection failed that was idle for less long than one that is idle
     // since this moment.
-    fn is_distrusted(&self, idle_since: Duration) -> bool {
-        self.lock().failures.tell_of(idle_since)
+    fn is_distrusted(&self, idle_since: Option<Duration>) -> bool {
+        match idle_since {
+            Some(since) => self.lock().failures.tell_of(since),
+            None => false,
+        }
     }
 }

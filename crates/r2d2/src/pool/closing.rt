@@ -1,16 +1,16 @@
 // How a pool ends.
 
 use super::locking::Shared;
-use crate::engine::{CountingBook, TakeCounter};
+use crate::engine::{CountingBook, TakeTotal};
 use std::rt::Clock;
 use std::sync::{Arc, Wait};
 
 /// What pools and lent connections hold: where the last of them goes, the pool is closed.
-pub struct Closer<P: Drop, C: TakeCounter, M: Drop, K: Drop, R: Clock + Wait + Drop> {
+pub struct Closer<P: Drop, C: TakeTotal, M: Drop, K: Drop, R: Clock + Wait + Drop> {
     pub(super) shared: Arc<Shared<CountingBook<P, C>, M, K, R>>,
 }
 
-impl<P: Drop, C: TakeCounter, M: Drop, K: Drop, R: Clock + Wait + Drop> Drop
+impl<P: Drop, C: TakeTotal, M: Drop, K: Drop, R: Clock + Wait + Drop> Drop
     for Closer<P, C, M, K, R> {
     // Closes the book, and drops what was idle, without events. The workers end even where such a
     // drop does not.

@@ -8,13 +8,13 @@ use super::call_time::CallTime;
 use super::lent::AnyConnection;
 use super::locking::SharedOf;
 use super::{AnyPool, PoolRuntime};
-use crate::engine::{CountTakes, TakeCounter};
+use crate::engine::{TakeCounter, TakeTotal};
 use crate::hooks::Hooks;
 use crate::{Error, ErrorKind, ManageConnection};
 use std::sync::Arc;
 use std::time::Duration;
 
-impl<C: CountTakes, M: ManageConnection, K: Hooks<M>, R: PoolRuntime> AnyPool<C, M, K, R> {
+impl<C: TakeCounter, M: ManageConnection, K: Hooks<M>, R: PoolRuntime> AnyPool<C, M, K, R> {
     ghost use Rattle.r2d2.specs.Failures.{IsOfMemory, IsOfAGet};
 
     /// Lends a connection that passed its check, and waits for one at most so long. With no timeout
@@ -44,8 +44,8 @@ impl<C: CountTakes, M: ManageConnection, K: Hooks<M>, R: PoolRuntime> AnyPool<C,
                 Ok(None) => return Ok(None),
                 Err(error) => return Err(shared.tell_in_vain(error, timeout)),
             };
-            let is_checked = shared.is_to_check(found.payload.idle_since, time.step());
-            if let Some(lent) = shared.if_sound(found, is_checked) {
+            let is_checked = shared.is_to_check(&time);
+            if let Some(lent) = shared.if_sound(found, is_checked, &time) {
                 let lent_at = shared.check_out(lent.id, is_checked, &time);
                 return Ok(Some(AnyConnection {
                     closer,
@@ -61,7 +61,7 @@ impl<C: CountTakes, M: ManageConnection, K: Hooks<M>, R: PoolRuntime> AnyPool<C,
     }
 }
 
-impl<C: TakeCounter, M: ManageConnection, K: Hooks<M>, R: PoolRuntime> SharedOf<C, M, K, R> {
+impl<C: TakeTotal, M: ManageConnection, K: Hooks<M>, R: PoolRuntime> SharedOf<C, M, K, R> {
     // The moment at which a call begins, where somebody sees it.
     fn start_of_call(&self) -> Option<Duration>
         ensures { is_some result ≡ self.now.listens }

@@ -3,7 +3,7 @@ ghost use Rattle.std.specs.Prelude.{◌≡◌};
 
 use super::PoolRuntime;
 use super::closing::Closer;
-use crate::engine::{Outcome, Settled, TakeCounter};
+use crate::engine::{Outcome, Settled, TakeTotal};
 use crate::event::ReleaseReason;
 use crate::hooks::Hooks;
 use crate::payload::{Payload, PayloadOf};
@@ -19,13 +19,11 @@ use std::time::Duration;
 #[derive(Drop)]
 pub struct Lent<P> {
     pub(super) id: u64,
-    /// When it was admitted.
-    pub(super) birth: Duration,
     pub(super) payload: P,
 }
 
 /// A connection that a pool lent, whatever counts its takes.
-pub struct AnyConnection<C: TakeCounter, M: ManageConnection, K: Hooks<M>, R: PoolRuntime> {
+pub struct AnyConnection<C: TakeTotal, M: ManageConnection, K: Hooks<M>, R: PoolRuntime> {
     pub(super) closer: Arc<Closer<PayloadOf<M>, C, M, K, R>>,
     /// When it was lent.
     pub(super) lent_at: Duration,
@@ -34,7 +32,7 @@ pub struct AnyConnection<C: TakeCounter, M: ManageConnection, K: Hooks<M>, R: Po
 
 // Contracts see a lent connection as what can be reached through it, the settings of its pool, and
 // how it was lent.
-impl<C: TakeCounter, M: ManageConnection, K: Hooks<M>, R: PoolRuntime> Model
+impl<C: TakeTotal, M: ManageConnection, K: Hooks<M>, R: PoolRuntime> Model
     for AnyConnection<C, M, K, R> {
     ghost use Rattle.std.specs.Arc.{arc_value};
     ghost use Rattle.r2d2.specs.Lent.{SeenConnection};
@@ -51,7 +49,7 @@ impl<C: TakeCounter, M: ManageConnection, K: Hooks<M>, R: PoolRuntime> Model
     } };
 }
 
-impl<C: TakeCounter, M: ManageConnection, K: Hooks<M>, R: PoolRuntime> AnyConnection<C, M, K, R> {
+impl<C: TakeTotal, M: ManageConnection, K: Hooks<M>, R: PoolRuntime> AnyConnection<C, M, K, R> {
     ghost use Rattle.std.specs.Borrow.{sem, Lends};
     ghost use Rattle.r2d2.specs.contracts.extensions.Extensions.{the_row as extensions_row};
     ghost use Rattle.r2d2.specs.contracts.pool.lent.AnyConnection.{the_row};
@@ -110,7 +108,7 @@ impl<C: TakeCounter, M: ManageConnection, K: Hooks<M>, R: PoolRuntime> AnyConnec
     pub fn extensions_mut(this: &mut Self) -> &mut Extensions<M::Extension>
         ensures value { result.now ≡ this.old.extensions }
         ensures* writes_back { sem 𝓛 (Lends (the_row C.row M.row K.row R.row M.Connection.row
-            M.Error.row M.Extension.row M.Extension.Kind.row K.Customizer.row C.TakeCounter
+            M.Error.row M.Extension.row M.Extension.Kind.row K.Customizer.row C.TakeTotal
             M.Error.Display M.Extension.Extension M.Extension.Kind.PartialEq K.Customizer.Debug
             ⟦<Global as Allocator>⟧ ⟦<Global as Clone>⟧)
             (extensions_row M.Extension.row M.Extension.Kind.row
@@ -121,7 +119,7 @@ impl<C: TakeCounter, M: ManageConnection, K: Hooks<M>, R: PoolRuntime> AnyConnec
     }
 }
 
-impl<C: TakeCounter, M: ManageConnection, K: Hooks<M>, R: PoolRuntime> Deref
+impl<C: TakeTotal, M: ManageConnection, K: Hooks<M>, R: PoolRuntime> Deref
     for AnyConnection<C, M, K, R> {
     type Target = M::Connection;
 
@@ -132,7 +130,7 @@ impl<C: TakeCounter, M: ManageConnection, K: Hooks<M>, R: PoolRuntime> Deref
     }
 }
 
-impl<C: TakeCounter, M: ManageConnection, K: Hooks<M>, R: PoolRuntime> DerefMut
+impl<C: TakeTotal, M: ManageConnection, K: Hooks<M>, R: PoolRuntime> DerefMut
     for AnyConnection<C, M, K, R> {
     ghost use Rattle.std.specs.Borrow.{sem, Lends};
     ghost use Rattle.r2d2.specs.contracts.pool.lent.AnyConnection.{the_row};
@@ -142,7 +140,7 @@ impl<C: TakeCounter, M: ManageConnection, K: Hooks<M>, R: PoolRuntime> DerefMut
     fn deref_mut(&mut self) -> &mut M::Connection
         ensures value { result.now ≡ self.old.connection }
         ensures* writes_back { sem 𝓛 (Lends (the_row C.row M.row K.row R.row M.Connection.row
-            M.Error.row M.Extension.row M.Extension.Kind.row K.Customizer.row C.TakeCounter
+            M.Error.row M.Extension.row M.Extension.Kind.row K.Customizer.row C.TakeTotal
             M.Error.Display M.Extension.Extension M.Extension.Kind.PartialEq K.Customizer.Debug
             ⟦<Global as Allocator>⟧ ⟦<Global as Clone>⟧) M.Connection.row
             self.entry result
@@ -152,7 +150,7 @@ impl<C: TakeCounter, M: ManageConnection, K: Hooks<M>, R: PoolRuntime> DerefMut
     }
 }
 
-impl<C: TakeCounter, M: ManageConnection, K: Hooks<M>, R: PoolRuntime> fmt::Debug
+impl<C: TakeTotal, M: ManageConnection, K: Hooks<M>, R: PoolRuntime> fmt::Debug
     for AnyConnection<C, M, K, R>
 where
     M::Connection: fmt::Debug,
@@ -162,7 +160,7 @@ where
     }
 }
 
-impl<C: TakeCounter, M: ManageConnection, K: Hooks<M>, R: PoolRuntime> Drop
+impl<C: TakeTotal, M: ManageConnection, K: Hooks<M>, R: PoolRuntime> Drop
     for AnyConnection<C, M, K, R> {
     // Puts the connection back, and only then lets the pool go.
     fn drop(self) {

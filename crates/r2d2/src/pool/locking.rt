@@ -5,7 +5,7 @@ ghost use Rattle.r2d2_core.specs.Reports.{IsSoundReport};
 
 use super::failures::Failures;
 use super::{State, Status};
-use crate::engine::{CountTakes, CountingBook, Outcome, Settled, TakeCounter, Wakes};
+use crate::engine::{CountingBook, Outcome, Settled, TakeCounter, TakeTotal, Wakes};
 use crate::event::ReleaseReason;
 use crate::payload::PayloadOf;
 use crate::tuning::Tuning;
@@ -81,8 +81,12 @@ impl<B> Guarded<B> {
     }
 }
 
-impl<P, C: TakeCounter> Guarded<CountingBook<P, C>> {
-    ghost use Rattle.r2d2.specs.Status.{IsStatus, is_all_lent};
+impl<P, C: TakeTotal> Guarded<CountingBook<P, C>> {
+    ghost use Rattle.std.specs.Prelude.{IsTrue, IsFalse, IsSome, IfSome};
+    ghost use Rattle.std.specs.Option.{IsNone};
+    ghost use Rattle.std.specs.Duration.{as_nanos};
+    ghost use Rattle.r2d2_core.specs.Connections.{birth_in};
+    ghost use Rattle.r2d2.specs.Status.{IsStatus, is_all_lent, is_full};
 
     /// The counts, with those of the callers who wait.
     pub(super) fn status(&self) -> Status
@@ -97,6 +101,38 @@ impl<P, C: TakeCounter> Guarded<CountingBook<P, C>> {
         Status::of(self.book.book(), self.waiting, &self.failures)
     }
 
+    /// Whether the lent connection with this id has outlived its own lifetime, where lifetimes
+    /// differ.
+    pub(super) fn is_outlived(
+        &self,
+        tuning: &Tuning,
+        made_at: Option<SystemTime>,
+        id: u64,
+        now: Duration,
+    ) -> bool
+        ensures off { IsNone tuning.now.lifetime_jitter → IsFalse result }
+        ensures early { IsTrue result → IfSome (birth_in id self.now.book.book.picture.lent)
+            (λ birth. IfSome self.now.book.book.picture.on_order.limits.max_lifetime
+            (λ longest. IfSome tuning.now.lifetime_jitter
+            (λ jitter. as_nanos longest - as_nanos jitter ≤ as_nanos now - birth))) }
+        ensures late { IsSome tuning.now.lifetime_jitter
+            → IfSome (birth_in id self.now.book.book.picture.lent)
+            (λ birth. IfSome self.now.book.book.picture.on_order.limits.max_lifetime
+            (λ longest. as_nanos longest ≤ as_nanos now - birth → IsTrue result)) }
+    {
+        if tuning.lifetime_jitter.is_none() {
+            return false;
+        }
+        let book = self.book.book();
+        match book.lent_birth(id) {
+            Some(birth) => {
+                let age = now.saturating_sub(birth);
+                tuning.is_outlived(book.limits().max_lifetime(), made_at, id, age)
+            }
+            None => false,
+        }
+    }
+
     /// Whether nothing is idle, and something is to come back.
     pub(super) fn is_all_lent(&self) -> bool
         ensures { result ≡ is_all_lent self.now.book.book.picture }
@@ -104,9 +140,21 @@ impl<P, C: TakeCounter> Guarded<CountingBook<P, C>> {
         let book = self.book.book();
         book.idle() == 0 && book.connections() > 0 && !book.is_closed()
     }
+
+    /// Whether a caller would have to wait, where as many wait as may. Nobody else waits while the
+    /// pool is open.
+    pub(super) fn is_full(&self, max_waiting: Option<u32>) -> bool
+        ensures { result ≡ is_full max_waiting self.now.waiting self.now.book.book.picture }
+    {
+        let Some(most) = max_waiting else {
+            return false;
+        };
+        let book = self.book.book();
+        book.idle() == 0 && !book.is_closed() && self.waiting >= u64::from(most)
+    }
 }
 
-impl<P, C: TakeCounter> Guarded<CountingBook<P, C>> {
+impl<P, C: TakeTotal> Guarded<CountingBook<P, C>> {
     ghost use Rattle.std.specs.Duration.{as_nanos};
     ghost use Rattle.r2d2_core.specs.Seen.{seen_returned, map_ok};
     ghost use Rattle.r2d2_core.specs.BookSteps.{IsReturn};
@@ -190,7 +238,7 @@ impl<P, C: TakeCounter> Guarded<CountingBook<P, C>> {
     }
 }
 
-impl<P: Drop, C: CountTakes> Guarded<CountingBook<P, C>> {
+impl<P: Drop, C: TakeCounter> Guarded<CountingBook<P, C>> {
     ghost use Rattle.std.specs.Duration.{as_nanos};
     ghost use Rattle.r2d2_core.specs.Seen.{seen_released};
     ghost use Rattle.r2d2.specs.Evicted.{evicted_of, after_eviction, IsEvicted};
@@ -329,7 +377,7 @@ impl<B, M, K, R> Shared<B, M, K, R> {
     }
 }
 
-impl<P: Drop, C: TakeCounter, M, K, R: Clock + Wait> Shared<CountingBook<P, C>, M, K, R> {
+impl<P: Drop, C: TakeTotal, M, K, R: Clock + Wait> Shared<CountingBook<P, C>, M, K, R> {
     ghost use Rattle.r2d2.specs.Status.{IsStatus};
 
     /// The counts.

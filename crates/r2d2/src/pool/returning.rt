@@ -3,7 +3,7 @@
 use super::lent::Lent;
 use super::locking::Shared;
 use crate::Extension;
-use crate::engine::{CountingBook, TakeCounter};
+use crate::engine::{CountingBook, TakeTotal};
 use crate::event::ReleaseReason;
 use crate::hooks::Closed;
 use crate::payload::Payload;
@@ -11,7 +11,7 @@ use r2d2_core::Returned;
 use std::rt::Clock;
 use std::sync::Wait;
 
-impl<X: Drop, E: Extension + Drop, C: TakeCounter, M, K, R: Clock + Wait> Shared<
+impl<X: Drop, E: Extension + Drop, C: TakeTotal, M, K, R: Clock + Wait> Shared<
     CountingBook<Payload<X, E>, C>,
     M,
     K,
@@ -25,16 +25,9 @@ impl<X: Drop, E: Extension + Drop, C: TakeCounter, M, K, R: Clock + Wait> Shared
         lent: Lent<Payload<X, E>>,
         unfit: Option<ReleaseReason>,
     ) -> Option<Closed<X>> {
-        let Lent {
-            id,
-            birth,
-            mut payload,
-        } = lent;
+        let Lent { id, payload } = lent;
         let (returned, reason) = self.step(|guarded, now| {
-            payload.idle_since = now;
-            let age = now.saturating_sub(birth);
-            let longest = guarded.book.book().limits().max_lifetime();
-            let outlived = self.tuning.is_outlived(longest, self.made_at, id, age);
+            let outlived = guarded.is_outlived(&self.tuning, self.made_at, id, now);
             guarded.give_back(now, id, payload, unfit, outlived)
         });
         let Ok(Returned::Closed { value, age, .. }) = returned else {

@@ -12,7 +12,7 @@ use super::Status;
 use super::call_time::CallTime;
 use super::lent::Lent;
 use super::locking::{Guarded, Shared, pause};
-use crate::engine::{CountTakes, CountingBook, TakeCounter, Wakes};
+use crate::engine::{CountingBook, TakeCounter, TakeTotal, Wakes};
 use crate::{Error, ErrorKind};
 use r2d2_core::Take;
 use std::alloc::AllocGlobal;
@@ -23,7 +23,7 @@ use std::time::Duration;
 /// How often a caller looks again before it waits.
 const LOOKS: u32 = 20;
 
-impl<P: Drop, C: CountTakes, M, K, R: Clock + Wait + AllocGlobal> Shared<
+impl<P: Drop, C: TakeCounter, M, K, R: Clock + Wait + AllocGlobal> Shared<
     CountingBook<P, C>,
     M,
     K,
@@ -55,24 +55,21 @@ impl<P: Drop, C: CountTakes, M, K, R: Clock + Wait + AllocGlobal> Shared<
         if timeout.is_none() && !time.may_take(guarded.book.book().idle()) {
             return Ok(None);
         }
+        if timeout.is_some() && guarded.book.book().idle() == 0 {
+            guarded = match self.look_before_wait(guarded) {
+                Some(guarded) => guarded,
+                None => return Err(Error::full()),
+            };
+        }
         for _ in self.rt.forever() {
-            if timeout.is_some() && guarded.is_all_lent() {
-                guarded = self.look_again(guarded);
-            }
             let now = self.moment();
             time.look(now);
+            if self.tuning.asks_idle_times() {
+                time.find(guarded.book.book().next_idle_since());
+            }
             let (taken, wakes) = guarded.book.lend(now, timeout.is_some(), tally);
             let found = match taken {
-                Take::Found {
-                    id,
-                    birth,
-                    value,
-                    ..
-                } => Some(Lent {
-                    id,
-                    birth,
-                    payload: value,
-                }),
+                Take::Found { id, value, .. } => Some(Lent { id, payload: value }),
                 Take::Empty { .. } => None,
             };
             let (Some(timeout), None) = (timeout, &found) else {
@@ -90,17 +87,20 @@ impl<P: Drop, C: CountTakes, M, K, R: Clock + Wait + AllocGlobal> Shared<
             guarded.begin_wait();
             let (again, outcome) = self.callers.wait_timeout(&self.rt, guarded, left);
             guarded = again;
-            guarded.end_wait();
             if outcome.timed_out() {
+                guarded.end_wait();
                 time.look(self.moment());
                 return Err(self.give_up(guarded, time));
             }
+            // It is counted meanwhile, so that nobody else takes its place.
+            guarded = self.look_again(guarded);
+            guarded.end_wait();
         }
         unreachable!()
     }
 }
 
-impl<P: Drop, C: TakeCounter, M, K, R: Clock + Wait + AllocGlobal> Shared<
+impl<P: Drop, C: TakeTotal, M, K, R: Clock + Wait + AllocGlobal> Shared<
     CountingBook<P, C>,
     M,
     K,
@@ -120,19 +120,35 @@ impl<P: Drop, C: TakeCounter, M, K, R: Clock + Wait + AllocGlobal> Shared<
         self.lock_in_turn()
     }
 
-    // All are lent: lets the lock alone and looks again, a few times, for about as long as a sleep
-    // and a wake take. So who has a connection for no longer makes nobody sleep.
+    // Before a call waits for the first time, where none is idle: it looks again. None where as
+    // many wait as may.
+    fn look_before_wait<'a>(
+        &'a self,
+        mut guarded: MutexGuard<'a, Guarded<CountingBook<P, C>>>,
+    ) -> Option<MutexGuard<'a, Guarded<CountingBook<P, C>>>> {
+        if guarded.is_full(self.tuning.max_waiting) {
+            return None;
+        }
+        guarded = self.look_again(guarded);
+        if guarded.is_full(self.tuning.max_waiting) {
+            return None;
+        }
+        Some(guarded)
+    }
+
+    // Where all are lent, lets the lock alone and looks again, a few times, for about as long as a
+    // sleep and a wake take. So who has a connection for no longer makes nobody sleep.
     fn look_again<'a>(
         &'a self,
         mut guarded: MutexGuard<'a, Guarded<CountingBook<P, C>>>,
     ) -> MutexGuard<'a, Guarded<CountingBook<P, C>>> {
         for _ in 0..LOOKS {
-            drop(guarded);
-            pause();
-            guarded = self.lock();
             if !guarded.is_all_lent() {
                 break;
             }
+            drop(guarded);
+            pause();
+            guarded = self.lock();
         }
         guarded
     }

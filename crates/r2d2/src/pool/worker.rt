@@ -11,7 +11,7 @@ use super::PoolRuntime;
 use super::evicting::has_room;
 use super::locking::{Guarded, SharedOf};
 use crate::ManageConnection;
-use crate::engine::{CountingBook, Outcome, TakeCounter, Wakes};
+use crate::engine::{CountingBook, Outcome, TakeTotal, Wakes};
 use crate::error::text_of;
 use crate::event::ReleaseReason;
 use crate::hooks::Hooks;
@@ -19,7 +19,7 @@ use crate::payload::{Payload, PayloadOf, open};
 use r2d2_core::{Job, Limits, Refusal, Released};
 use std::time::Duration;
 
-impl<C: TakeCounter, M: ManageConnection, K: Hooks<M>, R: PoolRuntime> SharedOf<C, M, K, R> {
+impl<C: TakeTotal, M: ManageConnection, K: Hooks<M>, R: PoolRuntime> SharedOf<C, M, K, R> {
     /// Does what is due, and waits where nothing is, until the pool is closed. The list is for the
     /// connections that a reap closes.
     pub(super) fn work(&self, mut expired: Vec<Released<PayloadOf<M>>>) {
@@ -75,11 +75,8 @@ impl<C: TakeCounter, M: ManageConnection, K: Hooks<M>, R: PoolRuntime> SharedOf<
         match self.number(tries) {
             Ok(id) => {
                 self.hooks.acquire(id);
-                let mut value = Payload::new(self.rt.alloc(), connection);
-                self.step(|guarded, now| {
-                    value.idle_since = now;
-                    guarded.book.settle(now, Outcome::Opened { id, value })
-                });
+                let value = Payload::new(self.rt.alloc(), connection);
+                self.settle(Outcome::Opened { id, value });
             }
             Err(Refusal::IdsUsedUp) => {
                 drop(connection);
@@ -112,7 +109,7 @@ fn reason_of_reap(limits: &Limits, age: Duration) -> ReleaseReason
     }
 }
 
-impl<P: Drop, C: TakeCounter> Guarded<CountingBook<P, C>> {
+impl<P: Drop, C: TakeTotal> Guarded<CountingBook<P, C>> {
     // Closes what is expired, into the list, which is empty and has room for all.
     fn reap(&mut self, now: Duration, expired: &mut Vec<Released<P>>) -> Wakes
         ensures step { HasRoom self.old.book.book.picture.on_order.limits.max_size expired.old

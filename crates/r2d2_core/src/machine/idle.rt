@@ -82,7 +82,17 @@ impl<T, A: Allocator> Idle<T, A> {
         }
     }
 
-    /// The one that is lent next, which is idle no more.
+    /// The one that is lent next.
+    pub(crate) fn next(&self, order: LendingOrder) -> Option<&IdleConnection<T>>
+        ensures { option_copied result ≡ next_to_lend order self.now.items }
+    {
+        match &self.ring {
+            Some(ring) => ring.next(order),
+            None => None,
+        }
+    }
+
+    /// The same, which is idle no more.
     pub(crate) fn take(&mut self, order: LendingOrder) -> Option<IdleConnection<T>>
         ensures next { result ≡ next_to_lend order self.old.items }
         ensures others { self.new ≡ buffer (still_idle order self.old.items) self.old.capacity }

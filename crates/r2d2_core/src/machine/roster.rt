@@ -3,7 +3,7 @@
 // promised of hints: a wrong one is seen, and costs a search.
 ghost use Rattle.std.specs.Prelude.{◌≡◌, ◌↔◌, ℕ, ◌+◌, ◌<◌, ◌≤◌, ◌++◌, ◌∷◌, [], length, map, IfOk};
 ghost use Rattle.std.specs.Prelude.{IfNone, IsSome, IsTrue, MatchOption, Option, None, slice_set};
-ghost use Rattle.std.specs.Prelude.{slice_index_or, vec_capacity, vec_len};
+ghost use Rattle.std.specs.Prelude.{slice_index_or, vec_capacity, vec_len, option_copied};
 ghost use Rattle.std.specs.Iterator.{item_count, YieldsFirstRef};
 ghost use Rattle.circular_buffer.specs.Buffer.{buffer};
 ghost use Rattle.r2d2_core.specs.Ids.{found, without, copies_of};
@@ -131,6 +131,17 @@ impl<X: HasId, A: Allocator> Roster<X, A> {
             left = later;
         }
         left.is_empty()
+    }
+
+    /// The one with the id; None where there is none.
+    pub(crate) fn get(&self, id: u64) -> Option<&X>
+        requires { copies_of id (map X.id_of self.now.items) ≤ 1 }
+        ensures { option_copied result ≡ found X.id_of id self.now.items }
+    {
+        match place_of(&self.slots, hint_of(&self.hints, id), id) {
+            Some(place) => self.slots[place].as_ref(),
+            None => None,
+        }
     }
 
     /// Adds one at the end.

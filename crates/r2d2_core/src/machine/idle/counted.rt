@@ -108,7 +108,17 @@ impl<T, A: Allocator> Ring<T, A> {
         self.held.get(place)
     }
 
-    /// Takes out the one that is lent next.
+    /// The one that is lent next.
+    pub(super) fn next(&self, order: LendingOrder) -> Option<&IdleConnection<T>>
+        ensures { option_copied result ≡ next_to_lend order self.now.items }
+    {
+        match order {
+            LendingOrder::NewestFirst => self.held.back(),
+            LendingOrder::OldestFirst => self.held.front(),
+        }
+    }
+
+    /// The same, which is taken out.
     pub(super) fn pop_next(&mut self, order: LendingOrder) -> Option<IdleConnection<T>>
         ensures next { result ≡ next_to_lend order self.old.items }
         ensures others { self.new ≡ buffer (still_idle order self.old.items) self.old.capacity }

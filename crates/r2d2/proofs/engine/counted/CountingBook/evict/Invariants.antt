@@ -14,8 +14,8 @@ invariant-loop-released g l = record {
       ≡ after_eviction (as_nanos l.now) l.fn.self.book;
   sound : IsSound l.fn.self.book.picture;
   room : vec_capacity l.out ≡ vec_capacity l.fn.out;
-  parts : g.C.CountTakes.parts l.tally ≡ g.C.CountTakes.parts l.fn.tally;
-  amount : g.C.CountTakes.amount l.tally ≡ g.C.CountTakes.amount l.fn.tally + length l.out.items * g.C.CountTakes.per_take;
+  parts : g.C.TakeCounter.parts l.tally ≡ g.C.TakeCounter.parts l.fn.tally;
+  amount : g.C.TakeCounter.amount l.tally ≡ g.C.TakeCounter.amount l.fn.tally + length l.out.items * g.C.TakeCounter.per_take;
 }
 
 -- how many are left

@@ -3,4 +3,4 @@ use Rattle.r2d2.proofs.pool.waiting.Shared+CountingBook+P+C+M+K+R.lend_until.Giv
 
 -- what was missed was not counted
 abbrev pub invariant-loop : goal.invariant-loop
-invariant-loop g l = (g.C.CountTakes.parts l.tally ≡ g.C.CountTakes.parts l.initial.tally) × (g.C.CountTakes.amount l.tally ≡ g.C.CountTakes.amount l.initial.tally)
+invariant-loop g l = (g.C.TakeCounter.parts l.tally ≡ g.C.TakeCounter.parts l.initial.tally) × (g.C.TakeCounter.amount l.tally ≡ g.C.TakeCounter.amount l.initial.tally)
