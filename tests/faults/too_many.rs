@@ -141,9 +141,11 @@ fn who_gave_up_makes_room_for_others(rt: HostRuntime) -> Result<(), Fail> {
 
 type Events<R> = Pool<Manager<R>, NopErrorHandler, Others<R>, NopConnectionCustomizer, Hand<R>>;
 
-// Takes the second connection, whose check does not end before it is let go.
-fn checked<R: PoolRuntime>(pool: Events<R>) -> Option<ErrorKind> {
+// Takes the second connection, whose check does not end before it is let go. It counts itself as it
+// ends.
+fn checked<R: PoolRuntime>(pool: Events<R>, ended: Arc<AtomicU64>) -> Option<ErrorKind> {
     let came = pool.get_timeout(long());
+    ended.fetch_add(1, Ordering::SeqCst);
     came.err().map(|error| error.kind())
 }
 
@@ -170,8 +172,9 @@ fn who_would_wait_after_a_failed_check_is_refused(rt: HostRuntime) -> Result<(),
         .event_handler(Others::new(rt, &play)?)
         .make(hand, Manager::new(rt, &play)?)?;
     let lent = pool.get()?;
-    let theirs = pool.try_clone()?;
-    let taker = thread::spawn(&rt, move || checked(theirs))?;
+    let ended = Arc::new(rt.alloc(), AtomicU64::new(0))?;
+    let (theirs, count) = (pool.try_clone()?, Arc::try_clone(&ended)?);
+    let taker = thread::spawn(&rt, move || checked(theirs, count))?;
     assert_eq!(rt; watched(&rt, play.checks(), 2, 500), 2);
     let theirs = pool.try_clone()?;
     let waiter = thread::spawn(&rt, move || waits(theirs))?;
@@ -182,6 +185,7 @@ fn who_would_wait_after_a_failed_check_is_refused(rt: HostRuntime) -> Result<(),
         thread::sleep(&rt, Duration::from_millis(5));
     }
     play.checks_let_go.store(u64::MAX, Ordering::SeqCst);
+    assert_eq!(rt; watched(&rt, &ended, 1, 500), 1);
     assert_eq!(rt; taker.join(&rt), Some(ErrorKind::Full));
     // (The newest is lent first.)
     assert!(rt; play.told(&rt, "acquire 0; acquire 1; checkout 1; release 0; "));
