@@ -110,6 +110,26 @@ fn discards(core: &mut Core<u32>) -> bool {
     matches!(core.fail_check(seconds(1), id, None), Err(Refusal::NotLent))
 }
 
+// Since when the one is idle that is lent next, and when a lent one was admitted.
+#[test]
+fn moments(rt: HostRuntime) -> Result<(), Fail> {
+    let limits = limits().ok_or("limits")?;
+    let mut core: Core<u32> = Core::new(rt.alloc(), limits, Duration::ZERO)?;
+    assert_eq!(rt; core.next_idle_since(), None);
+    assert!(rt; opens_and_lends(&mut core));
+    assert_eq!(rt; core.next_idle_since(), Some(seconds(1)));
+    assert_eq!(rt; core.lent_birth(0), None);
+    assert!(rt; matches!(core.take(seconds(2), false), Take::Found { id: 0, .. }));
+    assert_eq!(rt; core.lent_birth(0), Some(Duration::ZERO));
+
+    let mut book: Book<u32> = Book::new(rt.alloc(), limits, Duration::ZERO, 8)?;
+    assert!(rt; opens_and_lends_in(&mut book));
+    assert_eq!(rt; book.next_idle_since(), Some(seconds(1)));
+    assert!(rt; matches!(book.take(seconds(2), false), Take::Found { id: 0, .. }));
+    assert_eq!(rt; book.lent_birth(0), Some(Duration::ZERO));
+    Ok(())
+}
+
 #[test]
 fn steps(rt: HostRuntime) -> Result<(), Fail> {
     let limits = limits().ok_or("limits")?;
