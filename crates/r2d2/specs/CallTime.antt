@@ -18,8 +18,13 @@ pub record SeenCallTime : Type 0 where
 
 -- of a call that looked at the clock as it began, or did not
 abbrev pub begun_at : Option ℕ → SeenCallTime
-begun_at start = record { start = start; step = 0; seen = unwrap_or start 0;
-    left = 2 ^ 32 - 1; idle_since = None }
+begun_at start = record {
+  start = start;
+  step = 0;
+  seen = unwrap_or start 0;
+  left = 2 ^ 32 - 1;
+  idle_since = None;
+}
 
 -- after a reading that shows t: the first one is the start, and no moment falls
 abbrev pub looked_at : ℕ → SeenCallTime → SeenCallTime
@@ -28,6 +33,10 @@ looked_at t c = record c { start = Some (unwrap_or c.start t); step = t; seen = 
 -- when it began; before any reading, at zero
 abbrev pub start_of : SeenCallTime → ℕ
 start_of c = unwrap_or c.start c.seen
+
+-- how long it has lasted
+abbrev pub waited_of : SeenCallTime → ℕ
+waited_of c = c.seen - start_of c
 
 -- how much is left of a timeout, which counts from the start
 abbrev pub left_of : ℕ → SeenCallTime → ℕ

@@ -8,7 +8,7 @@ use self::lent::AnyConnection;
 use self::locking::SharedOf;
 pub use self::state::{State, Status};
 use crate::config::{Builder, Config};
-use crate::engine::{TakeCounter, LedgerCounter, TakeTotal, Uncounted};
+use crate::engine::{LedgerCounter, TakeCounter, TakeTotal, Uncounted};
 use crate::event::{HandleEvent, NopEventHandler};
 use crate::hooks::Hooks;
 use crate::payload::PayloadOf;
@@ -83,8 +83,7 @@ pub struct AnyPool<C: TakeTotal, M: ManageConnection, K: Hooks<M>, R: PoolRuntim
 }
 
 // Contracts see a pool as its settings: what its lock holds, other threads change.
-impl<C: TakeTotal, M: ManageConnection, K: Hooks<M>, R: PoolRuntime> Model
-    for AnyPool<C, M, K, R> {
+impl<C: TakeTotal, M: ManageConnection, K: Hooks<M>, R: PoolRuntime> Model for AnyPool<C, M, K, R> {
     ghost Value = { K };
 
     ghost view = { λ p. (arc_value (arc_value p.closer).shared).hooks };
