@@ -34,6 +34,10 @@ looked_at t c = record c { start = Some (unwrap_or c.start t); step = t; seen = 
 abbrev pub start_of : SeenCallTime → ℕ
 start_of c = unwrap_or c.start c.seen
 
+-- how long it has lasted
+abbrev pub waited_of : SeenCallTime → ℕ
+waited_of c = c.seen - start_of c
+
 -- how much is left of a timeout, which counts from the start
 abbrev pub left_of : ℕ → SeenCallTime → ℕ
 left_of timeout c = later_by (start_of c) timeout - c.seen

@@ -1,5 +1,5 @@
 // Why a call of the pool failed.
-ghost use Rattle.std.specs.Prelude.{◌≡◌, None, IsSome, IfSome, option_map, string_bytes};
+ghost use Rattle.std.specs.Prelude.{◌≡◌, ◌↔◌, None, IsSome, IfSome, option_map, string_bytes};
 ghost use Rattle.r2d2.specs.declared.error.ErrorKind.TheVariants.{Timeout};
 ghost use Rattle.r2d2.specs.Failures.{Failure};
 ghost use Rattle.r2d2.specs.Status.{IsStatus};
@@ -160,7 +160,8 @@ impl Error {
 
     /// How long the call lasted until it gave up: where there is a status.
     pub fn waited(&self) -> Option<Duration>
-        ensures { result ≡ self.now.waited }
+        ensures waited { result ≡ self.now.waited }
+        ensures with_status { IsSome result ↔ IsSome self.now.status }
     {
         match &self.gave_up {
             Some(gave_up) => Some(gave_up.waited),

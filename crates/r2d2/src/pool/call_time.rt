@@ -41,7 +41,7 @@ impl Model for CallTime {
 }
 
 impl CallTime {
-    ghost use Rattle.r2d2.specs.CallTime.{begun_at, looked_at, start_of, left_of};
+    ghost use Rattle.r2d2.specs.CallTime.{begun_at, looked_at, start_of, waited_of, left_of};
     ghost use Rattle.r2d2.specs.CallTime.{may_still_take, with_one_less};
 
     /// Of a call that looked at the clock as it began, or did not.
@@ -120,7 +120,7 @@ impl CallTime {
 
     /// How long it has lasted.
     pub(super) fn waited(&self) -> Duration
-        ensures { as_nanos result ≡ self.now.seen - start_of self.now }
+        ensures { as_nanos result ≡ waited_of self.now }
     {
         self.seen.saturating_sub(self.start())
     }

@@ -1,5 +1,7 @@
 // What is lent is checked first, and what a failed check tells of the others.
-ghost use Rattle.std.specs.Prelude.{◌≡◌, Some, false, IfSome};
+ghost use Rattle.std.specs.Prelude.{◌≡◌, ◌≤◌, ◌-◌, Some, false, IfSome, IsTrue, IsFalse};
+ghost use Rattle.std.specs.Option.{IsNone};
+ghost use Rattle.std.specs.Duration.{as_nanos};
 
 use super::PoolRuntime;
 use super::call_time::CallTime;
@@ -16,7 +18,11 @@ use std::time::Duration;
 impl<C: TakeTotal, M: ManageConnection, K: Hooks<M>, R: PoolRuntime> SharedOf<C, M, K, R> {
     /// Whether what a call took is checked before it is lent.
     #[inline(always)]
-    pub(super) fn is_to_check(&self, time: &CallTime) -> bool {
+    pub(super) fn is_to_check(&self, time: &CallTime) -> bool
+        ensures due { IsTrue result → IfSome self.now.tuning.check_after_idle
+            (λ least. IfSome time.now.idle_since (λ since. since ≤ time.now.step
+            → as_nanos least ≤ time.now.step - since)) }
+    {
         self.hooks.test_on_check_out() && self.tuning.is_check_due(time.idle_since(), time.step())
     }
 
@@ -84,7 +90,9 @@ impl<C: TakeTotal, M: ManageConnection, K: Hooks<M>, R: PoolRuntime> SharedOf<C,
 
     // Whether a check of a connection failed that was idle for less long than one that is idle
     // since this moment.
-    fn is_distrusted(&self, idle_since: Option<Duration>) -> bool {
+    fn is_distrusted(&self, idle_since: Option<Duration>) -> bool
+        ensures unknown { IsNone idle_since → IsFalse result }
+    {
         match idle_since {
             Some(since) => self.lock().failures.tell_of(since),
             None => false,

@@ -94,13 +94,17 @@ impl<P, C: TakeTotal> Guarded<CountingBook<P, C>> {
     ghost use Rattle.std.specs.Option.{IsNone};
     ghost use Rattle.std.specs.Duration.{as_nanos};
     ghost use Rattle.r2d2_core.specs.Connections.{birth_in};
+    ghost use Rattle.r2d2_core.specs.Limits.{wanted_of};
     ghost use Rattle.r2d2.specs.Status.{IsStatus, is_all_lent, is_full};
 
     /// The counts, with those of the callers who wait.
     pub(super) fn status(&self) -> Status
         ensures sums { IsStatus result }
+        ensures max_size { result.max_size ≡ self.now.book.book.picture.on_order.limits.max_size }
+        ensures wanted { result.wanted ≡ wanted_of self.now.book.book.picture.on_order.limits }
         ensures idle { result.idle ≡ length self.now.book.book.picture.idle }
         ensures lent { result.lent ≡ length self.now.book.book.picture.lent }
+        ensures opening { result.opening ≡ self.now.book.book.picture.on_order.pending }
         ensures waiting { result.waiting ≡ self.now.waiting }
         ensures openings { result.failed_openings ≡ self.now.failures.openings }
         ensures checks { result.failed_checks ≡ self.now.failures.checks }
@@ -389,6 +393,9 @@ impl<B, M, K, R> Shared<B, M, K, R> {
 }
 
 impl<P: Drop, C: TakeTotal, M, K, R: Clock + Wait> Shared<CountingBook<P, C>, M, K, R> {
+    ghost use Rattle.r2d2_core.specs.Book.{SeenBook};
+    ghost use Rattle.r2d2_core.specs.BookSteps.{IsNumbering, IsClose};
+    ghost use Rattle.r2d2.specs.Settled.{IsSettling};
     ghost use Rattle.r2d2.specs.Status.{IsStatus};
 
     /// The counts.
@@ -413,12 +420,16 @@ impl<P: Drop, C: TakeTotal, M, K, R: Clock + Wait> Shared<CountingBook<P, C>, M,
     }
 
     /// Gives an opened connection its id.
-    pub(super) fn number(&self, tries: u32) -> Result<u64, Refusal> {
+    pub(super) fn number(&self, tries: u32) -> Result<u64, Refusal>
+        ensures { (old : SeenBook P) × (new : SeenBook P) × IsNumbering tries result old new }
+    {
         self.step(|guarded, _now| (guarded.book.number(tries), Wakes::nobody()))
     }
 
     /// Tells the book of an outcome.
-    pub(super) fn settle(&self, outcome: Outcome<P>) -> Settled<P> {
+    pub(super) fn settle(&self, outcome: Outcome<P>) -> Settled<P>
+        ensures { (now : _) × (old : _) × (new : _) × IsSettling now outcome result old new }
+    {
         self.step(|guarded, now| guarded.book.settle(now, outcome))
     }
 
@@ -428,7 +439,9 @@ impl<P: Drop, C: TakeTotal, M, K, R: Clock + Wait> Shared<CountingBook<P, C>, M,
     }
 
     /// Closes the book, tells all who wait, and hands over what was idle.
-    pub(super) fn close(&self) -> Leftover<P> {
+    pub(super) fn close(&self) -> Leftover<P>
+        ensures { (old : _) × (new : _) × IsClose result old new }
+    {
         let left = self.step(|guarded, _now| (guarded.book.close(), Wakes::nobody()));
         self.wake_all();
         left

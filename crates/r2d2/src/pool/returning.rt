@@ -1,4 +1,5 @@
 // A lent connection comes back, and is kept or closed.
+ghost use Rattle.std.specs.Prelude.{◌≡◌, IfSome};
 
 use super::lent::Lent;
 use super::locking::Shared;
@@ -24,7 +25,9 @@ impl<X: Drop, E: Extension + Drop, C: TakeTotal, M, K, R: Clock + Wait> Shared<
         &self,
         lent: Lent<Payload<X, E>>,
         unfit: Option<ReleaseReason>,
-    ) -> Option<Closed<X>> {
+    ) -> Option<Closed<X>>
+        ensures { IfSome result (λ closed. closed.id ≡ lent.id) }
+    {
         let Lent { id, payload } = lent;
         let mut reason = ReleaseReason::Broken;
         let returned = self.step(|guarded, now| {

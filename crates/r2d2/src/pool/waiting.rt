@@ -4,7 +4,7 @@ ghost use Rattle.std.specs.Prelude.{OnErr};
 ghost use Rattle.std.specs.Option.{IsNone};
 ghost use Rattle.std.specs.Result.{IsOk};
 ghost use Rattle.std.specs.Duration.{as_nanos};
-ghost use Rattle.r2d2.specs.CallTime.{looked_at, left_of};
+ghost use Rattle.r2d2.specs.CallTime.{looked_at, waited_of, left_of};
 ghost use Rattle.r2d2.specs.Status.{IsStatus};
 ghost use Rattle.r2d2.specs.Failures.{IsOfAGet};
 
@@ -160,7 +160,8 @@ impl<P: Drop, C: TakeTotal, M, K, R: Clock + Wait + AllocGlobal> Shared<
         mut guarded: MutexGuard<'_, Guarded<CountingBook<P, C>>>,
         waited: Duration,
     ) -> Error
-        ensures { result.kind ≡ ErrorKind.Timeout }
+        ensures kind { result.kind ≡ ErrorKind.Timeout }
+        ensures waited { IfSome result.waited (λ length. as_nanos length ≡ as_nanos waited) }
     {
         // Modelled in model/waiting.pml: keep both alike.
         let status = guarded.status();
@@ -180,6 +181,8 @@ impl<P: Drop, C: TakeTotal, M, K, R: Clock + Wait + AllocGlobal> Shared<
         time: &mut CallTime,
     ) -> Option<Error>
         ensures late { IfSome result (λ error. error.kind ≡ ErrorKind.Timeout) }
+        ensures waited { IfSome result
+            (λ error. IfSome error.waited (λ length. as_nanos length ≡ waited_of time.new)) }
         ensures at_once { IsNone timeout → IsNone result }
         ensures looks { IfSome timeout
             (λ _. (now : _) × (time.new ≡ looked_at (as_nanos now) time.old)) }

@@ -1,5 +1,5 @@
 // What a worker does: it opens connections, closes expired ones, and waits for either.
-ghost use Rattle.std.specs.Prelude.{◌≡◌, length};
+ghost use Rattle.std.specs.Prelude.{◌≡◌, length, vec_len, vec_capacity};
 ghost use Rattle.std.specs.Duration.{as_nanos};
 ghost use Rattle.r2d2_core.specs.Limits.{seen_limits, has_reached};
 ghost use Rattle.r2d2_core.specs.BookSteps.{IsReap};
@@ -90,7 +90,10 @@ impl<C: TakeTotal, M: ManageConnection, K: Hooks<M>, R: PoolRuntime> SharedOf<C,
     }
 
     // Releases what a reap closed.
-    fn release_expired(&self, limits: Limits, expired: &mut Vec<Released<PayloadOf<M>>>) {
+    fn release_expired(&self, limits: Limits, expired: &mut Vec<Released<PayloadOf<M>>>)
+        ensures empty { vec_len expired.new ≡ 0 }
+        ensures room { vec_capacity expired.new ≡ vec_capacity expired.old }
+    {
         for released in expired.drain(..) {
             let reason = reason_of_reap(&limits, released.age);
             self.release(released, reason);
@@ -117,6 +120,7 @@ impl<P: Drop, C: TakeTotal> Guarded<CountingBook<P, C>> {
             × IsReap now expired.new.items ordered self.old.book.book self.new.book.book }
         ensures kept { self.new.evicted_below ≡ self.old.evicted_below }
         ensures waiting { self.new.waiting ≡ self.old.waiting }
+        ensures failures { self.new.failures ≡ self.old.failures }
     {
         if !has_room(self.book.book(), expired) {
             return Wakes::nobody();
