@@ -20,7 +20,9 @@
      and waits for nothing: it is a caller that comes to its one look later.
    - `close` is there as the begin of a drain alone. A second close is not there; it would but wake everybody once more.
    - A connection that outlives its pool is here a pool that its caller still has.
-   tools/schedules plays the code itself, with the real variables, though by chance and not in all interleavings. */
+   tools/schedules plays the code itself, with the real variables, though by chance and not in all interleavings.
+
+   Callers wait at one variable, or in a line, each at a variable of its own: what the line adds is in line.pml. */
 
 #ifndef SIZE
 #define SIZE 1            /* max_size */
@@ -30,6 +32,12 @@
 #endif
 #ifndef CALLERS
 #define CALLERS 2
+#endif
+#ifndef LINE
+#define LINE 0            /* so many callers may stand in line; 0: all wait at one variable */
+#endif
+#ifndef LIMIT
+#define LIMIT 0           /* so many may wait at the one variable; 0: as many as come */
 #endif
 #ifndef WORKERS
 #define WORKERS 1
@@ -99,9 +107,12 @@ bool reap_due, closed;
 #define connections (idle + lent)
 #define room (SIZE - connections - pending)
 
-/* The two variables. Who waits at one is awake again as soon as its place here says so. */
+/* The variables: that of the callers, and that of the workers. Who waits at one is awake again as soon as its place here
+   says so. */
 #define WAITERS (CALLERS + CLOSERS)
 bool waiting[WAITERS];
+bool builds;              /* caller 0 is `build`, and waits */
+#define NOBODY 255
 #define AWAKE 0
 #define NOTHING 1         /* rests until it is woken */
 #define UNTIL 2           /* or until the first moment that something falls due */
@@ -125,23 +136,6 @@ inline top_up() {
   sound()
 }
 
-/* Shared::wake, of a caller: `notify_one`, which wakes any one of those who wait. */
-inline wake_caller(step) {
-  if
-  :: step != NO_CALLER_AFTER && waiting[0] -> waiting[0] = false
-#if WAITERS > 1
-  :: step != NO_CALLER_AFTER && waiting[1] -> waiting[1] = false
-#endif
-#if WAITERS > 2
-  :: step != NO_CALLER_AFTER && waiting[2] -> waiting[2] = false
-#endif
-#if WAITERS > 3
-  :: step != NO_CALLER_AFTER && waiting[3] -> waiting[3] = false
-#endif
-  :: else
-  fi
-}
-
 /* Shared::wake, of the workers: `notify_all`. */
 inline wake_workers(step) {
   if
@@ -151,10 +145,38 @@ inline wake_workers(step) {
   fi
 }
 
+#define IS_IMPATIENT (_pid < IMPATIENT)
+#define IS_TRYING (_pid >= CALLERS - TRYING)
+#define MAY_STAY (_pid >= CALLERS - CALLERS_STAY)
+
+#if LINE
+#include "line.pml"
+#else
+#define waits_at_it(one) waiting[one]
+#define HAS_LEFT true
+#endif
+
+/* Shared::wake, of a caller: `notify_one`, which wakes any one of those who wait at the callers' variable. */
+inline wake_any(step) {
+  if
+  :: step != NO_CALLER_AFTER && waits_at_it(0) -> waiting[0] = false
+#if WAITERS > 1
+  :: step != NO_CALLER_AFTER && waits_at_it(1) -> waiting[1] = false
+#endif
+#if WAITERS > 2
+  :: step != NO_CALLER_AFTER && waits_at_it(2) -> waiting[2] = false
+#endif
+#if WAITERS > 3
+  :: step != NO_CALLER_AFTER && waits_at_it(3) -> waiting[3] = false
+#endif
+  :: else
+  fi
+}
+
 /* Shared::wake_all, of all callers: `notify_all`. */
 inline wake_callers(step) {
 #ifdef CLOSE_WAKES_ONE
-  wake_caller(step)
+  wake_any(step)
 #else
   if
   :: step != NO_CALLER_AFTER ->
@@ -167,6 +189,9 @@ inline wake_callers(step) {
 /* Book::close */
 inline close() {
   idle = 0; due = 0; later = 0; in_work = 0; reap_due = false; closed = true
+#if LINE
+  ; owed = 0
+#endif
 }
 
 /* Guarded::begin_wait and end_wait, under the lock. */
@@ -188,29 +213,56 @@ inline end_wait() {
 #define somebody_waits (counted > 0)
 #endif
 
-#define IS_IMPATIENT (_pid < IMPATIENT)
-#define IS_TRYING (_pid >= CALLERS - TRYING)
-#define MAY_STAY (_pid >= CALLERS - CALLERS_STAY)
+/* The end of a step under the lock that leaves something for a caller: whom it is to wake. In a line it tells one. */
+inline is_for_a_caller(step) {
+#if LINE
+  tell(step); keeps();
+#endif
+  wakes = somebody_waits
+}
+
+/* Shared::wake, of a caller, once the lock is free. */
+inline wake_caller(step) {
+#if LINE
+  if :: tells != NOBODY -> atomic { waiting[tells] = false; tells = NOBODY } :: else fi;
+#endif
+  if :: wakes -> atomic { wakes = false; wake_any(step) } :: else fi
+}
+
+/* Guarded::is_full: who may not begin to wait. Who waits is counted until it looks, and is not refused then. */
+#if LIMIT
+#define IS_TOO_MANY (!has_waited && counted >= LIMIT)
+#define IS_DONE has_waited = false
+#else
+#define IS_TOO_MANY false
+#define IS_DONE skip
+#endif
 
 /* AnyPool::lend_within, the drop of what was lent, and the drop of the pool. */
 active [CALLERS] proctype caller() {
   bool orders;            /* the step just made has ordered openings */
   bool wakes;             /* it is to wake a caller, and one waits */
   bool waits;             /* this caller is among those who are counted */
+#if LINE
+  byte tells = NOBODY;    /* whom the step just made has told */
+#endif
+#if LIMIT
+  bool has_waited;        /* it began to wait since its latest take */
+#endif
 #if BUILD
   if
   :: _pid == 0 ->
 building: /* Shared::wait_for: it looks, and waits again, until there are as many as are wanted */
      atomic {
        if
-       :: connections >= WANTED -> end_wait(); built = true; goto calls
-       :: else -> begin_wait(); waiting[_pid] = true
+       :: connections >= WANTED -> end_wait(); built = true; builds = false; goto calls
+       :: else -> begin_wait(); waiting[_pid] = true; builds = true
        fi
      };
      if
      :: !waiting[_pid] -> goto building
      :: BUILD == 2 ->      /* `build` drops the pool that nobody else has */
-        atomic { waiting[_pid] = false; end_wait(); holders = 1 };
+        atomic { waiting[_pid] = false; builds = false; end_wait(); holders = 1 };
         goto let_go
      fi
   :: else ->
@@ -241,14 +293,18 @@ look: /* Shared::lend_until; of a `try_get` it has no timeout, and a miss makes 
 #ifdef WAKES_BEFORE_THE_STEP
   atomic { wake_workers(MISS) };
 #endif
+#if LINE
+  atomic { look_in_line() };
+#else
   atomic {
     end_wait();
     if
-    :: idle > 0 -> idle--; lent++; top_up(); orders = ordered > 0; goto took
+    :: idle > 0 -> idle--; lent++; top_up(); orders = ordered > 0; IS_DONE; goto took
     :: idle == 0 && IS_TRYING -> goto calls
 #ifndef WAITS_WHERE_IT_IS_CLOSED
-    :: idle == 0 && !IS_TRYING && closed -> goto calls
-    :: idle == 0 && !IS_TRYING && !closed ->
+    :: idle == 0 && !IS_TRYING && closed -> IS_DONE; goto calls
+    :: idle == 0 && !IS_TRYING && !closed && IS_TOO_MANY -> IS_DONE; goto calls
+    :: idle == 0 && !IS_TRYING && !closed && !IS_TOO_MANY ->
 #else
     :: idle == 0 && !IS_TRYING ->
 #endif
@@ -260,6 +316,10 @@ look: /* Shared::lend_until; of a `try_get` it has no timeout, and a miss makes 
        if :: ordered > 0 -> wake_workers(MISS) :: else fi;
 #endif
        begin_wait();
+#if LIMIT
+       has_waited = true;
+       assert(counted <= LIMIT);
+#endif
 #ifdef WAITS_AFTER_UNLOCKING
        goto unlocked
 #else
@@ -268,6 +328,7 @@ look: /* Shared::lend_until; of a `try_get` it has no timeout, and a miss makes 
 #endif
     fi
   };
+#endif
 
 #ifdef WAITS_AFTER_UNLOCKING
 unlocked:
@@ -286,15 +347,20 @@ woken:
 #ifdef WAKES_AFTER_THE_WAIT
   atomic { wake_workers(MISS) };
 #endif
+#ifdef LOOKS_UNCOUNTED
+  atomic { end_wait() };
+#endif
   goto look;
 
 gives_up: /* Shared::give_up, which has the lock and takes the latest error */
-#ifdef PASSES_ON_ONLY_WHERE_ONE_IS_IDLE
-  atomic { end_wait(); wakes = somebody_waits && idle > 0 };
+#if LINE
+  atomic { give_up_in_line() };
+#elif defined(PASSES_ON_ONLY_WHERE_ONE_IS_IDLE)
+  atomic { end_wait(); IS_DONE; wakes = somebody_waits && idle > 0 };
 #else
-  atomic { end_wait(); wakes = somebody_waits };
+  atomic { end_wait(); IS_DONE; wakes = somebody_waits };
 #endif
-  if :: wakes -> atomic { wakes = false; wake_caller(GIVING_UP) } :: else fi;
+  wake_caller(GIVING_UP);
   goto calls;
 
 took: /* Shared::wake, after a take that found */
@@ -303,8 +369,12 @@ took: /* Shared::wake, after a take that found */
 has: /* Shared::if_sound, then the caller's own use, then AnyConnection::drop */
   if
   :: MAY_STAY -> goto stays
-  :: atomic { CHECKS -> lent--; top_up(); orders = ordered > 0; wakes = somebody_waits };  /* Guarded::fail_check; and of one that is distrusted, Guarded::give_back */
-     if :: wakes -> atomic { wakes = false; wake_caller(CHECK) } :: else fi;
+#if LINE
+  :: atomic { is[_pid] != 0 -> leave(); keeps() };                  /* its check is over: Shared::leave */
+     goto has
+#endif
+  :: atomic { CHECKS -> lent--; top_up(); orders = ordered > 0; is_for_a_caller(CHECK) };  /* Guarded::fail_check; and of one that is distrusted, Guarded::give_back */
+     wake_caller(CHECK);
      if :: orders -> atomic { orders = false; wake_workers(CHECK) } :: else fi;
      if :: MAY_STAY -> goto stays :: true fi;                       /* Hooks::release */
      if
@@ -312,10 +382,10 @@ has: /* Shared::if_sound, then the caller's own use, then AnyConnection::drop */
      :: IS_IMPATIENT -> goto gives_up                               /* Shared::give_up_if_late */
      :: IS_TRYING -> goto calls                                     /* CallTime::may_take */
      fi
-  :: atomic { !closed -> lent--; idle++; sound(); wakes = somebody_waits };     /* Shared::give_back, kept */
-     if :: wakes -> atomic { wakes = false; wake_caller(KEPT) } :: else fi
-  :: atomic { lent--; top_up(); orders = ordered > 0; wakes = somebody_waits };  /* Shared::give_back, closed; or AnyConnection::detach */
-     if :: wakes -> atomic { wakes = false; wake_caller(CLOSED) } :: else fi;
+  :: atomic { HAS_LEFT && !closed -> lent--; idle++; sound(); is_for_a_caller(KEPT) };     /* Shared::give_back, kept */
+     wake_caller(KEPT)
+  :: atomic { HAS_LEFT -> lent--; top_up(); orders = ordered > 0; is_for_a_caller(CLOSED) };  /* Shared::give_back, closed; or AnyConnection::detach */
+     wake_caller(CLOSED);
      if :: orders -> atomic { orders = false; wake_workers(CLOSED) } :: else fi;
      if :: MAY_STAY -> goto stays :: true fi                        /* Hooks::release */
   fi;
@@ -348,6 +418,9 @@ gone:
 active [WORKERS] proctype worker() {
   bool orders, closes;    /* what the reap just made has done */
   bool wakes;             /* the step just made is to wake a caller, and one waits */
+#if LINE
+  byte tells = NOBODY;    /* whom it has told */
+#endif
 begins: /* CountingBook::begin; what is closed has nothing due any more */
   atomic {
     if
@@ -359,7 +432,9 @@ begins: /* CountingBook::begin; what is closed has nothing due any more */
        :: idle > 0 -> idle--; closes = true
        :: break
        od;
-       top_up(); orders = ordered > 0; wakes = closes && somebody_waits; closes = false;
+       top_up(); orders = ordered > 0;
+       if :: closes -> is_for_a_caller(REAP) :: else fi;
+       closes = false;
        goto reaped
     :: !closed && due == 0 && !reap_due ->
 #ifdef RESTS_AFTER_UNLOCKING
@@ -381,9 +456,9 @@ opens: /* Shared::open: the manager, the customizer, and the event between the n
   if
   :: WORKER_MAY_STAY -> goto stays
   :: atomic {                                                       /* Shared::admit, of one that was opened */
-       if :: closed -> goto begins :: else -> in_work--; idle++; sound(); wakes = somebody_waits fi
+       if :: closed -> goto begins :: else -> in_work--; idle++; sound(); is_for_a_caller(ADMISSION) fi
      };
-     if :: wakes -> atomic { wakes = false; wake_caller(ADMISSION) } :: else fi
+     wake_caller(ADMISSION)
   :: FAILURES ->
      atomic {                                                       /* Shared::fail */
        if :: closed -> goto begins :: else -> in_work--; later++; sound() fi
@@ -395,7 +470,7 @@ opens: /* Shared::open: the manager, the customizer, and the event between the n
 
 reaped: /* Shared::wake, then Shared::release_expired. Nobody would miss these two wakes: no worker rests beyond the next reap,
            and where a caller sleeps while a connection is idle, another wake is still to reach it. */
-  if :: wakes -> atomic { wakes = false; wake_caller(REAP) } :: else fi;
+  wake_caller(REAP);
   if :: orders -> atomic { orders = false; wake_workers(REAP) } :: else fi;
   if :: WORKER_MAY_STAY -> goto stays :: true fi;
   goto begins;
@@ -441,6 +516,9 @@ active proctype judge() {
   atomic {
     timeout ->
     for (k : 0 .. CALLERS - 1) { asleep = asleep + waiting[k] };
+#if LINE
+    for (k : 0 .. CALLERS - 1) { assert((is[k] == QUIET || is[k] == TOLD) == (waiting[k] && !(k == 0 && builds))) };
+#endif
     assert(asleep == 0 || (!closed && built && idle == 0 && due == 0 && (lent + in_work == SIZE || asleep <= in_work)));
     for (k : 0 .. WORKERS - 1) { assert(resting[k] == AWAKE || (!closed && due == 0)) }
 #if CLOSERS
@@ -457,6 +535,9 @@ active proctype judge() {
 active [CLOSERS] proctype closer() {
   bool wakes;             /* it is to wake another one, and one waits */
   bool waits;
+#if LINE
+  byte tells = NOBODY;
+#endif
   atomic { close() };                                               /* Shared::close */
   atomic { wake_callers(CLOSE) };
   atomic { wake_workers(CLOSE) };
@@ -476,7 +557,7 @@ end_draining:
   atomic { end_wait(); wakes = somebody_waits };
 
 drained:
-  if :: wakes -> atomic { wakes = false; wake_caller(DRAIN) } :: else fi;
+  wake_caller(DRAIN);
   holders--                                                         /* what is closed has nothing more to close */
 }
 #endif

@@ -35,6 +35,8 @@ mod late;
 #[cfg(test)]
 mod lending;
 #[cfg(test)]
+mod limit;
+#[cfg(test)]
 mod listening;
 #[cfg(test)]
 mod lives;
@@ -72,5 +74,7 @@ mod taking_turns;
 mod telling;
 #[cfg(test)]
 mod threads;
+#[cfg(test)]
+mod too_many;
 #[cfg(test)]
 mod waking;

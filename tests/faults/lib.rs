@@ -40,3 +40,5 @@ mod refused;
 mod scripts;
 #[cfg(test)]
 mod server;
+#[cfg(test)]
+mod too_many;

@@ -20,6 +20,8 @@ pub(crate) struct Rows<'a> {
     pub(crate) has_broken: &'a str,
     /// How many connects are answered before the others wait to be let go.
     pub(crate) unheld: u64,
+    /// The same of checks.
+    pub(crate) unheld_checks: u64,
 }
 
 /// Where every call goes well, and at once.
@@ -29,6 +31,7 @@ pub(crate) const GOOD: Rows<'static> = Rows {
     is_valid: "",
     has_broken: "",
     unheld: u64::MAX,
+    unheld_checks: u64::MAX,
 };
 
 /// How the calls of one kind go.
@@ -84,8 +87,10 @@ pub(crate) struct Play {
     is_valid: Outcomes,
     has_broken: Outcomes,
     unheld: u64,
+    unheld_checks: u64,
     /// How many of the connects that wait are let go.
     pub(crate) let_go: AtomicU64,
+    pub(crate) checks_let_go: AtomicU64,
     /// What was opened, told and dropped, in order.
     text: Mutex<String>,
     /// The events alone.
@@ -105,7 +110,9 @@ impl Play {
             is_valid: Outcomes::new(alloc, rows.is_valid)?,
             has_broken: Outcomes::new(alloc, rows.has_broken)?,
             unheld: rows.unheld,
+            unheld_checks: rows.unheld_checks,
             let_go: AtomicU64::new(0),
+            checks_let_go: AtomicU64::new(0),
             text: Mutex::new(String::new(alloc)),
             events: Mutex::new(String::new(alloc)),
             opened: AtomicU64::new(0),
@@ -120,6 +127,11 @@ impl Play {
     /// How many openings were begun.
     pub(crate) fn connects(&self) -> &AtomicU64 {
         &self.connect.asked
+    }
+
+    /// How many checks were begun.
+    pub(crate) fn checks(&self) -> &AtomicU64 {
+        &self.is_valid.asked
     }
 
     // Where memory is refused the word is missing in the text, and the test that reads it fails.
@@ -222,10 +234,16 @@ impl<R: PoolRuntime> ManageConnection for Manager<R> {
     }
 
     fn is_valid(&self, _line: &mut Line<R>) -> Result<(), Sorry> {
-        match self.play.is_valid.next() {
-            (_, true) => Ok(()),
-            (number, false) => Err(Sorry::IsValid(number)),
+        let play = &self.play;
+        let (number, goes_well) = play.is_valid.next();
+        if number >= play.unheld_checks {
+            let place = (number - play.unheld_checks).saturating_add(1);
+            watched(&self.rt, &play.checks_let_go, place, 1000);
         }
+        if goes_well {
+            return Ok(());
+        }
+        Err(Sorry::IsValid(number))
     }
 
     fn has_broken(&self, _line: &mut Line<R>) -> bool {

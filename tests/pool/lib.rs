@@ -30,6 +30,8 @@ mod kind;
 #[cfg(test)]
 mod lending;
 #[cfg(test)]
+mod limit;
+#[cfg(test)]
 mod listening;
 #[cfg(test)]
 mod logging;

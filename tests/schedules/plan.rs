@@ -13,6 +13,8 @@ pub(crate) struct Plan {
     pub(crate) bad: u64,
     pub(crate) closers: u64,
     pub(crate) drainers: u64,
+    /// How many callers may wait; 0 for as many as come.
+    pub(crate) most: u64,
     pub(crate) fails: bool,
     pub(crate) checks: bool,
     pub(crate) distrusts: bool,
@@ -47,6 +49,7 @@ impl Plan {
             bad: 0,
             closers: 0,
             drainers: 0,
+            most: 0,
             fails: false,
             checks: false,
             distrusts: false,
@@ -121,6 +124,7 @@ impl Plan {
             "bad" => self.bad = number,
             "closers" => self.closers = number,
             "drainers" => self.drainers = number,
+            "most" => self.most = number,
             _ => return false,
         }
         true

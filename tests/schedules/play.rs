@@ -40,6 +40,9 @@ pub(crate) fn play<R: Host>(rt: R, plan: Plan, seen: &Arc<Seen<R>>) -> Result<()
     if plan.oldest {
         builder = builder.lending_order(LendingOrder::OldestFirst);
     }
+    if plan.most > 0 {
+        builder = builder.max_waiting(u32::try_from(plan.most)?);
+    }
     if builder.limits().is_none() {
         return Ok(seen.fault("more are wanted than max_size"));
     }
@@ -191,6 +194,9 @@ fn gets<R: Host>(rt: R, plan: &Plan, seen: &Seen<R>, pool: &Watched<R>, wait: u6
     // It may be at its check as its time ends, and makes no other one then.
     let most = plan.seconds_of_checks(1).map(|own| wait.saturating_add(own));
     watch.check(seen, "a get ends later than its timeout", 0, most);
+    if plan.most > 0 {
+        crowds(plan, seen, &pool.status());
+    }
     match found {
         Ok(lent) => holds(rt, plan, seen, lent, was_closed),
         Err(error) => match error.kind() {
@@ -207,8 +213,22 @@ fn gets<R: Host>(rt: R, plan: &Plan, seen: &Seen<R>, pool: &Watched<R>, wait: u6
                     seen.fault("a get is told of a close that was not");
                 }
             }
+            ErrorKind::Full => {
+                seen.tell("is told that as many wait as may");
+                watch.check(seen, "a get takes time to be refused", 0, plan.seconds_of_checks(1));
+                if plan.most == 0 {
+                    seen.fault("a get is refused where as many may wait as come");
+                }
+            }
             _ => seen.fault("a get is told of what cannot be"),
         },
+    }
+}
+
+// No more may wait than a limit says. (Drains wait at a closed pool.)
+fn crowds<R: Host>(plan: &Plan, seen: &Seen<R>, status: &Status) {
+    if !status.closed && status.waiting > plan.most {
+        seen.fault("more wait than may");
     }
 }
 

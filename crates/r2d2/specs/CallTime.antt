@@ -18,8 +18,13 @@ pub record SeenCallTime : Type 0 where
 
 -- of a call that looked at the clock as it began, or did not
 abbrev pub begun_at : Option ℕ → SeenCallTime
-begun_at start = record { start = start; step = 0; seen = unwrap_or start 0;
-    left = 2 ^ 32 - 1; idle_since = None }
+begun_at start = record {
+  start = start;
+  step = 0;
+  seen = unwrap_or start 0;
+  left = 2 ^ 32 - 1;
+  idle_since = None;
+}
 
 -- after a reading that shows t: the first one is the start, and no moment falls
 abbrev pub looked_at : ℕ → SeenCallTime → SeenCallTime

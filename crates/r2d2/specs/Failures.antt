@@ -3,7 +3,7 @@ use Rattle.std.specs.Prelude.{◌≡◌, ◌⊎◌, ℕ, List, ◌++◌, Option,
 use Rattle.std.specs.declared.time.Duration.{Duration}
 use Rattle.r2d2.specs.declared.error.ErrorKind.{ErrorKind}
 use Rattle.r2d2.specs.declared.pool.state.Status.{Status}
-use Rattle.r2d2.specs.declared.error.ErrorKind.TheVariants.{Timeout, Memory, Threads, Closed}
+use Rattle.r2d2.specs.declared.error.ErrorKind.TheVariants.{Timeout, Memory, Threads, Closed, Full}
 
 -- what a contract sees of an error: why the call failed, and the bytes of the latest error of an
 -- opening or a check, where one is known; of a call that gave up, what the pool showed then, and how
@@ -21,6 +21,7 @@ text_of Timeout (Some message) = codes "timed out waiting for connection: " ++ m
 text_of Memory _ = codes "out of memory"
 text_of Threads _ = codes "a worker could not be started"
 text_of Closed _ = codes "the pool is closed"
+text_of Full _ = codes "too many callers are waiting"
 
 -- what an error displays
 abbrev pub error_text : Failure → List ℕ
@@ -30,9 +31,9 @@ error_text e = text_of e.kind e.message
 abbrev pub IsOfMemory : Failure → Type 0
 IsOfMemory e = e.kind ≡ Memory
 
--- memory was refused, no connection came in time, or the pool is closed
+-- memory was refused, no connection came in time, the pool is closed, or as many callers wait as may
 abbrev pub IsOfAGet : Failure → Type 0
-IsOfAGet e = (e.kind ≡ Memory) ⊎ ((e.kind ≡ Timeout) ⊎ (e.kind ≡ Closed))
+IsOfAGet e = (e.kind ≡ Memory) ⊎ ((e.kind ≡ Timeout) ⊎ ((e.kind ≡ Closed) ⊎ (e.kind ≡ Full)))
 
 -- memory was refused, or a thread
 abbrev pub IsOfMemoryOrThreads : Failure → Type 0

@@ -32,6 +32,7 @@ pub record IsOff (tuning : Tuning) : Type 0 where
   pub distrust_idle : tuning.distrust_idle ≡ false
   pub retry_at_most : tuning.retry_at_most ≡ None
   pub lifetime_jitter : tuning.lifetime_jitter ≡ None
+  pub max_waiting : tuning.max_waiting ≡ None
 
 -- what a builder keeps: its sizes and lengths of time are positive
 pub record ArePositive {H V Z : Type 0} (config : Config H V Z) : Type 0 where

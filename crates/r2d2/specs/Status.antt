@@ -1,5 +1,5 @@
 -- What a pool promises of each status that it shows.
-use Rattle.std.specs.Prelude.{◌≡◌, ◌+◌, length, not, ◌&&◌, Bool, nat_eq, nat_lt}
+use Rattle.std.specs.Prelude.{◌≡◌, ℕ, ◌+◌, length, not, ◌&&◌, Bool, false, nat_eq, nat_lt, Option, Some, None}
 use Rattle.r2d2_core.specs.Sums.{FitsIn, IsReplenished}
 use Rattle.r2d2_core.specs.Picture.{Picture}
 use Rattle.r2d2.specs.declared.pool.state.Status.{Status}
@@ -15,3 +15,8 @@ pub record IsStatus (s : Status) : Type 0 where
 -- nothing is idle, and something is to come back
 abbrev pub is_all_lent : {T : Type 0} → Picture T → Bool
 is_all_lent p = nat_eq (length p.idle) 0 && (nat_lt 0 p.connections && not p.on_order.closed)
+
+-- nothing is idle, the pool is open, and as many wait as may
+abbrev pub is_full : {T : Type 0} → Option ℕ → ℕ → Picture T → Bool
+is_full None waiting p = false
+is_full (Some most) waiting p = nat_eq (length p.idle) 0 && (not p.on_order.closed && not (nat_lt waiting most))

@@ -435,6 +435,19 @@ impl<
         self
     }
 
+    /// How many callers wait for a connection at most. One that finds none idle while so many wait
+    /// gets `ErrorKind::Full` at once: it orders none, and no event tells of it. So does one whose
+    /// connection failed its check. The default is none, as r2d2: as many wait as come.
+    ///
+    /// It may not be 0. The test for a number from outside: `callers > 0`.
+    pub fn max_waiting(mut self, callers: u32) -> Self
+        requires { 0 < callers }
+        ensures { result ≡ self }
+    {
+        self.tuning.max_waiting = Some(callers);
+        self
+    }
+
     /// What is told of each error of the manager and of the customizer. The default,
     /// `NopErrorHandler`, drops each in silence, so that only a caller's timeout tells why no
     /// connection opens. `LoggingErrorHandler` writes each to a log.

@@ -13,7 +13,7 @@ mod evicting;
 
 pub use crate::payload::{Payload, open};
 pub use counted::{Counted, lend_counted};
-pub(crate) use counted::{TakeCounter, CountingBook, LedgerCounter, TakeTotal, Uncounted};
+pub(crate) use counted::{CountingBook, LedgerCounter, TakeCounter, TakeTotal, Uncounted};
 use r2d2_core::{Book, Gone, Refusal, Released, Returned, Take};
 use std::alloc::Allocator;
 use std::time::Duration;

@@ -21,11 +21,14 @@ pub enum ErrorKind {
     Threads,
     /// The pool was closed.
     Closed,
+    /// As many callers wait as the setting `max_waiting` allows.
+    Full,
 }
 
 /// Why a call failed, and for a timeout the latest error of an opening or a check, where one is
 /// known. It displays as `timed out waiting for connection`, then `: ` and that text; as `out of
-/// memory`; as `a worker could not be started`; or as `the pool is closed`.
+/// memory`; as `a worker could not be started`; as `the pool is closed`; or as `too many callers are
+/// waiting`.
 #[derive(Drop)]
 pub struct Error {
     kind: ErrorKind,
@@ -117,6 +120,13 @@ impl Error {
         Error::at_once(ErrorKind::Closed)
     }
 
+    /// As many callers wait as may.
+    pub(crate) fn full() -> Error
+        ensures kind { result.kind ≡ ErrorKind.Full }
+    {
+        Error::at_once(ErrorKind::Full)
+    }
+
     /// Why the call failed.
     pub fn kind(&self) -> ErrorKind
         ensures { result ≡ self.now.kind }
@@ -183,6 +193,7 @@ impl fmt::Display for Error {
             (ErrorKind::Memory, _) => write!(f, "out of memory"),
             (ErrorKind::Threads, _) => write!(f, "a worker could not be started"),
             (ErrorKind::Closed, _) => write!(f, "the pool is closed"),
+            (ErrorKind::Full, _) => write!(f, "too many callers are waiting"),
         }
     }
 }

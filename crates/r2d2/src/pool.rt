@@ -8,7 +8,7 @@ use self::lent::AnyConnection;
 use self::locking::SharedOf;
 pub use self::state::{State, Status};
 use crate::config::{Builder, Config};
-use crate::engine::{TakeCounter, LedgerCounter, TakeTotal, Uncounted};
+use crate::engine::{LedgerCounter, TakeCounter, TakeTotal, Uncounted};
 use crate::event::{HandleEvent, NopEventHandler};
 use crate::hooks::Hooks;
 use crate::payload::PayloadOf;
@@ -83,8 +83,7 @@ pub struct AnyPool<C: TakeTotal, M: ManageConnection, K: Hooks<M>, R: PoolRuntim
 }
 
 // Contracts see a pool as its settings: what its lock holds, other threads change.
-impl<C: TakeTotal, M: ManageConnection, K: Hooks<M>, R: PoolRuntime> Model
-    for AnyPool<C, M, K, R> {
+impl<C: TakeTotal, M: ManageConnection, K: Hooks<M>, R: PoolRuntime> Model for AnyPool<C, M, K, R> {
     ghost Value = { K };
 
     ghost view = { λ p. (arc_value (arc_value p.closer).shared).hooks };
@@ -259,8 +258,9 @@ impl<
     /// no other check.
     ///
     /// The error is a timeout, with the text of the latest error of an opening or a check if there
-    /// was one; or `ErrorKind::Closed`, at once, where the pool was closed; or lack of memory for a
-    /// shared pointer, and then nothing has changed.
+    /// was one; or `ErrorKind::Closed`, at once, where the pool was closed; or `ErrorKind::Full`, at
+    /// once, where it would have to wait and as many wait as `max_waiting` allows; or lack of memory
+    /// for a shared pointer, and then nothing has changed.
     pub fn get_timeout(&self, timeout: Duration) -> Result<PooledConnection<M, H, V, Z, R>, Error>
         ensures settings { IfOk result (λ lent. lent.settings ≡ self.now) }
         ensures refused { IfErr result IsOfAGet }

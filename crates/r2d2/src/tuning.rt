@@ -1,5 +1,5 @@
-// The settings that r2d2 has not, each off by default: what a pool does in an outage, and how the
-// lifetimes of its connections differ.
+// The settings that r2d2 has not, each off by default: what a pool does in an outage, how the
+// lifetimes of its connections differ, and how many callers wait.
 ghost use Rattle.std.specs.Prelude.{◌≡◌, ◌≤◌, ◌<◌, ◌-◌, ◌*◌, ◌↔◌, ◌||◌, min, is_some};
 ghost use Rattle.std.specs.Prelude.{MatchOption};
 ghost use Rattle.std.specs.Option.{ForSome};
@@ -22,6 +22,8 @@ pub struct Tuning {
     pub retry_at_most: Option<Duration>,
     /// By how much at most the lifetime of a connection is less than `max_lifetime`.
     pub lifetime_jitter: Option<Duration>,
+    /// How many callers wait at most; None for as many as come.
+    pub max_waiting: Option<u32>,
     pub ghost retries: { ForSome retry_at_most (λ d. 0 < as_nanos d) },
 }
 
@@ -39,6 +41,7 @@ impl Tuning {
             distrust_idle: false,
             retry_at_most: None,
             lifetime_jitter: None,
+            max_waiting: None,
         }
     }
 
@@ -81,6 +84,13 @@ impl Tuning {
             Some(idle) => idle.checked_sub(least).is_some(),
             None => true,
         }
+    }
+
+    /// Whether lifetimes differ.
+    pub fn has_jitter(&self) -> bool
+        ensures { result ≡ is_some self.now.lifetime_jitter }
+    {
+        self.lifetime_jitter.is_some()
     }
 
     /// Whether a connection has outlived its own lifetime, where lifetimes differ.

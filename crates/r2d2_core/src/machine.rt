@@ -151,8 +151,8 @@ impl<T, A: Allocator> Core<T, A> {
             (next_to_lend self.now.on_order.limits.order self.now.idle) }
         ensures sound { IsSound self.now }
     {
-        let order = self.on_order.limits().order();
-        self.idle.next(order).map(|entry| entry.since())
+        let next = self.idle.next(self.on_order.limits().order());
+        next.map(|entry| entry.since())
     }
 
     /// When the connection was admitted that is lent and has the id; None where none has.

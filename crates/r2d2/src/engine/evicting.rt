@@ -10,7 +10,7 @@ ghost use Rattle.r2d2_core.specs.Picture.{IsSound};
 ghost use Rattle.r2d2.specs.Counted.{number_of};
 ghost use Rattle.r2d2.specs.Evicted.{evicted_of, one_evicted, after_eviction, IsEvicted};
 
-use super::{TakeCounter, CountingBook};
+use super::{CountingBook, TakeCounter};
 use r2d2_core::{Released, Returned, Take};
 use std::time::Duration;
 

@@ -5,7 +5,7 @@ ghost use Rattle.r2d2_core.specs.Reports.{IsSoundReport};
 
 use super::failures::Failures;
 use super::{State, Status};
-use crate::engine::{TakeCounter, CountingBook, Outcome, Settled, TakeTotal, Wakes};
+use crate::engine::{CountingBook, Outcome, Settled, TakeCounter, TakeTotal, Wakes};
 use crate::event::ReleaseReason;
 use crate::payload::PayloadOf;
 use crate::tuning::Tuning;
@@ -40,6 +40,7 @@ pub struct Guarded<B> {
 impl<B> Guarded<B> {
     ghost use Rattle.r2d2.specs.Wakes.{needed_wakes};
     ghost use Rattle.r2d2.specs.Failed.{HaveNone};
+    ghost use Rattle.r2d2.specs.Evicted.{is_evicted};
 
     /// A book for which nobody waits yet, and of which nothing was evicted.
     pub(super) fn new(book: B) -> Guarded<B>
@@ -70,6 +71,13 @@ impl<B> Guarded<B> {
         self.waiting = self.waiting.saturating_sub(1);
     }
 
+    // Whether an eviction reached the connection with this id.
+    fn is_evicted(&self, id: u64) -> bool
+        ensures { result ≡ is_evicted id self.now.evicted_below }
+    {
+        id < self.evicted_below
+    }
+
     /// Of those to be woken, who is there: no caller where none waits.
     pub(super) fn needed_wakes(&self, wakes: Wakes) -> Wakes
         ensures { result ≡ needed_wakes self.now.waiting wakes }
@@ -86,7 +94,7 @@ impl<P, C: TakeTotal> Guarded<CountingBook<P, C>> {
     ghost use Rattle.std.specs.Option.{IsNone};
     ghost use Rattle.std.specs.Duration.{as_nanos};
     ghost use Rattle.r2d2_core.specs.Connections.{birth_in};
-    ghost use Rattle.r2d2.specs.Status.{IsStatus, is_all_lent};
+    ghost use Rattle.r2d2.specs.Status.{IsStatus, is_all_lent, is_full};
 
     /// The counts, with those of the callers who wait.
     pub(super) fn status(&self) -> Status
@@ -140,6 +148,18 @@ impl<P, C: TakeTotal> Guarded<CountingBook<P, C>> {
         let book = self.book.book();
         book.idle() == 0 && book.connections() > 0 && !book.is_closed()
     }
+
+    /// Whether a caller would have to wait, where as many wait as may. Nobody else waits while the
+    /// pool is open.
+    pub(super) fn is_full(&self, max_waiting: Option<u32>) -> bool
+        ensures { result ≡ is_full max_waiting self.now.waiting self.now.book.book.picture }
+    {
+        let Some(most) = max_waiting else {
+            return false;
+        };
+        let book = self.book.book();
+        book.idle() == 0 && !book.is_closed() && self.waiting >= u64::from(most)
+    }
 }
 
 impl<P, C: TakeTotal> Guarded<CountingBook<P, C>> {
@@ -153,9 +173,22 @@ impl<P, C: TakeTotal> Guarded<CountingBook<P, C>> {
     ghost use Rattle.r2d2.specs.Failed.{IsOneOpeningMore, IsOneCheckMore};
     ghost use Rattle.r2d2.specs.Evicted.{is_evicted, is_to_close};
 
-    /// Puts a lent connection back. One that is unfit for some reason, has outlived its own
-    /// lifetime, or was opened before the latest eviction is closed, as a broken one is. The reason
-    /// is the one for which it was closed, if it was.
+    /// Why a connection is closed, if it is, that comes back now and is unfit for this reason or
+    /// for none.
+    pub(super) fn reason_of_return(&self, id: u64, unfit: Option<ReleaseReason>) -> ReleaseReason
+        ensures { result ≡ reason_of_return unfit (is_evicted id self.now.evicted_below)
+            self.now.book.book.picture.on_order.closed }
+    {
+        match unfit {
+            Some(reason) => reason,
+            None if self.is_evicted(id) => ReleaseReason::Evicted,
+            None if self.book.book().is_closed() => ReleaseReason::PoolClosed,
+            None => ReleaseReason::Lifetime,
+        }
+    }
+
+    /// Puts a lent connection back. One that is unfit, has outlived its own lifetime, or was opened
+    /// before the latest eviction is closed, as a broken one is.
     #[inline(always)]
     pub(super) fn give_back(
         &mut self,
@@ -164,27 +197,17 @@ impl<P, C: TakeTotal> Guarded<CountingBook<P, C>> {
         value: P,
         unfit: Option<ReleaseReason>,
         outlived: bool,
-    ) -> ((Result<Returned<P>, (Refusal, P)>, ReleaseReason), Wakes)
+    ) -> (Result<Returned<P>, (Refusal, P)>, Wakes)
         ensures step { IsReturn now id value
-            (is_to_close unfit outlived id self.old.evicted_below) result.0.0 self.old.book.book
+            (is_to_close unfit outlived id self.old.evicted_below) result.0 self.old.book.book
             self.new.book.book }
-        ensures reason { result.0.1 ≡ reason_of_return unfit (is_evicted id self.old.evicted_below)
-            self.old.book.book.picture.on_order.closed }
-        ensures wakes { result.1 ≡ wakes_of_return (map_ok seen_returned result.0.0) }
+        ensures wakes { result.1 ≡ wakes_of_return (map_ok seen_returned result.0) }
         ensures kept { self.new.evicted_below ≡ self.old.evicted_below }
         ensures waiting { self.new.waiting ≡ self.old.waiting }
         ensures failures { self.new.failures ≡ self.old.failures }
     {
-        let is_evicted = id < self.evicted_below;
-        let reason = match unfit {
-            Some(reason) => reason,
-            None if is_evicted => ReleaseReason::Evicted,
-            None if self.book.book().is_closed() => ReleaseReason::PoolClosed,
-            None => ReleaseReason::Lifetime,
-        };
-        let is_to_close = unfit.is_some() || outlived || is_evicted;
-        let (returned, wakes) = self.book.give_back(now, id, value, is_to_close);
-        ((returned, reason), wakes)
+        let is_to_close = unfit.is_some() || outlived || self.is_evicted(id);
+        self.book.give_back(now, id, value, is_to_close)
     }
 
     /// Tells the book of an opening that failed.

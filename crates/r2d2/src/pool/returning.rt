@@ -26,8 +26,11 @@ impl<X: Drop, E: Extension + Drop, C: TakeTotal, M, K, R: Clock + Wait> Shared<
         unfit: Option<ReleaseReason>,
     ) -> Option<Closed<X>> {
         let Lent { id, payload } = lent;
-        let (returned, reason) = self.step(|guarded, now| {
-            let outlived = guarded.is_outlived(&self.tuning, self.made_at, id, now);
+        let mut reason = ReleaseReason::Broken;
+        let returned = self.step(|guarded, now| {
+            reason = guarded.reason_of_return(id, unfit);
+            let outlived = self.tuning.has_jitter()
+                && guarded.is_outlived(&self.tuning, self.made_at, id, now);
             guarded.give_back(now, id, payload, unfit, outlived)
         });
         let Ok(Returned::Closed { value, age, .. }) = returned else {

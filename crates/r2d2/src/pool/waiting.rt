@@ -12,7 +12,7 @@ use super::Status;
 use super::call_time::CallTime;
 use super::lent::Lent;
 use super::locking::{Guarded, Shared, pause};
-use crate::engine::{TakeCounter, CountingBook, TakeTotal, Wakes};
+use crate::engine::{CountingBook, TakeCounter, TakeTotal, Wakes};
 use crate::{Error, ErrorKind};
 use r2d2_core::Take;
 use std::alloc::AllocGlobal;
@@ -55,10 +55,13 @@ impl<P: Drop, C: TakeCounter, M, K, R: Clock + Wait + AllocGlobal> Shared<
         if timeout.is_none() && !time.may_take(guarded.book.book().idle()) {
             return Ok(None);
         }
+        if timeout.is_some() && guarded.book.book().idle() == 0 {
+            guarded = match self.look_before_wait(guarded) {
+                Some(guarded) => guarded,
+                None => return Err(Error::full()),
+            };
+        }
         for _ in self.rt.forever() {
-            if timeout.is_some() && guarded.is_all_lent() {
-                guarded = self.look_again(guarded);
-            }
             let now = self.moment();
             time.look(now);
             if self.tuning.asks_idle_times() {
@@ -84,11 +87,14 @@ impl<P: Drop, C: TakeCounter, M, K, R: Clock + Wait + AllocGlobal> Shared<
             guarded.begin_wait();
             let (again, outcome) = self.callers.wait_timeout(&self.rt, guarded, left);
             guarded = again;
-            guarded.end_wait();
             if outcome.timed_out() {
+                guarded.end_wait();
                 time.look(self.moment());
-                return Err(self.give_up(guarded, time));
+                return Err(self.give_up(guarded, time.waited()));
             }
+            // It is counted meanwhile, so that nobody else takes its place.
+            guarded = self.look_again(guarded);
+            guarded.end_wait();
         }
         unreachable!()
     }
@@ -114,29 +120,45 @@ impl<P: Drop, C: TakeTotal, M, K, R: Clock + Wait + AllocGlobal> Shared<
         self.lock_in_turn()
     }
 
-    // All are lent: lets the lock alone and looks again, a few times, for about as long as a sleep
-    // and a wake take. So who has a connection for no longer makes nobody sleep.
+    // Before a call waits for the first time, where none is idle: it looks again. None where as
+    // many wait as may.
+    fn look_before_wait<'a>(
+        &'a self,
+        mut guarded: MutexGuard<'a, Guarded<CountingBook<P, C>>>,
+    ) -> Option<MutexGuard<'a, Guarded<CountingBook<P, C>>>> {
+        if guarded.is_full(self.tuning.max_waiting) {
+            return None;
+        }
+        guarded = self.look_again(guarded);
+        if guarded.is_full(self.tuning.max_waiting) {
+            return None;
+        }
+        Some(guarded)
+    }
+
+    // Where all are lent, lets the lock alone and looks again, a few times, for about as long as a
+    // sleep and a wake take. So who has a connection for no longer makes nobody sleep.
     fn look_again<'a>(
         &'a self,
         mut guarded: MutexGuard<'a, Guarded<CountingBook<P, C>>>,
     ) -> MutexGuard<'a, Guarded<CountingBook<P, C>>> {
         for _ in 0..LOOKS {
-            drop(guarded);
-            pause();
-            guarded = self.lock();
             if !guarded.is_all_lent() {
                 break;
             }
+            drop(guarded);
+            pause();
+            guarded = self.lock();
         }
         guarded
     }
 
-    // Gives up: the timeout has the latest error of an opening or a check, where one is known, and
-    // what the pool shows now.
+    // Gives up after so long: the timeout has the latest error of an opening or a check, where one
+    // is known, and what the pool shows now.
     fn give_up(
         &self,
         mut guarded: MutexGuard<'_, Guarded<CountingBook<P, C>>>,
-        time: &CallTime,
+        waited: Duration,
     ) -> Error
         ensures { result.kind ≡ ErrorKind.Timeout }
     {
@@ -147,7 +169,7 @@ impl<P: Drop, C: TakeTotal, M, K, R: Clock + Wait + AllocGlobal> Shared<
         let wakes = guarded.needed_wakes(Wakes::a_caller());
         drop(guarded);
         self.wake(wakes);
-        Error::timeout(self.rt.alloc(), error, status, time.waited())
+        Error::timeout(self.rt.alloc(), error, status, waited)
     }
 
     /// Gives up for a call whose time is over; None where some is left, or where it brought no
@@ -169,7 +191,7 @@ impl<P: Drop, C: TakeTotal, M, K, R: Clock + Wait + AllocGlobal> Shared<
         if !time.left_of(timeout).is_zero() {
             return None;
         }
-        Some(self.give_up(self.lock(), time))
+        Some(self.give_up(self.lock(), time.waited()))
     }
 
     /// Waits until there are so many connections, and as long as this at most. Past that it is a

@@ -1,0 +1,112 @@
+// A limit to how many callers wait.
+
+use crate::callers::watched;
+use crate::kind::{Makes, PlainPool};
+use crate::listening::Listener;
+use crate::managers::Sevens;
+use r2d2::{Builder, ErrorKind, PoolRuntime};
+use std::sync::atomic::{AtomicU64, Ordering};
+use std::sync::{Arc, Mutex};
+use std::test::Fail;
+use std::thread;
+use std::time::{Duration, Instant};
+
+// Whether so many callers wait, for which it looks ten seconds long.
+fn will_wait<R: PoolRuntime>(rt: &R, pool: &PlainPool<Sevens, R>, callers: u64) -> bool {
+    for _ in 0..2_000 {
+        if pool.status().waiting == callers {
+            return true;
+        }
+        thread::sleep(rt, Duration::from_millis(5));
+    }
+    false
+}
+
+// Waits for a connection, and counts itself when it has one.
+fn be_served<R: PoolRuntime>(pool: PlainPool<Sevens, R>, served: Arc<AtomicU64>) {
+    if let Ok(_lent) = pool.get() {
+        served.fetch_add(1, Ordering::SeqCst);
+    }
+}
+
+#[test]
+fn one_more_than_may_wait_is_refused_at_once(rt: HostRuntime) -> Result<(), Fail> {
+    let served = Arc::new(rt.alloc(), AtomicU64::new(0))?;
+    let pool = Builder::new()
+        .max_size(1)
+        .connection_timeout(Duration::from_secs(20))
+        .max_waiting(2)
+        .make(rt, Sevens)?;
+    let lent = pool.get()?;
+    for callers in 1..3u64 {
+        let (one, count) = (pool.try_clone()?, Arc::try_clone(&served)?);
+        thread::spawn(&rt, move || be_served(one, count))?;
+        assert!(rt; will_wait(&rt, &pool, callers));
+    }
+    let start = Instant::now(&rt)?;
+    let error = pool.get().err().ok_or("a connection")?;
+    assert!(rt; start.elapsed(&rt)? < Duration::from_secs(5));
+    assert_eq!(rt; error.kind(), ErrorKind::Full);
+    assert_eq!(rt; format!(in rt.alloc(); "{error}")?.as_str(), "too many callers are waiting");
+    assert!(rt; error.message().is_none() && error.status().is_none());
+    assert_eq!(rt; pool.status().waiting, 2);
+    assert!(rt; pool.try_get()?.is_none());
+    drop(lent);
+    assert_eq!(rt; watched(&rt, &served, 2, 1_000), 2);
+    assert!(rt; will_wait(&rt, &pool, 0));
+    drop(pool.get()?);
+    Ok(())
+}
+
+#[test]
+fn a_closed_pool_says_so_though_it_is_full(rt: HostRuntime) -> Result<(), Fail> {
+    let pool = Builder::new()
+        .max_size(1)
+        .connection_timeout(Duration::from_secs(20))
+        .max_waiting(1)
+        .make(rt, Sevens)?;
+    let lent = pool.get()?;
+    pool.close();
+    let drained = pool.try_clone()?;
+    let drain = thread::spawn(&rt, move || drained.drain(Duration::from_secs(20)).is_ok())?;
+    assert!(rt; will_wait(&rt, &pool, 1));
+    let error = pool.get().err().ok_or("a connection")?;
+    assert_eq!(rt; error.kind(), ErrorKind::Closed);
+    drop(lent);
+    assert!(rt; drain.join(&rt));
+    Ok(())
+}
+
+#[test]
+fn no_event_tells_of_who_is_refused(rt: HostRuntime) -> Result<(), Fail> {
+    let served = Arc::new(rt.alloc(), AtomicU64::new(0))?;
+    let told = Arc::new(rt.alloc(), Mutex::new(Vec::new(rt.alloc())))?;
+    let pool = Builder::new()
+        .max_size(1)
+        .connection_timeout(Duration::from_secs(20))
+        .max_waiting(1)
+        .event_handler(Listener::new(rt, &told)?)
+        .make(rt, Sevens)?;
+    let lent = pool.get()?;
+    let seen = told.lock(&rt).len();
+    let one = pool.try_clone()?;
+    let count = Arc::try_clone(&served)?;
+    let caller = thread::spawn(&rt, move || {
+        if one.get().is_ok() {
+            count.fetch_add(1, Ordering::SeqCst);
+        }
+    })?;
+    for _ in 0..2_000 {
+        if pool.status().waiting == 1 {
+            break;
+        }
+        thread::sleep(&rt, Duration::from_millis(5));
+    }
+    let error = pool.get().err().ok_or("a connection")?;
+    assert_eq!(rt; error.kind(), ErrorKind::Full);
+    assert_eq!(rt; told.lock(&rt).len(), seen);
+    drop(lent);
+    caller.join(&rt);
+    assert_eq!(rt; served.load(Ordering::SeqCst), 1);
+    Ok(())
+}
