@@ -85,7 +85,7 @@ def provide(programs, say):
     """Installs what is missing of these, where that can be done, and names what is missing still."""
     wanted = missing(programs)
     if wanted and can_install():
-        say(f"installing {' '.join(packages(wanted))} by apt-get, for {', '.join(wanted)}; none of their services is started")
+        say(f"installing {' '.join(packages(wanted))} by apt-get, for {', '.join(wanted)}")
         install(wanted)
     for program in missing(programs):
         say(f"{program} is missing, so what needs it is skipped. On Debian, as root: apt-get install {' '.join(PACKAGES[program])}")
