@@ -76,8 +76,9 @@ impl Load {
         self.closed |= made.is_close();
     }
 
-    // For how long the pool was exhausted up to a moment, where nothing changes before it.
-    fn exhausted_until(&self, at: Duration) -> Duration
+    /// For how long the pool was exhausted up to a moment, if nothing changes before it. A moment
+    /// before the newest record adds nothing.
+    pub fn exhausted_until(&self, at: Duration) -> Duration
         ensures { as_nanos result
             ≡ (if not self.now.closed
             && nat_le (seen_limits self.now.limits).max_size (self.now.lent + self.now.pending)
