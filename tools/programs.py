@@ -1,15 +1,46 @@
-"""A program of this repository as a script of its own: proved and built where it is missing or older than a source, and run.
-`tools/play`, `tools/audit` and `tools/times` have it in common."""
+"""A program of this repository as a script of its own. Where it was proved and built since its sources changed, that is run; else its
+source is tried: compiled with checks, and not proved. `tools/play`, `tools/audit` and `tools/times` have it in common."""
+import contextlib
 import os
+import re
 import signal
 import subprocess
 import sys
 import time
 
 TOP = os.path.dirname(os.path.dirname(os.path.realpath(__file__)))
-NOT_BUILT, NOT_UNDERSTOOD, READ_FAILED = 4, 5, 3
+NOT_BUILT, NOT_UNDERSTOOD, READ_FAILED, WRITE_FAILED = 4, 5, 3, 3
+# The word by which a script proves and builds its program.
+BUILD = "--build"
+# What `rt try` says besides what the program says, and that the program ran.
+OF_A_TRY, DID_RUN = re.compile(rb"(rt: |checked: |run=)"), re.compile(rb"^run=ended ", re.MULTILINE)
 # Where the script at the top hands standard input over.
 INPUT = 3
+
+
+class Ended(BaseException):
+    """The script was ended by a signal."""
+
+
+class NotBuilt(Exception):
+    """There is no program to run."""
+
+
+# What was started, each the first of a group of its own.
+RUNNING = []
+
+
+def stop_all():
+    """Ends all that was started. What has not ended in ten seconds is killed."""
+    for process in RUNNING:
+        with contextlib.suppress(OSError):
+            os.killpg(process.pid, signal.SIGTERM)
+    for process in RUNNING:
+        try:
+            process.wait(10)
+        except subprocess.TimeoutExpired:
+            os.killpg(process.pid, signal.SIGKILL)
+            process.wait()
 
 
 class Program:
@@ -22,6 +53,7 @@ class Program:
         self.path = os.path.join(self.folder, "out", crate)
         self.log = os.path.join(self.folder, "out", "build.log")
         self.sample = sample
+        self.is_told = False
 
     def say(self, text):
         try:
@@ -47,34 +79,39 @@ class Program:
         """Proves and builds the program. `rt run` ends in a run of it, which gets the sample, and not what the script was given."""
         log = os.path.relpath(self.log)
         self.say(f"proving and building, a few minutes from nothing; {log} tells how far it is")
-        os.makedirs(os.path.dirname(self.log), exist_ok=True)
         begun = time.time_ns()
         try:
-            with open(self.log, "wb") as out:
+            os.makedirs(os.path.dirname(self.log), exist_ok=True)
+            with open(self.log, "wb", buffering=0) as out:
+                out.write(f"proving {', '.join(self.crates)}; each tells how many of its functions are checked\n".encode())
                 self.run_build(out)
             # A source that was edited meanwhile is newer than the program.
             os.utime(self.path, ns=(begun, begun))
         except FileNotFoundError as error:
             self.say(f"not built: {error.filename} is missing")
             return False
-        except (OSError, subprocess.CalledProcessError):
+        except subprocess.CalledProcessError:
             self.say(f"not built: {log} tells why")
+            return False
+        except OSError as error:
+            self.say(f"not built: {error.filename}: {error.strerror}")
             return False
         return True
 
     def run_build(self, out):
-        """Runs `rt`, in a group of its own: an interrupt ends all of it, and leaves no program that is half written."""
+        """Runs `rt`, in a group of its own: a signal ends all of it, and leaves no program that is half written."""
         words = ["rt", "run"]
-        with subprocess.Popen(words, cwd=self.folder, stdin=subprocess.PIPE, stdout=out, stderr=out, start_new_session=True) as process:
-            try:
-                process.communicate(self.sample)
-            except KeyboardInterrupt:
-                os.killpg(process.pid, signal.SIGTERM)
-                process.wait()
-                if os.path.exists(self.path):
-                    os.unlink(self.path)
-                self.say("interrupted: the program is not built; the next call goes on with what is proved so far")
-                raise
+        process = subprocess.Popen(words, cwd=self.folder, stdin=subprocess.PIPE, stdout=out, stderr=out, start_new_session=True)
+        RUNNING.append(process)
+        try:
+            process.communicate(self.sample)
+        except (KeyboardInterrupt, Ended):
+            stop_all()
+            if os.path.exists(self.path):
+                os.unlink(self.path)
+            self.say("interrupted: the program is not built; the next call goes on with what is proved so far")
+            raise
+        RUNNING.remove(process)
         if process.returncode != 0:
             raise subprocess.CalledProcessError(process.returncode, words)
 
@@ -82,10 +119,35 @@ class Program:
         return self.is_built() or self.build()
 
     def start(self, words, **streams):
-        """Starts the program. The script's own end by SIGTERM ends it too."""
-        process = subprocess.Popen([self.path] + words, bufsize=0, **streams)
-        signal.signal(signal.SIGTERM, lambda *_: process.terminate())
+        """Starts the program, or a try of its source where it is not built. What it says on standard error is for `ended`."""
+        command, folder = [self.path], None
+        if not self.is_built():
+            command, folder = ["rt", "try", "--"], self.folder
+            self.say_that_it_is_tried()
+        try:
+            process = subprocess.Popen(command + words, cwd=folder, bufsize=0, stderr=subprocess.PIPE, start_new_session=True, **streams)
+        except FileNotFoundError as error:
+            raise NotBuilt(f"not built: {error.filename} is missing") from error
+        process.is_tried = folder is not None
+        RUNNING.append(process)
         return process
+
+    def say_that_it_is_tried(self):
+        if not self.is_told:
+            self.say(f"not proved: this compiles the program for each answer, in a minute or two, and answers once all input is there; "
+                     f"{self.script} {BUILD} proves and builds it, once")
+        self.is_told = True
+
+    def ended(self, process):
+        """The status of the program once it has ended, as a shell tells it, and what it said on standard error."""
+        said = process.stderr.read()
+        process.wait()
+        RUNNING.remove(process)
+        if process.is_tried:
+            if not DID_RUN.search(said):
+                raise NotBuilt(f"not built: {said.decode(errors='replace').strip() or 'rt try gave no answer'}")
+            said = b"".join(line for line in said.splitlines(keepends=True) if not OF_A_TRY.match(line))
+        return process.returncode if process.returncode >= 0 else 128 - process.returncode, said
 
     def version(self):
         def first_line(*words):
@@ -110,17 +172,38 @@ def examples(script):
     return Program(script, "examples", ["r2d2_core", "r2d2", "pool_reports", "pool_pictures", "pool_lines", "pool_metrics"], b"")
 
 
-def status_of(process):
-    """The status of a program that has ended, as a shell tells it."""
-    return process.returncode if process.returncode >= 0 else 128 - process.returncode
+def raise_ended(number, _):
+    raise Ended(128 + number)
 
 
-def end_with(main):
+def hold_streams():
+    """Opens each of the three streams that is closed, so that no other file comes to be one of them; to write there fails as before."""
+    for number in range(3):
+        try:
+            os.fstat(number)
+        except OSError:
+            os.open(os.devnull, os.O_RDONLY)
+
+
+def end_with(script, main):
     """Ends the script with the status of its `main`."""
+    hold_streams()
+    for number in (signal.SIGTERM, signal.SIGHUP):
+        signal.signal(number, raise_ended)
     try:
         status = main(sys.argv[1:])
+        if sys.stdout:
+            sys.stdout.flush()
     except KeyboardInterrupt:
         status = 130
-    sys.stdout.flush()
+    except Ended as ended:
+        status = ended.args[0]
+    except NotBuilt as error:
+        script.say(error)
+        status = NOT_BUILT
+    except OSError as error:
+        script.say(f"write failed: {error.strerror}")
+        status = WRITE_FAILED
+    stop_all()
     # A thread may still wait for a line.
     os._exit(status)

@@ -1,7 +1,7 @@
 // The text of the program.
 
-use crate::lines::{Fault, Form, Lines, serve};
-use pool_pictures::{Finding, Notes, html, svg, text};
+use crate::lines::{Asked, Fault, Form, Lines, serve};
+use pool_pictures::{Finding, Headline, Notes, html, svg, text};
 use pool_reports::{FromJsonError, from_json};
 use std::alloc::Global;
 use std::io::{self, BufWriter, ErrorKind, Read, Write};
@@ -19,22 +19,38 @@ const NEW: &str = concat!(
     r#""idle":[],"lent":[],"connections":0,"pending":1,"closed":false}"#,
 );
 
+// What is seen first of it, where it is shorter than `connection_timeout`.
+const WELL: &str =
+    "all well: nothing lent, opening or exhausted for as long as connection_timeout, 9 ns";
+
 // What is answered of it.
 const ANSWERS: &str = concat!(
-    "  covers 0.000 s, from 0.000 s on: 0 opened, 0 closed at return, 0 closed while idle\n",
+    "  all well: nothing lent, opening or exhausted for as long as connection_timeout, 9 ns\n",
+    "  covers 0.000 s, from 0.000 s after the making to the last record\n",
+    "  0 opened, 0 closed at return, 0 closed while idle\n",
     "  at most 0 of 1 lent at once; all of them lent or opening for 0.000 s\n",
 );
 
 // The same in JSON.
 const SUMMARY: &str = concat!(
-    r#""summary":{"from":0,"until":0,"most_lent":0,"exhausted":0,"opened":0,"closed":0,"#,
-    r#""reaped":0,"lent":[]}"#,
+    r#""concerns":[],"summary":{"from":0,"until":0,"most_lent":0,"exhausted":0,"#,
+    r#""longest_exhaustion":0,"exhausted_since":0,"opening_since":0,"pending":1,"#,
+    r#""opened":0,"closed":0,"reaped":0,"lent":[]}"#,
 );
 
 // The same, with a record that can't be.
 fn wrong(alloc: Global) -> Result<String, Fail> {
     let (front, back) = NEW.split_once(r#""records":["#).ok_or("records")?;
     Ok(format!(in alloc; r#"{front}"records":[{{"kind":"kept","at":1,"id":4}}{back}"#)?)
+}
+
+// All reports, one on each line.
+fn all(form: Form) -> Asked<'static> {
+    Asked {
+        form,
+        lines: Lines::Reports,
+        pool: None,
+    }
 }
 
 // Serves an input, and compares the output and the outcome.
@@ -47,7 +63,7 @@ fn serves<R: AllocGlobal + Abort>(
 ) -> Result<(), Fail> {
     let mut written = Vec::new(rt.alloc());
     let mut writer = BufWriter::new(rt.alloc(), &mut written)?;
-    let got = serve(rt.alloc(), form, Lines::Reports, input.as_bytes(), &mut writer);
+    let got = serve(rt.alloc(), all(form), input.as_bytes(), &mut writer);
     drop(writer);
     assert_eq!(rt; str::from_utf8(written.as_slice())?, output);
     assert_eq!(rt; got, outcome, "after {output}");
@@ -68,7 +84,7 @@ fn says_of_each_line_what_it_is(rt: HostRuntime) -> Result<(), Fail> {
         "{{\"line\":2,\"replays\":true,{SUMMARY}}}\n{{\"line\":4,\"replays\":true,{SUMMARY}}}\n{}\n",
         r#"{"line":5,"replays":false,"record":0,"why":"connection 4 is kept, but it is not lent"}"#)?;
     serves(&rt, Form::Json, input.as_str(), json.as_str(), Ok(false))?;
-    serves(&rt, Form::Words, "", "", Ok(true))?;
+    serves(&rt, Form::Words, "", "no report\n", Ok(true))?;
     serves(&rt, Form::Json, "\n\n", "", Ok(true))
 }
 
@@ -83,10 +99,10 @@ fn notes(words: &str, is_sound: bool, record: Option<usize>) -> Notes<'_> {
     }
 }
 
-// The lines of a text, without what they are indented by.
-fn lines(alloc: Global, text: &str) -> Result<Vec<String>, Fail> {
+// The lines of a text behind the first ones, without what they are indented by.
+fn lines(alloc: Global, text: &str, first: usize) -> Result<Vec<String>, Fail> {
     let mut lines = Vec::new(alloc);
-    for line in text.lines() {
+    for line in text.lines().skip(first) {
         lines.push(String::from_str(alloc, line.trim_start())?)?;
     }
     Ok(lines)
@@ -95,8 +111,12 @@ fn lines(alloc: Global, text: &str) -> Result<Vec<String>, Fail> {
 #[test]
 fn draws_each_report(rt: HostRuntime) -> Result<(), Fail> {
     let report = from_json(rt.alloc(), NEW)?;
-    let answers = lines(rt.alloc(), ANSWERS)?;
+    let (answers, well) = (lines(rt.alloc(), ANSWERS, 1)?, lines(rt.alloc(), WELL, 0)?);
     let sound = Notes {
+        headline: Some(Headline {
+            lines: well.as_slice(),
+            is_well: true,
+        }),
         answers: answers.as_slice(),
         ..notes("replays", true, None)
     };
@@ -156,7 +176,7 @@ fn stops_at_a_line_that_is_no_report(rt: HostRuntime) -> Result<(), Fail> {
     ] {
         let mut written = Vec::new(rt.alloc());
         let mut writer = BufWriter::new(rt.alloc(), &mut written)?;
-        let got = serve(rt.alloc(), form, Lines::Reports, input.as_bytes(), &mut writer);
+        let got = serve(rt.alloc(), all(form), input.as_bytes(), &mut writer);
         drop(writer);
         assert_eq!(rt; str::from_utf8(written.as_slice())?, first);
         let told = got.err().ok_or("a fault")?;
@@ -166,7 +186,7 @@ fn stops_at_a_line_that_is_no_report(rt: HostRuntime) -> Result<(), Fail> {
         );
     }
     let mut writer = BufWriter::new(rt.alloc(), Vec::new(rt.alloc()))?;
-    let told = serve(rt.alloc(), Form::Words, Lines::Reports, missing.as_bytes(), &mut writer)
+    let told = serve(rt.alloc(), all(Form::Words), missing.as_bytes(), &mut writer)
         .err()
         .ok_or("a fault")?;
     let lost = concat!(
@@ -190,6 +210,7 @@ fn each_fault_has_a_text_and_a_status(rt: HostRuntime) -> Result<(), Fail> {
             6,
         ),
         (Fault::NotUtf8(3), "line 3: not UTF-8", 6),
+        (Fault::Damaged(4), "damaged reports: 4", 6),
         (Fault::Memory, "out of memory", 2),
         (Fault::Read, "read failed", 3),
         (Fault::Write, "write failed", 3),
@@ -204,7 +225,7 @@ fn each_fault_has_a_text_and_a_status(rt: HostRuntime) -> Result<(), Fail> {
 fn bytes_that_are_no_text_are_told(rt: HostRuntime) -> Result<(), Fail> {
     let mut writer = BufWriter::new(rt.alloc(), Vec::new(rt.alloc()))?;
     let input: &[u8] = b"\n{\"a\xff\":1}\n";
-    let got = serve(rt.alloc(), Form::Words, Lines::Reports, input, &mut writer);
+    let got = serve(rt.alloc(), all(Form::Words), input, &mut writer);
     assert_eq!(rt; got, Err(Fault::NotUtf8(2)));
     Ok(())
 }
@@ -253,14 +274,14 @@ fn failed_reads_and_writes_are_told(rt: HostRuntime) -> Result<(), Fail> {
         let mut written = Vec::new(rt.alloc());
         let mut writer = BufWriter::new(rt.alloc(), &mut written)?;
         let text = input.as_bytes();
-        let got = serve(rt.alloc(), Form::Words, Lines::Reports, Cut { text, error }, &mut writer);
+        let got = serve(rt.alloc(), all(Form::Words), Cut { text, error }, &mut writer);
         drop(writer);
         let first = format!(in rt.alloc(); "line 1: replays\n{ANSWERS}")?;
         assert_eq!(rt; str::from_utf8(written.as_slice())?, first.as_str());
         assert_eq!(rt; got, Err(fault));
     }
     let mut writer = BufWriter::new(rt.alloc(), Full)?;
-    let got = serve(rt.alloc(), Form::Words, Lines::Reports, input.as_bytes(), &mut writer);
+    let got = serve(rt.alloc(), all(Form::Words), input.as_bytes(), &mut writer);
     assert_eq!(rt; got, Err(Fault::Write));
     Ok(())
 }
@@ -282,12 +303,16 @@ const LENT: &str = concat!(
 
 // What is answered of it.
 const WHO: &str = concat!(
-    "  covers 7.704 s, from 0.100 s (2026-01-31T12:00:00.1Z) on: ",
-    "1 opened, 1 closed at return, 0 closed while idle\n",
+    "  ! was exhausted for 396 ms at a stretch\n",
+    "  ! 1 lent for at least 9 ns: connection 0 for 7 s 700 ms, since 2026-01-31T12:00:00.104Z\n",
+    "  covers 7.704 s, from 2026-01-31T12:00:00.1Z (0.100 s after the making) to the last record\n",
+    "  1 opened, 1 closed at return, 0 closed while idle\n",
     "  at most 2 of 2 lent at once; all of them lent or opening for 0.496 s, ",
     "6 % of the time\n",
-    "  lent at the end: connection 0, since 0.104 s (2026-01-31T12:00:00.104Z), for 7.700 s\n",
-    "  lent at the end: connection 2, since 7.804 s (2026-01-31T12:00:07.804Z), for 0.000 s\n",
+    "  lent at the end: connection 0, for 7.700 s, ",
+    "since 2026-01-31T12:00:00.104Z (0.104 s after the making)\n",
+    "  lent at the end: connection 2, for 0.000 s, ",
+    "since 2026-01-31T12:00:07.804Z (7.804 s after the making)\n",
 );
 
 #[test]
@@ -295,8 +320,12 @@ fn answers_who_is_lent_and_how_long_all_were(rt: HostRuntime) -> Result<(), Fail
     let words = format!(in rt.alloc(); "line 1: replays\n{WHO}")?;
     serves(&rt, Form::Words, LENT, words.as_str(), Ok(true))?;
     let json = concat!(
-        r#"{"line":1,"replays":true,"summary":{"from":100000000,"until":7804000000,"#,
-        r#""most_lent":2,"exhausted":496000000,"opened":1,"closed":1,"reaped":0,"#,
+        r#"{"line":1,"replays":true,"concerns":["was exhausted for 396 ms at a stretch","#,
+        r#""1 lent for at least 9 ns: connection 0 for 7 s 700 ms, "#,
+        r#"since 2026-01-31T12:00:00.104Z"],"summary":{"from":100000000,"until":7804000000,"#,
+        r#""most_lent":2,"exhausted":496000000,"longest_exhaustion":396000000,"#,
+        r#""exhausted_since":7804000000,"opening_since":null,"pending":0,"#,
+        r#""opened":1,"closed":1,"reaped":0,"#,
         r#""lent":[{"id":0,"since":104000000},{"id":2,"since":7804000000}]}}"#,
         "\n",
     );
@@ -306,11 +335,14 @@ fn answers_who_is_lent_and_how_long_all_were(rt: HostRuntime) -> Result<(), Fail
     let early = format!(in rt.alloc(); "{front}{back}")?;
     let words = concat!(
         "line 1: replays\n",
-        "  covers 0.004 s, from 0.100 s (2026-01-31T12:00:00.1Z) on: ",
-        "0 opened, 0 closed at return, 0 closed while idle\n",
+        "  ! 1 lent for at least 9 ns: connection 1 for more than 4 ms\n",
+        "  covers 0.004 s, from 2026-01-31T12:00:00.1Z (0.100 s after the making) ",
+        "to the last record\n",
+        "  0 opened, 0 closed at return, 0 closed while idle\n",
         "  at most 2 of 2 lent at once; all of them lent or opening for 0.000 s, 0 % of the time\n",
         "  lent at the end: connection 1, since before the base\n",
-        "  lent at the end: connection 0, since 0.104 s (2026-01-31T12:00:00.104Z), for 0.000 s\n",
+        "  lent at the end: connection 0, for 0.000 s, ",
+        "since 2026-01-31T12:00:00.104Z (0.104 s after the making)\n",
     );
     serves(&rt, Form::Words, early.as_str(), words, Ok(true))
 }
@@ -326,24 +358,32 @@ fn answers_what_a_report_that_replays_is_asked(rt: HostRuntime) -> Result<(), Fa
     let starved = format!(in alloc; r#"{front}"lost":9{back}"#)?;
     let (front, back) = NEW.split_once(r#""takes":0"#).ok_or("takes")?;
     let takes = format!(in alloc; r#"{front}"takes":5{back}"#)?;
-    for (input, why) in [
+    // Nothing is opening in two of them, so they are not exhausted either.
+    let opening = r#""exhausted_since":0,"opening_since":0,"pending":1"#;
+    let (front, back) = SUMMARY.split_once(opening).ok_or("opening")?;
+    let still = format!(in alloc;
+        r#"{front}"exhausted_since":null,"opening_since":null,"pending":0{back}"#)?;
+    for (input, why, summary) in [
         (
             none.as_str(),
             "the base: lost is 0, so it is that of the making, but pending is 0 where 1 are wanted",
+            still.as_str(),
         ),
         (
             takes.as_str(),
             "the counts: takes is 5, but the records tell of 0",
+            SUMMARY,
         ),
         (
             starved.as_str(),
             "the counts: wanted are 1, and there is room, but idle has 0, and pending is 0",
+            still.as_str(),
         ),
     ] {
         let words = format!(in alloc; "line 1: {why}\n{ANSWERS}")?;
         serves(&rt, Form::Words, input, words.as_str(), Ok(false))?;
         let json = format!(in alloc;
-            "{{\"line\":1,\"replays\":false,\"why\":\"{why}\",{SUMMARY}}}\n")?;
+            "{{\"line\":1,\"replays\":false,\"why\":\"{why}\",{summary}}}\n")?;
         serves(&rt, Form::Json, input, json.as_str(), Ok(false))?;
     }
     Ok(())
@@ -364,7 +404,9 @@ const LATE: &str = concat!(
 fn the_exhausted_part_is_of_what_the_report_covers(rt: HostRuntime) -> Result<(), Fail> {
     let words = concat!(
         "line 1: replays\n",
-        "  covers 1.000 s, from 9.000 s on: 0 opened, 0 closed at return, 0 closed while idle\n",
+        "  ! was exhausted for 500 ms at a stretch\n",
+        "  covers 1.000 s, from 9.000 s after the making to the last record\n",
+        "  0 opened, 0 closed at return, 0 closed while idle\n",
         "  at most 1 of 1 lent at once; all of them lent or opening for 0.500 s, ",
         "50 % of the time\n",
     );
@@ -399,8 +441,9 @@ fn names_twenty_and_counts_the_others(rt: HostRuntime) -> Result<(), Fail> {
         (43, 20, "  lent at the end: 23 more\n"),
     ] {
         let counts = "0 opened, 0 closed at return, 0 closed while idle";
-        let mut words = format!(in alloc; "line 1: replays\n  covers 0.000 s, from 0.000 s on: ")?;
-        write!(words, "{counts}\n  at most {count} of {count} lent at once; ")?;
+        let mut words = format!(in alloc; "line 1: replays\n  {WELL}\n")?;
+        words.push_str("  covers 0.000 s, from 0.000 s after the making to the last record\n")?;
+        write!(words, "  {counts}\n  at most {count} of {count} lent at once; ")?;
         words.push_str("all of them lent or opening for 0.000 s\n")?;
         for id in 0..named {
             write!(words, "  lent at the end: connection {id}, since before the base\n")?;
@@ -411,10 +454,25 @@ fn names_twenty_and_counts_the_others(rt: HostRuntime) -> Result<(), Fail> {
     Ok(())
 }
 
+// The lines of a text that say what somebody has to look at.
+fn marked(alloc: Global, text: &str) -> Result<Vec<String>, Fail> {
+    let mut lines = Vec::new(alloc);
+    for line in text.lines() {
+        if let Some(line) = line.trim_start().strip_prefix("! ") {
+            lines.push(String::from_str(alloc, line)?)?;
+        }
+    }
+    Ok(lines)
+}
+
 #[test]
 fn drawings_have_the_answers_and_the_clock(rt: HostRuntime) -> Result<(), Fail> {
-    let answers = lines(rt.alloc(), WHO)?;
+    let (concerns, answers) = (marked(rt.alloc(), WHO)?, lines(rt.alloc(), WHO, 2)?);
     let notes = Notes {
+        headline: Some(Headline {
+            lines: concerns.as_slice(),
+            is_well: false,
+        }),
         answers: answers.as_slice(),
         // Noon of that day, after the beginning of 1970.
         made_at: Some(Duration::from_secs(1_769_860_800)),
@@ -436,14 +494,18 @@ fn finds<R: AllocGlobal + Abort>(
     form: Form,
     log: &str,
     output: &str,
-    outcome: bool,
+    outcome: Result<bool, Fault>,
 ) -> Result<(), Fail> {
     let mut written = Vec::new(rt.alloc());
     let mut writer = BufWriter::new(rt.alloc(), &mut written)?;
-    let got = serve(rt.alloc(), form, Lines::Log, log.as_bytes(), &mut writer);
+    let asked = Asked {
+        lines: Lines::Log,
+        ..all(form)
+    };
+    let got = serve(rt.alloc(), asked, log.as_bytes(), &mut writer);
     drop(writer);
     assert_eq!(rt; str::from_utf8(written.as_slice())?, output);
-    assert_eq!(rt; got, Ok(outcome));
+    assert_eq!(rt; got, outcome);
     Ok(())
 }
 
@@ -460,9 +522,10 @@ fn finds_reports_in_the_lines_of_a_log(rt: HostRuntime) -> Result<(), Fail> {
     )?;
     let why = "connection 4 is kept, but it is not lent";
     let words = format!(in alloc; "line 4: replays\n{ANSWERS}line 5: replays\n{ANSWERS}line 5: record 0: {why}\nline 7: replays\n{ANSWERS}lines without a report: 3\n")?;
-    finds(&rt, Form::Words, log.as_str(), words.as_str(), false)?;
-    finds(&rt, Form::Words, "a\nb", "lines without a report: 2\n", true)?;
-    finds(&rt, Form::Json, "a\n\nb", "{\"lines_without_a_report\":2}\n", true)
+    finds(&rt, Form::Words, log.as_str(), words.as_str(), Ok(false))?;
+    let none = "no report\nlines without a report: 2\n";
+    finds(&rt, Form::Words, "a\nb", none, Ok(true))?;
+    finds(&rt, Form::Json, "a\n\nb", "{\"lines_without_a_report\":2}\n", Ok(true))
 }
 
 // A part of a line that stands in it so often.
@@ -478,20 +541,24 @@ fn often(alloc: Global, part: &str, count: usize) -> Result<String, Fail> {
 #[test]
 fn a_line_of_many_objects_takes_no_longer_than_its_length(rt: HostRuntime) -> Result<(), Fail> {
     let (alloc, count) = (rt.alloc(), 2_000);
-    let none = "lines without a report: 1\n";
+    let none = concat!(
+        "line 1: damaged: a part of it is missing, or it stands in too many others\n",
+        "no report\nlines without a report: 0\n",
+    );
     for part in ["{\"a\":", "{\"records\":", "{\"records\":[", "{\"a\":\"{"] {
         let open = often(alloc, part, count)?;
         let line = format!(in alloc; "{open}{NEW}\n")?;
-        finds(&rt, Form::Words, line.as_str(), none, true)?;
+        finds(&rt, Form::Words, line.as_str(), none, Err(Fault::Damaged(1)))?;
     }
     let (open, close) = (often(alloc, "{\"records\":", count)?, often(alloc, "}", count)?);
     let line = format!(in alloc; "{open}{NEW}{close}\n")?;
-    finds(&rt, Form::Words, line.as_str(), none, true)?;
+    let too_deep = "line 1: damaged: not JSON at column 1399\nno report\nlines without a report: 0\n";
+    finds(&rt, Form::Words, line.as_str(), too_deep, Err(Fault::Damaged(1)))?;
     let found = format!(in alloc; "line 1: replays\n{ANSWERS}lines without a report: 0\n")?;
     for part in ["{", "{}", "{\"a\":1}, ", "{\"records\":1} "] {
         let small = often(alloc, part, count)?;
         let line = format!(in alloc; "{small}{NEW}\n")?;
-        finds(&rt, Form::Words, line.as_str(), found.as_str(), true)?;
+        finds(&rt, Form::Words, line.as_str(), found.as_str(), Ok(true))?;
     }
     Ok(())
 }
@@ -504,9 +571,122 @@ fn finds_a_report_within_others(rt: HostRuntime) -> Result<(), Fail> {
     for depth in [0usize, 1, 20, 60] {
         let (open, close) = (often(alloc, "{\"a\": ", depth)?, often(alloc, "}", depth)?);
         let line = format!(in alloc; "INFO {open}{NEW}{close}\n")?;
-        finds(&rt, Form::Words, line.as_str(), found.as_str(), true)?;
+        finds(&rt, Form::Words, line.as_str(), found.as_str(), Ok(true))?;
         let line = format!(in alloc; "INFO {open}{NEW}\n")?;
-        finds(&rt, Form::Words, line.as_str(), found.as_str(), true)?;
+        finds(&rt, Form::Words, line.as_str(), found.as_str(), Ok(true))?;
     }
     Ok(())
+}
+
+// What reads like a report and is none is told and counted, and all others are audited.
+#[test]
+fn tells_what_is_damaged_in_a_log(rt: HostRuntime) -> Result<(), Fail> {
+    let alloc = rt.alloc();
+    let (front, back) = NEW.split_once(r#""lost":0"#).ok_or("lost")?;
+    let bad = format!(in alloc; r#"{front}"lost":-1{back}"#)?;
+    let (head, tail) = NEW.split_once(r#""base""#).ok_or("base")?;
+    let log = format!(in alloc; "{}{}{}",
+        format!(in alloc; "INFO {bad}\nINFO {head}\nINFO {tail}\n")?.as_str(),
+        format!(in alloc; "{{\"version\":7,\"report\":{bad}}} {NEW}\n{NEW} {head}\n")?.as_str(),
+        "INFO the limits are \"limits\": 7, no \"records\"\n",
+    )?;
+    let why = "damaged: lost: not a whole number up to 18446744073709551615\n";
+    let cut = "damaged: a part of it is missing, or it stands in too many others\n";
+    let words = format!(in alloc; "line 1: {why}line 2: {cut}line 3: {cut}line 4: {why}{}{}",
+        format!(in alloc; "line 4: replays\n{ANSWERS}line 5: replays\n{ANSWERS}")?.as_str(),
+        format!(in alloc; "line 5: {cut}lines without a report: 1\n")?.as_str(),
+    )?;
+    finds(&rt, Form::Words, log.as_str(), words.as_str(), Err(Fault::Damaged(5)))?;
+    let line = "{\"line\":1,\"damaged\":\"a part of it is missing, or it stands in too many others\"}\n";
+    let json = format!(in alloc; "{line}{{\"lines_without_a_report\":0}}\n")?;
+    finds(&rt, Form::Json, head, json.as_str(), Err(Fault::Damaged(1)))
+}
+
+// A container's log has a service's line as a string of JSON, and a collector may put that into
+// another one.
+#[test]
+fn finds_a_report_in_a_string(rt: HostRuntime) -> Result<(), Fail> {
+    let alloc = rt.alloc();
+    let found = format!(in alloc; "line 1: replays\n{ANSWERS}lines without a report: 0\n")?;
+    let mut line = format!(in alloc; "2026 {NEW} \u{e9}")?;
+    for _ in 0..2 {
+        let inner = line.as_str().replace(alloc, "\\", "\\\\")?;
+        let inner = inner.as_str().replace(alloc, "\"", "\\\"")?;
+        line = format!(in alloc; "{{\"log\":\"{}\\n\\u00e9\",\"stream\":\"stdout\"}}", inner.as_str())?;
+        finds(&rt, Form::Words, line.as_str(), found.as_str(), Ok(true))?;
+    }
+    let none = "{\"log\":\"a \\\"b\\\" \\ud800\"}";
+    finds(&rt, Form::Words, none, "no report\nlines without a report: 1\n", Ok(true))
+}
+
+// The same report, of a pool that is called so.
+fn named(alloc: Global, name: &str) -> Result<String, Fail> {
+    let (front, back) = NEW.split_once(r#""limits""#).ok_or("limits")?;
+    Ok(format!(in alloc; r#"{front}"name":"{name}","limits"{back}"#)?)
+}
+
+#[test]
+fn says_which_pool_a_report_is_of(rt: HostRuntime) -> Result<(), Fail> {
+    let alloc = rt.alloc();
+    let (orders, users) = (named(alloc, "orders")?, named(alloc, "users")?);
+    let log = format!(in alloc; "{orders}\n{users}\n{NEW}\n")?;
+    let words = format!(in alloc; "line 1, pool \"orders\": replays\n{ANSWERS}{}",
+        format!(in alloc; "line 2, pool \"users\": replays\n{ANSWERS}line 3: replays\n{ANSWERS}")?
+            .as_str(),
+    )?;
+    serves(&rt, Form::Words, log.as_str(), words.as_str(), Ok(true))?;
+    let json = format!(in alloc; "{{\"line\":1,\"pool\":\"orders\",\"replays\":true,{SUMMARY}}}\n")?;
+    serves(&rt, Form::Json, orders.as_str(), json.as_str(), Ok(true))?;
+    let mut written = Vec::new(alloc);
+    let mut writer = BufWriter::new(alloc, &mut written)?;
+    let asked = Asked {
+        pool: Some("users"),
+        ..all(Form::Words)
+    };
+    let got = serve(alloc, asked, log.as_bytes(), &mut writer);
+    drop(writer);
+    assert_eq!(rt; got, Ok(true));
+    let words = format!(in alloc;
+        "line 2, pool \"users\": replays\n{ANSWERS}reports of other pools: 2\n")?;
+    assert_eq!(rt; str::from_utf8(written.as_slice())?, words.as_str());
+    Ok(())
+}
+
+// A drawing is of the last report, and has its pool's name.
+#[test]
+fn draws_the_last_report(rt: HostRuntime) -> Result<(), Fail> {
+    let alloc = rt.alloc();
+    let log = format!(in alloc; "{}\n{NEW}\n{}\n", LENT, named(alloc, "a<b")?.as_str())?;
+    let mut written = Vec::new(alloc);
+    let mut writer = BufWriter::new(alloc, &mut written)?;
+    let got = serve(alloc, all(Form::Html), log.as_bytes(), &mut writer);
+    drop(writer);
+    assert_eq!(rt; got, Ok(true));
+    let page = str::from_utf8(written.as_slice())?;
+    assert!(rt; page.contains("<h1>The journal of the pool a&lt;b</h1>"));
+    assert_eq!(rt; page.matches("<!doctype html>").count(), 1);
+    Ok(())
+}
+
+// A pool that stands still since its last record is reckoned up to its report.
+#[test]
+fn reckons_up_to_the_report(rt: HostRuntime) -> Result<(), Fail> {
+    let alloc = rt.alloc();
+    let (front, back) = LENT.split_once(r#""limits""#).ok_or("limits")?;
+    let late = format!(in alloc; r#"{front}"reported_at":3607804000000,"limits"{back}"#)?;
+    let words = concat!(
+        "line 1: replays\n",
+        "  ! exhausted for 1 h, since 2026-01-31T12:00:07.804Z: 2 of 2 lent, 0 opening\n",
+        "  ! 2 lent for at least 9 ns: connection 0 for 1 h, since 2026-01-31T12:00:00.104Z\n",
+        "  covers 3607.704 s, from 2026-01-31T12:00:00.1Z (0.100 s after the making) ",
+        "to the report\n",
+        "  1 opened, 1 closed at return, 0 closed while idle\n",
+        "  at most 2 of 2 lent at once; all of them lent or opening for 3600.496 s, ",
+        "99 % of the time\n",
+        "  lent at the end: connection 0, for 3607.700 s, ",
+        "since 2026-01-31T12:00:00.104Z (0.104 s after the making)\n",
+        "  lent at the end: connection 2, for 3600.000 s, ",
+        "since 2026-01-31T12:00:07.804Z (7.804 s after the making)\n",
+    );
+    serves(&rt, Form::Words, late.as_str(), words, Ok(true))
 }

@@ -186,6 +186,12 @@ fn fields_are_all_there_and_no_others(rt: HostRuntime) -> Result<(), Fail> {
                 r#""lost":2,"made_at":"1969-12-31T23:59:59Z""#,
                 "made_at: not a moment like 2026-01-31T06:00:00Z",
             ),
+            (r#""lost":2"#, r#""lost":2,"name":7"#, "name: not a text"),
+            (
+                r#""lost":2"#,
+                r#""lost":2,"reported_at":-1"#,
+                "reported_at: not whole nanoseconds up to 18446744073709551615999999999",
+            ),
             (
                 r#""lost":2"#,
                 r#""lost":2,"found":1"#,
@@ -228,17 +234,32 @@ fn other_versions_and_limits_are_refused(rt: HostRuntime) -> Result<(), Fail> {
             (
                 r#""max_size":3"#,
                 r#""max_size":0"#,
-                "limits: no pool may have them",
+                "limits.max_size: zero, which no pool may have",
             ),
             (
                 r#""min_idle":null"#,
                 r#""min_idle":4"#,
-                "limits: no pool may have them",
+                "limits.min_idle: above max_size, which is 3",
             ),
             (
                 r#""reap_every":1000"#,
                 r#""reap_every":0"#,
-                "limits: no pool may have them",
+                "limits.reap_every: zero, which no pool may have",
+            ),
+            (
+                r#""max_lifetime":null"#,
+                r#""max_lifetime":0"#,
+                "limits.max_lifetime: zero, which no pool may have",
+            ),
+            (
+                r#""idle_timeout":null"#,
+                r#""idle_timeout":0"#,
+                "limits.idle_timeout: zero, which no pool may have",
+            ),
+            (
+                r#""connection_timeout":1000"#,
+                r#""connection_timeout":0"#,
+                "limits.connection_timeout: zero, which no pool may have",
             ),
         ],
     )

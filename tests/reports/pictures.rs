@@ -2,7 +2,7 @@
 
 use crate::books::{Driven, limits, ms};
 use crate::stories::one_of_each;
-use pool_pictures::{Finding, Notes, html, svg, text};
+use pool_pictures::{Finding, Headline, Notes, html, svg, text};
 use pool_reports::from_json;
 use r2d2_core::Report;
 use std::alloc::{AllocError, Global};
@@ -164,9 +164,9 @@ fn draws_ids_where_they_have_room(rt: HostRuntime) -> Result<(), Fail> {
     for (size, ids) in [(10u32, 10), (100, 100), (101, 0)] {
         let report = crowd(rt.alloc(), size, 1000)?;
         let drawn = svg(rt.alloc(), &report, &Notes::none())?;
-        // Each is still lent, and its lane says since when.
+        // Each is still lent, and its lane says for how long.
         assert_eq!(rt; count(drawn.as_str(), "<text class=\"id\" text-anchor=\"end\""), ids);
-        assert_eq!(rt; count(drawn.as_str(), ">since "), ids);
+        assert_eq!(rt; count(drawn.as_str(), ">for "), ids);
         assert_eq!(rt; count(drawn.as_str(), "<title>"), size as usize);
     }
     Ok(())
@@ -184,7 +184,7 @@ fn draws_a_base_alone(rt: HostRuntime) -> Result<(), Fail> {
             .contains("base at 5 ms: 3 lent, 0 idle, 0 opening\n")
     );
     assert!(rt; plain.as_str().contains("what 6 older ones came to is folded into the base"));
-    assert!(rt; plain.as_str().contains("connection 0 is still lent, since before 5 ms\n"));
+    assert!(rt; plain.as_str().contains("connection 0 is still lent, for more than 0 s\n"));
     assert!(rt; plain.as_str().contains("counted from 5 ms\n"));
     let drawn = svg(rt.alloc(), &report, &Notes::none())?;
     assert!(rt;
@@ -309,6 +309,7 @@ fn says_what_is_wrong(rt: HostRuntime) -> Result<(), Fail> {
         finding: Some(finding),
         answers: answers.as_slice(),
         made_at: Some(Duration::from_secs(1_893_553_445)),
+        ..Notes::none()
     };
     let drawn = svg(rt.alloc(), &report, &notes)?;
     let page = html(rt.alloc(), &report, &notes)?;
@@ -322,5 +323,80 @@ fn says_what_is_wrong(rt: HostRuntime) -> Result<(), Fail> {
     assert_eq!(rt; count(page.as_str(), "<tr class=\"is-wrong\">"), 2);
     let plain = text(rt.alloc(), &report, &notes)?;
     assert!(rt; plain.as_str().contains("wrong |"));
+    Ok(())
+}
+
+// Where the first of the parts stands in a text, and where the second.
+fn places(text: &str, first: &str, second: &str) -> Option<(usize, usize)> {
+    let (before, _) = text.split_once(first)?;
+    let (other, _) = text.split_once(second)?;
+    Some((before.len(), other.len()))
+}
+
+// What somebody has to look at stands before a verdict that is sound, and after one that is not.
+#[test]
+fn what_matters_most_stands_first(rt: HostRuntime) -> Result<(), Fail> {
+    let alloc = rt.alloc();
+    let report = one_of_each(alloc)?;
+    let lines = vec![in alloc; String::from_str(alloc, "lent for <long")?]?;
+    for is_sound in [true, false] {
+        let notes = Notes {
+            name: Some("a&b"),
+            headline: Some(Headline {
+                lines: lines.as_slice(),
+                is_well: false,
+            }),
+            finding: Some(Finding {
+                words: "words",
+                is_sound,
+                record: None,
+            }),
+            ..Notes::none()
+        };
+        let verdict = if is_sound { ">Sound: words<" } else { ">Not sound: words<" };
+        for shown in [svg(alloc, &report, &notes)?, html(alloc, &report, &notes)?] {
+            let (headline, verdict) =
+                places(shown.as_str(), ">lent for &lt;long<", verdict).ok_or("both")?;
+            assert_eq!(rt; headline < verdict, is_sound);
+        }
+        let page = html(alloc, &report, &notes)?;
+        let (verdict, drawing) = places(page.as_str(), "verdict is-", "<svg").ok_or("both")?;
+        assert!(rt; verdict < drawing && page.as_str().contains("of the pool a&amp;b</h1>"));
+    }
+    Ok(())
+}
+
+// A page has the drawing for a wide screen and for a narrow one, whose style it has once.
+#[test]
+fn a_page_fits_a_narrow_screen(rt: HostRuntime) -> Result<(), Fail> {
+    let report = crowd(rt.alloc(), 3, 1000)?;
+    let page = html(rt.alloc(), &report, &Notes::none())?;
+    let page = page.as_str();
+    assert_eq!(rt; (count(page, "viewBox=\"0 0 1200 "), count(page, "viewBox=\"0 0 560 ")), (1, 1));
+    assert_eq!(rt; (count(page, "<g class=\"lane\">"), count(page, "<defs>")), (6, 1));
+    Ok(())
+}
+
+// What goes on after the last record is drawn up to the report, and said.
+#[test]
+fn draws_up_to_the_report(rt: HostRuntime) -> Result<(), Fail> {
+    let alloc = rt.alloc();
+    let report = crowd(alloc, 3, 1000)?;
+    let notes = Notes {
+        reported_at: Some(ms(3_600_005)),
+        made_at: Some(Duration::from_secs(1_893_553_445)),
+        ..Notes::none()
+    };
+    let plain = text(alloc, &report, &notes)?;
+    let plain = plain.as_str();
+    assert!(rt; plain.contains("; nothing happened in the last 1 h\n"));
+    assert!(rt; plain.contains("end at 1 h: 3 lent, 0 idle, 0 opening\n"));
+    let said = "connection 2 is still lent, for 1 h, since 2030-01-02T03:04:05Z\n";
+    assert!(rt; plain.contains(said));
+    let drawn = svg(alloc, &report, &notes)?;
+    assert_eq!(rt; count(drawn.as_str(), ">for 1 h<"), 3);
+    let page = html(alloc, &report, &notes)?;
+    assert!(rt; page.as_str().contains("<tr><th>at</th><td>0 s</td><td>1 h</td></tr>"));
+    assert!(rt; page.as_str().contains("to 2030-01-02T04:04:05Z"));
     Ok(())
 }

@@ -81,7 +81,7 @@ fn each_story_ends_as_its_report(rt: HostRuntime) -> Result<(), Fail> {
         let mut rng = Pcg32::seed_from_u64(seed);
         for room in [0usize, 1, 9, 300] {
             let report = random_report(alloc, &mut rng, 0, 200, room)?;
-            let story = Story::of(alloc, &report)?;
+            let story = Story::of(alloc, &report, None)?;
             assert!(rt; ends_as(alloc, &story, &report)?, "{seed} at {room}");
             for life in story.lives.iter() {
                 assert!(rt; is_whole(life, story.to), "{seed} at {room}: {}", life.id);
@@ -117,7 +117,7 @@ fn a_report_that_does_not_replay_is_told_as_far_as_it_goes(rt: HostRuntime) -> R
         if !report.replays()? {
             strange = strange.saturating_add(1);
         }
-        let story = Story::of(alloc, &report)?;
+        let story = Story::of(alloc, &report, None)?;
         for life in story.lives.iter() {
             assert!(rt; is_whole(life, story.to), "{seed}: {}", life.id);
         }
@@ -160,7 +160,7 @@ fn ended(at: u64, cause: Cause) -> Option<Ending> {
 fn tells_what_became_of_each(rt: HostRuntime) -> Result<(), Fail> {
     let alloc = rt.alloc();
     let report = one_of_each(alloc)?;
-    let story = Story::of(alloc, &report)?;
+    let story = Story::of(alloc, &report, None)?;
     assert_eq!(rt;
         (story.from, story.to, story.length()),
         (ms(0), ms(140), ms(140))

@@ -2,7 +2,8 @@
 
 use crate::books::{Driven, limits, ms, seeded_report};
 use pool_pictures::story::Story;
-use pool_reports::{Loan, from_json, from_json_of_pool, summarize, to_json, to_json_of_pool};
+use pool_reports::{Concern, Loan, Origin, Summary, from_json, from_json_of_pool, summarize};
+use pool_reports::{to_json, to_json_of_pool};
 use r2d2_core::{Record, Report};
 use std::alloc::Global;
 use std::test::Fail;
@@ -17,15 +18,18 @@ struct Played {
     is_closed: bool,
     full_since: Option<Duration>,
     exhausted: Duration,
+    // Since when it is exhausted without a break, and the longest such while.
+    exhausted_since: Option<Duration>,
+    longest: Duration,
+    // Since when openings are pending and none came in.
+    opening_since: Option<Duration>,
     opened: u64,
     closed: u64,
 }
 
 impl Played {
     fn play(&mut self, record: &Record, max_size: u64) -> Result<(), Fail> {
-        if let Some(since) = self.full_since {
-            self.exhausted = self.exhausted.saturating_add(record.at().saturating_sub(since));
-        }
+        self.go_on(record.at());
         match record {
             Record::Taken { at, id, ordered } => {
                 self.lent.push(Loan {
@@ -52,7 +56,23 @@ impl Played {
         self.most_lent = self.most_lent.max(self.lent.len());
         let all = (self.lent.len() as u64).saturating_add(self.pending);
         self.full_since = (!self.is_closed && all == max_size).then_some(record.at());
+        self.exhausted_since = self.full_since.and(self.exhausted_since.or(self.full_since));
+        if self.pending == 0 {
+            self.opening_since = None;
+        } else if self.opening_since.is_none() || matches!(record, Record::Admitted { .. }) {
+            self.opening_since = Some(record.at());
+        }
         Ok(())
+    }
+
+    // All stays as it is until then.
+    fn go_on(&mut self, at: Duration) {
+        if let Some(since) = self.full_since {
+            self.exhausted = self.exhausted.saturating_add(at.saturating_sub(since));
+        }
+        if let Some(since) = self.exhausted_since {
+            self.longest = self.longest.max(at.saturating_sub(since));
+        }
     }
 }
 
@@ -73,6 +93,9 @@ fn replayed(alloc: Global, report: &Report) -> Result<Played, Fail> {
         is_closed: report.base.closed,
         full_since: (!report.base.closed && all == max_size).then_some(report.base.at),
         exhausted: Duration::ZERO,
+        exhausted_since: (!report.base.closed && all == max_size).then_some(report.base.at),
+        longest: Duration::ZERO,
+        opening_since: (report.base.pending > 0).then_some(report.base.at),
         opened: 0,
         closed: 0,
     };
@@ -88,11 +111,24 @@ fn says_what_a_replay_in_lists_says(rt: HostRuntime) -> Result<(), Fail> {
     for seed in 0..60 {
         let room = if seed % 2 == 0 { 1000 } else { seed as usize };
         let report = seeded_report(alloc, seed, 150, room)?;
-        let (said, played) = (summarize(alloc, &report)?, replayed(alloc, &report)?);
+        // Each third report says when it was made, and each sixth is made as its last record is.
+        let last = report.records.last().map(|record| record.at()).unwrap_or(report.base.at);
+        let later = if seed % 6 == 0 { last } else { last.saturating_add(ms(seed)) };
+        let reported_at = (seed % 3 == 0).then_some(later);
+        let (said, mut played) =
+            (summarize(alloc, &report, reported_at)?, replayed(alloc, &report)?);
+        played.go_on(reported_at.unwrap_or(last));
+        assert_eq!(rt; said.until, reported_at.unwrap_or(last), "{seed}");
+        assert_eq!(rt; said.longest_exhaustion, played.longest, "{seed}");
+        assert_eq!(rt; said.exhausted_since, played.exhausted_since, "{seed}");
+        assert_eq!(rt; said.opening_since, played.opening_since, "{seed}");
+        assert_eq!(rt; said.pending, report.pending, "{seed}");
         assert_eq!(rt; said.lent.as_slice(), played.lent.as_slice(), "{seed}");
         assert_eq!(rt; said.most_lent, played.most_lent, "{seed}");
         assert_eq!(rt; said.exhausted, played.exhausted, "{seed}");
-        let drawn = Story::of(alloc, &report)?.exhaustion();
+        let story = Story::of(alloc, &report, reported_at)?;
+        let drawn = story.exhaustion();
+        assert_eq!(rt; (said.until, said.covers()), (story.to, story.length()), "{seed}");
         assert_eq!(rt; said.exhausted.as_nanos(), drawn.nanos, "{seed}");
         assert_eq!(rt; (said.opened, said.closed), (played.opened, played.closed), "{seed}");
         let left = u64::from(report.connections).saturating_add(said.closed);
@@ -113,9 +149,9 @@ fn a_closed_pool_is_not_exhausted(rt: HostRuntime) -> Result<(), Fail> {
     driven.close();
     driven.put_back(ms(90), 0, false);
     let report = driven.report()?;
-    let said = summarize(rt.alloc(), &report)?;
+    let said = summarize(rt.alloc(), &report, None)?;
     assert_eq!(rt; (said.exhausted, said.until), (ms(40), ms(90)));
-    let drawn = Story::of(rt.alloc(), &report)?.exhaustion();
+    let drawn = Story::of(rt.alloc(), &report, None)?.exhaustion();
     assert_eq!(rt; (drawn.nanos, drawn.times), (ms(40).as_nanos(), 2));
     Ok(())
 }
@@ -128,7 +164,7 @@ fn a_report_without_records_covers_no_time(rt: HostRuntime) -> Result<(), Fail> 
     driven.open(ms(70));
     let report = driven.report()?;
     assert!(rt; report.records.as_slice().is_empty());
-    let said = summarize(rt.alloc(), &report)?;
+    let said = summarize(rt.alloc(), &report, None)?;
     assert_eq!(rt; (said.from, said.until, said.covers()), (ms(70), ms(70), ms(0)));
     Ok(())
 }
@@ -143,10 +179,10 @@ fn an_exhaustion_goes_on_over_its_records(rt: HostRuntime) -> Result<(), Fail> {
     driven.put_back(ms(40), 0, true);
     driven.open(ms(90));
     let report = driven.report()?;
-    let said = summarize(rt.alloc(), &report)?;
+    let said = summarize(rt.alloc(), &report, None)?;
     assert_eq!(rt; said.exhausted, ms(80));
     // Until the first one came, and from its take until the second one came.
-    let drawn = Story::of(rt.alloc(), &report)?.exhaustion();
+    let drawn = Story::of(rt.alloc(), &report, None)?.exhaustion();
     assert_eq!(rt; (drawn.nanos, drawn.times), (ms(80).as_nanos(), 2));
     assert!(rt; !drawn.is_still);
     Ok(())
@@ -163,18 +199,151 @@ fn the_wall_clock_goes_round(rt: HostRuntime) -> Result<(), Fail> {
         (253_402_207_200, "9999-12-30T22:00:00Z"),
     ] {
         let made_at = SystemTime::UNIX_EPOCH.checked_add(Duration::from_secs(seconds));
-        let written = to_json_of_pool(alloc, &report, made_at)?;
+        let written = to_json_of_pool(alloc, &report, Origin::by_the_clock(made_at, None))?;
         let field = format!(in alloc; "\"made_at\":\"{text}\",")?;
         let (front, back) = written.as_str().split_once(field.as_str()).ok_or("made_at")?;
         assert_eq!(rt; format!(in alloc; "{front}{back}")?.as_str(), plain.as_str());
-        let (read, clock) = from_json_of_pool(alloc, written.as_str())?;
-        assert_eq!(rt; clock, made_at);
-        assert_eq!(rt; to_json(alloc, &read)?.as_str(), plain.as_str());
+        let read = from_json_of_pool(alloc, written.as_str())?;
+        assert_eq!(rt; read.origin(), Origin::by_the_clock(made_at, None));
+        assert_eq!(rt; to_json(alloc, &read.report)?.as_str(), plain.as_str());
         let read = from_json(alloc, written.as_str())?;
         assert_eq!(rt; to_json(alloc, &read)?.as_str(), plain.as_str());
     }
     let past = SystemTime::UNIX_EPOCH.checked_add(Duration::from_secs(253_402_300_800));
+    let past = Origin::by_the_clock(past, None);
     assert_eq!(rt; to_json_of_pool(alloc, &report, past)?.as_str(), plain.as_str());
-    assert_eq!(rt; from_json_of_pool(alloc, plain.as_str())?.1, None);
+    let read = from_json_of_pool(alloc, plain.as_str())?;
+    assert_eq!(rt; read.origin(), Origin::unknown());
+    Ok(())
+}
+
+// The name of a pool and the moment of a report go round, whatever they are.
+#[test]
+fn the_origin_goes_round(rt: HostRuntime) -> Result<(), Fail> {
+    let alloc = rt.alloc();
+    let report = seeded_report(alloc, 3, 40, 10)?;
+    let plain = to_json(alloc, &report)?;
+    for name in ["orders", "", "a\"b\\c\n\u{e9}{", "\"records\":["] {
+        for reported_at in [Duration::ZERO, ms(7), Duration::MAX] {
+            let origin = Origin {
+                reported_at: Some(reported_at),
+                ..Origin::unknown().named(name)
+            };
+            let written = to_json_of_pool(alloc, &report, origin)?;
+            let read = from_json_of_pool(alloc, written.as_str())?;
+            assert_eq!(rt; read.origin(), origin);
+            assert_eq!(rt; to_json(alloc, &read.report)?.as_str(), plain.as_str());
+        }
+    }
+    Ok(())
+}
+
+#[test]
+fn the_moment_of_a_report_is_by_the_clock(rt: HostRuntime) -> Result<(), Fail> {
+    let at = |seconds| SystemTime::UNIX_EPOCH.checked_add(Duration::from_secs(seconds));
+    let origin = Origin::by_the_clock(at(100), at(103)).named("orders");
+    assert_eq!(rt;
+        (origin.name, origin.made_at, origin.reported_at),
+        (Some("orders"), at(100), Some(ms(3000)))
+    );
+    for (made_at, now) in [(at(100), None), (None, at(103)), (at(100), at(99))] {
+        let origin = Origin::by_the_clock(made_at, now);
+        assert_eq!(rt; (origin.made_at, origin.reported_at), (made_at, None));
+    }
+    Ok(())
+}
+
+// What one that stands still since 20 ms is reckoned to, of which one is lent since then.
+fn standing(alloc: Global, reported_at: Option<Duration>) -> Result<(Report, Summary), Fail> {
+    let limits = limits(1, 1, None, None).ok_or("limits")?;
+    let mut driven = Driven::new(alloc, limits, ms(0), 0, 9)?;
+    driven.open(ms(10));
+    driven.take(ms(20), true)?;
+    let report = driven.report()?;
+    let summary = summarize(alloc, &report, reported_at)?;
+    Ok((report, summary))
+}
+
+#[test]
+fn a_pool_that_stands_still_is_reckoned_to_its_report(rt: HostRuntime) -> Result<(), Fail> {
+    let alloc = rt.alloc();
+    for (reported_at, until, exhausted) in [
+        (None, 20, 10),
+        (Some(ms(15)), 20, 10),
+        (Some(ms(20)), 20, 10),
+        (Some(ms(3_600_020)), 3_600_020, 3_600_010),
+    ] {
+        let (report, said) = standing(alloc, reported_at)?;
+        assert_eq!(rt; (said.until, said.exhausted), (ms(until), ms(exhausted)));
+        let story = Story::of(alloc, &report, reported_at)?;
+        assert_eq!(rt; (story.to, story.exhausted), (ms(until), ms(exhausted)));
+        assert_eq!(rt; story.quiet(), ms(until.saturating_sub(20)));
+        let last = story.lives[0].latest().ok_or("a stretch")?;
+        assert_eq!(rt; (last.from, last.to), (ms(20), ms(until)));
+    }
+    Ok(())
+}
+
+// What lasts for as long as a caller waits, 30 seconds, is a concern, and nothing shorter is.
+#[test]
+fn what_lasts_as_long_as_a_caller_waits_is_a_concern(rt: HostRuntime) -> Result<(), Fail> {
+    let (report, said) = standing(rt.alloc(), Some(ms(30_019)))?;
+    assert_eq!(rt; said.concerns(&report.limits), [None, None, None]);
+    let (report, said) = standing(rt.alloc(), Some(ms(30_020)))?;
+    let longest = Loan {
+        id: 0,
+        since: Some(ms(20)),
+    };
+    assert_eq!(rt;
+        said.concerns(&report.limits),
+        [
+            None,
+            Some(Concern::Exhausted { since: ms(20) }),
+            Some(Concern::LentForLong { count: 1, longest }),
+        ]
+    );
+    Ok(())
+}
+
+#[test]
+fn openings_that_fail_for_long_are_a_concern(rt: HostRuntime) -> Result<(), Fail> {
+    let alloc = rt.alloc();
+    let limits = limits(3, 1, None, None).ok_or("limits")?;
+    let mut driven = Driven::new(alloc, limits, ms(0), 0, 9)?;
+    driven.open(ms(10));
+    driven.take(ms(20), true)?;
+    driven.put_back(ms(1_020), 0, true);
+    let report = driven.report()?;
+    let said = summarize(alloc, &report, Some(ms(30_019)))?;
+    assert_eq!(rt; said.concerns(&limits), [None, None, None]);
+    let said = summarize(alloc, &report, Some(ms(30_020)))?;
+    let since = ms(20);
+    assert_eq!(rt; said.concerns(&limits), [Some(Concern::NothingOpens { since }), None, None]);
+    // One of the two comes in.
+    driven.open(ms(30_010));
+    let said = summarize(alloc, &driven.report()?, Some(ms(30_020)))?;
+    assert_eq!(rt; said.opening_since, Some(ms(30_010)));
+    assert_eq!(rt; said.concerns(&limits), [None, None, None]);
+    Ok(())
+}
+
+// One that is exhausted for long and then not, also where it is so again at the end.
+#[test]
+fn a_long_exhaustion_that_is_over_is_a_concern(rt: HostRuntime) -> Result<(), Fail> {
+    let alloc = rt.alloc();
+    let limits = limits(1, 0, None, None).ok_or("limits")?;
+    let mut driven = Driven::new(alloc, limits, ms(0), 0, 9)?;
+    driven.take(ms(10), true)?;
+    driven.open(ms(20));
+    driven.take(ms(30), true)?;
+    driven.put_back(ms(30_030), 0, false);
+    let longest = ms(30_000);
+    let was = [None, Some(Concern::WasExhausted { longest }), None];
+    let said = summarize(alloc, &driven.report()?, None)?;
+    assert_eq!(rt; said.concerns(&limits), was);
+    driven.take(ms(40_000), true)?;
+    let said = summarize(alloc, &driven.report()?, Some(ms(40_001)))?;
+    assert_eq!(rt; said.exhausted_since, Some(ms(40_000)));
+    assert_eq!(rt; said.concerns(&limits), was);
     Ok(())
 }

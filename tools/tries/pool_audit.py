@@ -34,10 +34,10 @@ def try_words():
     version = subprocess.run([SCRIPT, "--version"], stdout=subprocess.PIPE, timeout=60)
     check("--version", version.returncode == 0 and version.stdout.startswith(b"pool-audit, by the rules"), version)
     unknown = (
-        "pool-audit: it takes --find or not, --json, --text or neither, --svg and --html with a file each, and one file of reports or none: "
-        "--help shows how\n"
+        "pool-audit: it takes --find or not, --pool with a name, --json, --text or neither, --svg and --html with a file each, "
+        "and one file of reports or none: --help shows how\n"
     )
-    for words in [["a", "b"], ["--fast"], ["--json", "--json"], ["--json", "--text"], ["--svg"], ["--svg", "--html", "a"]]:
+    for words in [["--pool"], ["a", "b"], ["--fast"], ["--json", "--json"], ["--json", "--text"], ["--svg"], ["--svg", "--html", "a"]]:
         runs(f"the words {words}", words, b"", 5, "", unknown)
     runs("a file that is missing", ["/nowhere/at.all"], b"", 3, "",
          "pool-audit: read failed: /nowhere/at.all: No such file or directory\n")
@@ -51,12 +51,20 @@ def try_reports():
     runs("standard input as -", ["-"], b"".join(lines), 1, wanted)
     first = wanted[:wanted.index("line 3")]
     runs("a report that replays", [], lines[0], 0, first)
-    runs("no report", [], b"", 0, "")
+    runs("no report", [], b"", 0, "no report\n")
     runs("a line that is none", [], lines[0] + b"{}\n" + lines[0], 6, first,
          "line 2: version: missing (--find looks for reports within the lines of a log)\n")
     log = b"2026-01-31 INFO started {}\n2026-01-31 INFO " + lines[0] + b'{"level":"INFO","report":' + lines[0].strip() + b"}\n"
     found = first.replace("line 1", "line 2") + first.replace("line 1", "line 3") + "lines without a report: 1\n"
     runs("a log", ["--find"], log, 0, found)
+    cut = b"INFO " + lines[0][:300] + b"\n"
+    damaged = "line 1: damaged: a part of it is missing, or it stands in too many others\n"
+    runs("a damaged report in a log", ["--find"], cut + lines[0], 6, damaged + first.replace("line 1", "line 2") + "lines without a report: 0\n",
+         "damaged reports: 1\n")
+    runs("another pool", ["--pool", "orders"], lines[0], 0, "no report\nreports of other pools: 1\n")
+    named = lines[0].replace(b'"limits"', b'"name":"orders","limits"', 1)
+    runs("the pool that is asked for", ["--pool", "orders"], lines[0] + named, 0,
+         first.replace("line 1:", 'line 2, pool "orders":') + "reports of other pools: 1\n")
     runs("bytes that are no text", [], b"\xff\n", 6, "", "line 1: not UTF-8\n")
     told = subprocess.run([SCRIPT, "--json", SAMPLE], stdout=subprocess.PIPE, timeout=60).stdout.decode().splitlines()
     seen = [json.loads(line) for line in told]
@@ -86,8 +94,10 @@ def try_pictures():
     check("the width of --text", max(len(line) for line in told.splitlines()) <= 100, told)
     (picture, page), names = drawn(["--svg", "*", "--html", "*"], first, 0)
     check("--svg", picture.startswith(b"<svg") and picture.count(b"</svg>") == 1, picture)
-    check("--html", page.startswith(b"<!doctype html>") and lanes(picture) and lanes(page) == lanes(picture), page)
+    # It has a drawing for a wide screen and one for a narrow one.
+    check("--html", page.startswith(b"<!doctype html>") and lanes(picture) and lanes(page) == lanes(picture) * 2, page)
     check("the page says the verdict", b'<p class="verdict is-sound">' in page, page)
+    check("what to look at comes first", 0 < page.find(b'<p class="headline is-wrong">') < page.find(b'<p class="verdict'), page)
     check("the files that are left", len(names) == 2, names)
     (alone,), _ = drawn(["--svg", "*"], wrong, 1)
     (last,), _ = drawn(["--svg", "*", "--json"], first + wrong + b"\n", 1)
@@ -98,12 +108,46 @@ def try_pictures():
     check("no report leaves no picture", none is None and not names, names)
     (found,), _ = drawn(["--find", "--svg", "*"], b"INFO " + first + b"INFO ends\n", 0)
     check("the last report of a log", found == picture, found)
+    (found,), _ = drawn(["--find", "--svg", "*"], first + first[:300] + b"\n", 6)
+    check("the last report of a log with a damaged one", found == picture, found)
+    named = first.replace(b'"limits"', b'"name":"orders","limits"', 1)
+    (page,), _ = drawn(["--pool", "orders", "--html", "*"], named + first, 0)
+    check("the page says which pool", b"<h1>The journal of the pool orders</h1>" in page, page)
+    try_files_that_would_be_lost(first)
     answers = read("crates", "pool_audit", "stdout").decode().partition("line 3")[0]
     runs("a picture that has no place", ["--svg", "/nowhere/at.all"], first, 3, answers,
          "pool-audit: write failed: /nowhere/at.all: No such file or directory\n")
 
 
+def try_files_that_would_be_lost(report):
+    """A picture is not drawn over the reports, nor over another picture."""
+    with tempfile.TemporaryDirectory() as folder:
+        path, link = os.path.join(folder, "reports"), os.path.join(folder, "link")
+        with open(path, "wb") as file:
+            file.write(report)
+        os.symlink(path, link)
+        lost = "pool-audit: {} would be overwritten: a picture needs a file of its own\n"
+        runs("a picture over its input", ["--html", path, path], b"", 5, "", lost.format(path))
+        runs("a picture over its input by another name", ["--svg", link, path], b"", 5, "", lost.format(link))
+        new = os.path.join(folder, "new")
+        runs("two pictures in one file", ["--svg", new, "--html", new, path], b"", 5, "", lost.format(new))
+        with open(path, "rb") as given:
+            done = subprocess.run([SCRIPT, "--html", path], stdin=given, stdout=subprocess.PIPE, stderr=subprocess.PIPE, timeout=60)
+        check("a picture over its standard input", (done.returncode, done.stderr.decode()) == (5, lost.format(path)), done)
+        check("the reports stay", read(path) == report, read(path))
+
+
+def try_closed_output():
+    for words in [["--help"], ["--version"], [SAMPLE]]:
+        for how in [">&-", "| true"]:
+            told = subprocess.run(f"{SCRIPT} {' '.join(words)} {how}", shell=True, stdout=subprocess.PIPE, stderr=subprocess.PIPE, timeout=60).stderr
+            check(f"no traceback of {words} {how}", b"Traceback" not in told, told)
+    done = subprocess.run(f"{SCRIPT} {SAMPLE} >&-", shell=True, stderr=subprocess.PIPE, timeout=60)
+    check("closed output", (done.returncode, done.stderr) == (3, b"write failed\n"), done)
+
+
 def try_streams():
+    try_closed_output()
     with open("/dev/full", "wb") as full:
         done = subprocess.run([SCRIPT, SAMPLE], stdout=full, stderr=subprocess.PIPE, timeout=60)
     check("a full disk", (done.returncode, done.stderr) == (3, b"write failed\n"), done)
@@ -117,16 +161,31 @@ def try_streams():
     check("the end of the input", talk.wait(timeout=60) == 0, talk.returncode)
 
 
-# A toolchain that takes long, until it is called once more: then it builds a program that says so.
+# A toolchain that takes long, until it is called once more: then it builds a program that says so. A try of it says so too.
 TOOLCHAIN = """#!/bin/sh
+[ "$1" = try ] && { cat; echo tried; echo 'run=ended status=0' >&2; exit 0; }
 [ -e ../../again ] && { echo 'echo built' > out/pool_audit; chmod +x out/pool_audit; sed -i '1i #!/bin/sh' out/pool_audit; exit 0; }
-touch ../../again out/pool_audit
+echo $$ > ../../again
+touch out/pool_audit
 sleep 60
 """
+TRIED = (b"pool-audit: not proved: this compiles the program for each answer, in a minute or two, and answers once all input is there; "
+         b"pool-audit --build proves and builds it, once\n")
 
 
-def try_an_interrupt():
-    """The first build, in a copy, is interrupted, and the next call builds."""
+def has_ended(group):
+    """Whether no process of a group is left, within some seconds."""
+    for _ in range(200):
+        try:
+            os.killpg(group, 0)
+        except OSError:
+            return True
+        time.sleep(0.05)
+    return False
+
+
+def try_an_interrupt(number, status):
+    """The first build, in a copy, is ended by a signal, and the next one builds. Before and after it, answers are tried."""
     with tempfile.TemporaryDirectory() as copy:
         shutil.copytree(os.path.join(TOP, "tools"), os.path.join(copy, "tools"))
         os.makedirs(os.path.join(copy, "crates", "pool_audit"))
@@ -136,23 +195,46 @@ def try_an_interrupt():
             toolchain.write(TOOLCHAIN)
         os.chmod(toolchain.name, 0o755)
         words = dict(env={**os.environ, "PATH": copy + ":" + os.environ["PATH"]}, cwd=copy, stdout=subprocess.PIPE, stderr=subprocess.PIPE)
-        first = subprocess.Popen(["./pool-audit"], stdin=subprocess.DEVNULL, start_new_session=True, **words)
+        tried = subprocess.run(["./pool-audit"], input=b"a\n", timeout=30, **words)
+        check("an answer without a proof", (tried.returncode, tried.stdout, tried.stderr) == (0, b"a\ntried\n", TRIED), tried)
+        first = subprocess.Popen(["./pool-audit", "--build"], stdin=subprocess.DEVNULL, start_new_session=True, **words)
+        again, program = os.path.join(copy, "again"), os.path.join(copy, "crates", "pool_audit", "out", "pool_audit")
         for _ in range(500):
-            if os.path.exists(os.path.join(copy, "again")):
+            if os.path.exists(program):
                 break
             time.sleep(0.02)
-        first.send_signal(signal.SIGINT)
+        log = read(copy, "crates", "pool_audit", "out", "build.log")
+        check("the log of a build from its first second", log.startswith(b"proving r2d2_core, "), log)
+        first.send_signal(number)
         told = first.communicate(timeout=30)[1]
-        check("an interrupt", first.returncode == 130 and b"interrupted: the program is not built" in told, (first.returncode, told))
-        check("what it leaves", not os.path.exists(os.path.join(copy, "crates", "pool_audit", "out", "pool_audit")), "")
+        check(f"the signal {number}", first.returncode == status and b"interrupted: the program is not built" in told, (first.returncode, told))
+        check("what it leaves", not os.path.exists(program), "")
+        check("what it leaves running", has_ended(int(read(again))), read(again))
+        then = subprocess.run(["./pool-audit", "--build"], input=b"", timeout=30, **words)
+        check("the next build", then.returncode == 0, then)
         then = subprocess.run(["./pool-audit"], input=b"", timeout=30, **words)
-        check("the next call", (then.returncode, then.stdout) == (0, b"built\n"), then)
+        check("the next call", (then.returncode, then.stdout, then.stderr) == (0, b"built\n", b""), then)
+
+
+def try_a_folder_that_takes_nothing():
+    """A build, in a copy, whose folder can't be made, since a file stands there; and no toolchain."""
+    with tempfile.TemporaryDirectory() as copy:
+        shutil.copytree(os.path.join(TOP, "tools"), os.path.join(copy, "tools"))
+        os.makedirs(os.path.join(copy, "crates"))
+        for path in ["crates/pool_audit", "crates.txt"]:
+            with open(os.path.join(copy, path), "x", encoding="utf-8") as file:
+                file.write("none\n")
+        shutil.copy(SCRIPT, copy)
+        done = subprocess.run(["./pool-audit", "--build"], cwd=copy, stdout=subprocess.PIPE, stderr=subprocess.PIPE, timeout=30)
+        check("a folder that can't be written", done.returncode == 4 and done.stderr.endswith(b": Not a directory\n"), done)
 
 
 def tried():
-    try_an_interrupt()
-    # The first run builds the program, where it is missing.
-    build = subprocess.run([SCRIPT], input=b"")
+    try_an_interrupt(signal.SIGINT, 130)
+    try_an_interrupt(signal.SIGTERM, 143)
+    try_a_folder_that_takes_nothing()
+    # This builds the program, where it is missing.
+    build = subprocess.run([SCRIPT, "--build"], input=b"")
     check("the program is built", build.returncode == 0, build.returncode)
     if build.returncode == 0:
         try_words()

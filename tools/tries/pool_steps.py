@@ -51,12 +51,20 @@ def try_words():
 
 
 def try_lines():
-    for line in [b"tkae 5", b" take 5", b"take 5\r", b"take \xff"]:
+    for line in [b"tkae 5", b" take 5", b"take \xff"]:
         runs(f"the line {line!r}", [], LIMITS.encode() + b"state\n" + line + b"\nstate\n", 1, "state 0 0 1\n", "line 3: not a step")
     runs("a text with spaces", [], LIMITS + "begin 0\nfail 5 0  a  b \nerror\n", 0, "open 0\nretry 405\nerror  a  b \n")
     runs("no line at all", [], "", 1, "", "line 1: not a step")
     runs("another first line", [], "take 5\n", 1, "", "line 1: not a step")
-    runs("limits that are refused", [], "limits 2 3 - - 30000 30000\nstate\n", 1, "", "line 1: limits refused")
+    crlf = "not a step: it ends in a carriage return, as lines of Windows do"
+    runs("a line of Windows", [], LIMITS + "# one\nstate\ntake 5\r\nstate\n", 1, "state 0 0 1\n", f"line 4: {crlf}")
+    runs("a script of Windows", [], LIMITS.replace("\n", "\r\n") + "state\r\n", 1, "", f"line 1: {crlf}")
+    runs("a text that ends so", [], LIMITS + "begin 0\nfail 5 0 a\r\nbegin 5 \n", 1, "open 0\nretry 405\n", "line 4: not a step")
+    for fields, why in [("2 3 - - 3 3", "MIN is above MAX"), ("0 - - - 3 3", "MAX is 0"), ("1 0 0 - 3 3", "LIFE is 0"), ("1 - - 0 3 3", "IDLE is 0"),
+                        ("1 - - - 0 3", "TIMEOUT is 0"), ("1 - 1 1 1 0", "RATE is 0"), ("1 2 - - 3 3 oldest", "MIN is above MAX")]:
+        runs(f"limits {fields}", [], f"limits {fields}\nstate\n", 1, "", f"line 1: limits refused: {why}")
+    runs("a size that no memory holds", [], "limits 4294967295 - - - 3 3\n", 2, "",
+         "out of memory: the first line takes all memory for MAX, 4294967295, connections")
 
 
 def try_files(folder):
@@ -72,7 +80,7 @@ def try_files(folder):
     runs("a fault behind comments", [file(wrong)], "", 1, "state 0 0 1\nstate 0 0 1\n", "line 9: not a step")
     runs("the same on standard input", [], wrong, 1, "state 0 0 1\nstate 0 0 1\n", "line 9: not a step")
     runs("a last line without its feed", [file("# one\n" + LIMITS + "state\ntake x")], "", 1, "state 0 0 1\n", "line 4: not a step")
-    runs("limits behind comments", [file("\n# none\nlimits 0 - - - 1 1\n")], "", 1, "", "line 3: limits refused")
+    runs("limits behind comments", [file("\n# none\nlimits 0 - - - 1 1\n")], "", 1, "", "line 3: limits refused: MAX is 0")
     runs("comments alone", [file("# one\n\n")], "", 1, "", "line 3: not a step")
     runs("a text that begins like a comment", [file(LIMITS + "begin 0\nfail 5 0 # why\nerror\n")], "", 0,
          "open 0\nretry 405\nerror # why\n")
@@ -151,34 +159,44 @@ def try_a_build(folder):
             out.write("#!/bin/sh\n" + body)
         os.chmod(os.path.join(commands, "rt"), 0o755)
 
-    def holds(what, status, output, *errors):
+    def holds(what, words, status, output, *errors):
         paths = [path for path in os.environ["PATH"].split(":") if not os.path.exists(os.path.join(path, "rt"))]
         done = subprocess.run(
-            [os.path.join(folder, "pool-steps")], input=(LIMITS + "state\n").encode(), stdout=subprocess.PIPE,
+            [os.path.join(folder, "pool-steps"), *words], input=(LIMITS + "state\n").encode(), stdout=subprocess.PIPE,
             stderr=subprocess.PIPE, timeout=60, cwd=folder, env={**os.environ, "PATH": ":".join([commands] + paths)},
         )
         seen = (done.returncode, done.stdout.decode(), done.stderr.decode())
-        check(what, seen == (status, output, "".join(f"pool-steps: {line}\n" for line in errors)), seen)
+        told = "".join(line + "\n" if line.startswith("line ") else f"pool-steps: {line}\n" for line in errors)
+        check(what, seen == (status, output, told), seen)
 
     log = "crates/pool_steps/out/build.log"
     progress = f"proving and building, a few minutes from nothing; {log} tells how far it is"
-    holds("no rt", 4, "", progress, "not built: rt is missing")
+    tried = ("not proved: this compiles the program for each answer, in a minute or two, and answers once all input is there; "
+             "pool-steps --build proves and builds it, once")
+    holds("no rt", ["--build"], 4, "", progress, "not built: rt is missing")
+    holds("no rt for a try", [], 4, "", tried, "not built: rt is missing")
     stand_in("echo no proof; exit 1\n")
-    holds("a build that fails", 4, "", progress, f"not built: {log} tells why")
+    holds("a build that fails", ["--build"], 4, "", progress, f"not built: {log} tells why")
     with open(os.path.join(folder, log), encoding="utf-8") as told:
-        check("the log of a build", told.read() == "no proof\n", log)
+        check("the log of a build", told.read().endswith("\nno proof\n"), log)
+    stand_in("echo a hole >&2; exit 1\n")
+    holds("a try that fails", [], 4, "", tried, "not built: a hole")
+    # What the toolchain says of a try is left out, and what the program says is not.
+    stand_in("cat > /dev/null; echo state 0 0 1; echo 'rt: a hint\nline 2: not a step\nchecked: ended\nrun=ended status=1' >&2; exit 1\n")
+    holds("a try", [], 1, "state 0 0 1\n", tried, "line 2: not a step")
     # It reads a script of its own, and not what the build's caller was given.
     stand_in(f'[ "$1" = run ] && [ "$(cat)" = "{LIMITS.strip()}" ] && cp "{PROGRAM}" out/pool_steps\n')
-    holds("a build", 0, "state 0 0 1\n", progress)
-    holds("no second build", 0, "state 0 0 1\n")
+    holds("a build", ["--build"], 0, "", progress)
+    holds("no second build", ["--build"], 0, "")
+    holds("a run", [], 0, "state 0 0 1\n")
     later = time.time() + 10
     os.utime(source, (later, later))
-    holds("a build after a change", 0, "state 0 0 1\n", progress)
+    holds("a build after a change", ["--build"], 0, "", progress)
 
 
 def tried():
-    # The first run builds the program, where it is missing.
-    build = subprocess.run([SCRIPT], input=LIMITS.encode())
+    # This builds the program, where it is missing.
+    build = subprocess.run([SCRIPT, "--build"], input=LIMITS.encode())
     check("the program is built", build.returncode == 0, build.returncode)
     if build.returncode == 0:
         try_words()

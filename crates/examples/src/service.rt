@@ -2,9 +2,9 @@
 // audit of that log.
 
 use crate::Numbers;
-use pool_reports::{audit, from_json, to_json_of_pool};
+use pool_reports::{Origin, audit, from_json, to_json_of_pool};
 use r2d2::{Builder, PlainPool, PoolRuntime};
-use std::alloc::Global;
+use std::time::SystemTime;
 
 pub fn audited<R: PoolRuntime + Print>(rt: R) -> Result<(), anyhow::Error> {
     let log = serve(rt)?;
@@ -30,7 +30,7 @@ fn serve<R: PoolRuntime>(rt: R) -> Result<String, anyhow::Error> {
     for request in 1u32..31 {
         answer(&pool)?;
         if request % 10 == 0 {
-            write_journal(rt.alloc(), &pool, &mut log)?;
+            write_journal(&rt, &pool, &mut log)?;
         }
     }
     Ok(log)
@@ -44,12 +44,13 @@ fn answer<R: PoolRuntime>(pool: &PlainPool<Numbers, R>) -> Result<u32, anyhow::E
 
 // Writes a line into the log: what stood, what happened since, and what there is now.
 fn write_journal<R: PoolRuntime>(
-    alloc: Global,
+    rt: &R,
     pool: &PlainPool<Numbers, R>,
     log: &mut String,
 ) -> Result<(), anyhow::Error> {
     let report = pool.journal()?;
-    log.push_str(to_json_of_pool(alloc, &report, pool.made_at())?.as_str())?;
+    let origin = Origin::by_the_clock(pool.made_at(), SystemTime::now(rt).ok()).named("numbers");
+    log.push_str(to_json_of_pool(rt.alloc(), &report, origin)?.as_str())?;
     log.push('\n')?;
     Ok(())
 }

@@ -1,11 +1,10 @@
 // What a report says of the time that it covers, in words.
 
-use jiff::Timestamp;
-use pool_reports::{Loan, Summary};
+use crate::moments::{Moment, Seconds};
+use pool_reports::{Loan, Origin, Summary};
 use r2d2_core::Limits;
 use std::alloc::{AllocError, Global};
-use std::fmt::{self, Write};
-use std::time::{Duration, SystemTime};
+use std::time::Duration;
 
 // So many of those that are lent at the end are named.
 const MOST_NAMED: usize = 20;
@@ -15,14 +14,17 @@ const MOST_NAMED: usize = 20;
 pub(crate) fn in_words(
     alloc: Global,
     limits: &Limits,
-    made_at: Option<SystemTime>,
+    origin: &Origin<'_>,
     summary: &Summary,
 ) -> Result<String, AllocError> {
-    let from = Moment::of(summary.from, made_at);
-    let covers = Seconds(summary.covers());
-    let mut text = format!(in alloc; "  covers {covers}, from {from} on")?;
+    let (from, covers) = (Moment::of(summary.from, origin), Seconds(summary.covers()));
+    let end = match origin.reported_at {
+        Some(_) => "the report",
+        None => "the last record",
+    };
+    let mut text = format!(in alloc; "  covers {covers}, from {from} to {end}\n")?;
     add_counts(alloc, &mut text, limits, summary)?;
-    add_lent(alloc, &mut text, made_at, summary)?;
+    add_lent(alloc, &mut text, origin, summary)?;
     Ok(text)
 }
 
@@ -39,7 +41,7 @@ fn add_counts(
 ) -> Result<(), AllocError> {
     let (opened, closed, reaped) = (summary.opened, summary.closed, summary.reaped);
     let counts = format!(in alloc;
-        ": {opened} opened, {closed} closed at return, {reaped} closed while idle\n"
+        "  {opened} opened, {closed} closed at return, {reaped} closed while idle\n"
     );
     add(text, counts)?;
     let (most, all) = (summary.most_lent, limits.max_size());
@@ -57,12 +59,12 @@ fn add_counts(
 fn add_lent(
     alloc: Global,
     text: &mut String,
-    made_at: Option<SystemTime>,
+    origin: &Origin<'_>,
     summary: &Summary,
 ) -> Result<(), AllocError> {
     let lent = summary.lent.as_slice();
     for loan in lent.iter().take(MOST_NAMED) {
-        add(text, lent_since(alloc, made_at, summary.until, loan))?;
+        add(text, lent_since(alloc, origin, summary.until, loan))?;
     }
     let more = lent.len().saturating_sub(MOST_NAMED);
     if more == 0 {
@@ -73,7 +75,7 @@ fn add_lent(
 
 fn lent_since(
     alloc: Global,
-    made_at: Option<SystemTime>,
+    origin: &Origin<'_>,
     until: Duration,
     loan: &Loan,
 ) -> Result<String, AllocError> {
@@ -82,10 +84,10 @@ fn lent_since(
         return format!(in alloc; "  lent at the end: connection {id}, since before the base\n");
     };
     let (moment, length) = (
-        Moment::of(since, made_at),
+        Moment::of(since, origin),
         Seconds(until.saturating_sub(since)),
     );
-    format!(in alloc; "  lent at the end: connection {id}, since {moment}, for {length}\n")
+    format!(in alloc; "  lent at the end: connection {id}, for {length}, since {moment}\n")
 }
 
 // How many hundredths a part is, if the whole is something.
@@ -93,44 +95,4 @@ fn percent(part: Duration, whole: Duration) -> Option<u128> {
     part.as_nanos()
         .saturating_mul(100)
         .checked_div(whole.as_nanos())
-}
-
-// A length of time in seconds, down to the thousandth.
-#[derive(Clone, Copy)]
-struct Seconds(Duration);
-
-impl fmt::Display for Seconds {
-    fn fmt<W: fmt::Write>(&self, f: &mut fmt::Formatter<W>) -> fmt::Result {
-        write!(f, "{}.{:03} s", self.0.as_secs(), self.0.subsec_millis())
-    }
-}
-
-// A moment of a pool, and what the wall clock showed then.
-#[derive(Clone, Copy)]
-struct Moment {
-    at: Duration,
-    clock: Option<Timestamp>,
-}
-
-impl Moment {
-    fn of(at: Duration, made_at: Option<SystemTime>) -> Moment {
-        let clock = made_at.and_then(|made_at| clock_at(made_at, at));
-        Moment { at, clock }
-    }
-}
-
-// What the wall clock shows so long after a moment, down to the thousandth.
-fn clock_at(made_at: SystemTime, length: Duration) -> Option<Timestamp> {
-    let moment = Timestamp::try_from(made_at.checked_add(length)?).ok()?;
-    Timestamp::from_millisecond(moment.as_millisecond()).ok()
-}
-
-impl fmt::Display for Moment {
-    fn fmt<W: fmt::Write>(&self, f: &mut fmt::Formatter<W>) -> fmt::Result {
-        write!(f, "{}", Seconds(self.at))?;
-        match self.clock {
-            Some(clock) => write!(f, " ({clock})"),
-            None => Ok(()),
-        }
-    }
 }

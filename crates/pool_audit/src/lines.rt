@@ -2,14 +2,13 @@
 ghost use Rattle.std.specs.Prelude.{◌≡◌};
 ghost use Rattle.pool_audit.specs.Faults.{status_of};
 
-use crate::finding::Reports;
+use crate::finding::{Found, Reports};
 use crate::report_text::{self, Judged};
-use pool_reports::{FromJsonError, Verdict, audit, from_json_of_pool};
-use r2d2_core::Report;
+use crate::unescaping::unescaped;
+use pool_reports::{FromJsonError, Verdict, Written, audit, from_json_of_pool};
 use std::alloc::{AllocError, AllocFailed, Global};
 use std::error::Error;
 use std::io::{BufRead, BufReader, BufWriter, ErrorKind, Read, Write};
-use std::time::SystemTime;
 use std::{fmt, str};
 
 /// How the verdict on a report is written.
@@ -21,9 +20,9 @@ pub enum Form {
     Json,
     /// In words, with a timeline of the report below.
     Text,
-    /// As a drawing of the report alone, as SVG.
+    /// As a drawing of the last report alone, as SVG.
     Svg,
-    /// As a page about the report alone.
+    /// As a page about the last report alone.
     Html,
 }
 
@@ -38,6 +37,15 @@ impl Form {
             _ => None,
         }
     }
+}
+
+/// What is asked for.
+#[derive(Clone, Copy, Debug, PartialEq, Eq)]
+pub struct Asked<'a> {
+    pub form: Form,
+    pub lines: Lines,
+    /// The name of the pool whose reports alone are audited; None for all.
+    pub pool: Option<&'a str>,
 }
 
 /// What the lines of the input are.
@@ -56,6 +64,8 @@ pub enum Fault {
     NoReport { line: u64, why: FromJsonError },
     /// The line of this number is not UTF-8.
     NotUtf8(u64),
+    /// So many places of a log read like a report, and are none. All others were audited.
+    Damaged(u64),
     /// Memory was refused.
     Memory,
     /// A read failed.
@@ -72,7 +82,7 @@ impl Fault {
         match self {
             Fault::Memory => 2,
             Fault::Read | Fault::Write => 3,
-            Fault::NoReport { .. } | Fault::NotUtf8(_) => 6,
+            Fault::NoReport { .. } | Fault::NotUtf8(_) | Fault::Damaged(_) => 6,
         }
     }
 }
@@ -87,6 +97,7 @@ impl fmt::Display for Fault {
                 );
             }
             Fault::NotUtf8(line) => return write!(f, "line {line}: not UTF-8"),
+            Fault::Damaged(count) => return write!(f, "damaged reports: {count}"),
             Fault::Memory => "out of memory",
             Fault::Read => "read failed",
             Fault::Write => "write failed",
@@ -111,42 +122,72 @@ impl<T: Drop> From<AllocFailed<T>> for Fault {
 
 /// Audits the report on each line of the input, or each one in the lines of a log, and writes what
 /// it found on each: whether all are sound. Lines of white space alone are left out, and counted.
-/// Of a log it says in the end how many lines hold no report.
+/// In the end it says if there was no report, and of a log how many lines hold none. A drawing is
+/// of the last report, and written in the end.
 ///
-/// It stops at the first fault. What it found on the lines before was written by then: where that
-/// failed, the fault is the failed write.
+/// It stops at the first fault, but for what is damaged in a log, which is told there and counted
+/// in the end. What it found on the lines before was written by then: where that failed, the fault
+/// is the failed write.
 pub fn serve<R: Read + Drop, W: Write + Drop>(
     alloc: Global,
-    form: Form,
-    lines: Lines,
+    asked: Asked<'_>,
     input: R,
     output: &mut BufWriter<W>,
 ) -> Result<bool, Fault> {
     let mut input = BufReader::new(alloc, input).map_err(|_| Fault::Memory)?;
     let mut line = Vec::new(alloc);
-    let mut task = Task {
-        alloc,
-        form,
-        lines,
-        all_sound: true,
-        passed_over: 0,
-    };
+    let mut task = Task::new(alloc, asked);
     let outcome = audit_lines(&mut task, &mut input, &mut line, output);
     flush(output).and(outcome)
 }
 
 // What is asked for, and what was found so far.
-#[derive(Clone, Copy)]
-struct Task {
+#[derive(Drop)]
+struct Task<'a> {
     alloc: Global,
-    form: Form,
-    lines: Lines,
+    asked: Asked<'a>,
     all_sound: bool,
-    passed_over: u64,
+    tally: Tally,
+    // What is drawn in the end: a report, its line and its verdict.
+    last: Option<(u64, Written, Verdict)>,
+}
+
+/// How many reports and lines there were.
+#[derive(Clone, Copy, Debug, PartialEq, Eq)]
+pub(crate) struct Tally {
+    pub(crate) reports: u64,
+    /// Those of other pools than the one that is asked for.
+    pub(crate) others: u64,
+    /// Places that read like a report, and are none.
+    pub(crate) damaged: u64,
+    /// Lines that hold neither.
+    pub(crate) passed_over: u64,
+}
+
+impl<'a> Task<'a> {
+    fn new(alloc: Global, asked: Asked<'a>) -> Task<'a> {
+        Task {
+            alloc,
+            asked,
+            all_sound: true,
+            tally: Tally {
+                reports: 0,
+                others: 0,
+                damaged: 0,
+                passed_over: 0,
+            },
+            last: None,
+        }
+    }
+
+    // Whether the report is of another pool than the one that is asked for.
+    fn is_of_another(&self, written: &Written) -> bool {
+        self.asked.pool.is_some() && self.asked.pool != written.name.as_deref()
+    }
 }
 
 fn audit_lines<R: Read + Drop, W: Write + Drop>(
-    task: &mut Task,
+    task: &mut Task<'_>,
     input: &mut BufReader<R>,
     line: &mut Vec<u8>,
     output: &mut BufWriter<W>,
@@ -162,18 +203,23 @@ fn audit_lines<R: Read + Drop, W: Write + Drop>(
     Err(Fault::Read)
 }
 
-// Writes of a log how many of its lines were passed over. Says whether all reports are sound.
-fn end<W: Write + Drop>(task: &Task, output: &mut BufWriter<W>) -> Result<bool, Fault> {
-    if task.lines == Lines::Log {
-        let text = report_text::of_the_rest(task.alloc, task.form, task.passed_over)?;
-        write(output, text)?;
+// Draws the last report, if that is asked for, and writes how many there were. Says whether all are
+// sound.
+fn end<W: Write + Drop>(task: &Task<'_>, output: &mut BufWriter<W>) -> Result<bool, Fault> {
+    if let Some((line, written, verdict)) = &task.last {
+        tell(task, *line, written, *verdict, output)?;
     }
-    Ok(task.all_sound)
+    let text = report_text::of_the_rest(task.alloc, task.asked, task.tally)?;
+    write(output, text)?;
+    match task.tally.damaged {
+        0 => Ok(task.all_sound),
+        count => Err(Fault::Damaged(count)),
+    }
 }
 
 // Writes what there is to say of a line.
 fn audit_line<W: Write + Drop>(
-    task: &mut Task,
+    task: &mut Task<'_>,
     number: u64,
     line: &[u8],
     output: &mut BufWriter<W>,
@@ -181,77 +227,117 @@ fn audit_line<W: Write + Drop>(
     if line.trim_ascii().is_empty() {
         return Ok(());
     }
-    if task.lines == Lines::Log {
+    if task.asked.lines == Lines::Log {
         return search_line(task, number, line, output);
     }
-    let report = report_on(task.alloc, number, line)?;
-    judge(task, number, report, output)
+    let written = report_on(task.alloc, number, line)?;
+    judge(task, number, written, output)
 }
 
-// The same of each report in a line of a log.
+// A service's line may stand in a string of JSON, and that in another one.
+const MOST_LEVELS: usize = 3;
+
+// The same of each report in a line of a log, or else in its strings of JSON.
 fn search_line<W: Write + Drop>(
-    task: &mut Task,
+    task: &mut Task<'_>,
     number: u64,
     line: &[u8],
     output: &mut BufWriter<W>,
 ) -> Result<(), Fault> {
-    // Bytes that are no text are no report.
-    let mut reports = Reports::of(str::from_utf8(line).unwrap_or(""));
-    let mut has_none = true;
-    for _ in 0..line.len() {
-        let next = reports.next(task.alloc).map_err(|_| Fault::Memory)?;
-        let Some(report) = next else {
+    let mut text = String::from_utf8_lossy(task.alloc, line)?;
+    for _ in 0..MOST_LEVELS {
+        if search_text(task, number, text.as_str(), output)? {
+            return Ok(());
+        }
+        if !text.as_str().contains("\\\"") {
+            break;
+        }
+        text = unescaped(task.alloc, text.as_str())?;
+    }
+    task.tally.passed_over = task.tally.passed_over.saturating_add(1);
+    Ok(())
+}
+
+// Writes what there is to say of each report in a text. Says whether there is one, damaged or not.
+fn search_text<W: Write + Drop>(
+    task: &mut Task<'_>,
+    number: u64,
+    text: &str,
+    output: &mut BufWriter<W>,
+) -> Result<bool, Fault> {
+    let mut reports = Reports::of(text);
+    let mut has_one = false;
+    for _ in 0..text.len() {
+        let Some(found) = reports.next(task.alloc).map_err(|_| Fault::Memory)? else {
             break;
         };
-        judge(task, number, report, output)?;
-        has_none = false;
+        tell_found(task, number, found, output)?;
+        has_one = true;
     }
-    if has_none {
-        task.passed_over = task.passed_over.saturating_add(1);
+    Ok(has_one)
+}
+
+fn tell_found<W: Write + Drop>(
+    task: &mut Task<'_>,
+    number: u64,
+    found: Found,
+    output: &mut BufWriter<W>,
+) -> Result<(), Fault> {
+    match found {
+        Found::Report(written) => judge(task, number, written, output),
+        Found::Damaged(damage) => {
+            task.tally.damaged = task.tally.damaged.saturating_add(1);
+            let text = report_text::of_damage(task.alloc, task.asked.form, number, &damage)?;
+            write(output, text)
+        }
     }
-    Ok(())
 }
 
 // Writes what there is to say of a report, and notes whether it is sound.
 fn judge<W: Write + Drop>(
-    task: &mut Task,
-    number: u64,
-    (report, made_at): (Report, Option<SystemTime>),
+    task: &mut Task<'_>,
+    line: u64,
+    written: Written,
     output: &mut BufWriter<W>,
 ) -> Result<(), Fault> {
-    let verdict = write_verdict(task, number, &report, made_at, output);
-    drop(report);
-    task.all_sound &= verdict? == Verdict::Sound;
-    Ok(())
+    if task.is_of_another(&written) {
+        task.tally.others = task.tally.others.saturating_add(1);
+        return Ok(());
+    }
+    let verdict = audit(task.alloc, &written.report)?;
+    task.tally.reports = task.tally.reports.saturating_add(1);
+    task.all_sound &= verdict == Verdict::Sound;
+    if matches!(task.asked.form, Form::Svg | Form::Html) {
+        task.last = Some((line, written, verdict));
+        return Ok(());
+    }
+    tell(task, line, &written, verdict, output)
 }
 
-fn write_verdict<W: Write + Drop>(
-    task: &Task,
+fn tell<W: Write + Drop>(
+    task: &Task<'_>,
     line: u64,
-    report: &Report,
-    made_at: Option<SystemTime>,
+    written: &Written,
+    verdict: Verdict,
     output: &mut BufWriter<W>,
-) -> Result<Verdict, Fault> {
-    let verdict = audit(task.alloc, report)?;
+) -> Result<(), Fault> {
     let judged = Judged {
         line,
-        report,
-        made_at,
+        report: &written.report,
+        origin: written.origin(),
         verdict,
     };
-    write(output, report_text::of(task.alloc, task.form, &judged)?)?;
-    Ok(verdict)
+    write(
+        output,
+        report_text::of(task.alloc, task.asked.form, &judged)?,
+    )
 }
 
 fn write<W: Write + Drop>(output: &mut BufWriter<W>, text: String) -> Result<(), Fault> {
     output.write_all(text.as_bytes()).map_err(|_| Fault::Write)
 }
 
-fn report_on(
-    alloc: Global,
-    number: u64,
-    line: &[u8],
-) -> Result<(Report, Option<SystemTime>), Fault> {
+fn report_on(alloc: Global, number: u64, line: &[u8]) -> Result<Written, Fault> {
     let Ok(text) = str::from_utf8(line) else {
         return Err(Fault::NotUtf8(number));
     };

@@ -4,10 +4,13 @@
 
 mod answers;
 mod finding;
+mod headline;
 mod lines;
+mod moments;
 mod report_text;
+mod unescaping;
 
-use lines::{Fault, Form, Lines};
+use lines::{Asked, Fault, Form, Lines};
 use std::env;
 use std::io::{self, BufWriter, ErrorKind};
 use std::process::ExitCode;
@@ -17,10 +20,12 @@ use std::rt::Env;
 const NOT_UNDERSTOOD: u8 = 5;
 
 fn main(rt: HostRuntime) -> ExitCode {
-    let outcome = match asked(&rt) {
-        Ok(Some((form, lines))) => serve(rt, form, lines),
+    let outcome = match understood(&rt) {
+        Ok(Some(words)) => serve(rt, &words),
         Ok(None) => {
-            let _ = eprintln!(rt; "pool_audit [--find] [--json | --text | --svg | --html]");
+            let _ = eprintln!(rt;
+                "pool_audit [--find] [--pool NAME] [--json | --text | --svg | --html]"
+            );
             return ExitCode::from(NOT_UNDERSTOOD);
         }
         Err(fault) => Err(fault),
@@ -36,29 +41,49 @@ fn main(rt: HostRuntime) -> ExitCode {
     }
 }
 
+// What the arguments ask for.
+#[derive(Drop)]
+struct Words {
+    form: Form,
+    lines: Lines,
+    pool: Option<String>,
+}
+
 // What the arguments ask for, if they are understood.
-fn asked<R: Env + AllocGlobal>(rt: &R) -> Result<Option<(Form, Lines)>, Fault> {
+fn understood<R: Env + AllocGlobal>(rt: &R) -> Result<Option<Words>, Fault> {
     let mut words = match env::args(rt) {
         Ok(words) => words.skip(1),
         Err(error) if error.kind() == ErrorKind::OutOfMemory => return Err(Fault::Memory),
         Err(_) => return Ok(None),
     };
-    let mut word = words.next();
-    let mut lines = Lines::Reports;
+    let (mut word, mut lines, mut pool) = (words.next(), Lines::Reports, None);
     if word.as_deref() == Some("--find") {
         lines = Lines::Log;
+        word = words.next();
+    }
+    if word.as_deref() == Some("--pool") {
+        pool = words.next();
+        if pool.is_none() {
+            return Ok(None);
+        }
         word = words.next();
     }
     if words.next().is_some() {
         return Ok(None);
     }
-    Ok(match word {
-        None => Some((Form::Words, lines)),
-        Some(word) => Form::of(word.as_str()).map(|form| (form, lines)),
-    })
+    let form = match word {
+        None => Some(Form::Words),
+        Some(word) => Form::of(word.as_str()),
+    };
+    Ok(form.map(|form| Words { form, lines, pool }))
 }
 
-fn serve(rt: HostRuntime, form: Form, lines: Lines) -> Result<bool, Fault> {
+fn serve(rt: HostRuntime, words: &Words) -> Result<bool, Fault> {
     let mut output = BufWriter::new(rt.alloc(), io::writer(&rt)).map_err(|_| Fault::Memory)?;
-    lines::serve(rt.alloc(), form, lines, rt.reader(), &mut output)
+    let asked = Asked {
+        form: words.form,
+        lines: words.lines,
+        pool: words.pool.as_deref(),
+    };
+    lines::serve(rt.alloc(), asked, rt.reader(), &mut output)
 }

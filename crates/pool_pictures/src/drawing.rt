@@ -7,6 +7,7 @@ use crate::marked::{Marked, find_marked};
 use crate::notes::Notes;
 use crate::story::{Life, Story};
 use head::Head;
+pub(crate) use layout::Width;
 use layout::{Layout, Tenths};
 use r2d2_core::Report;
 use std::alloc::{AllocError, Allocator, Global};
@@ -40,39 +41,33 @@ pub fn svg<A: Allocator>(
     report: &Report<A>,
     notes: &Notes,
 ) -> Result<String, AllocError> {
-    let story = Story::of(alloc, report)?;
+    let story = Story::of(alloc, report, notes.reported_at)?;
     let head = Head::of(alloc, &story, notes)?;
-    draw(alloc, report, &story, notes, Some(&head))
+    let above = head.height().saturating_add(legend::HEIGHT);
+    let mut canvas = Canvas::of(alloc, &story, Width::Wide, above, notes)?;
+    canvas.open(style::STYLE)?;
+    canvas.head(&head)?;
+    canvas.plot(&story, find_marked(&story, report, notes))?;
+    Ok(canvas.out)
 }
 
-/// The same without its head and its legend.
+/// The same without its head, its legend and its style, which a page has once for all its drawings.
 pub(crate) fn plot<A: Allocator>(
     alloc: Global,
     report: &Report<A>,
     story: &Story,
+    width: Width,
     notes: &Notes,
 ) -> Result<String, AllocError> {
-    draw(alloc, report, story, notes, None)
-}
-
-fn draw<A: Allocator>(
-    alloc: Global,
-    report: &Report<A>,
-    story: &Story,
-    notes: &Notes,
-    head: Option<&Head>,
-) -> Result<String, AllocError> {
-    let above = match head {
-        Some(head) => head.height().saturating_add(legend::HEIGHT),
-        None => 0,
-    };
-    let mut canvas = Canvas::of(alloc, story, above, notes)?;
-    canvas.open()?;
-    if let Some(head) = head {
-        canvas.head(head)?;
-    }
+    let mut canvas = Canvas::of(alloc, story, width, 0, notes)?;
+    canvas.open("")?;
     canvas.plot(story, find_marked(story, report, notes))?;
     Ok(canvas.out)
+}
+
+/// The style of all drawings of a page.
+pub(crate) fn page_style() -> &'static str {
+    style::STYLE
 }
 
 /// The legend as a list of a page.
@@ -94,7 +89,13 @@ struct Canvas {
 
 impl Canvas {
     // A drawing with so much above its plot.
-    fn of(alloc: Global, story: &Story, above: u32, notes: &Notes) -> Result<Canvas, AllocError> {
+    fn of(
+        alloc: Global,
+        story: &Story,
+        width: Width,
+        above: u32,
+        notes: &Notes,
+    ) -> Result<Canvas, AllocError> {
         let places = drawn(alloc, story, LANES)?;
         let mut longest = 0;
         for place in &places {
@@ -104,6 +105,7 @@ impl Canvas {
         }
         let layout = Layout::of(
             story,
+            width,
             above,
             places.len(),
             digits(u128::from(longest)),
@@ -131,11 +133,11 @@ impl Canvas {
         story.lives.get(*self.places.get(number)?)
     }
 
-    fn open(&mut self) -> Result<(), AllocError> {
-        let (width, height) = (Tenths(layout::WIDTH), Tenths(self.layout.height));
+    fn open(&mut self, style: &str) -> Result<(), AllocError> {
+        let (width, height) = (Tenths(self.layout.width), Tenths(self.layout.height));
         self.out.push_str(OPENING)?;
         writeln!(self.out, "viewBox=\"0 0 {width} {height}\">")?;
-        self.out.push_str(style::STYLE)?;
+        self.out.push_str(style)?;
         writeln!(
             self.out,
             "<rect class=\"paper\" width=\"{width}\" height=\"{height}\"/>"

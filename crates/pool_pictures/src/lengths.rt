@@ -7,7 +7,7 @@ use std::time::Duration;
 
 /// A length of time by its two largest units, as `16 min 41 s`. What is smaller is left out.
 #[derive(Clone, Copy)]
-pub(crate) struct Length(pub(crate) Duration);
+pub struct Length(pub Duration);
 
 impl fmt::Display for Length {
     fn fmt<W: fmt::Write>(&self, f: &mut fmt::Formatter<W>) -> fmt::Result {
@@ -40,8 +40,10 @@ fn parts(length: Duration) -> ((u64, &'static str), (u64, &'static str)) {
         ((seconds, "s"), (nanos / 1_000_000, "ms"))
     } else if nanos >= 1_000_000 {
         ((nanos / 1_000_000, "ms"), (nanos % 1_000_000 / 1000, "µs"))
-    } else {
+    } else if nanos >= 1000 {
         ((nanos / 1000, "µs"), (nanos % 1000, "ns"))
+    } else {
+        ((nanos, "ns"), (0, ""))
     }
 }
 

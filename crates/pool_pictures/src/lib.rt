@@ -16,6 +16,7 @@ mod terminal;
 mod words;
 
 pub use drawing::svg;
-pub use notes::{Finding, Notes};
+pub use lengths::Length;
+pub use notes::{Finding, Headline, Notes};
 pub use page::html;
 pub use terminal::text;

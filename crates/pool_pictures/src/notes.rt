@@ -13,25 +13,43 @@ pub struct Finding<'a> {
     pub record: Option<usize>,
 }
 
+/// What somebody has to look at.
+#[derive(Clone, Copy)]
+pub struct Headline<'a> {
+    /// In words, a line each.
+    pub lines: &'a [String],
+    /// Whether all is well.
+    pub is_well: bool,
+}
+
 /// What is known of a report besides what it says, for the reader of its drawing. The texts may
 /// hold any character.
 #[derive(Clone, Copy)]
 pub struct Notes<'a> {
+    /// What the pool is called.
+    pub name: Option<&'a str>,
+    /// What a reader is to see first. A finding that the report is not sound stands before it.
+    pub headline: Option<Headline<'a>>,
     /// None where nobody audited it.
     pub finding: Option<Finding<'a>>,
     /// What else there is to say of it, a line each.
     pub answers: &'a [String],
     /// How long after the beginning of 1970, in UTC, the pool was made.
     pub made_at: Option<Duration>,
+    /// The moment of the report, up to which it is drawn; else it ends with its last record.
+    pub reported_at: Option<Duration>,
 }
 
 impl Notes<'_> {
     /// Nothing is known.
     pub fn none() -> Notes<'static> {
         Notes {
+            name: None,
+            headline: None,
             finding: None,
             answers: &[],
             made_at: None,
+            reported_at: None,
         }
     }
 

@@ -1,9 +1,9 @@
 // A drawing in a page of its own.
 
-use crate::drawing::{legend_list, plot};
+use crate::drawing::{Width, legend_list, page_style, plot};
 use crate::lengths::{Length, Limit};
 use crate::marked::id_of;
-use crate::notes::{Finding, Notes};
+use crate::notes::{Finding, Headline, Notes};
 use crate::story::Story;
 use crate::words::{Escaped, dated, exhausted, order, span, verdict};
 use r2d2_core::{Limits, Record, Report};
@@ -34,7 +34,7 @@ const HEAD: &str = r#"<!doctype html>
 body { margin: 0; background: var(--paper); color: var(--ink);
   font: 15px/1.45 system-ui, -apple-system, "Segoe UI", Roboto, sans-serif }
 main { max-width: 1320px; margin: 0 auto; padding: 24px 20px 48px }
-h1 { font-size: 24px; margin: 0 0 16px }
+h1 { font-size: 15px; font-weight: 600; color: var(--dim); margin: 0 0 10px }
 h2 { font-size: 18px; margin: 32px 0 8px }
 .tables { display: flex; flex-wrap: wrap; gap: 16px 56px; margin-bottom: 24px;
   align-items: flex-start }
@@ -47,12 +47,14 @@ th:first-child, td:first-child, td.word, th.word { text-align: left }
 th:first-child, td:first-child { padding-left: 0 }
 th { font-weight: 400; color: var(--dim) }
 p { margin: 0 0 6px }
-.verdict { font-size: 17px; font-weight: 600; padding: 10px 14px; border-radius: 6px;
-  margin-bottom: 12px; overflow-wrap: anywhere }
-.is-sound { color: var(--sound); background: var(--sound-paper) }
+.headline, .verdict.is-wrong { font-size: 20px; line-height: 1.3; font-weight: 600;
+  padding: 10px 14px; border-radius: 6px; margin-bottom: 8px; overflow-wrap: anywhere }
+.headline::first-letter { text-transform: uppercase }
+.is-well, .is-sound { color: var(--sound) }
+.is-well { background: var(--sound-paper) }
 .is-wrong { color: var(--fault); background: var(--fault-paper) }
 .answers { margin: 0 0 12px; padding-left: 20px }
-.summary { color: var(--dim); margin-bottom: 20px }
+.summary { color: var(--dim); margin: 14px 0 20px }
 .moment { display: inline-block }
 .legend { list-style: none; margin: 0 0 12px; padding: 0; display: grid; gap: 4px 28px;
   grid-template-columns: repeat(auto-fill, minmax(180px, max-content)) }
@@ -60,22 +62,24 @@ p { margin: 0 0 6px }
 @media (min-width: 560px) { .legend { grid-template-columns: repeat(3, max-content) } }
 @media (min-width: 1080px) { .legend { grid-template-columns: repeat(6, max-content) } }
 .legend svg { vertical-align: -2px; margin-right: 6px }
-.box { overflow-x: auto; border: 1px solid var(--line); border-radius: 6px }
-.box svg { display: block; width: 100%; min-width: 1080px; height: auto }
+.box { border: 1px solid var(--line); border-radius: 6px }
+.box svg { display: block; width: 100%; height: auto }
+.style { position: absolute }
+.narrow { display: none }
+@media (max-width: 900px) { .wide { display: none } .narrow { display: block } }
 .rows { overflow-x: auto }
 </style>
 </head>
 <body>
 <main>
-<h1>The journal of a pool</h1>
 "#;
 
 const FOOT: &str = "</main>\n</body>\n</html>\n";
 
-/// A page about a report that needs nothing else: what is known of it by the notes, its limits and
-/// counts, the drawing that `svg` draws, the records round the one that the notes call wrong, and
-/// its newest records, 200 at most. On a narrow screen the drawing scrolls in its box. The error
-/// comes only where memory is refused.
+/// A page about a report that needs nothing else: what is known of it by the notes, what somebody
+/// has to look at first; the drawing that `svg` draws, and another one for narrow screens; its
+/// limits and counts; the records round the one that the notes call wrong, and its newest records,
+/// 200 at most. The error comes only where memory is refused.
 pub fn html<A: Allocator>(
     alloc: Global,
     report: &Report<A>,
@@ -94,24 +98,40 @@ fn about<A: Allocator>(
     report: &Report<A>,
     notes: &Notes,
 ) -> Result<(), AllocError> {
-    let story = Story::of(alloc, report)?;
+    let story = Story::of(alloc, report, notes.reported_at)?;
+    title(page, notes)?;
     known(alloc, page, notes)?;
-    summary(alloc, page, &story, notes)?;
-    numbers(page, report)?;
     draw(alloc, page, report, &story, notes)?;
+    summary(alloc, page, &story, notes)?;
+    numbers(page, report, &story)?;
     records(page, report, notes)
 }
 
+// Which pool it is.
+fn title(page: &mut String, notes: &Notes) -> Result<(), AllocError> {
+    match notes.name {
+        Some(name) => {
+            let name = Escaped(name);
+            writeln!(page, "<h1>The journal of the pool {name}</h1>")
+        }
+        None => page.push_str("<h1>The journal of a pool</h1>\n"),
+    }
+}
+
 // The limits, the counts and how many records there are, side by side.
-fn numbers<A: Allocator>(page: &mut String, report: &Report<A>) -> Result<(), AllocError> {
+fn numbers<A: Allocator>(
+    page: &mut String,
+    report: &Report<A>,
+    story: &Story,
+) -> Result<(), AllocError> {
     page.push_str("<div class=\"tables\">\n")?;
     limits(page, &report.limits)?;
-    counts(page, report)?;
+    counts(page, report, story.to)?;
     recorded(page, report)?;
     page.push_str("</div>\n")
 }
 
-// The legend, and the drawing in its box.
+// The legend, and the drawing: one for each width, of which a screen shows one.
 fn draw<A: Allocator>(
     alloc: Global,
     page: &mut String,
@@ -119,11 +139,21 @@ fn draw<A: Allocator>(
     story: &Story,
     notes: &Notes,
 ) -> Result<(), AllocError> {
-    let (legend, drawing) = (legend_list(alloc)?, plot(alloc, report, story, notes)?);
+    let legend = legend_list(alloc)?;
+    page.push_str("<svg class=\"pool style\" width=\"0\" height=\"0\" aria-hidden=\"true\">")?;
+    page.push_str(page_style())?;
+    page.push_str("</svg>\n")?;
     page.push_str(legend.as_str())?;
-    page.push_str("<div class=\"box\">\n")?;
-    page.push_str(drawing.as_str())?;
-    page.push_str("</div>\n")
+    for (class, width) in [("wide", Width::Wide), ("narrow", Width::Narrow)] {
+        let drawing = plot(alloc, report, story, width, notes)?;
+        boxed(page, class, drawing.as_str())?;
+    }
+    Ok(())
+}
+
+// A drawing in its box.
+fn boxed(page: &mut String, class: &str, drawing: &str) -> Result<(), AllocError> {
+    writeln!(page, "<div class=\"box {class}\">\n{drawing}</div>")
 }
 
 // The records round the wrong one, and the newest.
@@ -142,12 +172,47 @@ fn records<A: Allocator>(
     page.push_str("</div>\n")
 }
 
-// What is known by the notes.
+// What is known by the notes: first that the report is not sound, or else what somebody has to look
+// at.
 fn known(alloc: Global, page: &mut String, notes: &Notes) -> Result<(), AllocError> {
-    if let Some(finding) = notes.finding {
-        let (class, words) = (class_of(finding), verdict(alloc, finding)?);
-        writeln!(page, "<p class=\"verdict {class}\">{words}</p>")?;
+    found(alloc, page, notes, false)?;
+    if let Some(headline) = notes.headline {
+        headed(page, headline)?;
     }
+    found(alloc, page, notes, true)?;
+    answers(page, notes)
+}
+
+// What an audit found, if that is sound, or not, as is said.
+fn found(
+    alloc: Global,
+    page: &mut String,
+    notes: &Notes,
+    is_sound: bool,
+) -> Result<(), AllocError> {
+    match notes.finding {
+        Some(finding) if finding.is_sound == is_sound => {
+            let (class, words) = (class_of(finding), verdict(alloc, finding)?);
+            writeln!(page, "<p class=\"verdict {class}\">{words}</p>")
+        }
+        _ => Ok(()),
+    }
+}
+
+fn headed(page: &mut String, headline: Headline) -> Result<(), AllocError> {
+    let class = if headline.is_well {
+        "is-well"
+    } else {
+        "is-wrong"
+    };
+    for line in headline.lines {
+        let words = Escaped(line.as_str());
+        writeln!(page, "<p class=\"headline {class}\">{words}</p>")?;
+    }
+    Ok(())
+}
+
+fn answers(page: &mut String, notes: &Notes) -> Result<(), AllocError> {
     if notes.answers.is_empty() {
         return Ok(());
     }
@@ -245,8 +310,12 @@ fn pair(
     )
 }
 
-fn counts<A: Allocator>(page: &mut String, report: &Report<A>) -> Result<(), AllocError> {
-    let (base, end) = (base_of(report), end_of(report));
+fn counts<A: Allocator>(
+    page: &mut String,
+    report: &Report<A>,
+    at: Duration,
+) -> Result<(), AllocError> {
+    let (base, end) = (base_of(report), end_of(report, at));
     page.push_str(
         "<table><caption>Counts</caption>\n<tr><th></th><th>base</th><th>end</th></tr>\n",
     )?;
@@ -296,11 +365,7 @@ fn base_of<A: Allocator>(report: &Report<A>) -> Shown {
     }
 }
 
-fn end_of<A: Allocator>(report: &Report<A>) -> Shown {
-    let at = match report.records.last() {
-        Some(record) => record.at(),
-        None => report.base.at,
-    };
+fn end_of<A: Allocator>(report: &Report<A>, at: Duration) -> Shown {
     Shown {
         at,
         idle: capped(report.idle.len()),

@@ -1,5 +1,5 @@
 // The story of a report: what became of each connection, and how many there were.
-ghost use Rattle.std.specs.Prelude.{◌≡◌, ◌+◌, ◌-◌, ◌^◌, ◌<◌, min, IfOk};
+ghost use Rattle.std.specs.Prelude.{◌≡◌, ◌+◌, ◌-◌, ◌^◌, ◌<◌, ◌≤◌, min, IfOk, IfSome};
 ghost use Rattle.std.specs.Duration.{as_nanos};
 
 use r2d2_core::{Limits, Report};
@@ -122,13 +122,14 @@ impl Counts {
     }
 }
 
-/// What a report tells, from the moment of its base to that of its newest record.
+/// What a report tells, from the moment of its base to its own.
 #[derive(Drop)]
 pub struct Story {
     pub limits: Limits,
     /// The moment of the base.
     pub from: Duration,
-    /// The moment of the newest record; where there is none, that of the base.
+    /// The moment of the report. Where that is not known, or before the newest record, it is that
+    /// of the newest record; where there is none, that of the base.
     pub to: Duration,
     /// The connections: those that were idle in the base, those that were lent in it, and then the
     /// others as they were admitted.
@@ -213,19 +214,25 @@ impl Story {
     ghost use Rattle.r2d2_core.specs.Limits.{seen_limits};
     ghost use Rattle.r2d2_core.specs.Reports.{seen_base};
 
-    /// What the report tells. A report that does not replay is told as far as it goes: a record of
+    /// What the report tells up to its moment, where that is known. A report that does not replay is told as far as it goes: a record of
     /// a connection that is not there is left out, and a moment that falls is raised. The error
     /// comes only where memory is refused.
-    pub fn of<A: Allocator>(alloc: Global, report: &Report<A>) -> Result<Story, AllocError>
+    pub fn of<A: Allocator>(
+        alloc: Global,
+        report: &Report<A>,
+        reported_at: Option<Duration>,
+    ) -> Result<Story, AllocError>
         ensures limits { IfOk result (λ s. seen_limits s.limits ≡ seen_limits report.now.limits) }
         ensures begins { IfOk result (λ s. as_nanos s.from ≡ (seen_base report.now.base).at) }
         ensures lost { IfOk result (λ s. s.lost ≡ report.now.lost) }
+        ensures reaches { IfOk result
+            (λ s. IfSome reported_at (λ moment. as_nanos moment ≤ as_nanos s.to)) }
     {
         let mut teller = Teller::of(alloc, report)?;
         for record in &report.records {
             teller.follow(*record)?;
         }
-        Ok(teller.into_story(report))
+        Ok(teller.into_story(report, reported_at))
     }
 
     /// How long it lasts.
@@ -233,6 +240,14 @@ impl Story {
         ensures { as_nanos result ≡ as_nanos self.now.to - as_nanos self.now.from }
     {
         self.to.saturating_sub(self.from)
+    }
+
+    /// How long it goes on after its newest record.
+    pub fn quiet(&self) -> Duration {
+        match self.counts.last() {
+            Some(last) => self.to.saturating_sub(last.at),
+            None => Duration::ZERO,
+        }
     }
 
     /// The counts at the end.

@@ -7,10 +7,11 @@ use crate::marked::{Marked, find_marked};
 use crate::notes::Notes;
 use crate::scale::Scale;
 use crate::story::{Counts, Life, Series, Story};
-use crate::words::{self, dated, exhausted, order, settings, since, span};
+use crate::words::{self, dated, exhausted, lent_since, order, settings, span};
 use cells::{bars, exhausted_signs, lane, put};
 use r2d2_core::{Limits, Report};
 use std::alloc::{AllocError, Allocator, Global};
+use std::time::Duration;
 
 mod cells;
 
@@ -40,11 +41,12 @@ pub fn text<A: Allocator>(
     report: &Report<A>,
     notes: &Notes,
 ) -> Result<String, AllocError> {
-    let story = Story::of(alloc, report)?;
+    let story = Story::of(alloc, report, notes.reported_at)?;
     let places = drawn(alloc, &story, LANES)?;
     let mut sheet = Sheet::of(alloc, &story, &places);
     sheet.head(&story, notes)?;
-    sheet.plot(&story, &places, find_marked(&story, report, notes))?;
+    let wrong = find_marked(&story, report, notes);
+    sheet.plot(&story, &places, wrong, notes.made_at)?;
     Ok(sheet.out)
 }
 
@@ -82,22 +84,23 @@ impl Sheet {
         story: &Story,
         places: &[usize],
         wrong: Option<Marked>,
+        made_at: Option<Duration>,
     ) -> Result<(), AllocError> {
         self.band(story)?;
         self.wrong(wrong)?;
         self.lanes(story, places)?;
         self.axis(story)?;
-        self.still_lent(story, places)?;
+        self.still_lent(story, places, made_at)?;
         self.legend(story.lives.len().saturating_sub(places.len()))
     }
 
     fn head(&mut self, story: &Story, notes: &Notes) -> Result<(), AllocError> {
         self.limits(&story.limits)?;
         if let Some(first) = story.counts.first() {
-            self.counts("base", *first)?;
+            self.counts("base", story.from, *first)?;
         }
         if let Some(last) = story.last_counts() {
-            self.counts("end", last)?;
+            self.counts("end", story.to, last)?;
         }
         self.summary(story, notes)
     }
@@ -125,8 +128,8 @@ impl Sheet {
         writeln!(self.out, "{text}{end}")
     }
 
-    fn counts(&mut self, name: &str, counts: Counts) -> Result<(), AllocError> {
-        let (at, lent) = (Length(counts.at), counts.lent());
+    fn counts(&mut self, name: &str, at: Duration, counts: Counts) -> Result<(), AllocError> {
+        let (at, lent) = (Length(at), counts.lent());
         let (idle, opening) = (counts.idle, counts.pending);
         writeln!(
             self.out,
@@ -207,14 +210,19 @@ impl Sheet {
         self.row(name.as_str(), signs.as_slice())
     }
 
-    // Those of the drawn connections that are lent at the end, and since when.
-    fn still_lent(&mut self, story: &Story, places: &[usize]) -> Result<(), AllocError> {
+    // Those of the drawn connections that are lent at the end, for how long, and since when.
+    fn still_lent(
+        &mut self,
+        story: &Story,
+        places: &[usize],
+        made_at: Option<Duration>,
+    ) -> Result<(), AllocError> {
         for place in places {
             if let Some(life) = story.lives.get(*place)
-                && let Some(since) = since(self.alloc, life)?
+                && let Some(lent) = lent_since(self.alloc, life, made_at)?
             {
                 let id = life.id;
-                writeln!(self.out, "connection {id} is still lent, {since}")?;
+                writeln!(self.out, "connection {id} is still lent, {lent}")?;
             }
         }
         Ok(())

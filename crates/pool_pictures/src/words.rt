@@ -4,7 +4,7 @@ ghost use Rattle.std.specs.Prelude.{◌+◌};
 use crate::exhaustion::Exhaustion;
 use crate::lengths::{Length, Limit};
 use crate::notes::Finding;
-use crate::story::{Coming, Life, Story, Use};
+use crate::story::{Coming, Life, Story, Stretch, Use};
 use jiff::Timestamp;
 use r2d2_core::{LendingOrder, Limits};
 use std::alloc::{AllocError, Global};
@@ -80,20 +80,30 @@ impl fmt::Display for Share {
     }
 }
 
-/// From when to when a drawing goes, and what came before it.
+/// From when to when a drawing goes, what came before it, and for how long nothing came.
 pub(crate) fn span(alloc: Global, story: &Story) -> Result<String, AllocError> {
     let (from, to) = (Length(story.from), Length(story.to));
     let count = u64::try_from(story.counts.len().saturating_sub(1)).unwrap_or(u64::MAX);
     let (records, folded) = (Many(count, "record"), story.lost);
-    if folded == 0 {
-        return format!(in alloc; "{records}, from the making at {from} to {to}");
+    let mut span = if folded == 0 {
+        format!(in alloc; "{records}, from the making at {from} to {to}")?
+    } else {
+        let newest = format!(in alloc; "the newest {records}, to {to}; what {folded} older ones ")?;
+        let folded = format!(in alloc; "came to is folded into the base at {from}");
+        joined(newest, folded)?
+    };
+    let quiet = story.quiet();
+    if !quiet.is_zero() {
+        let quiet = Length(quiet);
+        write!(span, "; nothing happened in the last {quiet}")?;
     }
-    let mut span = format!(in alloc; "the newest {records}, to {to}")?;
-    write!(
-        span,
-        "; what {folded} older ones came to is folded into the base at {from}"
-    )?;
     Ok(span)
+}
+
+// A text with another one behind it, if there was the memory to write that.
+fn joined(mut text: String, more: Result<String, AllocError>) -> Result<String, AllocError> {
+    text.push_str(more?.as_str())?;
+    Ok(text)
 }
 
 /// How often, for how long, and for what part of the time a pool was exhausted.
@@ -191,16 +201,53 @@ pub(crate) fn left_out(alloc: Global, count: usize) -> Result<String, AllocError
     format!(in alloc; "left out: {count} that were there for less long")
 }
 
-/// Since when a connection is lent that is lent at the end.
-pub(crate) fn since(alloc: Global, life: &Life) -> Result<Option<String>, AllocError> {
-    if !life.is_still(Use::Lent) {
-        return Ok(None);
-    }
-    let Some(last) = life.latest() else {
+/// For how long a connection is lent that is lent at the end.
+pub(crate) fn lent_for(alloc: Global, life: &Life) -> Result<Option<String>, AllocError> {
+    let Some(last) = still_lent(life) else {
         return Ok(None);
     };
-    let since = Length(last.from);
-    let was_lent_before = life.coming == Coming::WasLent && life.stretches.len() == 1;
-    let sign = if was_lent_before { "before " } else { "" };
-    Ok(Some(format!(in alloc; "since {sign}{since}")?))
+    let length = Length(last.to.saturating_sub(last.from));
+    let sign = if began_before(life) { "more than " } else { "" };
+    Ok(Some(format!(in alloc; "for {sign}{length}")?))
+}
+
+/// The same, and since when.
+pub(crate) fn lent_since(
+    alloc: Global,
+    life: &Life,
+    made_at: Option<Duration>,
+) -> Result<Option<String>, AllocError> {
+    let (Some(last), Some(mut words)) = (still_lent(life), lent_for(alloc, life)?) else {
+        return Ok(None);
+    };
+    if !began_before(life) {
+        let since = moment(alloc, made_at, last.from)?;
+        write!(words, ", since {since}")?;
+    }
+    Ok(Some(words))
+}
+
+// The last stretch of a connection that is lent at the end.
+fn still_lent(life: &Life) -> Option<Stretch> {
+    if life.is_still(Use::Lent) {
+        life.latest()
+    } else {
+        None
+    }
+}
+
+// Whether its last stretch began before the base, so that nobody knows when.
+fn began_before(life: &Life) -> bool {
+    life.coming == Coming::WasLent && life.stretches.len() == 1
+}
+
+/// A moment as one reads it: by the clock where that is known, or else from the making on.
+fn moment(alloc: Global, made_at: Option<Duration>, at: Duration) -> Result<String, AllocError> {
+    match date(alloc, made_at, at)? {
+        Some(date) => Ok(date),
+        None => {
+            let after = Length(at);
+            format!(in alloc; "{after} after the making")
+        }
+    }
 }

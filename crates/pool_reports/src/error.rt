@@ -23,8 +23,6 @@ pub enum FromJsonError {
     Missing(Place),
     /// At the place stands an object with a field that does not belong there.
     Unknown { place: Place, name: String },
-    /// No pool may have the limits.
-    Limits,
 }
 
 /// Where in the JSON of a report something stands, as `records[17].id`. Items of a list are counted
@@ -130,6 +128,12 @@ pub enum Wanted {
     Kind,
     /// A moment of the wall clock.
     WallClock,
+    /// A text.
+    Text,
+    /// A number or a length of time that is not zero, since no pool may have that.
+    Positive,
+    /// A number of at most `max_size`, which is this.
+    UpToMaxSize(u32),
 }
 
 impl fmt::Display for Wanted {
@@ -137,6 +141,7 @@ impl fmt::Display for Wanted {
         let text = match self {
             Wanted::ListOf(count) => return write!(f, "not a list of {count}"),
             Wanted::UpTo(most) => return write!(f, "not a whole number up to {most}"),
+            Wanted::UpToMaxSize(most) => return write!(f, "above max_size, which is {most}"),
             Wanted::Nanoseconds => return write!(f, "not whole nanoseconds up to {MOST}"),
             Wanted::Object => "not an object",
             Wanted::List => "not a list",
@@ -144,6 +149,8 @@ impl fmt::Display for Wanted {
             Wanted::Order => "neither newest_first nor oldest_first",
             Wanted::Kind => "not the name of a kind of record",
             Wanted::WallClock => "not a moment like 2026-01-31T06:00:00Z",
+            Wanted::Text => "not a text",
+            Wanted::Positive => "zero, which no pool may have",
         };
         f.write_str(text)
     }
@@ -163,7 +170,6 @@ impl fmt::Display for FromJsonError {
             FromJsonError::Wrong { place, wanted } => write!(f, "{place}: {wanted}"),
             FromJsonError::Missing(place) => write!(f, "{place}: missing"),
             FromJsonError::Unknown { place, name } => write!(f, "{place}: unknown field {name:?}"),
-            FromJsonError::Limits => f.write_str("limits: no pool may have them"),
         }
     }
 }

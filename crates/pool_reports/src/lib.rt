@@ -7,14 +7,16 @@
 mod counting;
 pub mod error;
 mod nanoseconds;
+mod origin;
 mod reading;
 pub mod summary;
 pub mod verdict;
 mod writing;
 
 pub use error::{FromJsonError, Place, Wanted};
+pub use origin::{Origin, Written};
 pub use reading::{from_json, from_json_of_pool};
-pub use summary::{Loan, Summary, summarize};
+pub use summary::{Concern, Loan, Summary, summarize};
 pub use verdict::{
     BaseReason, CountsReason, MakingReason, RecordReason, StarvedReason, Verdict, audit,
 };

@@ -2,6 +2,7 @@
 
 use crate::VERSION;
 use crate::error::{FromJsonError, Place, Wanted};
+use crate::origin::Written;
 use found::{Found, Object, Read};
 use json::{MAX_LEN, Scratch, Tape};
 use parts::{Items, Parts, count_items};
@@ -14,9 +15,11 @@ mod found;
 mod parts;
 mod place;
 
-const REPORT_FIELDS: [&str; 12] = [
+const REPORT_FIELDS: [&str; 14] = [
     "version",
+    "name",
     "made_at",
+    "reported_at",
     "limits",
     "base",
     "records",
@@ -49,15 +52,12 @@ const BASE_FIELDS: [&str; 6] = ["at", "idle", "lent", "connections", "pending", 
 /// and where: `records[17].id: not a whole number up to 18446744073709551615`. Whether the report
 /// is one of a pool is not asked here: `audit` tells.
 pub fn from_json(alloc: Global, text: &str) -> Result<Report, FromJsonError> {
-    Ok(from_json_of_pool(alloc, text)?.0)
+    Ok(from_json_of_pool(alloc, text)?.report)
 }
 
-/// The same, and what the wall clock showed when the report's pool was made, if the text says that,
-/// as [`to_json_of_pool`](crate::to_json_of_pool) writes it.
-pub fn from_json_of_pool(
-    alloc: Global,
-    text: &str,
-) -> Result<(Report, Option<SystemTime>), FromJsonError> {
+/// The same, and what the text says of its origin, as [`to_json_of_pool`](crate::to_json_of_pool)
+/// writes it.
+pub fn from_json_of_pool(alloc: Global, text: &str) -> Result<Written, FromJsonError> {
     if text.len() > MAX_LEN {
         return Err(FromJsonError::Memory);
     }
@@ -78,7 +78,7 @@ fn read(
     rest: &str,
     list: Option<&str>,
     scratch: &mut Scratch,
-) -> Result<(Report, Option<SystemTime>), FromJsonError> {
+) -> Result<Written, FromJsonError> {
     let tape = tape_of(alloc, rest, text, scratch)?;
     read_root(alloc, &Found::new(tape.root(), Place::report()), list)
 }
@@ -101,11 +101,32 @@ fn read_root(
     alloc: Global,
     found: &Found<'_>,
     list: Option<&str>,
-) -> Result<(Report, Option<SystemTime>), FromJsonError> {
+) -> Result<Written, FromJsonError> {
     read_version(&found.object()?)?;
     let report = found.object_of(alloc, &REPORT_FIELDS)?;
-    let made_at = report.optional("made_at")?;
-    Ok((read_report(alloc, &report, list)?, made_at))
+    let (made_at, reported_at) = read_moments(&report)?;
+    let name = read_name(alloc, &report)?;
+    Ok(Written {
+        report: read_report(alloc, &report, list)?,
+        name,
+        made_at,
+        reported_at,
+    })
+}
+
+// When the pool was made, and when the report, as far as the text says that.
+fn read_moments(
+    report: &Object<'_, '_>,
+) -> Result<(Option<SystemTime>, Option<Duration>), FromJsonError> {
+    Ok((report.optional("made_at")?, report.optional("reported_at")?))
+}
+
+// What the pool is called, if the text says that.
+fn read_name(alloc: Global, report: &Object<'_, '_>) -> Result<Option<String>, FromJsonError> {
+    match report.optional_text("name")? {
+        Some(name) => Ok(Some(String::from_str(alloc, name)?)),
+        None => Ok(None),
+    }
 }
 
 // Other versions may have other fields, so this one comes first.
@@ -183,7 +204,39 @@ fn limits_of(limits: &Object<'_, '_>) -> Result<Limits, FromJsonError> {
         reap_every: limits.read("reap_every")?,
         order: limits.read("order")?,
     };
-    settings.limits().ok_or(FromJsonError::Limits)
+    match settings.limits() {
+        Some(limits) => Ok(limits),
+        None => Err(wrong_setting(&settings)),
+    }
+}
+
+// The first of the settings that no pool may have. One has to be there.
+fn wrong_setting(settings: &LimitSettings) -> FromJsonError {
+    let max_size = settings.max_size;
+    let (name, wanted) = if max_size == 0 {
+        ("max_size", Wanted::Positive)
+    } else if settings.min_idle.is_some_and(|count| count > max_size) {
+        ("min_idle", Wanted::UpToMaxSize(max_size))
+    } else {
+        (zero_length(settings), Wanted::Positive)
+    };
+    FromJsonError::Wrong {
+        place: Place::named("limits").field(name),
+        wanted,
+    }
+}
+
+// The first of the lengths of time that is zero. One has to be there.
+fn zero_length(settings: &LimitSettings) -> &'static str {
+    if settings.max_lifetime == Some(Duration::ZERO) {
+        "max_lifetime"
+    } else if settings.idle_timeout == Some(Duration::ZERO) {
+        "idle_timeout"
+    } else if settings.connection_timeout.is_zero() {
+        "connection_timeout"
+    } else {
+        "reap_every"
+    }
 }
 
 impl Read for LendingOrder {

@@ -1,5 +1,5 @@
 // What is asked first of a report.
-ghost use Rattle.std.specs.Prelude.{◌≡◌, ◌+◌, ◌-◌, map, IfOk};
+ghost use Rattle.std.specs.Prelude.{◌≡◌, ◌+◌, ◌-◌, ◌≤◌, map, max, None, IfOk, IfSome};
 ghost use Rattle.std.specs.Duration.{as_nanos};
 ghost use Rattle.r2d2_core.specs.Records.{seen_record};
 ghost use Rattle.r2d2_core.specs.Reports.{seen_records};
@@ -7,22 +7,36 @@ ghost use Rattle.pool_reports.specs.Summaries.{opened_in, closed_in};
 
 use crate::counting::{admissions, closings};
 use crate::nanoseconds::Nanoseconds;
-use r2d2_core::{Load, Record, Report};
+pub use concern::Concern;
+use r2d2_core::{Record, Report};
 use serde::{Described, Serialize, Serializer};
 use std::alloc::{AllocError, Allocator, Global};
 use std::time::Duration;
+use whiles::Whiles;
+
+mod concern;
+mod whiles;
 
 /// What a report says of the time that it covers. Moments count from the making of the pool.
 #[derive(Debug, Drop)]
 pub struct Summary {
     /// The moment of the base, from which on the report tells.
     pub from: Duration,
-    /// The moment of the last record; that of the base if there is none.
+    /// The moment of the report, up to which it tells. Where that is not known, or before the last
+    /// record, it is that of the last record; if there is none, that of the base.
     pub until: Duration,
     /// The most connections that were lent at once.
     pub most_lent: usize,
     /// For how long the pool was exhausted, as `Load` says it.
     pub exhausted: Duration,
+    /// How long the longest while was in which it was exhausted.
+    pub longest_exhaustion: Duration,
+    /// Since when it is exhausted at the end, if it is.
+    pub exhausted_since: Option<Duration>,
+    /// Since when openings are pending at the end and none succeeded, if some are pending.
+    pub opening_since: Option<Duration>,
+    /// How many openings are pending at the end.
+    pub pending: u32,
     /// How many connections were opened.
     pub opened: u64,
     /// How many were closed at their return, or since their check failed.
@@ -50,12 +64,17 @@ impl Summary {
     }
 }
 
-/// What a report says of the time that it covers. Of one that does not replay it says as much as
-/// its records do.
+/// What a report says of the time that it covers: up to the moment of the report, where that is
+/// known, since what was so at the last record is so until then. Of a report that does not replay
+/// it says as much as its records do.
 ///
 /// It takes time in proportion to the records, and memory to the lent connections. The error comes
 /// only where that is refused.
-pub fn summarize<A: Allocator>(alloc: Global, report: &Report<A>) -> Result<Summary, AllocError>
+pub fn summarize<A: Allocator>(
+    alloc: Global,
+    report: &Report<A>,
+    reported_at: Option<Duration>,
+) -> Result<Summary, AllocError>
     ensures opened { IfOk result (λ s. s.opened ≡ opened_in (seen_records report.now)) }
     ensures closed { IfOk result (λ s. s.closed ≡ closed_in (seen_records report.now)) }
     ensures reaped { IfOk result
@@ -63,6 +82,9 @@ pub fn summarize<A: Allocator>(alloc: Global, report: &Report<A>) -> Result<Summ
         ≡ (report.now.base.connections + opened_in (seen_records report.now))
         - (closed_in (seen_records report.now) + report.now.connections)) }
     ensures lent { IfOk result (λ s. map (λ l. l.id) s.lent.items ≡ report.now.lent.items) }
+    ensures pending { IfOk result (λ s. s.pending ≡ report.now.pending) }
+    ensures until { IfOk result
+        (λ s. IfSome reported_at (λ moment. as_nanos moment ≤ as_nanos s.until)) }
 {
     let records = report.records.as_slice();
     let opened = admissions(records);
@@ -70,22 +92,34 @@ pub fn summarize<A: Allocator>(alloc: Global, report: &Report<A>) -> Result<Summ
     let came = report.base.connections as u128 + opened as u128;
     let left = closed as u128 + report.connections as u128;
     let lent = loans(alloc, report.lent.as_slice(), records)?;
-    let mut load = Load::of(report.limits, &report.base);
-    let mut most_lent = load.lent;
-    for record in records {
-        load.follow(record);
-        most_lent = most_lent.max(load.lent);
-    }
+    let whiles = Whiles::of(report);
+    let until = until(whiles.load.at, reported_at);
     Ok(Summary {
         from: report.base.at,
-        until: load.at,
-        most_lent,
-        exhausted: load.exhausted,
+        until,
+        most_lent: whiles.most_lent,
+        exhausted: whiles.load.exhausted_until(until),
+        longest_exhaustion: whiles.longest_until(until),
+        exhausted_since: whiles.exhausted_since,
+        opening_since: whiles.opening_since,
+        pending: report.pending,
         opened,
         closed,
         reaped: came.saturating_sub(left) as u64,
         lent,
     })
+}
+
+// Up to when a report tells, whose records do so up to a moment.
+fn until(told: Duration, reported_at: Option<Duration>) -> Duration
+    ensures known { IfSome reported_at
+        (λ moment. as_nanos result ≡ max (as_nanos told) (as_nanos moment)) }
+    ensures unknown { reported_at ≡ None → result ≡ told }
+{
+    match reported_at {
+        Some(moment) if told.as_nanos() < moment.as_nanos() => moment,
+        _ => told,
+    }
 }
 
 // The lent ones, in the order of their takes.
@@ -141,6 +175,10 @@ impl Serialize for Summary {
             until: Nanoseconds(self.until),
             most_lent: self.most_lent,
             exhausted: Nanoseconds(self.exhausted),
+            longest_exhaustion: Nanoseconds(self.longest_exhaustion),
+            exhausted_since: self.exhausted_since.map(Nanoseconds),
+            opening_since: self.opening_since.map(Nanoseconds),
+            pending: self.pending,
             opened: self.opened,
             closed: self.closed,
             reaped: self.reaped,
@@ -156,6 +194,10 @@ struct SummaryText<'a> {
     until: Nanoseconds,
     most_lent: usize,
     exhausted: Nanoseconds,
+    longest_exhaustion: Nanoseconds,
+    exhausted_since: Option<Nanoseconds>,
+    opening_since: Option<Nanoseconds>,
+    pending: u32,
     opened: u64,
     closed: u64,
     reaped: u64,

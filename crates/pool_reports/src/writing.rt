@@ -2,6 +2,7 @@
 
 use crate::VERSION;
 use crate::nanoseconds::Nanoseconds;
+use crate::origin::Origin;
 use jiff::Timestamp;
 use r2d2_core::{Base, LendingOrder, Limits, Record, Report};
 use serde::{Described, Serialize, Serializer};
@@ -15,19 +16,23 @@ use std::time::{Duration, SystemTime};
 /// strings of digits above. What [`from_json`](crate::from_json) makes of the line is this report.
 /// The error comes only where memory is refused.
 pub fn to_json<A: Allocator>(alloc: Global, report: &Report<A>) -> Result<String, AllocError> {
-    to_json_of_pool(alloc, report, None)
+    to_json_of_pool(alloc, report, Origin::unknown())
 }
 
-/// The same, with a field `made_at`: what the wall clock showed when the report's pool was made,
-/// from which its moments count. It is left out where that is not known, or past the year 9999.
+/// The same, with what is known of its origin: a field `name`, what the pool is called; `made_at`,
+/// what the wall clock showed when it was made, from which its moments count; and `reported_at`,
+/// the moment of the report, up to which an audit then reckons. What is not known is left out, and
+/// so is a wall clock past the year 9999.
 pub fn to_json_of_pool<A: Allocator>(
     alloc: Global,
     report: &Report<A>,
-    made_at: Option<SystemTime>,
+    origin: Origin<'_>,
 ) -> Result<String, AllocError> {
     let written = ReportText {
         version: VERSION,
-        made_at: made_at.and_then(WallClock::of),
+        name: origin.name,
+        made_at: origin.made_at.and_then(WallClock::of),
+        reported_at: origin.reported_at.map(Nanoseconds),
         limits: LimitsText::of(&report.limits),
         base: BaseText::of(&report.base),
         records: RecordTexts(report.records.as_slice()),
@@ -47,7 +52,11 @@ pub fn to_json_of_pool<A: Allocator>(
 struct ReportText<'a> {
     version: u64,
     #[serde(skip_serializing_if = "Option::is_none")]
+    name: Option<&'a str>,
+    #[serde(skip_serializing_if = "Option::is_none")]
     made_at: Option<WallClock>,
+    #[serde(skip_serializing_if = "Option::is_none")]
+    reported_at: Option<Nanoseconds>,
     limits: LimitsText,
     base: BaseText<'a>,
     records: RecordTexts<'a>,

@@ -1,8 +1,8 @@
 // The lines above a drawing: what is known of a report, and its limits.
 
 use super::Canvas;
-use super::layout::{MARGIN, Tenths, WIDTH};
-use crate::notes::Notes;
+use super::layout::{MARGIN, Tenths};
+use crate::notes::{Headline, Notes};
 use crate::story::Story;
 use crate::words::{Escaped, dated, exhausted, order, settings, span, verdict};
 use r2d2_core::Limits;
@@ -11,8 +11,9 @@ use std::alloc::{AllocError, Global};
 /// How a line looks.
 #[derive(Clone, Copy, PartialEq, Eq)]
 enum Look {
+    Well,
+    Alarm,
     Sound,
-    Wrong,
     Title,
     Answer,
     Dim,
@@ -21,18 +22,28 @@ enum Look {
 impl Look {
     fn class(self) -> &'static str {
         match self {
+            Look::Well => "headline sound",
+            Look::Alarm => "headline fault",
             Look::Sound => "sound",
-            Look::Wrong => "fault",
             Look::Title => "title",
             Look::Answer => "answer",
             Look::Dim => "dim",
         }
     }
 
+    // What the ground of a line looks like that has one.
+    fn plate(self) -> &'static str {
+        match self {
+            Look::Alarm => "fault-plate",
+            _ => "sound-plate",
+        }
+    }
+
     // How much further down the next line stands.
     fn height(self) -> u32 {
         match self {
-            Look::Sound | Look::Wrong => 360,
+            Look::Well | Look::Alarm => 320,
+            Look::Sound => 200,
             Look::Title => 220,
             Look::Answer | Look::Dim => 180,
         }
@@ -62,17 +73,38 @@ impl Head {
 
     // What is known by the notes.
     fn known(&mut self, alloc: Global, notes: &Notes) -> Result<(), AllocError> {
-        if let Some(finding) = notes.finding {
-            let look = if finding.is_sound {
-                Look::Sound
-            } else {
-                Look::Wrong
-            };
-            self.add(look, verdict(alloc, finding)?)?;
+        self.finding(alloc, notes, false)?;
+        if let Some(headline) = notes.headline {
+            self.headline(alloc, headline)?;
         }
+        self.finding(alloc, notes, true)?;
         for answer in notes.answers {
             let words = Escaped(answer.as_str());
             self.add(Look::Answer, format!(in alloc; "{words}")?)?;
+        }
+        Ok(())
+    }
+
+    // What an audit found, if that is sound, or not, as is said: the latter stands above all.
+    fn finding(&mut self, alloc: Global, notes: &Notes, is_sound: bool) -> Result<(), AllocError> {
+        let look = if is_sound { Look::Sound } else { Look::Alarm };
+        match notes.finding {
+            Some(finding) if finding.is_sound == is_sound => {
+                self.add(look, verdict(alloc, finding)?)
+            }
+            _ => Ok(()),
+        }
+    }
+
+    fn headline(&mut self, alloc: Global, headline: Headline) -> Result<(), AllocError> {
+        let look = if headline.is_well {
+            Look::Well
+        } else {
+            Look::Alarm
+        };
+        for line in headline.lines {
+            let words = Escaped(line.as_str());
+            self.add(look, format!(in alloc; "{words}")?)?;
         }
         Ok(())
     }
@@ -112,7 +144,7 @@ impl Canvas {
     pub(super) fn head(&mut self, head: &Head) -> Result<(), AllocError> {
         let mut y: u32 = 300;
         for (look, text) in &head.lines {
-            if matches!(look, Look::Sound | Look::Wrong) {
+            if matches!(look, Look::Well | Look::Alarm) {
                 self.plate(*look, y)?;
             }
             self.say(look.class(), y, text.as_str())?;
@@ -127,10 +159,11 @@ impl Canvas {
             Tenths(MARGIN.saturating_sub(120)),
             Tenths(y.saturating_sub(180)),
         );
-        let (class, width) = (look.class(), Tenths(WIDTH.saturating_sub(MARGIN)));
+        let width = Tenths(self.layout.width.saturating_sub(MARGIN));
+        let class = look.plate();
         writeln!(
             self.out,
-            "<rect class=\"{class}-plate\" x=\"{x}\" y=\"{y}\" width=\"{width}\" height=\"26\" rx=\"4\"/>"
+            "<rect class=\"{class}\" x=\"{x}\" y=\"{y}\" width=\"{width}\" height=\"26\" rx=\"4\"/>"
         )
     }
 }

@@ -5,7 +5,7 @@ use super::layout::Tenths;
 use super::marks::{came, point, went};
 use crate::lengths::Length;
 use crate::story::{Cause, Life, Story, Use};
-use crate::words::{Times, since};
+use crate::words::{Times, lent_for, lent_since};
 use std::alloc::AllocError;
 use std::time::Duration;
 
@@ -64,8 +64,8 @@ impl Canvas {
         let (id, birth) = (life.id, Length(life.birth));
         write!(self.out, "<title>connection {id}: admitted at {birth}")?;
         self.uses(life)?;
-        if let Some(since) = since(self.alloc, life)? {
-            write!(self.out, ", lent {since} and not given back")?;
+        if let Some(lent) = lent_since(self.alloc, life, self.made_at)? {
+            write!(self.out, ", lent {lent}, and not given back")?;
         }
         if let Some(ending) = life.ending {
             let (at, why) = (Length(ending.at), said(ending.cause));
@@ -94,21 +94,21 @@ impl Canvas {
         )
     }
 
-    // A point to the right of the plot, and since when the connection is lent.
+    // A point to the right of the plot, and for how long the connection is lent.
     fn still_lent(&mut self, life: &Life, y: u32) -> Result<(), AllocError> {
         let (right, pitch) = (self.layout.right, self.layout.pitch);
         point(&mut self.out, right, y, pitch.bar / 2)?;
         if !pitch.has_id {
             return Ok(());
         }
-        if let Some(since) = since(self.alloc, life)? {
+        if let Some(length) = lent_for(self.alloc, life)? {
             let (x, y) = (
                 Tenths(right.saturating_add(150)),
                 Tenths(y.saturating_add(38)),
             );
             writeln!(
                 self.out,
-                "<text class=\"id\" x=\"{x}\" y=\"{y}\">{since}</text>"
+                "<text class=\"id\" x=\"{x}\" y=\"{y}\">{length}</text>"
             )?;
         }
         Ok(())

@@ -6,15 +6,37 @@ use crate::story::Story;
 use std::fmt;
 use std::time::Duration;
 
-/// How wide a drawing is.
-pub(super) const WIDTH: u32 = 12_000;
+/// How wide a drawing is: for a screen, or for a narrow one.
+#[derive(Clone, Copy, PartialEq, Eq)]
+pub(crate) enum Width {
+    Wide,
+    Narrow,
+}
+
+impl Width {
+    pub(super) fn all(self) -> u32
+        ensures { 5600 ≤ result }
+    {
+        match self {
+            Width::Wide => 12_000,
+            Width::Narrow => 5600,
+        }
+    }
+
+    // What is left free at the right of the plot, for the names of limits and for how long a
+    // connection is lent.
+    fn right(self) -> u32
+        ensures { result ≤ 1700 }
+    {
+        match self {
+            Width::Wide => 1700,
+            Width::Narrow => 1350,
+        }
+    }
+}
 
 /// What is left free at the left of the texts.
 pub(super) const MARGIN: u32 = 240;
-
-// What is left free at the right of the plot, for the names of limits and for since when a
-// connection is lent.
-const RIGHT: u32 = 1700;
 
 // From what stands above the plot to the band, with the names of single moments between them.
 const NAMES_HEIGHT: u32 = 460;
@@ -93,6 +115,7 @@ impl Pitch {
 /// Where everything lies: the plot from `left` to `right`, and the places of the scale in it.
 #[derive(Clone, Copy)]
 pub(super) struct Layout {
+    pub(super) width: u32,
     pub(super) left: u32,
     pub(super) right: u32,
     pub(super) pitch: Pitch,
@@ -111,6 +134,7 @@ impl Layout {
     /// at most.
     pub(super) fn of(
         story: &Story,
+        width: Width,
         above: u32,
         lanes: usize,
         digits: u32,
@@ -119,7 +143,7 @@ impl Layout {
         let pitch = Pitch::of(lanes);
         let names = digits.saturating_mul(70).saturating_add(100);
         let left = MARGIN + names.clamp(560, 3000);
-        let right = WIDTH - RIGHT;
+        let right = width.all() - width.right();
         let band_top = above.saturating_add(NAMES_HEIGHT);
         let clock = if has_clock { CLOCK_HEIGHT } else { 0 };
         let lanes_top = band_top.saturating_add(BAND_HEIGHT + AXIS_HEIGHT + clock);
@@ -132,6 +156,7 @@ impl Layout {
             FOOT
         };
         Layout {
+            width: width.all(),
             left,
             right,
             pitch,

@@ -1,16 +1,13 @@
 // What the lines and marks of a drawing mean.
 
 use super::Canvas;
-use super::layout::{MARGIN, Tenths, WIDTH};
+use super::layout::{MARGIN, Tenths};
 use super::marks::{box_of, came, line, point, went};
 use crate::story::{Cause, Coming};
 use std::alloc::{AllocError, Global};
 
 // So many keys stand side by side: above those of lines and areas, and below them those of marks.
 const ACROSS: u32 = 6;
-
-// How far to the right the next key stands.
-const COLUMN: u32 = (WIDTH - 2 * MARGIN) / ACROSS;
 
 // How high a row of the legend is.
 const ROW: u32 = 220;
@@ -85,9 +82,10 @@ pub(super) fn list(alloc: Global) -> Result<String, AllocError> {
 impl Canvas {
     /// The legend, so far down.
     pub(super) fn legend(&mut self, top: u32) -> Result<(), AllocError> {
+        let pitch = self.layout.width.saturating_sub(2 * MARGIN) / ACROSS;
         for (number, key) in (0..).zip(KEYS) {
             let (column, row): (u32, u32) = (number % ACROSS, number / ACROSS);
-            let x = column.saturating_mul(COLUMN).saturating_add(MARGIN);
+            let x = column.saturating_mul(pitch).saturating_add(MARGIN);
             let y = row
                 .saturating_mul(ROW)
                 .saturating_add(top)

@@ -26,6 +26,7 @@ pub(super) const STYLE: &str = r#"<style>
 .pool .shade { fill: #b3261e; fill-opacity: 0.12 }
 .pool .wrong { stroke: #b3261e; stroke-width: 2; fill: none }
 .pool .sound, .pool .fault { font-weight: 600 }
+.pool .headline { font-size: 17px }
 .pool .sound { fill: #0b5c2b }
 .pool .fault { fill: #b3261e }
 .pool .sound-plate { fill: #d7f0df }

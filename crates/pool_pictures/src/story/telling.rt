@@ -1,5 +1,6 @@
 // How a story is told: the records of a report, one by one.
-ghost use Rattle.std.specs.Prelude.{◌≡◌};
+ghost use Rattle.std.specs.Prelude.{◌≡◌, ◌≤◌, IfSome};
+ghost use Rattle.std.specs.Duration.{as_nanos};
 
 use super::{Cause, Coming, Counts, Life, Story, Stretch, Use};
 use r2d2_core::{Base, Load, Record, Report};
@@ -196,28 +197,49 @@ impl Teller {
         self.count()
     }
 
-    /// The whole story of the report.
-    pub(super) fn into_story<A: Allocator>(mut self, report: &Report<A>) -> Story
+    /// The whole story of the report, up to its moment where that is known.
+    pub(super) fn into_story<A: Allocator>(
+        mut self,
+        report: &Report<A>,
+        reported_at: Option<Duration>,
+    ) -> Story
         ensures limits { result.limits ≡ report.now.limits }
         ensures begins { result.from ≡ report.now.base.at }
         ensures lost { result.lost ≡ report.now.lost }
+        ensures reaches { IfSome reported_at (λ moment. as_nanos moment ≤ as_nanos result.to) }
     {
-        for life in self.lives.iter_mut() {
-            if life.ending.is_none() {
-                life.reach(self.load.at);
-            }
-        }
+        let to = later(self.load.at, reported_at);
+        self.reach(to);
         Story {
             limits: report.limits,
             from: report.base.at,
-            to: self.load.at,
+            to,
+            exhausted: self.load.exhausted_until(to),
             lives: self.lives,
             counts: self.counts,
-            exhausted: self.load.exhausted,
             lost: report.lost,
             closed: self.load.closed,
             closing: self.closing,
         }
+    }
+
+    // What is there at the end is so until then.
+    fn reach(&mut self, to: Duration) {
+        for life in self.lives.iter_mut() {
+            if life.ending.is_none() {
+                life.reach(to);
+            }
+        }
+    }
+}
+
+// The later one of a moment and another that may not be known.
+fn later(told: Duration, other: Option<Duration>) -> Duration
+    ensures { IfSome other (λ moment. as_nanos moment ≤ as_nanos result) }
+{
+    match other {
+        Some(moment) if told.as_nanos() < moment.as_nanos() => moment,
+        _ => told,
     }
 }
 

@@ -220,4 +220,15 @@ impl<'f, 't> Object<'f, 't> {
         }
         Ok(Some(self.read(name)?))
     }
+
+    /// The text of the field of this name, if it is there.
+    pub(super) fn optional_text(
+        &self,
+        name: &'static str,
+    ) -> Result<Option<&'t str>, FromJsonError> {
+        if self.found.value.get(name).is_none() {
+            return Ok(None);
+        }
+        Ok(Some(self.field(name)?.text(Wanted::Text)?))
+    }
 }

@@ -1,0 +1,74 @@
+// What a service tells of a report besides what it says.
+
+use r2d2_core::Report;
+use std::time::{Duration, SystemTime};
+
+/// What a service tells of a report of its pool, so that whoever reads it later knows which pool it
+/// was, and when. Each of it may be unknown.
+#[derive(Clone, Copy, Debug, PartialEq, Eq)]
+pub struct Origin<'a> {
+    /// What the pool is called, where a log has the reports of several.
+    pub name: Option<&'a str>,
+    /// What the wall clock showed when the pool was made, from which its moments count.
+    pub made_at: Option<SystemTime>,
+    /// The moment of the report, since the pool was made. Without it a report ends with its last
+    /// record, however long ago that was.
+    pub reported_at: Option<Duration>,
+}
+
+impl<'a> Origin<'a> {
+    /// Nothing is known.
+    pub fn unknown() -> Origin<'static> {
+        Origin {
+            name: None,
+            made_at: None,
+            reported_at: None,
+        }
+    }
+
+    /// A report of `now`, of a pool that was made at `made_at`, both by the wall clock. Where one
+    /// of them could not be read, or the clock was put back since, the moment is unknown.
+    pub fn by_the_clock(made_at: Option<SystemTime>, now: Option<SystemTime>) -> Origin<'static> {
+        Origin {
+            name: None,
+            made_at,
+            reported_at: between(made_at, now),
+        }
+    }
+
+    /// The same, of a pool that is called so.
+    pub fn named(self, name: &'a str) -> Origin<'a> {
+        Origin {
+            name: Some(name),
+            ..self
+        }
+    }
+}
+
+// How long after one moment of the wall clock another one is.
+fn between(from: Option<SystemTime>, to: Option<SystemTime>) -> Option<Duration> {
+    to?.duration_since(from?).ok()
+}
+
+/// A report that was read, and what its service told of it.
+#[derive(Drop)]
+pub struct Written {
+    pub report: Report,
+    /// What the pool is called.
+    pub name: Option<String>,
+    /// What the wall clock showed when the pool was made.
+    pub made_at: Option<SystemTime>,
+    /// The moment of the report, since the pool was made.
+    pub reported_at: Option<Duration>,
+}
+
+impl Written {
+    /// What its service told of it.
+    pub fn origin(&self) -> Origin<'_> {
+        Origin {
+            name: self.name.as_deref(),
+            made_at: self.made_at,
+            reported_at: self.reported_at,
+        }
+    }
+}
