@@ -3,3 +3,4 @@ pub mod Closings
 pub mod Counted
 pub mod Longest
 pub mod Printed
+pub mod Recording

@@ -22,7 +22,9 @@ pub(crate) struct Histogram {
 }
 
 impl Histogram {
-    pub(crate) fn new(scale: Scale) -> Histogram {
+    pub(crate) fn new(scale: Scale) -> Histogram
+        ensures { result.scale ≡ scale }
+    {
         Histogram {
             scale,
             counts: array::from_fn(|_| AtomicU64::new(0)),
@@ -40,7 +42,9 @@ impl Histogram {
 
     /// What was counted so far. Each count is read once; all that is told of them comes from that
     /// one reading.
-    pub(crate) fn read(&self) -> Distribution {
+    pub(crate) fn read(&self) -> Distribution
+        ensures { result.scale ≡ self.now.scale }
+    {
         let mut counts = [0; BUCKETS];
         for bucket in 0..BUCKETS {
             counts[bucket] = self.counts[bucket].load(Ordering::SeqCst);

@@ -47,6 +47,7 @@ impl Loans {
     pub(crate) fn new(alloc: Global, room: usize) -> Result<Loans, AllocError>
         ensures none { IfOk result (λ loans. loans.entries.items ≡ []) }
         ensures room { IfOk result (λ loans. vec_capacity loans.entries ≡ room) }
+        ensures latest { IfOk result (λ loans. loans.latest ≡ 0) }
         ensures all_listed { IfOk result (λ loans. loans.unlisted ≡ 0) }
     {
         Ok(Loans {
@@ -59,11 +60,13 @@ impl Loans {
     /// One is lent now. Where there is no more room, it is counted, and not listed.
     pub(crate) fn add(&mut self, id: u64, now: u64)
         ensures listed { vec_len self.old.entries < vec_capacity self.old.entries
-            → self.new.entries.items
-            ≡ self.old.entries.items ++ record { id = id; since = max self.old.latest now } ∷ [] }
+            → (self.new.entries.items
+            ≡ self.old.entries.items ++ record { id = id; since = max self.old.latest now } ∷ [])
+            × (self.new.unlisted ≡ self.old.unlisted) }
         ensures room { vec_capacity self.new.entries ≡ vec_capacity self.old.entries }
+        ensures latest { self.new.latest ≡ max self.old.latest now }
         ensures full { vec_capacity self.old.entries ≤ vec_len self.old.entries
-            → self.new.entries.items ≡ self.old.entries.items
+            → (self.new.entries.items ≡ self.old.entries.items)
             × (self.new.unlisted ≡ min (self.old.unlisted + 1) (2 ^ 64 - 1)) }
     {
         self.latest = self.latest.max(now);
@@ -80,6 +83,7 @@ impl Loans {
         ensures removed { self.new.entries.items
             ≡ filter (λ e. not (e.id == id)) self.old.entries.items }
         ensures room { vec_capacity self.new.entries ≡ vec_capacity self.old.entries }
+        ensures latest { self.new.latest ≡ self.old.latest }
         ensures unlisted { self.new.unlisted ≡ self.old.unlisted }
     {
         self.entries.retain(|entry| entry.id != id);

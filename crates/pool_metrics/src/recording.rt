@@ -1,5 +1,6 @@
 // The handler that counts and times, and what is read of it.
-ghost use Rattle.std.specs.Prelude.{◌≡◌, slice_index, IfOk};
+ghost use Rattle.std.specs.Prelude.{◌≡◌, ◌<◌, ◌↔◌, slice_index, unwrap_or, IsSome, IfOk};
+ghost use Rattle.std.specs.Option.{IsNone};
 ghost use Rattle.pool_metrics.specs.Longest.{IsLongestFirst};
 
 use crate::buckets::{Scales, nanos_of};
@@ -11,6 +12,7 @@ use r2d2::event::{AcquireEvent, CheckinEvent, CheckoutEvent, ReleaseEvent, Timeo
 use r2d2::{HandleEvent, PoolRuntime};
 use std::alloc::{AllocError, AllocGlobal};
 use std::fmt;
+use std::marker::Model;
 use std::rt::Clock;
 use std::sync::atomic::{AtomicBool, AtomicU64, Ordering};
 use std::sync::{Arc, Mutex, Wait};
@@ -26,6 +28,21 @@ use std::time::{Duration, Instant};
 #[derive(Drop)]
 pub struct Metrics<R> {
     records: Arc<Records<R>>,
+}
+
+// Contracts see them as the bounds of their histograms: what these count, other threads change.
+impl<R> Model for Metrics<R> {
+    ghost use Rattle.std.specs.Prelude.{◌≡◌};
+    ghost use Rattle.std.specs.Arc.{arc_value};
+    ghost use Rattle.pool_metrics.specs.declared.buckets.Scales.{Scales};
+    ghost use Rattle.pool_metrics.specs.Recording.{scales_of};
+
+    ghost Value = { Scales };
+
+    ghost view = { λ m. scales_of (arc_value m.records) };
+
+    ghost invariant = { λ m. (arc_value m.records).vain_waits.scale
+        ≡ (arc_value m.records).waits.scale };
 }
 
 #[derive(Drop)]
@@ -81,12 +98,16 @@ pub struct Snapshot {
 }
 
 impl<R> Metrics<R> {
+    ghost use Rattle.pool_metrics.specs.Bounds.{usual};
+    ghost use Rattle.pool_metrics.specs.Recording.{HasBounds};
+
     /// Metrics of one pool, with memory for all that it may lend at a time: `max_size` is that of
     /// the pool. The error is lack of memory; none is asked for later. Its histograms have the
     /// bounds of `Scales::default`.
     pub fn new(rt: R, max_size: u32) -> Result<Metrics<R>, AllocError>
     where
         R: Clock + AllocGlobal + Drop,
+        ensures { IfOk result (λ metrics. metrics ≡ usual) }
     {
         Metrics::with_bounds(rt, max_size, Scales::default())
     }
@@ -95,6 +116,7 @@ impl<R> Metrics<R> {
     pub fn with_bounds(rt: R, max_size: u32, scales: Scales) -> Result<Metrics<R>, AllocError>
     where
         R: Clock + AllocGlobal + Drop,
+        ensures { IfOk result (λ metrics. metrics ≡ scales) }
     {
         let alloc = rt.alloc();
         let records = Records {
@@ -120,7 +142,9 @@ impl<R> Metrics<R> {
 
     /// The same counts again, for a builder, for a `Timed` manager, or for another thread. The
     /// error is lack of memory.
-    pub fn try_clone(&self) -> Result<Metrics<R>, AllocError> {
+    pub fn try_clone(&self) -> Result<Metrics<R>, AllocError>
+        ensures { IfOk result (λ metrics. metrics ≡ self.now) }
+    {
         Ok(Metrics {
             records: Arc::try_clone(&self.records)?,
         })
@@ -141,6 +165,8 @@ impl<R> Metrics<R> {
     pub fn snapshot(&self) -> Snapshot
     where
         R: Clock + Wait,
+        ensures bounds { HasBounds self.now result }
+        ensures timeouts { result.timeouts ≡ slice_index result.vain_waits.up_to 13 }
     {
         let records = &*self.records;
         // What ends is read before what begins it, so that no more are closed than were opened.
@@ -235,6 +261,7 @@ impl<R> Records<R> {
     fn moment(&self) -> u64
     where
         R: Clock,
+        ensures { IsNone self.now.made → result ≡ 0 }
     {
         match &self.made {
             Some(made) => nanos_of(made.elapsed(&self.rt).unwrap_or(Duration::ZERO)),
@@ -255,6 +282,7 @@ impl<R> Records<R> {
     fn since_latest(&self, errors: Option<u64>) -> Option<Duration>
     where
         R: Clock,
+        ensures { IsSome result ↔ (0 < unwrap_or errors 0) }
     {
         match errors {
             None | Some(0) => None,

@@ -1,8 +1,10 @@
 // A manager whose openings are timed.
+ghost use Rattle.std.specs.Prelude.{◌≡◌, IfOk};
 
 use crate::recording::Metrics;
 use r2d2::{ManageConnection, PoolRuntime};
 use std::alloc::AllocError;
+use std::marker::Model;
 
 /// A manager, the time of whose openings goes to the metrics of its pool. All else is as with the
 /// manager in it.
@@ -12,11 +14,19 @@ pub struct Timed<M, R> {
     metrics: Metrics<R>,
 }
 
+// Contracts see it as the manager in it.
+impl<M, R> Model for Timed<M, R> {
+    ghost Value = { M };
+
+    ghost view = { λ timed. timed.manager };
+}
+
 impl<M, R> Timed<M, R> {
     /// This manager, for the pool whose metrics these are. The error is lack of memory.
     pub fn new(manager: M, metrics: &Metrics<R>) -> Result<Timed<M, R>, AllocError>
     where
         M: Drop,
+        ensures { IfOk result (λ timed. timed ≡ manager) }
     {
         let metrics = metrics.try_clone()?;
         metrics.expect_openings();
