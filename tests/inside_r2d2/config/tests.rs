@@ -38,9 +38,10 @@ where
         .check_after_idle(Some(Duration::from_millis(500)))
         .distrust_idle(true)
         .lifetime_jitter(Duration::from_secs(180))
+        .max_waiting(100)
 }
 
-type Seen = (Option<Duration>, bool, Option<Duration>, Option<Duration>);
+type Seen = (Option<Duration>, bool, Option<Duration>, Option<Duration>, Option<u32>);
 
 fn seen<H, V, Z>(builder: &Builder<Numbers, H, V, Z>) -> Seen
 where
@@ -54,11 +55,12 @@ where
         tuning.distrust_idle,
         tuning.retry_at_most,
         tuning.lifetime_jitter,
+        tuning.max_waiting,
     )
 }
 
 fn off() -> Seen {
-    (None, false, None, None)
+    (None, false, None, None, None)
 }
 
 // What `with_tuning` sets.
@@ -68,6 +70,7 @@ fn all() -> Seen {
         true,
         Some(Duration::from_millis(100)),
         Some(Duration::from_secs(180)),
+        Some(100),
     )
 }
 
@@ -115,6 +118,8 @@ fn each_of_them_keeps_the_others_and_the_first_id(rt: HostRuntime) -> Result<(),
     assert_eq!(rt; (seen(&builder), builder.first_id), (all(), 7));
     let builder = builder.lifetime_jitter(Duration::from_secs(180));
     assert_eq!(rt; (seen(&builder), builder.first_id), (all(), 7));
+    let builder = builder.max_waiting(100);
+    assert_eq!(rt; (seen(&builder), builder.first_id), (all(), 7));
     Ok(())
 }
 
@@ -124,8 +129,10 @@ fn each_of_them_can_be_set_anew(rt: HostRuntime) -> Result<(), Fail> {
         .check_after_idle(None)
         .distrust_idle(false)
         .retry_at_most(Duration::from_secs(9))
-        .lifetime_jitter(Duration::from_secs(8));
-    let wanted = (None, false, Some(Duration::from_secs(9)), Some(Duration::from_secs(8)));
+        .lifetime_jitter(Duration::from_secs(8))
+        .max_waiting(7);
+    let (longest, jitter) = (Duration::from_secs(9), Duration::from_secs(8));
+    let wanted = (None, false, Some(longest), Some(jitter), Some(7));
     assert_eq!(rt; seen(&builder), wanted);
     Ok(())
 }
