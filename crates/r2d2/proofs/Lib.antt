@@ -2,3 +2,4 @@ pub mod Changes
 pub mod Places
 pub mod Evicting
 pub mod Waiting
+pub mod Lined
