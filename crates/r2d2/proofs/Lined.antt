@@ -1,5 +1,5 @@
 -- What a step of the book does to the number of idle connections, beside whom it wakes.
-use Rattle.std.proofs.Common.{◌≡◌, ℕ, ◌+◌, ◌<◌, ◌≤◌, Bool, true, false, cond, List, [], ◌∷◌, ◌++◌, length, filter, Option, Some, None, Result, Ok, Err, refl, sym, ◌∙◌, ap, arith}
+use Rattle.std.proofs.Common.{◌≡◌, ℕ, ◌+◌, ◌*◌, ◌<◌, ◌≤◌, Bool, true, false, cond, List, [], ◌∷◌, ◌++◌, length, filter, Option, Some, None, Result, Ok, Err, refl, sym, ◌∙◌, ap, arith}
 use Rattle.std.specs.declared.time.Duration.{Duration}
 use Rattle.std.specs.Duration.{as_nanos}
 use Rattle.std.proofs.lemmas.List.{length_push}
@@ -24,8 +24,9 @@ use Rattle.r2d2.specs.declared.line.place.Place.{Place}
 use Rattle.r2d2.specs.Counted.{found_by}
 use Rattle.r2d2.specs.Wakes.{wakes_of_return, wakes_of_take}
 use Rattle.r2d2.specs.Settled.{IsSettling, seen_settled, settle_answer, after_settle, wakes_of_settled, settled_admission}
-use Rattle.r2d2.specs.Waiting.{AreTold, told_if, waiting_in, told_ahead}
-use Rattle.r2d2.proofs.Waiting.{told_ahead-tell, waiting_in-tell}
+use Rattle.r2d2.specs.declared.line.place.Standing.TheVariants.{Served}
+use Rattle.r2d2.specs.Waiting.{AreTold, told_if, told_at, waiting_in, told_ahead, without, with_standing}
+use Rattle.r2d2.proofs.Waiting.{told_ahead-tell, waiting_in-tell, kept_served, kept_left_told, kept_left}
 
 -- those who wait stay told, where at most one connection more is idle, and then one more is told
 pub one_told : (grown : Bool) (before after : ℕ) (ps : List Place) → AreTold before ps → after ≤ before + cond grown 1 0 → AreTold after (told_if grown ps)
@@ -34,6 +35,20 @@ one_told false before after ps told more = omega (arith, told, more)
 
 pub still_told : (before after : ℕ) (ps : List Place) → AreTold before ps → after ≤ before → AreTold after ps
 still_told before after ps told less = omega (arith, told, less)
+
+pub one_less_served : (before after s : ℕ) (ps : List Place) → AreTold before ps → before ≡ after + 1 → AreTold after (with_standing s Served ps)
+one_less_served before after s ps told one = omega (arith, one, kept_served before s ps told)
+
+left_by : (was_told : Bool) (idle s : ℕ) (ps : List Place) → told_at s ps ≡ was_told → AreTold idle ps → AreTold idle (told_if was_told (without s ps))
+left_by true idle s ps e told = kept_left_told idle s ps e told
+left_by false idle s ps e told = kept_left idle s ps e told
+
+-- one leaves, and the next is told where it was
+pub left_told : (idle s : ℕ) (ps : List Place) → AreTold idle ps → AreTold idle (told_if (told_at s ps) (without s ps))
+left_told idle s ps told = left_by (told_at s ps) idle s ps refl told
+
+pub none_counted : (before after found per_take : ℕ) → after ≡ before + found * per_take → found ≡ 0 → after ≡ before
+none_counted before after found per_take e none = e ∙ (ap (λ n. before + n * per_take) none ∙ omega arith)
 
 module _ {T : Type 0} where
   -- A RETURN
@@ -105,13 +120,17 @@ module _ {T : Type 0} where
       omega (arith, ap (λ (s : Picture T). length s.idle) step.after, taken_by (table.next_of old) or_order p refl,
       ap found_by step.answer, taken_by (table.next_of old) or_order old refl)
 
-  found_by_none : (n : Option (SeenIdleConnection T)) (m : ℕ) → found_by (take_with n m) ≡ 0 → n ≡ None
-  found_by_none None m e = refl
-  found_by_none (Some c) m e = absurd (omega (arith, e))
+  found_by_some : (n : Option (SeenIdleConnection T)) (m : ℕ) (p : Picture T) → table.next_of p ≡ n → 0 < length p.idle → found_by (take_with n m) ≡ 1
+  found_by_some None m p e some = absurd (omega (arith, some, ap length (none_is_next p.on_order.limits.order p.idle e)))
+  found_by_some (Some c) m p e some = refl
 
   -- where something is idle, a take finds
-  pub idle_is_found : (now : Duration) (or_order : Bool) (result : Take T) (old new : Picture T) → core.IsTake now or_order result old new
-      → 0 < length old.idle → found_by (seen_take result) ≡ 0 → 0 ≡ 1
-  idle_is_found now or_order result old new step some none =
-      let next : table.next_of old ≡ None = found_by_none (table.next_of old) _ (sym (ap found_by step.answer) ∙ none) in
-      absurd (omega (arith, some, ap length (none_is_next old.on_order.limits.order old.idle next)))
+  pub found_where_idle : (now : Duration) (or_order : Bool) (result : Take T) (old new : Picture T) → core.IsTake now or_order result old new
+      → 0 < length old.idle → found_by (seen_take result) ≡ 1
+  found_where_idle now or_order result old new step some =
+      ap found_by step.answer ∙ found_by_some (table.next_of old) _ old refl some
+
+  pub one_found : (now : Duration) (or_order : Bool) (result : Take T) (old new : Picture T) → core.IsTake now or_order result old new
+      → 0 < length old.idle → length old.idle ≡ length new.idle + 1
+  one_found now or_order result old new step some =
+      omega (arith, one_taken now or_order result old new step, found_where_idle now or_order result old new step some)

@@ -222,11 +222,13 @@ impl<P, C: TakeTotal> LinedBook<P, C> {
         ensures place { result ≡ place.new }
         ensures line { self.new.places ≡ stood_by place.old place.new self.old.places }
     {
-        match *place {
-            Some(slot) => self.line.wait_on(slot),
-            None => *place = self.line.join(),
-        }
-        *place
+        let Some(slot) = *place else {
+            let joined = self.line.join();
+            *place = joined;
+            return joined;
+        };
+        self.line.wait_on(slot);
+        Some(slot)
     }
 
     // The caller leaves the line. The answer is the slot of the one who is told in its stead.
@@ -312,9 +314,10 @@ impl<P, C: TakeCounter> LinedBook<P, C> {
         ensures line { self.new.places ≡ served place self.old.places }
     {
         let (taken, wakes) = self.book.lend(now, false, tally);
-        if let Some(slot) = place {
-            self.line.serve(slot);
-        }
+        let Some(slot) = place else {
+            return (taken, wakes);
+        };
+        self.line.serve(slot);
         (taken, wakes)
     }
 }
@@ -381,15 +384,28 @@ impl<P: Drop, C: TakeCounter> LinedBook<P, C> {
         ensures line { self.new.places ≡ self.old.places }
     {
         let mut wakes = Wakes::nobody();
-        if self.book.book().idle() > 0 {
+        if self.book().idle() > 0 {
             return wakes;
         }
-        let owed = self.line.waiting().min(self.owed as usize);
+        let owed = self.in_line().min(self.owed as usize);
         self.owed = 0;
         for _ in 0..owed {
-            let (_empty, ordered) = self.book.lend(now, true, tally);
+            let ordered = self.order_one(now, tally);
             wakes.workers = wakes.workers || ordered.workers;
         }
+        wakes
+    }
+
+    // Orders one, where nothing is idle.
+    fn order_one(&mut self, now: Duration, tally: &mut C::Tally) -> Wakes
+        requires parts { 0 < C.parts tally.old }
+        requires none { length self.old.book.picture.idle ≡ 0 }
+        ensures none { length self.new.book.picture.idle ≡ 0 }
+        ensures parts { C.parts tally.new ≡ C.parts tally.old }
+        ensures amount { C.amount tally.new ≡ C.amount tally.old }
+        ensures line { self.new.places ≡ self.old.places }
+    {
+        let (_empty, wakes) = self.book.lend(now, true, tally);
         wakes
     }
 
