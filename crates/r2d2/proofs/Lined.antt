@@ -67,8 +67,12 @@ module _ {T : Type 0} where
       let p : Picture T = table.raised_to t old in
       let birth : ℕ = table.lent_birth id old in
       let same : w ≡ wakes_of_return (table.return_answer t id value broken old) = woken ∙ ap wakes_of_return step.answer in
-      omega (arith, ap (λ (s : Picture T). length s.idle) step.after, ap (λ (v : Wakes). cond v.caller 1 0) same,
-      returned_by (table.lent_refusal id old) (table.is_closing birth broken p) id birth value p old refl)
+      omega (
+        arith,
+        ap (λ (s : Picture T). length s.idle) step.after,
+        ap (λ (v : Wakes). cond v.caller 1 0) same,
+        returned_by (table.lent_refusal id old) (table.is_closing birth broken p) id birth value p old refl,
+      )
 
   -- AN OUTCOME
   admitted_by : (r : Option Refusal) (m id : ℕ) (value : T) (p : Picture T)
@@ -85,8 +89,11 @@ module _ {T : Type 0} where
       → length (after_settle t o p).idle ≤ length p.idle + cond (wakes_of_settled (settle_answer t o p)).caller 1 0
   settled_by t (outcome.Opened id value) p = admitted_by (admit_refusal id p.on_order) _ id value p
   settled_by t (outcome.Failed tries text) p = omega (arith, failed_by (fail_refusal tries p.on_order) p (table.failed t tries text p) refl)
-  settled_by t (outcome.Unsound id text) p = omega (arith, failed_by (table.lent_refusal id p) p
-      (table.topped_up (table.gone_one id (table.with_text text (table.raised_to t p)))) refl)
+  settled_by t (outcome.Unsound id text) p = omega (
+    arith,
+    failed_by (table.lent_refusal id p) p
+        (table.topped_up (table.gone_one id (table.with_text text (table.raised_to t p)))) refl,
+  )
 
   pub one_settled : (now : Duration) (o : Outcome T) (result : Settled T) (old new : Picture T) (w : Wakes)
       → seen_settled result ≡ settle_answer (as_nanos now) o old → new ≡ after_settle (as_nanos now) o old
@@ -117,8 +124,13 @@ module _ {T : Type 0} where
       → length old.idle ≡ length new.idle + found_by (seen_take result)
   one_taken now or_order result old new step =
       let p : Picture T = table.raised_to (as_nanos now) old in
-      omega (arith, ap (λ (s : Picture T). length s.idle) step.after, taken_by (table.next_of old) or_order p refl,
-      ap found_by step.answer, taken_by (table.next_of old) or_order old refl)
+      omega (
+        arith,
+        ap (λ (s : Picture T). length s.idle) step.after,
+        taken_by (table.next_of old) or_order p refl,
+        ap found_by step.answer,
+        taken_by (table.next_of old) or_order old refl,
+      )
 
   found_by_some : (n : Option (SeenIdleConnection T)) (m : ℕ) (p : Picture T) → table.next_of p ≡ n → 0 < length p.idle → found_by (take_with n m) ≡ 1
   found_by_some None m p e some = absurd (omega (arith, some, ap length (none_is_next p.on_order.limits.order p.idle e)))

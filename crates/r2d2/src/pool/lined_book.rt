@@ -324,7 +324,7 @@ impl<P, C: TakeCounter> LinedBook<P, C> {
 
 impl<P: Drop, C: TakeCounter> LinedBook<P, C> {
     ghost use Rattle.r2d2.specs.Counted.{found_by};
-    ghost use Rattle.r2d2.specs.Lined.{IsFound, found_in};
+    ghost use Rattle.r2d2.specs.Lined.{is_found, found_in, looked_by};
 
     /// A caller that may wait looks: it takes where it has its turn, and keeps its place then where
     /// it asks for that. Else it stands in line and orders one, unless there is no room.
@@ -336,11 +336,13 @@ impl<P: Drop, C: TakeCounter> LinedBook<P, C> {
         tally: &mut C::Tally,
     ) -> (Look<P>, ToWake)
         requires { 0 < C.parts tally.old }
-        ensures turn { IsFound result.0
+        ensures turn { IsTrue (is_found result.0)
             ↔ (before place.old self.old.places < length self.old.book.picture.idle) }
         ensures parts { C.parts tally.new ≡ C.parts tally.old }
         ensures amount { C.amount tally.new
             ≡ C.amount tally.old + found_in result.0 * C.per_take }
+        ensures line { self.new.places ≡ looked_by (is_found result.0) keeps_place place.old
+            place.new self.old.places }
     {
         if !self.has_turn(*place) {
             return match self.stand(place) {
