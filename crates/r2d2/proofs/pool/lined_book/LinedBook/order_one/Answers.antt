@@ -18,11 +18,13 @@ pub returns-clause-none : goal.returns-clause-none
 returns-clause-none g c =
     let old = c.self.inside.book.book.picture in
     let new = c.lend-empty.new.self.book.picture in
-    omega (arith, c.requires.none, one_taken c.args.now true c.lend-empty.result.0 old new c.lend-empty.ensures.step.of_core)
+    let none = subst (λ v. length v.book.picture.idle ≡ 0) (sym c.self.view_is) c.requires.none in
+    omega (arith, none, one_taken c.args.now true c.lend-empty.result.0 old new c.lend-empty.ensures.step.of_core)
 
 pub returns-clause-amount : goal.returns-clause-amount
 returns-clause-amount g c =
     let old = c.self.inside.book.book.picture in
     let new = c.lend-empty.new.self.book.picture in
+    let none = subst (λ v. length v.book.picture.idle ≡ 0) (sym c.self.view_is) c.requires.none in
     none_counted _ _ _ _ c.lend-empty.ensures.amount
-    (omega (arith, c.requires.none, one_taken c.args.now true c.lend-empty.result.0 old new c.lend-empty.ensures.step.of_core))
+    (omega (arith, none, one_taken c.args.now true c.lend-empty.result.0 old new c.lend-empty.ensures.step.of_core))

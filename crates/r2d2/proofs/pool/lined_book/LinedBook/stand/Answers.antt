@@ -10,12 +10,14 @@ pub invariant_of-self : goal.invariant_of-self
 invariant_of-self g c =
     let ps = c.self.inside.line.places.items in
     let idle = length c.self.inside.book.book.picture.idle in
+    let none = subst (λ v. length v.book.picture.idle ≤ before c.args.place.now v.places) (sym c.self.view_is) c.requires in
     kept_joined idle ps c.join-joined.new.self.places.items c.join-joined.result c.join-joined.ensures.joined c.join-joined.ensures.full
-    (subst (λ o. idle ≤ before o ps) c.not-Some.is c.requires) c.self.invariant
+    (subst (λ o. idle ≤ before o ps) c.not-Some.is none) c.self.invariant
 
 pub invariant_of-self-2 : goal.invariant_of-self-2
 invariant_of-self-2 g c =
     let ps = c.self.inside.line.places.items in
     let idle = length c.self.inside.book.book.picture.idle in
+    let none = subst (λ v. length v.book.picture.idle ≤ before c.args.place.now v.places) (sym c.self.view_is) c.requires in
     let P : List Place → Type 0 = λ qs. AreTold idle qs in
-    subst P (sym c.wait_on.ensures.places) (kept_quiet idle c.in-Some.slot ps (subst (λ o. idle ≤ before o ps) c.in-Some.is c.requires) c.self.invariant)
+    subst P (sym c.wait_on.ensures.places) (kept_quiet idle c.in-Some.slot ps (subst (λ o. idle ≤ before o ps) c.in-Some.is none) c.self.invariant)
