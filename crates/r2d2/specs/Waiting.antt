@@ -1,5 +1,6 @@
 -- Who stands in line, in order.
-use Rattle.std.specs.Prelude.{◌≡◌, ◌<◌, ◌≤◌, ℕ, suc, ◌+◌, ◌==◌, if◌then◌else◌, Bool, true, false, List, [], ◌∷◌, ◌++◌, length, Option, Some, None, min}
+use Rattle.std.specs.Prelude.{◌≡◌, ◌<◌, ◌≤◌, ℕ, suc, ◌+◌, ◌==◌, if◌then◌else◌, Bool, true, false, List, [], ◌∷◌, ◌++◌, length, Option, Some, None, min, nat_lt, ◌&&◌, not}
+use Rattle.r2d2_core.specs.Picture.{Picture}
 use Rattle.r2d2.specs.declared.line.place.Place.{Place}
 use Rattle.r2d2.specs.declared.line.place.Standing.{Standing}
 use Rattle.r2d2.specs.declared.line.place.Standing.TheVariants.{Quiet, Told, Served}
@@ -123,6 +124,10 @@ left_by (Some s) ps = told_if (told_at s ps) (without s ps)
 abbrev pub told_by : Option ℕ → List Place → Option ℕ
 told_by None ps = None
 told_by (Some s) ps = slot_if (told_at s ps) (without s ps)
+
+-- something is idle, and all of it is kept for those who wait
+abbrev pub is_kept : {T : Type 0} → Picture T → List Place → Bool
+is_kept p ps = nat_lt 0 (length p.idle) && not (nat_lt (waiting_in ps) (length p.idle))
 
 -- of those who wait the first ones, as many as connections are idle, were told to look
 abbrev pub AreTold : ℕ → List Place → Type 0

@@ -1,8 +1,8 @@
 // The book beside the line of those who wait for it: what is idle is kept for the first of them.
 ghost use Rattle.std.specs.Prelude.{◌≡◌, ℕ, ◌+◌, ◌*◌, ◌<◌, ◌≤◌, ◌↔◌, [], length, map, vec_len, vec_capacity};
-ghost use Rattle.std.specs.Prelude.{IsTrue, IsSome, IfSome, IfOk, None, Option, option_map};
+ghost use Rattle.std.specs.Prelude.{IsTrue, IfOk, None, false};
 ghost use Rattle.std.specs.Duration.{as_nanos};
-ghost use Rattle.r2d2_core.specs.Seen.{seen_take, seen_returned, seen_released, map_ok};
+ghost use Rattle.r2d2_core.specs.Seen.{seen_take, Empty, seen_returned, seen_released, map_ok};
 ghost use Rattle.r2d2_core.specs.BookSteps.{IsTake, IsBegin, IsNumbering, IsReturn, IsReap};
 ghost use Rattle.r2d2_core.specs.BookSteps.{IsTelling, IsClose};
 ghost use Rattle.r2d2_core.specs.Reports.{IsReportOf, IsSoundReport};
@@ -10,7 +10,7 @@ ghost use Rattle.r2d2.specs.Wakes.{nobody, wakes_of_return, wakes_of_reap};
 ghost use Rattle.r2d2.specs.Settled.{seen_settled, wakes_of_settled, IsSettling};
 ghost use Rattle.r2d2.specs.Evicted.{evicted_of, after_eviction, IsEvicted};
 ghost use Rattle.r2d2.specs.Waiting.{waiting_in, before, stood_by, served, left_by, told_by};
-ghost use Rattle.r2d2.specs.Waiting.{told_if, slot_if};
+ghost use Rattle.r2d2.specs.Waiting.{told_if, slot_if, is_kept};
 
 use crate::engine::{CountingBook, LedgerCounter, Outcome, Settled, TakeCounter, TakeTotal, Wakes};
 use crate::line::queue::Line;
@@ -213,6 +213,15 @@ impl<P, C: TakeTotal> LinedBook<P, C> {
         before < self.book.book().idle() as usize
     }
 
+    // Whether all that is idle is kept for those in line.
+    #[inline(always)]
+    fn is_kept(&self) -> bool
+        ensures { result ≡ is_kept self.now.book.picture self.now.places }
+    {
+        let idle = self.book.book().idle() as usize;
+        0 < idle && idle <= self.line.waiting()
+    }
+
     // The caller, whose turn it is not, waits: at the end of the line, or on in its place. The
     // answer is its slot; None where there is no room.
     fn stand(&mut self, place: &mut Option<u32>) -> Option<u32>
@@ -294,10 +303,13 @@ impl<P, C: TakeCounter> LinedBook<P, C> {
         ensures parts { C.parts tally.new ≡ C.parts tally.old }
         ensures amount { C.amount tally.new
             ≡ C.amount tally.old + found_by (seen_take result.0) * C.per_take }
+        ensures step { is_kept self.old.book.picture self.old.places ≡ false
+            → IsTake now or_order result.0 self.old.book self.new.book }
+        ensures kept { IsTrue (is_kept self.old.book.picture self.old.places)
+            → (seen_take result.0 ≡ Empty 0) × (self.new.book ≡ self.old.book) }
         ensures line { self.new.places ≡ self.old.places }
     {
-        let idle = self.book.book().idle() as usize;
-        if idle > 0 && idle <= self.line.waiting() {
+        if self.is_kept() {
             return (Take::Empty { ordered: 0 }, Wakes::nobody());
         }
         self.book.lend(now, or_order, tally)
