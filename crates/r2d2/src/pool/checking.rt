@@ -20,6 +20,12 @@ impl<C: TakeTotal, M: ManageConnection, K: Hooks<M>, R: PoolRuntime> SharedOf<C,
         self.hooks.test_on_check_out() && self.tuning.is_check_due(time.idle_since(), time.step())
     }
 
+    /// Whether what a call takes may be closed for a check, of it or of another.
+    #[inline(always)]
+    pub(super) fn may_fail_check(&self) -> bool {
+        self.hooks.test_on_check_out() || self.tuning.distrust_idle
+    }
+
     /// The connection, where it need not be checked, or its check finds it sound. Else it is
     /// closed.
     #[inline(always)]

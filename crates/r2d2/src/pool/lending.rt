@@ -38,14 +38,17 @@ impl<C: TakeCounter, M: ManageConnection, K: Hooks<M>, R: PoolRuntime> AnyPool<C
         let shared = self.shared();
         let mut time = CallTime::new(shared.start_of_call());
         let closer = Arc::try_clone(&self.closer).map_err(|_| Error::memory())?;
+        let may_fail = shared.may_fail_check();
+        let mut place = None;
         for _ in shared.rt.forever() {
-            let found = match shared.lend_until(timeout, &mut time, tally) {
+            let found = match shared.lend(timeout, &mut time, &mut place, may_fail, tally) {
                 Ok(Some(lent)) => lent,
                 Ok(None) => return Ok(None),
                 Err(error) => return Err(shared.tell_in_vain(error, timeout)),
             };
             let is_checked = shared.is_to_check(&time);
             if let Some(lent) = shared.if_sound(found, is_checked, &time) {
+                shared.leave_line(&mut place);
                 let lent_at = shared.check_out(lent.id, is_checked, &time);
                 return Ok(Some(AnyConnection {
                     closer,
@@ -54,6 +57,7 @@ impl<C: TakeCounter, M: ManageConnection, K: Hooks<M>, R: PoolRuntime> AnyPool<C
                 }));
             }
             if let Some(error) = shared.give_up_if_late(timeout, &mut time) {
+                shared.leave_line(&mut place);
                 return Err(shared.tell_in_vain(error, timeout));
             }
         }
