@@ -21,7 +21,7 @@ TESTS = os.path.join(TOP, "tests")
 RT = os.environ.get("RT", "rt")
 INSIDE = "inside_"
 # Folders whose lib.rs names modules of others, where it has no such file itself: so the same bodies run over another kind of pool.
-OTHERS = {"faults": ["pool"], "counted_pool": ["pool", "faults"], "metrics": ["pool", "faults"]}
+OTHERS = {"faults": ["pool"], "counted_pool": ["pool", "faults"], "line_pool": ["pool", "faults"], "metrics": ["pool", "faults"]}
 # Modules of the tests that stand among the crates, since they are proved there.
 LAID = {"crates/pool/src/surface/pool_uses.rt": "crates/examples/src/pool_uses.rt"}
 SECONDS = "400"
