@@ -1,7 +1,8 @@
 //! Times the calls of a pool. Given `bench`, it prints a line for each scenario: its name, the
 //! threads, `max_size`, how many operations were timed, and the nanoseconds for each, the least and
 //! the median of twenty-five runs. Given a scenario's name too, it runs that one alone, as for a
-//! profile. Else it says how to run it.
+//! profile. Given `waits`, it prints how long callers wait for a connection, without a line and in
+//! one. Else it says how to run it.
 #![tactic(auto)]
 
 ghost use Rattle.std.specs.Prelude.{◌<◌};
@@ -11,25 +12,34 @@ mod contended;
 mod growing;
 mod pools;
 mod scenario;
+mod waits;
 
 use contended::{goes_round, is_served};
 use growing::{BATCH, BATCHES};
 use r2d2::PoolRuntime;
 use scenario::{Case, Scenario, is_chosen};
 use std::{env, thread};
+use waits::waited;
 
 /// Calls of a scenario of one thread, in one run.
 const CALLS: u32 = 2_000;
 
 fn main(rt: HostRuntime) -> Result<(), anyhow::Error> {
     let mut words = env::args(&rt)?.skip(1);
-    if words.next().as_deref() != Some("bench") {
-        println!(rt; "usage: pool_bench bench [SCENARIO]")?;
-        return Ok(());
-    }
+    let what = words.next();
     // The only scenario to run, or all.
     let word = words.next();
     let only = word.as_deref();
+    if what.as_deref() == Some("waits") {
+        return waits::measure(rt, |pool, gate, load| {
+            let calls = move || waited(rt, pool, gate, load);
+            Ok(thread::spawn(&rt, calls)?)
+        });
+    }
+    if what.as_deref() != Some("bench") {
+        println!(rt; "usage: pool_bench bench [SCENARIO], or pool_bench waits")?;
+        return Ok(());
+    }
     println!(rt; "scenario threads max_size ops least_ns median_ns")?;
     measure_alone(rt, only)?;
     if is_chosen("mt", only) {

@@ -1,12 +1,14 @@
 //! Times the calls of r2d2's pool in the scenarios of `crates/pool_bench`, under their names and
 //! with their figures, and prints the same lines: the name, the threads, `max_size`, how many
-//! operations were timed, and the nanoseconds for each, the least and the median of the runs.
+//! operations were timed, and the nanoseconds for each, the least and the median of the runs. Given
+//! `waits`, it prints how long callers wait.
 
 mod alone;
 mod contended;
 mod growing;
 mod pools;
 mod scenario;
+mod waits;
 
 use growing::{BATCH, BATCHES};
 use scenario::{measure, Case};
@@ -15,6 +17,10 @@ use scenario::{measure, Case};
 const CALLS: u32 = 2_000;
 
 fn main() {
+    if std::env::args().nth(1).as_deref() == Some("waits") {
+        waits::measure();
+        return;
+    }
     println!("scenario threads max_size ops least_ns median_ns");
     measure_alone();
     contended::measure_pools();
