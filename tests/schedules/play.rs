@@ -200,7 +200,9 @@ fn gets<R: Host>(rt: R, plan: &Plan, who: u64, seen: &Seen<R>, pool: &Watched<R>
     }
     seen.queue.ends(who);
     // It may be at its check as its time ends, and makes no other one then.
-    let most = plan.seconds_of_checks(1).map(|own| wait.saturating_add(own));
+    let most = plan
+        .seconds_of_checks(1)
+        .map(|own| wait.saturating_add(own));
     watch.check(seen, "a get ends later than its timeout", 0, most);
     if plan.may_wait() > 0 {
         crowds(plan, seen, &pool.status());
@@ -223,7 +225,12 @@ fn gets<R: Host>(rt: R, plan: &Plan, who: u64, seen: &Seen<R>, pool: &Watched<R>
             }
             ErrorKind::Full => {
                 seen.tell("is told that as many wait as may");
-                watch.check(seen, "a get takes time to be refused", 0, plan.seconds_of_checks(1));
+                watch.check(
+                    seen,
+                    "a get takes time to be refused",
+                    0,
+                    plan.seconds_of_checks(1),
+                );
                 if plan.may_wait() == 0 {
                     seen.fault("a get is refused where as many may wait as come");
                 }

@@ -86,7 +86,9 @@ where
     } = load;
     println!(rt;
         "{way} {CALLERS} {max_size} {held_us} {calls} {each} {} {} {}",
-        part(&waits, 500), part(&waits, 999), part(&waits, 1000)
+        part(&waits, 500),
+        part(&waits, 999),
+        part(&waits, 1000)
     )?;
     Ok(())
 }
@@ -131,7 +133,9 @@ pub fn waited<R: PoolRuntime>(
         let waited = start.elapsed(&rt).ok()?;
         hold(rt, held)?;
         drop(lent);
-        waits.push(u64::try_from(waited.as_nanos()).unwrap_or(u64::MAX)).ok()?;
+        waits
+            .push(u64::try_from(waited.as_nanos()).unwrap_or(u64::MAX))
+            .ok()?;
     }
     Some(waits)
 }
