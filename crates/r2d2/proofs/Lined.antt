@@ -3,6 +3,8 @@ use Rattle.std.proofs.Common.{◌≡◌, ℕ, ◌+◌, ◌*◌, ◌<◌, ◌≤�
 use Rattle.std.specs.declared.time.Duration.{Duration}
 use Rattle.std.specs.Duration.{as_nanos}
 use Rattle.std.proofs.lemmas.List.{length_push}
+use Rattle.std.specs.Prelude.{String}
+use Rattle.r2d2_core.specs.declared.schedule.Job.{Job}
 use Rattle.r2d2_core.specs.declared.machine.answers.Refusal.{Refusal}
 use Rattle.r2d2_core.specs.declared.machine.answers.Returned.{Returned}
 use Rattle.r2d2_core.specs.declared.machine.answers.Released.{Released}
@@ -50,6 +52,10 @@ left_told idle s ps told = left_by (told_at s ps) idle s ps refl told
 pub none_counted : (before after found per_take : ℕ) → after ≡ before + found * per_take → found ≡ 0 → after ≡ before
 none_counted before after found per_take e none = e ∙ (ap (λ n. before + n * per_take) none ∙ omega arith)
 
+fewer : {X : Type 0} (f : X → Bool) (xs : List X) → length (filter f xs) ≤ length xs
+fewer f [] = omega arith
+fewer f (x ∷ xs) = grind (arith, fewer f xs)
+
 module _ {T : Type 0} where
   -- A RETURN
   returned_by : (r : Option Refusal) (closing : Bool) (id birth : ℕ) (value : T) (p : Picture T) (q : Picture T) → p.idle ≡ q.idle
@@ -70,7 +76,7 @@ module _ {T : Type 0} where
       omega (
         arith,
         ap (λ (s : Picture T). length s.idle) step.after,
-        ap (λ (v : Wakes). cond v.caller 1 0) same,
+        ap {B = ℕ} (λ (v : Wakes). cond v.caller 1 0) same,
         returned_by (table.lent_refusal id old) (table.is_closing birth broken p) id birth value p old refl,
       )
 
@@ -81,7 +87,7 @@ module _ {T : Type 0} where
   admitted_by (Some why) m id value p = omega arith
   admitted_by None m id value p = omega (arith, length_push p.idle (idle_connection id m m value))
 
-  failed_by : {A : Type 0} (r : Option Refusal) (p q : Picture T) → q.idle ≡ p.idle → length (unless_refused r q p).idle ≡ length p.idle
+  failed_by : (r : Option Refusal) (p q : Picture T) → q.idle ≡ p.idle → length (unless_refused r q p).idle ≡ length p.idle
   failed_by (Some why) p q same = refl
   failed_by None p q same = ap length same
 
@@ -100,37 +106,42 @@ module _ {T : Type 0} where
       → w ≡ wakes_of_settled (seen_settled result) → length new.idle ≤ length old.idle + cond w.caller 1 0
   one_settled now o result old new w answer after woken =
       let same : w ≡ wakes_of_settled (settle_answer (as_nanos now) o old) = woken ∙ ap wakes_of_settled answer in
-      omega (arith, ap (λ (s : Picture T). length s.idle) after, ap (λ (v : Wakes). cond v.caller 1 0) same, settled_by (as_nanos now) o old)
+      omega (arith, ap (λ (s : Picture T). length s.idle) after, ap {B = ℕ} (λ (v : Wakes). cond v.caller 1 0) same, settled_by (as_nanos now) o old)
 
   -- A REAP
-  fewer : {X : Type 0} (f : X → Bool) (xs : List X) → length (filter f xs) ≤ length xs
-  fewer f [] = omega arith
-  fewer f (x ∷ xs) = grind (arith, fewer f xs)
-
   pub none_more_reaped : (now : Duration) (out : List (Released T)) (n : ℕ) (old new : Picture T) (grown : Bool) → core.IsReap now out n old new
       → length new.idle ≤ length old.idle + cond grown 1 0
   none_more_reaped now out n old new grown step =
       let p : Picture T = table.raised_to (as_nanos now) old in
       omega (arith, ap (λ (s : Picture T). length s.idle) step.after, fewer (is_kept p.on_order.limits p.latest) old.idle)
 
+  -- STEPS THAT LEAVE WHAT IS IDLE
+  pub none_more_begun : (now : Duration) (job : Job) (old new : Picture T) → core.IsBegin now job old new → length new.idle ≤ length old.idle
+  none_more_begun now job old new step = omega (arith, ap (λ (s : Picture T). length s.idle) step.after)
+
+  pub none_more_numbered : (tries : ℕ) (result : Result ℕ Refusal) (old new : Picture T) → core.IsNumbering tries result old new
+      → length new.idle ≤ length old.idle
+  none_more_numbered tries result old new step = omega (arith, ap (λ (s : Picture T). length s.idle) step.after)
+
+  pub none_more_told : {A : Type 0} (text : Option (String A)) (old new : Picture T) → core.IsTelling text old new → length new.idle ≤ length old.idle
+  none_more_told text old new step = omega (arith, ap (λ (s : Picture T). length s.idle) step.after)
+
+  pub none_more_closed : (left : List (ℕ × T)) (old new : Picture T) → core.IsClose left old new → length new.idle ≤ length old.idle
+  none_more_closed left old new step = omega (arith, ap (λ (s : Picture T). length s.idle) step.after)
+
   -- A TAKE
-  taken_by : (n : Option (SeenIdleConnection T)) (or_order : Bool) (p : Picture T) → table.next_of p ≡ n
-      → length p.idle ≡ length (table.taken n or_order p).idle + found_by (take_with n (table.take_orders n or_order p))
-  taken_by None or_order p e = omega arith
-  taken_by (Some c) or_order p e = omega (arith, length-still_idle p.on_order.limits.order p.idle c e)
+  taken_by : (n : Option (SeenIdleConnection T)) (or_order : Bool) (orders : ℕ) (p : Picture T) → table.next_of p ≡ n
+      → length p.idle ≡ length (table.taken n or_order p).idle + found_by (take_with n orders)
+  taken_by None or_order orders p e = omega arith
+  taken_by (Some c) or_order orders p e = omega (arith, length-still_idle p.on_order.limits.order p.idle c e)
 
   -- of a take that found, one less is idle
   pub one_taken : (now : Duration) (or_order : Bool) (result : Take T) (old new : Picture T) → core.IsTake now or_order result old new
       → length old.idle ≡ length new.idle + found_by (seen_take result)
   one_taken now or_order result old new step =
       let p : Picture T = table.raised_to (as_nanos now) old in
-      omega (
-        arith,
-        ap (λ (s : Picture T). length s.idle) step.after,
-        taken_by (table.next_of old) or_order p refl,
-        ap found_by step.answer,
-        taken_by (table.next_of old) or_order old refl,
-      )
+      omega (arith, ap (λ (s : Picture T). length s.idle) step.after, ap found_by step.answer,
+      taken_by (table.next_of old) or_order (table.take_orders (table.next_of old) or_order old) p refl)
 
   found_by_some : (n : Option (SeenIdleConnection T)) (m : ℕ) (p : Picture T) → table.next_of p ≡ n → 0 < length p.idle → found_by (take_with n m) ≡ 1
   found_by_some None m p e some = absurd (omega (arith, some, ap length (none_is_next p.on_order.limits.order p.idle e)))

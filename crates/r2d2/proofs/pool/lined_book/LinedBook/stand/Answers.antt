@@ -12,7 +12,7 @@ invariant_of-self g c =
     let idle = length c.self.inside.book.book.picture.idle in
     let none = subst (λ v. length v.book.picture.idle ≤ before c.args.place.now v.places) (sym c.self.view_is) c.requires in
     kept_joined idle ps c.join-joined.new.self.places.items c.join-joined.result c.join-joined.ensures.joined c.join-joined.ensures.full
-    (subst (λ o. idle ≤ before o ps) c.not-Some.is none) c.self.invariant
+    (subst (λ o. idle ≤ before o ps) c.in_default.is none) c.self.invariant
 
 pub invariant_of-self-2 : goal.invariant_of-self-2
 invariant_of-self-2 g c =
