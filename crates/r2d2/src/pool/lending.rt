@@ -87,6 +87,7 @@ impl<C: TakeCounter, M: ManageConnection, K: Hooks<M>, R: PoolRuntime> AnyPool<C
 
     // As `lend_within`, where callers wait in line. Who takes keeps its place until its check went
     // well, so that it is the first again if it does not.
+    #[cold]
     fn lend_in_line(
         &self,
         timeout: Duration,

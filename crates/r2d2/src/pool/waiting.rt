@@ -104,6 +104,7 @@ impl<P: Drop, C: TakeCounter, M, K, R: Clock + Wait + AllocGlobal> Shared<
 impl<P: Drop, C: TakeTotal, M, K, R: Clock + Wait + AllocGlobal> Shared<LinedBook<P, C>, M, K, R> {
     /// Takes the lock for a call. One that has to wait for it, and looked at no clock before, does
     /// so first.
+    #[inline(always)]
     pub(super) fn lock_for(&self, time: &mut CallTime) -> MutexGuard<'_, Guarded<LinedBook<P, C>>>
         ensures { IsSome time.old.start → time.new ≡ time.old }
     {
@@ -171,6 +172,7 @@ impl<P: Drop, C: TakeTotal, M, K, R: Clock + Wait + AllocGlobal> Shared<LinedBoo
 
     /// Gives up for a call whose time is over; None where some is left, or where it brought no
     /// timeout.
+    #[inline(always)]
     pub(super) fn give_up_if_late(
         &self,
         timeout: Option<Duration>,
