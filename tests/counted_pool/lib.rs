@@ -27,6 +27,8 @@ mod hand;
 #[cfg(test)]
 mod hands;
 #[cfg(test)]
+mod in_line;
+#[cfg(test)]
 mod journal;
 #[cfg(test)]
 mod kind;
@@ -36,6 +38,8 @@ mod late;
 mod lending;
 #[cfg(test)]
 mod limit;
+#[cfg(test)]
+mod line;
 #[cfg(test)]
 mod listening;
 #[cfg(test)]

@@ -137,6 +137,29 @@ fn building(rt: HostRuntime) -> Result<(), Fail> {
 }
 
 #[test]
+fn building_a_line(rt: HostRuntime) -> Result<(), Fail> {
+    let Ok(play) = Play::new(rt.alloc(), GOOD) else {
+        return Ok(());
+    };
+    let manager = Manager::new(rt, &play)?;
+    let builder = Builder::new().max_size(2).thread_pool(2).waiting_line(4);
+    match builder.build(rt, manager) {
+        Ok(pool) => assert_eq!(rt; pool.state().connections, 2),
+        Err(error) => {
+            let kind = error.kind();
+            assert!(rt;
+                kind == ErrorKind::Memory || kind == ErrorKind::Threads,
+                "{kind:?}"
+            );
+        }
+    }
+    assert_eq!(rt; watched(&rt, &play.managers_dropped, 1, 1000), 1);
+    let opened = play.opened.load(Ordering::SeqCst);
+    assert_eq!(rt; play.dropped.load(Ordering::SeqCst), opened);
+    Ok(())
+}
+
+#[test]
 fn starting_each_worker(rt: HostRuntime) -> Result<(), Fail> {
     // Each opening waits, so the third one is begun by a third worker.
     let rows = Rows { unheld: 0, ..GOOD };
@@ -192,7 +215,10 @@ fn a_journal(rt: HostRuntime) -> Result<(), Fail> {
 fn pool_of_one<R: PoolRuntime>(
     rt: R,
     play: &Arc<Play>,
-) -> Result<Option<Pool<Manager<R>, NopErrorHandler, Others<R>, NopConnectionCustomizer, R>>, Fail> {
+) -> Result<
+    Option<Pool<Manager<R>, NopErrorHandler, Others<R>, NopConnectionCustomizer, R>>,
+    Fail,
+> {
     let built = Builder::new()
         .max_size(1)
         .thread_pool(1)

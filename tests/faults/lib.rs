@@ -19,6 +19,8 @@ mod kind;
 #[cfg(test)]
 mod late;
 #[cfg(test)]
+mod line;
+#[cfg(test)]
 mod lives;
 #[cfg(test)]
 mod moments;

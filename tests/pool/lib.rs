@@ -24,6 +24,8 @@ mod extensions;
 #[cfg(test)]
 mod extremes;
 #[cfg(test)]
+mod in_line;
+#[cfg(test)]
 mod journal;
 #[cfg(test)]
 mod kind;

@@ -1,5 +1,6 @@
 // What a run sees, and what is judged of it.
 
+use crate::queue::Queue;
 use r2d2::{PoolRuntime, Status};
 use std::alloc::AllocError;
 use std::io::{Eprint, Print};
@@ -34,6 +35,7 @@ pub(crate) struct Seen<R: Drop> {
     pub(crate) opening: AtomicU64,
     /// Whether all callers have ended.
     pub(crate) over: AtomicU64,
+    pub(crate) queue: Queue,
 }
 
 pub(crate) fn add(count: &AtomicU64) {
@@ -71,6 +73,7 @@ impl<R: Host> Seen<R> {
             busy: AtomicU64::new(0),
             opening: AtomicU64::new(0),
             over: AtomicU64::new(0),
+            queue: Queue::new(rt.alloc())?,
         };
         Ok(Arc::new(rt.alloc(), seen)?)
     }
@@ -119,7 +122,7 @@ pub(crate) struct Stopwatch {
 }
 
 // How often time went on before it had to: the scheduler tells it by the wall clock.
-fn jumps<R: Clock>(rt: &R) -> u32 {
+pub(crate) fn jumps<R: Clock>(rt: &R) -> u32 {
     match rt.since_1970() {
         Ok(time) => time.subsec_nanos() / 1000,
         Err(_) => 0,

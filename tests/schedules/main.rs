@@ -8,6 +8,7 @@ mod judged;
 mod lines;
 mod plain;
 mod plan;
+mod queue;
 
 use self::judged::Seen;
 use self::plan::Plan;

@@ -15,6 +15,8 @@ pub(crate) struct Plan {
     pub(crate) drainers: u64,
     /// How many callers may wait; 0 for as many as come.
     pub(crate) most: u64,
+    /// How many may stand in line; 0 where there is none.
+    pub(crate) line: u64,
     pub(crate) fails: bool,
     pub(crate) checks: bool,
     pub(crate) distrusts: bool,
@@ -50,6 +52,7 @@ impl Plan {
             closers: 0,
             drainers: 0,
             most: 0,
+            line: 0,
             fails: false,
             checks: false,
             distrusts: false,
@@ -125,9 +128,21 @@ impl Plan {
             "closers" => self.closers = number,
             "drainers" => self.drainers = number,
             "most" => self.most = number,
+            "line" => self.line = number,
             _ => return false,
         }
         true
+    }
+
+    /// How many may wait, in line or not; 0 for as many as come.
+    pub(crate) fn may_wait(&self) -> u64 {
+        self.most.max(self.line)
+    }
+
+    /// Whether each call of `get` begins to wait in the second in which it is made, and who waits
+    /// longer than another has to be lent the only connection first.
+    pub(crate) fn is_served_in_order(&self) -> bool {
+        self.line > 0 && self.size == 1 && !self.checks
     }
 
     /// Whether somebody closes the pool while others have it.

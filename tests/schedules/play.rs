@@ -43,6 +43,9 @@ pub(crate) fn play<R: Host>(rt: R, plan: Plan, seen: &Arc<Seen<R>>) -> Result<()
     if plan.most > 0 {
         builder = builder.max_waiting(u32::try_from(plan.most)?);
     }
+    if plan.line > 0 {
+        builder = builder.waiting_line(u32::try_from(plan.line)?);
+    }
     if builder.limits().is_none() {
         return Ok(seen.fault("more are wanted than max_size"));
     }
@@ -172,7 +175,7 @@ fn calls<R: Host>(rt: R, pool: Watched<R>, plan: Plan, who: u64, seen: Arc<Seen<
             } else {
                 PATIENT
             };
-            gets(rt, &plan, &seen, &pool, wait);
+            gets(rt, &plan, who, &seen, &pool, wait);
         }
     }
     if who < plan.closers {
@@ -186,15 +189,22 @@ fn calls<R: Host>(rt: R, pool: Watched<R>, plan: Plan, who: u64, seen: Arc<Seen<
     }
 }
 
-fn gets<R: Host>(rt: R, plan: &Plan, seen: &Seen<R>, pool: &Watched<R>, wait: u64) {
+fn gets<R: Host>(rt: R, plan: &Plan, who: u64, seen: &Seen<R>, pool: &Watched<R>, wait: u64) {
     seen.tell_of("calls get, for seconds:", wait);
     let was_closed = of(&seen.closed) > 0;
     let watch = Stopwatch::begin(&rt);
+    seen.queue.begins(&rt, who, wait);
     let found = pool.get_timeout(Duration::from_secs(wait));
+    if plan.is_served_in_order() && found.is_ok() && seen.queue.is_passed_by(&rt, who) {
+        seen.fault("a caller is served before one that waits for longer");
+    }
+    seen.queue.ends(who);
     // It may be at its check as its time ends, and makes no other one then.
-    let most = plan.seconds_of_checks(1).map(|own| wait.saturating_add(own));
+    let most = plan
+        .seconds_of_checks(1)
+        .map(|own| wait.saturating_add(own));
     watch.check(seen, "a get ends later than its timeout", 0, most);
-    if plan.most > 0 {
+    if plan.may_wait() > 0 {
         crowds(plan, seen, &pool.status());
     }
     match found {
@@ -221,7 +231,7 @@ fn gets<R: Host>(rt: R, plan: &Plan, seen: &Seen<R>, pool: &Watched<R>, wait: u6
                     0,
                     plan.seconds_of_checks(1),
                 );
-                if plan.most == 0 {
+                if plan.may_wait() == 0 {
                     seen.fault("a get is refused where as many may wait as come");
                 }
             }
@@ -232,7 +242,7 @@ fn gets<R: Host>(rt: R, plan: &Plan, seen: &Seen<R>, pool: &Watched<R>, wait: u6
 
 // No more may wait than a limit says. (Drains wait at a closed pool.)
 fn crowds<R: Host>(plan: &Plan, seen: &Seen<R>, status: &Status) {
-    if !status.closed && status.waiting > plan.most {
+    if !status.closed && status.waiting > plan.may_wait() {
         seen.fault("more wait than may");
     }
 }

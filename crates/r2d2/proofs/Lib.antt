@@ -1,3 +1,5 @@
 pub mod Changes
 pub mod Places
 pub mod Evicting
+pub mod Waiting
+pub mod Lined

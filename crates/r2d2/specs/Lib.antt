@@ -12,3 +12,5 @@ pub mod Status
 pub mod Evicted
 pub mod CallTime
 pub mod Room
+pub mod Waiting
+pub mod Lined

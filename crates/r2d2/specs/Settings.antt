@@ -1,5 +1,5 @@
 -- The settings of a pool. Lengths of time are compared in nanoseconds.
-use Rattle.std.specs.Prelude.{◌≡◌, ℕ, ◌*◌, ◌<◌, true, false, Some, None, option_map}
+use Rattle.std.specs.Prelude.{◌≡◌, ℕ, ◌*◌, ◌<◌, Bool, true, false, if◌then◌else◌, Option, Some, None, option_map}
 use Rattle.std.specs.Option.{ForSome}
 use Rattle.std.specs.Duration.{as_nanos}
 use Rattle.std.specs.declared.time.Duration.{Duration}
@@ -33,6 +33,12 @@ pub record IsOff (tuning : Tuning) : Type 0 where
   pub retry_at_most : tuning.retry_at_most ≡ None
   pub lifetime_jitter : tuning.lifetime_jitter ≡ None
   pub max_waiting : tuning.max_waiting ≡ None
+  pub in_line : tuning.in_line ≡ false
+
+-- how many callers a line has room for, where they wait in line
+abbrev pub room_in_line : Option ℕ → Bool → ℕ
+room_in_line None in_line = 0
+room_in_line (Some callers) in_line = if in_line then callers else 0
 
 -- what a builder keeps: its sizes and lengths of time are positive
 pub record ArePositive {H V Z : Type 0} (config : Config H V Z) : Type 0 where

@@ -1,8 +1,10 @@
 -- What a pool promises of each status that it shows.
-use Rattle.std.specs.Prelude.{◌≡◌, ℕ, ◌+◌, length, not, ◌&&◌, Bool, false, nat_eq, nat_lt, Option, Some, None}
+use Rattle.std.specs.Prelude.{◌≡◌, ℕ, ◌+◌, ◌-◌, ◌^◌, min, List, length, not, ◌&&◌, Bool, false, nat_eq, nat_lt, Option, Some, None}
 use Rattle.r2d2_core.specs.Sums.{FitsIn, IsReplenished}
 use Rattle.r2d2_core.specs.Picture.{Picture}
 use Rattle.r2d2.specs.declared.pool.state.Status.{Status}
+use Rattle.r2d2.specs.declared.line.place.Place.{Place}
+use Rattle.r2d2.specs.Waiting.{waiting_in}
 
 pub record IsStatus (s : Status) : Type 0 where
   -- connections are the idle ones and the lent ones
@@ -20,3 +22,7 @@ is_all_lent p = nat_eq (length p.idle) 0 && (nat_lt 0 p.connections && not p.on_
 abbrev pub is_full : {T : Type 0} → Option ℕ → ℕ → Picture T → Bool
 is_full None waiting p = false
 is_full (Some most) waiting p = nat_eq (length p.idle) 0 && (not p.on_order.closed && not (nat_lt waiting most))
+
+-- those who wait at the callers' variable, and those in line
+abbrev pub all_who_wait : ℕ → List Place → ℕ
+all_who_wait others places = min (others + waiting_in places) (2 ^ 64 - 1)

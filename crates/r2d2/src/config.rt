@@ -448,6 +448,25 @@ impl<
         self
     }
 
+    /// Callers wait in line, at most so many, and are served in the order in which they began to
+    /// wait: what comes back is kept for the first of them, and no newcomer, nor `try_get`, takes
+    /// it. One more than that gets `ErrorKind::Full`, as by `max_waiting`, which sets the same
+    /// number. A caller keeps its place until its connection passed its check. The default is no
+    /// line, as r2d2: who comes first to an idle connection has it.
+    ///
+    /// The memory for the line is taken when the pool is built. It costs time where connections are
+    /// held for a few microseconds only, and spares some callers very long waits where many wait.
+    ///
+    /// It may not be 0. The test for a number from outside: `callers > 0`.
+    pub fn waiting_line(mut self, callers: u32) -> Self
+        requires { 0 < callers }
+        ensures { result ≡ self }
+    {
+        self.tuning.max_waiting = Some(callers);
+        self.tuning.in_line = true;
+        self
+    }
+
     /// What is told of each error of the manager and of the customizer. The default,
     /// `NopErrorHandler`, drops each in silence, so that only a caller's timeout tells why no
     /// connection opens. `LoggingErrorHandler` writes each to a log.

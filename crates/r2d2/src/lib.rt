@@ -34,6 +34,7 @@ mod error;
 pub mod event;
 mod extensions;
 mod hooks;
+mod line;
 mod payload;
 mod pool;
 mod tuning;

@@ -24,13 +24,15 @@ pub struct Tuning {
     pub lifetime_jitter: Option<Duration>,
     /// How many callers wait at most; None for as many as come.
     pub max_waiting: Option<u32>,
+    /// Whether they wait in line, and are served in order.
+    pub in_line: bool,
     pub ghost retries: { ForSome retry_at_most (λ d. 0 < as_nanos d) },
 }
 
 impl Tuning {
     ghost use Rattle.std.specs.Prelude.{IsTrue, IsFalse, IsSome, IfSome};
     ghost use Rattle.std.specs.Option.{IsNone};
-    ghost use Rattle.r2d2.specs.Settings.{IsOff};
+    ghost use Rattle.r2d2.specs.Settings.{IsOff, room_in_line};
 
     /// Each is off.
     pub fn off() -> Tuning
@@ -42,6 +44,17 @@ impl Tuning {
             retry_at_most: None,
             lifetime_jitter: None,
             max_waiting: None,
+            in_line: false,
+        }
+    }
+
+    /// How many callers the line has room for; none where callers do not wait in line.
+    pub fn room_in_line(&self) -> u32
+        ensures { result ≡ room_in_line self.now.max_waiting self.now.in_line }
+    {
+        match self.max_waiting {
+            Some(callers) if self.in_line => callers,
+            _ => 0,
         }
     }
 

@@ -10,12 +10,14 @@ ghost use Rattle.r2d2.specs.Room.{HasRoom};
 ghost use Rattle.r2d2.specs.Failures.{IsOfMemoryOrThreads, IsOfABuild};
 
 use super::closing::Closer;
+use super::lined_book::LinedBook;
 use super::locking::{Guarded, Shared, SharedOf};
 use super::{AnyPool, CountedPool, Pool, PoolRuntime};
 use crate::config::{Builder, Config};
 use crate::engine::{Counted, CountingBook, TakeTotal};
 use crate::event::HandleEvent;
 use crate::hooks::Hooks;
+use crate::line::queue::Line;
 use crate::payload::PayloadOf;
 use crate::tuning::Tuning;
 use crate::{CustomizeConnection, Error, ErrorKind, HandleError, ManageConnection};
@@ -188,9 +190,13 @@ fn shared_state<P: Drop, C: TakeTotal, M: Drop, K: Drop, R: PoolRuntime>(
 {
     let made = Instant::now(&rt).ok();
     let made_at = SystemTime::now(&rt).ok();
+    let room = tuning.room_in_line();
+    let line = Line::new(rt.alloc(), room)?;
+    let slots = slots(rt.alloc(), room)?;
     let shared = Shared {
-        guarded: Mutex::new(Guarded::new(book)),
+        guarded: Mutex::new(Guarded::new(LinedBook::new(book, line))),
         callers: Condvar::new(),
+        slots,
         workers: Condvar::new(),
         manager,
         hooks,
@@ -202,6 +208,17 @@ fn shared_state<P: Drop, C: TakeTotal, M: Drop, K: Drop, R: PoolRuntime>(
     };
     let shared = Arc::new(rt.alloc(), shared)?;
     Ok(Arc::new(rt.alloc(), Closer { shared })?)
+}
+
+// So many variables, one for each slot of the line.
+fn slots(alloc: Global, room: u32) -> Result<Vec<Condvar>, AllocError>
+    ensures { IfOk result (λ slots. length slots.items ≡ room) }
+{
+    let mut slots = Vec::with_capacity(alloc, room as usize)?;
+    for _ in 0..room {
+        slots.push(Condvar::new())?;
+    }
+    Ok(slots)
 }
 
 // Starts a worker for each list, in a thread of its own.

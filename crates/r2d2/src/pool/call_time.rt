@@ -2,6 +2,7 @@
 ghost use Rattle.std.specs.Prelude.{◌≡◌, ◌≤◌, ◌-◌, nat_lt, is_some, option_map};
 ghost use Rattle.std.specs.Duration.{as_nanos};
 
+use crate::tuning::Tuning;
 use std::marker::Model;
 use std::time::Duration;
 
@@ -41,6 +42,7 @@ impl Model for CallTime {
 }
 
 impl CallTime {
+    ghost use Rattle.std.specs.Prelude.{IsTrue, IfSome};
     ghost use Rattle.r2d2.specs.CallTime.{begun_at, looked_at, start_of, waited_of, left_of};
     ghost use Rattle.r2d2.specs.CallTime.{may_still_take, with_one_less};
 
@@ -95,6 +97,16 @@ impl CallTime {
         ensures { option_map as_nanos result ≡ self.now.idle_since }
     {
         self.idle_since
+    }
+
+    /// Whether what it took last is idle for long enough to be checked.
+    #[inline(always)]
+    pub(super) fn has_check_due(&self, tuning: &Tuning) -> bool
+        ensures due { IsTrue result → IfSome tuning.now.check_after_idle
+            (λ least. IfSome self.now.idle_since (λ since. since ≤ self.now.step
+            → as_nanos least ≤ self.now.step - since)) }
+    {
+        tuning.is_check_due(self.idle_since, self.step)
     }
 
     /// Whether it looked at the clock.

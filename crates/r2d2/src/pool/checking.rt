@@ -23,7 +23,13 @@ impl<C: TakeTotal, M: ManageConnection, K: Hooks<M>, R: PoolRuntime> SharedOf<C,
             (λ least. IfSome time.now.idle_since (λ since. since ≤ time.now.step
             → as_nanos least ≤ time.now.step - since)) }
     {
-        self.hooks.test_on_check_out() && self.tuning.is_check_due(time.idle_since(), time.step())
+        self.hooks.test_on_check_out() && time.has_check_due(&self.tuning)
+    }
+
+    /// Whether what a call takes may be closed for a check, of it or of another.
+    #[inline(always)]
+    pub(super) fn may_fail_check(&self) -> bool {
+        self.hooks.test_on_check_out() || self.tuning.distrust_idle
     }
 
     /// The connection, where it need not be checked, or its check finds it sound. Else it is

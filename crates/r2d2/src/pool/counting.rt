@@ -3,9 +3,10 @@ ghost use Rattle.std.specs.Prelude.{◌≡◌, ◌≤◌, ◌<◌, ◌+◌, IfOk
 ghost use Rattle.r2d2_core.specs.Reports.{IsSoundReport};
 ghost use Rattle.r2d2.specs.Counted.{counted_up_to};
 
+use super::lined_book::LinedBook;
 use super::locking::Shared;
 use super::{CountedConnection, CountedPool, PoolRuntime};
-use crate::engine::Counted;
+use crate::engine::LedgerCounter;
 use crate::event::HandleEvent;
 use crate::{CustomizeConnection, Error, HandleError, ManageConnection};
 use r2d2_core::Report;
@@ -100,7 +101,7 @@ impl<
     }
 }
 
-impl<P: Drop, L: Ledger, M, K, R: Clock + Wait> Shared<Counted<P, L>, M, K, R> {
+impl<P: Drop, L: Ledger, M, K, R: Clock + Wait> Shared<LinedBook<P, LedgerCounter<L>>, M, K, R> {
     /// What the book reports, beside the share with all parts.
     pub(super) fn audit(&self, all: &mut Share<L>) -> Result<Report, AllocError>
         requires { all.old.parts ≡ L.parts }

@@ -4,8 +4,9 @@ ghost use Rattle.std.specs.Prelude.{vec_capacity, IfOk};
 ghost use Rattle.r2d2_core.specs.Reports.{IsSoundReport};
 
 use super::failures::Failures;
+use super::lined_book::{LinedBook, ToWake};
 use super::{State, Status};
-use crate::engine::{CountingBook, Outcome, Settled, TakeCounter, TakeTotal, Wakes};
+use crate::engine::{Outcome, Settled, TakeCounter, TakeTotal, Wakes};
 use crate::event::ReleaseReason;
 use crate::payload::PayloadOf;
 use crate::tuning::Tuning;
@@ -24,12 +25,13 @@ const TURNS: u32 = 10;
 /// How many turns of a loop it lets the lock alone between two tries.
 const PAUSES: u32 = 40;
 
-/// What the lock guards: the book, how many callers wait, which connections stay, and what failed.
+/// What the lock guards: the book, with those who wait in line, how many others wait, which
+/// connections stay, and what failed.
 #[derive(Drop)]
 pub struct Guarded<B> {
     // Beside the lock, and the book after them: each step reads them.
-    /// Those at a wait who have not the lock again. So it is at least the number of those whom a
-    /// wake can reach.
+    /// Those at the callers' variable who have not the lock again. So it is at least the number of
+    /// those whom a wake can reach.
     waiting: u64,
     /// The least id that no eviction has reached: those below it are closed as they come back.
     evicted_below: u64,
@@ -79,23 +81,26 @@ impl<B> Guarded<B> {
     }
 
     /// Of those to be woken, who is there: no caller where none waits.
-    pub(super) fn needed_wakes(&self, wakes: Wakes) -> Wakes
-        ensures { result ≡ needed_wakes self.now.waiting wakes }
+    pub(super) fn needed_wakes(&self, to_wake: ToWake) -> ToWake
+        ensures wakes { result.wakes ≡ needed_wakes self.now.waiting to_wake.wakes }
+        ensures told { result.told ≡ to_wake.told }
     {
-        Wakes {
+        let ToWake { wakes, told } = to_wake;
+        let wakes = Wakes {
             caller: wakes.caller && self.waiting > 0,
             workers: wakes.workers,
-        }
+        };
+        ToWake { wakes, told }
     }
 }
 
-impl<P, C: TakeTotal> Guarded<CountingBook<P, C>> {
+impl<P, C: TakeTotal> Guarded<LinedBook<P, C>> {
     ghost use Rattle.std.specs.Prelude.{IsTrue, IsFalse, IsSome, IfSome};
     ghost use Rattle.std.specs.Option.{IsNone};
     ghost use Rattle.std.specs.Duration.{as_nanos};
     ghost use Rattle.r2d2_core.specs.Connections.{birth_in};
     ghost use Rattle.r2d2_core.specs.Limits.{wanted_of};
-    ghost use Rattle.r2d2.specs.Status.{IsStatus, is_all_lent, is_full};
+    ghost use Rattle.r2d2.specs.Status.{IsStatus, all_who_wait, is_all_lent, is_full};
 
     /// The counts, with those of the callers who wait.
     pub(super) fn status(&self) -> Status
@@ -105,12 +110,13 @@ impl<P, C: TakeTotal> Guarded<CountingBook<P, C>> {
         ensures idle { result.idle ≡ length self.now.book.book.picture.idle }
         ensures lent { result.lent ≡ length self.now.book.book.picture.lent }
         ensures opening { result.opening ≡ self.now.book.book.picture.on_order.pending }
-        ensures waiting { result.waiting ≡ self.now.waiting }
+        ensures waiting { result.waiting ≡ all_who_wait self.now.waiting self.now.book.places }
         ensures openings { result.failed_openings ≡ self.now.failures.openings }
         ensures checks { result.failed_checks ≡ self.now.failures.checks }
         ensures closed { result.closed ≡ self.now.book.book.picture.on_order.closed }
     {
-        Status::of(self.book.book(), self.waiting, &self.failures)
+        let waiting = self.waiting.saturating_add(self.book.in_line() as u64);
+        Status::of(self.book.book(), waiting, &self.failures)
     }
 
     /// Whether the lent connection with this id has outlived its own lifetime, where lifetimes
@@ -166,7 +172,7 @@ impl<P, C: TakeTotal> Guarded<CountingBook<P, C>> {
     }
 }
 
-impl<P, C: TakeTotal> Guarded<CountingBook<P, C>> {
+impl<P, C: TakeTotal> Guarded<LinedBook<P, C>> {
     ghost use Rattle.std.specs.Duration.{as_nanos};
     ghost use Rattle.r2d2_core.specs.Seen.{seen_returned, map_ok};
     ghost use Rattle.r2d2_core.specs.BookSteps.{IsReturn};
@@ -201,11 +207,11 @@ impl<P, C: TakeTotal> Guarded<CountingBook<P, C>> {
         value: P,
         unfit: Option<ReleaseReason>,
         outlived: bool,
-    ) -> (Result<Returned<P>, (Refusal, P)>, Wakes)
+    ) -> (Result<Returned<P>, (Refusal, P)>, ToWake)
         ensures step { IsReturn now id value
             (is_to_close unfit outlived id self.old.evicted_below) result.0 self.old.book.book
             self.new.book.book }
-        ensures wakes { result.1 ≡ wakes_of_return (map_ok seen_returned result.0) }
+        ensures wakes { result.1.wakes ≡ wakes_of_return (map_ok seen_returned result.0) }
         ensures kept { self.new.evicted_below ≡ self.old.evicted_below }
         ensures waiting { self.new.waiting ≡ self.old.waiting }
         ensures failures { self.new.failures ≡ self.old.failures }
@@ -220,10 +226,10 @@ impl<P, C: TakeTotal> Guarded<CountingBook<P, C>> {
         now: Duration,
         tries: u32,
         text: Option<String>,
-    ) -> (Settled<P>, Wakes)
+    ) -> (Settled<P>, ToWake)
         ensures step { IsSettling now (outcome.Failed tries text) result.0 self.old.book.book
             self.new.book.book }
-        ensures wakes { result.1 ≡ wakes_of_settled (seen_settled result.0) }
+        ensures wakes { result.1.wakes ≡ wakes_of_settled (seen_settled result.0) }
         ensures failures { IsOneOpeningMore self.old.failures self.new.failures }
         ensures kept { self.new.evicted_below ≡ self.old.evicted_below }
         ensures waiting { self.new.waiting ≡ self.old.waiting }
@@ -240,10 +246,10 @@ impl<P, C: TakeTotal> Guarded<CountingBook<P, C>> {
         id: u64,
         text: Option<String>,
         distrusted_before: Duration,
-    ) -> (Settled<P>, Wakes)
+    ) -> (Settled<P>, ToWake)
         ensures step { IsSettling now (outcome.Unsound id text) result.0 self.old.book.book
             self.new.book.book }
-        ensures wakes { result.1 ≡ wakes_of_settled (seen_settled result.0) }
+        ensures wakes { result.1.wakes ≡ wakes_of_settled (seen_settled result.0) }
         ensures failures { IsOneCheckMore distrusted_before self.old.failures self.new.failures }
         ensures kept { self.new.evicted_below ≡ self.old.evicted_below }
         ensures waiting { self.new.waiting ≡ self.old.waiting }
@@ -253,7 +259,7 @@ impl<P, C: TakeTotal> Guarded<CountingBook<P, C>> {
     }
 }
 
-impl<P: Drop, C: TakeCounter> Guarded<CountingBook<P, C>> {
+impl<P: Drop, C: TakeCounter> Guarded<LinedBook<P, C>> {
     ghost use Rattle.std.specs.Duration.{as_nanos};
     ghost use Rattle.r2d2_core.specs.Seen.{seen_released};
     ghost use Rattle.r2d2.specs.Evicted.{evicted_of, after_eviction, IsEvicted};
@@ -292,8 +298,10 @@ impl<P: Drop, C: TakeCounter> Guarded<CountingBook<P, C>> {
 #[derive(Drop)]
 pub struct Shared<B, M, K, R> {
     pub(super) guarded: Mutex<Guarded<B>>,
-    /// Where callers wait for a connection.
+    /// Where callers wait for a connection, who do not stand in line.
     pub(super) callers: Condvar,
+    /// Where each caller in line waits: one for each slot.
+    pub(super) slots: Vec<Condvar>,
     /// Where workers wait for something to do.
     pub(super) workers: Condvar,
     pub(super) manager: M,
@@ -310,7 +318,7 @@ pub struct Shared<B, M, K, R> {
 }
 
 /// What a pool shares, whose payload is its manager's.
-pub type SharedOf<C, M, K, R> = Shared<CountingBook<PayloadOf<M>, C>, M, K, R>;
+pub type SharedOf<C, M, K, R> = Shared<LinedBook<PayloadOf<M>, C>, M, K, R>;
 
 impl<B, M, K, R> Shared<B, M, K, R> {
     ghost use Rattle.std.specs.Option.{IsNone};
@@ -329,14 +337,24 @@ impl<B, M, K, R> Shared<B, M, K, R> {
     }
 
     /// Wakes those for whom a step left something.
-    pub(super) fn wake(&self, wakes: Wakes) {
+    pub(super) fn wake(&self, to_wake: ToWake) {
         // Modelled in model/waiting.pml: keep both alike.
+        let ToWake { wakes, told } = to_wake;
         if wakes.caller {
             self.callers.notify_one();
         }
         if wakes.workers {
             self.workers.notify_all();
         }
+        if let Some(slot) = told {
+            self.variable_of(slot).notify_one();
+        }
+    }
+
+    /// Where the caller in line with this slot waits.
+    pub(super) fn variable_of(&self, slot: u32) -> &Condvar {
+        // Each slot has one.
+        self.slots.get(slot as usize).unwrap_or(&self.callers)
     }
 
     /// Wakes all callers and all workers.
@@ -344,6 +362,9 @@ impl<B, M, K, R> Shared<B, M, K, R> {
         // Modelled in model/waiting.pml: keep both alike.
         self.callers.notify_all();
         self.workers.notify_all();
+        for own in &self.slots {
+            own.notify_all();
+        }
     }
 
     /// Takes the lock.
@@ -376,7 +397,7 @@ impl<B, M, K, R> Shared<B, M, K, R> {
     // Makes a step: takes the lock, reads the moment, calls, lets the lock go, wakes. What the call
     // did to the book, nobody can say after it.
     #[inline(always)]
-    pub(super) fn step<X, F: FnOnce(&mut Guarded<B>, Duration) -> (X, Wakes)>(&self, call: F) -> X
+    pub(super) fn step<X, F: FnOnce(&mut Guarded<B>, Duration) -> (X, ToWake)>(&self, call: F) -> X
     where
         R: Clock + Wait,
         requires { (g : _) (now : _) → F.pre call g now }
@@ -392,7 +413,7 @@ impl<B, M, K, R> Shared<B, M, K, R> {
     }
 }
 
-impl<P: Drop, C: TakeTotal, M, K, R: Clock + Wait> Shared<CountingBook<P, C>, M, K, R> {
+impl<P: Drop, C: TakeTotal, M, K, R: Clock + Wait> Shared<LinedBook<P, C>, M, K, R> {
     ghost use Rattle.r2d2_core.specs.Book.{SeenBook};
     ghost use Rattle.r2d2_core.specs.BookSteps.{IsNumbering, IsClose};
     ghost use Rattle.r2d2.specs.Settled.{IsSettling};
@@ -402,7 +423,7 @@ impl<P: Drop, C: TakeTotal, M, K, R: Clock + Wait> Shared<CountingBook<P, C>, M,
     pub(super) fn state(&self) -> State
         ensures { result.idle_connections ≤ result.connections }
     {
-        self.step(|guarded, _now| (State::of(guarded.book.book()), Wakes::nobody()))
+        self.step(|guarded, _now| (State::of(guarded.book.book()), ToWake::nobody()))
     }
 
     /// The counts, with those of the callers who wait.
@@ -416,14 +437,14 @@ impl<P: Drop, C: TakeTotal, M, K, R: Clock + Wait> Shared<CountingBook<P, C>, M,
     pub(super) fn report(&self) -> Result<Report, AllocError>
         ensures sound { IfOk result IsSoundReport }
     {
-        self.step(|guarded, _now| (guarded.book.report(), Wakes::nobody()))
+        self.step(|guarded, _now| (guarded.book.report(), ToWake::nobody()))
     }
 
     /// Gives an opened connection its id.
     pub(super) fn number(&self, tries: u32) -> Result<u64, Refusal>
         ensures { (old : SeenBook P) × (new : SeenBook P) × IsNumbering tries result old new }
     {
-        self.step(|guarded, _now| (guarded.book.number(tries), Wakes::nobody()))
+        self.step(|guarded, _now| (guarded.book.number(tries), ToWake::nobody()))
     }
 
     /// Tells the book of an outcome.
@@ -442,7 +463,7 @@ impl<P: Drop, C: TakeTotal, M, K, R: Clock + Wait> Shared<CountingBook<P, C>, M,
     pub(super) fn close(&self) -> Leftover<P>
         ensures { (old : _) × (new : _) × IsClose result old new }
     {
-        let left = self.step(|guarded, _now| (guarded.book.close(), Wakes::nobody()));
+        let left = self.step(|guarded, _now| (guarded.book.close(), ToWake::nobody()));
         self.wake_all();
         left
     }

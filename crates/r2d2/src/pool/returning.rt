@@ -2,9 +2,10 @@
 ghost use Rattle.std.specs.Prelude.{◌≡◌, IfSome};
 
 use super::lent::Lent;
+use super::lined_book::LinedBook;
 use super::locking::Shared;
 use crate::Extension;
-use crate::engine::{CountingBook, TakeTotal};
+use crate::engine::TakeTotal;
 use crate::event::ReleaseReason;
 use crate::hooks::Closed;
 use crate::payload::Payload;
@@ -13,7 +14,7 @@ use std::rt::Clock;
 use std::sync::Wait;
 
 impl<X: Drop, E: Extension + Drop, C: TakeTotal, M, K, R: Clock + Wait> Shared<
-    CountingBook<Payload<X, E>, C>,
+    LinedBook<Payload<X, E>, C>,
     M,
     K,
     R,

@@ -11,8 +11,9 @@ ghost use Rattle.r2d2.specs.Failures.{IsOfAGet};
 use super::Status;
 use super::call_time::CallTime;
 use super::lent::Lent;
+use super::lined_book::{LinedBook, ToWake};
 use super::locking::{Guarded, Shared, pause};
-use crate::engine::{CountingBook, TakeCounter, TakeTotal, Wakes};
+use crate::engine::{TakeCounter, TakeTotal, Wakes};
 use crate::{Error, ErrorKind};
 use r2d2_core::Take;
 use std::alloc::AllocGlobal;
@@ -24,7 +25,7 @@ use std::time::Duration;
 const LOOKS: u32 = 20;
 
 impl<P: Drop, C: TakeCounter, M, K, R: Clock + Wait + AllocGlobal> Shared<
-    CountingBook<P, C>,
+    LinedBook<P, C>,
     M,
     K,
     R,
@@ -74,7 +75,7 @@ impl<P: Drop, C: TakeCounter, M, K, R: Clock + Wait + AllocGlobal> Shared<
             };
             let (Some(timeout), None) = (timeout, &found) else {
                 drop(guarded);
-                self.wake(wakes);
+                self.wake(ToWake::these(wakes));
                 return Ok(found);
             };
             if guarded.book.book().is_closed() {
@@ -82,7 +83,7 @@ impl<P: Drop, C: TakeCounter, M, K, R: Clock + Wait + AllocGlobal> Shared<
                 return Err(Error::closed());
             }
             // Before the wait, which lets the lock go.
-            self.wake(wakes);
+            self.wake(ToWake::these(wakes));
             let left = time.left_of(timeout);
             guarded.begin_wait();
             let (again, outcome) = self.callers.wait_timeout(&self.rt, guarded, left);
@@ -100,15 +101,11 @@ impl<P: Drop, C: TakeCounter, M, K, R: Clock + Wait + AllocGlobal> Shared<
     }
 }
 
-impl<P: Drop, C: TakeTotal, M, K, R: Clock + Wait + AllocGlobal> Shared<
-    CountingBook<P, C>,
-    M,
-    K,
-    R,
-> {
-    // Takes the lock for a call. One that has to wait for it, and looked at no clock before, does
-    // so first.
-    fn lock_for(&self, time: &mut CallTime) -> MutexGuard<'_, Guarded<CountingBook<P, C>>>
+impl<P: Drop, C: TakeTotal, M, K, R: Clock + Wait + AllocGlobal> Shared<LinedBook<P, C>, M, K, R> {
+    /// Takes the lock for a call. One that has to wait for it, and looked at no clock before, does
+    /// so first.
+    #[inline(always)]
+    pub(super) fn lock_for(&self, time: &mut CallTime) -> MutexGuard<'_, Guarded<LinedBook<P, C>>>
         ensures { IsSome time.old.start → time.new ≡ time.old }
     {
         if let Some(guarded) = self.guarded.try_lock() {
@@ -124,8 +121,8 @@ impl<P: Drop, C: TakeTotal, M, K, R: Clock + Wait + AllocGlobal> Shared<
     // many wait as may.
     fn look_before_wait<'a>(
         &'a self,
-        mut guarded: MutexGuard<'a, Guarded<CountingBook<P, C>>>,
-    ) -> Option<MutexGuard<'a, Guarded<CountingBook<P, C>>>> {
+        mut guarded: MutexGuard<'a, Guarded<LinedBook<P, C>>>,
+    ) -> Option<MutexGuard<'a, Guarded<LinedBook<P, C>>>> {
         if guarded.is_full(self.tuning.max_waiting) {
             return None;
         }
@@ -140,8 +137,8 @@ impl<P: Drop, C: TakeTotal, M, K, R: Clock + Wait + AllocGlobal> Shared<
     // sleep and a wake take. So who has a connection for no longer makes nobody sleep.
     fn look_again<'a>(
         &'a self,
-        mut guarded: MutexGuard<'a, Guarded<CountingBook<P, C>>>,
-    ) -> MutexGuard<'a, Guarded<CountingBook<P, C>>> {
+        mut guarded: MutexGuard<'a, Guarded<LinedBook<P, C>>>,
+    ) -> MutexGuard<'a, Guarded<LinedBook<P, C>>> {
         for _ in 0..LOOKS {
             if !guarded.is_all_lent() {
                 break;
@@ -157,7 +154,7 @@ impl<P: Drop, C: TakeTotal, M, K, R: Clock + Wait + AllocGlobal> Shared<
     // is known, and what the pool shows now.
     fn give_up(
         &self,
-        mut guarded: MutexGuard<'_, Guarded<CountingBook<P, C>>>,
+        mut guarded: MutexGuard<'_, Guarded<LinedBook<P, C>>>,
         waited: Duration,
     ) -> Error
         ensures kind { result.kind ≡ ErrorKind.Timeout }
@@ -167,7 +164,7 @@ impl<P: Drop, C: TakeTotal, M, K, R: Clock + Wait + AllocGlobal> Shared<
         let status = guarded.status();
         let error = guarded.book.take_error();
         // It is late by the clock, and may have been woken: that wake is another's now.
-        let wakes = guarded.needed_wakes(Wakes::a_caller());
+        let wakes = guarded.needed_wakes(ToWake::these(Wakes::a_caller()));
         drop(guarded);
         self.wake(wakes);
         Error::timeout(self.rt.alloc(), error, status, waited)
@@ -175,6 +172,7 @@ impl<P: Drop, C: TakeTotal, M, K, R: Clock + Wait + AllocGlobal> Shared<
 
     /// Gives up for a call whose time is over; None where some is left, or where it brought no
     /// timeout.
+    #[inline(always)]
     pub(super) fn give_up_if_late(
         &self,
         timeout: Option<Duration>,
@@ -240,7 +238,7 @@ impl<P: Drop, C: TakeTotal, M, K, R: Clock + Wait + AllocGlobal> Shared<
         let status = guarded.status();
         // The wake of the last return may have been this caller's, and others wait for that return
         // too.
-        let wakes = guarded.needed_wakes(Wakes::a_caller());
+        let wakes = guarded.needed_wakes(ToWake::these(Wakes::a_caller()));
         drop(guarded);
         self.wake(wakes);
         if status.lent > 0 {

@@ -9,9 +9,10 @@ ghost use Rattle.r2d2.specs.Wakes.{wakes_of_reap};
 
 use super::PoolRuntime;
 use super::evicting::has_room;
+use super::lined_book::{LinedBook, ToWake};
 use super::locking::{Guarded, SharedOf};
 use crate::ManageConnection;
-use crate::engine::{CountingBook, Outcome, TakeTotal, Wakes};
+use crate::engine::{Outcome, TakeTotal};
 use crate::error::text_of;
 use crate::event::ReleaseReason;
 use crate::hooks::Hooks;
@@ -112,18 +113,18 @@ fn reason_of_reap(limits: &Limits, age: Duration) -> ReleaseReason
     }
 }
 
-impl<P: Drop, C: TakeTotal> Guarded<CountingBook<P, C>> {
+impl<P: Drop, C: TakeTotal> Guarded<LinedBook<P, C>> {
     // Closes what is expired, into the list, which is empty and has room for all.
-    fn reap(&mut self, now: Duration, expired: &mut Vec<Released<P>>) -> Wakes
+    fn reap(&mut self, now: Duration, expired: &mut Vec<Released<P>>) -> ToWake
         ensures step { HasRoom self.old.book.book.picture.on_order.limits.max_size expired.old
-            → (ordered : _) × (result ≡ wakes_of_reap (length expired.new.items) ordered)
+            → (ordered : _) × (result.wakes ≡ wakes_of_reap (length expired.new.items) ordered)
             × IsReap now expired.new.items ordered self.old.book.book self.new.book.book }
         ensures kept { self.new.evicted_below ≡ self.old.evicted_below }
         ensures waiting { self.new.waiting ≡ self.old.waiting }
         ensures failures { self.new.failures ≡ self.old.failures }
     {
         if !has_room(self.book.book(), expired) {
-            return Wakes::nobody();
+            return ToWake::nobody();
         }
         let (_ordered, wakes) = self.book.sweep(now, expired);
         wakes

@@ -1,5 +1,5 @@
 use Rattle.std.proofs.Common.{◌≡◌}
-use Rattle.r2d2.proofs.pool.waiting.Shared+CountingBook+P+C+M+K+R.lend_until.Given as goal
+use Rattle.r2d2.proofs.pool.in_line.Shared+LinedBook+P+C+M+K+R.take_in_line.Given as goal
 
 -- what was missed was not counted
 abbrev pub invariant-loop : goal.invariant-loop

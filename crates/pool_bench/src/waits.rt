@@ -1,0 +1,159 @@
+// How long callers wait where there are more of them than connections: at the callers' one variable,
+// and in line.
+ghost use Rattle.std.specs.Prelude.{◌<◌};
+
+use crate::pools::Nothings;
+use anyhow::ensure;
+use r2d2::{Builder, PlainPool, PoolRuntime};
+use std::sync::{Arc, Barrier};
+use std::thread::{self, JoinHandle};
+use std::time::{Duration, Instant};
+
+/// How many callers there are.
+const CALLERS: u32 = 8;
+
+/// What the callers do with a pool of this size.
+#[derive(Clone, Copy)]
+pub struct Load {
+    pub max_size: u32,
+    /// How many microseconds each connection is held: by turning for short, by sleeping for long.
+    pub held_us: u32,
+    /// How many calls each caller makes.
+    pub calls: u32,
+    pub ghost has_size: { 0 < max_size },
+}
+
+/// How long each call of a caller waited, in nanoseconds; None where one was not served.
+pub type Waits = Option<Vec<u64>>;
+
+/// Times each load, without a line and with one, and prints a line for each: how many nanoseconds
+/// passed for each call of all, and the waits in microseconds. `start` starts a thread of calls that
+/// begins once the gate opens.
+pub fn measure<R, S>(rt: R, start: S) -> Result<(), anyhow::Error>
+where
+    R: PoolRuntime + Print,
+    S: Fn(PlainPool<Nothings, R>, Arc<Barrier>, Load) -> Result<JoinHandle<Waits>, anyhow::Error>
+        + Drop,
+    requires { S.IsAlwaysCallable start }
+{
+    println!(rt; "way callers max_size held_us calls ns_for_each p50_us p99_9_us longest_us")?;
+    for &max_size in &[1, 4] {
+        for &(held_us, calls) in &[(0, 10_000), (20, 2_000), (1_000, 250)] {
+            let load = Load {
+                max_size,
+                held_us,
+                calls,
+            };
+            let builder = Builder::new().max_size(max_size).test_on_check_out(false);
+            let pool = builder.build(rt, Nothings)?;
+            print(rt, "any", load, &pool, &start)?;
+            let builder = Builder::new().max_size(max_size).test_on_check_out(false);
+            let pool = builder.waiting_line(CALLERS).build(rt, Nothings)?;
+            print(rt, "line", load, &pool, &start)?;
+        }
+    }
+    Ok(())
+}
+
+// Times one load at a pool, and prints its line.
+fn print<R, S>(
+    rt: R,
+    way: &str,
+    load: Load,
+    pool: &PlainPool<Nothings, R>,
+    start: &S,
+) -> Result<(), anyhow::Error>
+where
+    R: PoolRuntime + Print,
+    S: Fn(PlainPool<Nothings, R>, Arc<Barrier>, Load) -> Result<JoinHandle<Waits>, anyhow::Error>,
+    requires { S.IsAlwaysCallable start.now }
+{
+    let gate = Arc::new(rt.alloc(), Barrier::new(CALLERS as usize + 1))?;
+    let mut callers = Vec::new(rt.alloc());
+    for _ in 0..CALLERS {
+        callers.push(start(pool.try_clone()?, Arc::try_clone(&gate)?, load)?)?;
+    }
+    gate.wait(&rt);
+    let begun = Instant::now(&rt)?;
+    let mut waits = joined(rt, callers)?;
+    let took = begun.elapsed(&rt)?.as_nanos();
+    waits.sort_unstable();
+    let each = took.checked_div(waits.len() as u128).unwrap_or(0);
+    let Load {
+        max_size,
+        held_us,
+        calls,
+    } = load;
+    println!(rt;
+        "{way} {CALLERS} {max_size} {held_us} {calls} {each} {} {} {}",
+        part(&waits, 500),
+        part(&waits, 999),
+        part(&waits, 1000)
+    )?;
+    Ok(())
+}
+
+// The waits of all callers.
+fn joined<R: PoolRuntime>(
+    rt: R,
+    callers: Vec<JoinHandle<Waits>>,
+) -> Result<Vec<u64>, anyhow::Error> {
+    let mut waits = Vec::new(rt.alloc());
+    let mut went = true;
+    for caller in callers {
+        match caller.join(&rt) {
+            Some(theirs) => waits.extend_from_slice(theirs.as_slice())?,
+            None => went = false,
+        }
+    }
+    ensure!(went, "a call was not served");
+    Ok(waits)
+}
+
+// The wait, in microseconds, that so many of a thousand do not pass.
+fn part(sorted: &[u64], of_a_thousand: usize) -> u64 {
+    let place = sorted.len().saturating_mul(of_a_thousand) / 1000;
+    let last = sorted.len().saturating_sub(1);
+    sorted.get(place.min(last)).copied().unwrap_or(0) / 1000
+}
+
+/// Makes the calls, once the gate opens.
+pub fn waited<R: PoolRuntime>(
+    rt: R,
+    pool: PlainPool<Nothings, R>,
+    gate: Arc<Barrier>,
+    load: Load,
+) -> Waits {
+    let mut waits = Vec::with_capacity(rt.alloc(), load.calls as usize).ok()?;
+    let held = Duration::from_micros(u64::from(load.held_us));
+    gate.wait(&rt);
+    for _ in 0..load.calls {
+        let start = Instant::now(&rt).ok()?;
+        let lent = pool.get().ok()?;
+        let waited = start.elapsed(&rt).ok()?;
+        hold(rt, held)?;
+        drop(lent);
+        waits
+            .push(u64::try_from(waited.as_nanos()).unwrap_or(u64::MAX))
+            .ok()?;
+    }
+    Some(waits)
+}
+
+// Sleeps for a length of a hundred microseconds or more, and turns for a shorter one.
+fn hold<R: PoolRuntime>(rt: R, held: Duration) -> Option<()> {
+    if held.as_micros() >= 100 {
+        thread::sleep(&rt, held);
+        return Some(());
+    }
+    if held.is_zero() {
+        return Some(());
+    }
+    let start = Instant::now(&rt).ok()?;
+    for _ in 0..u32::MAX {
+        if start.elapsed(&rt).ok()?.as_nanos() >= held.as_nanos() {
+            break;
+        }
+    }
+    Some(())
+}

@@ -1,0 +1,219 @@
+-- What each change of the line leaves.
+use Rattle.std.proofs.Common.{◌≡◌, ℕ, zero, suc, ◌+◌, ◌<◌, ◌≤◌, Bool, true, false, cond, List, [], ◌∷◌, ◌++◌, length, take, drop, set, get_or, Option, Some, None, refl, sym, ◌∙◌, ap, subst, arith, rules, ◌-◌}
+use Rattle.std.specs.Prelude.{◌==◌}
+use Rattle.std.proofs.lemmas.Bool.{cond-true, cond-false}
+use Rattle.std.specs.Prelude.{min, IfSome, IfNone}
+use Rattle.std.proofs.lemmas.Bool.Decides.{nat_tests}
+use Rattle.r2d2.specs.declared.line.place.Place.{Place}
+use Rattle.r2d2.specs.declared.line.place.Standing.{Standing}
+use Rattle.r2d2.specs.declared.line.place.Standing.TheVariants.{Quiet, Told, Served}
+use Rattle.r2d2.specs.Waiting.{place, is_quiet, is_told, weight, waiting_in, told_ahead, ahead, index_of, told_at, weight_at, without, with_standing, quiet_index, first_quiet, told_first, copies_in, copies_of}
+
+-- a join: who is told nothing at the end changes nothing for those before it
+pub told_ahead-join : (ps : List Place) (s : ℕ) → told_ahead (ps ++ place s Quiet ∷ []) ≡ told_ahead ps
+told_ahead-join [] s = refl
+told_ahead-join (p ∷ ps) s = grind (arith, told_ahead-join ps s)
+
+pub waiting_in-join : (ps : List Place) (s : ℕ) → waiting_in (ps ++ place s Quiet ∷ []) ≡ waiting_in ps + 1
+waiting_in-join [] s = refl
+waiting_in-join (p ∷ ps) s = omega (arith, waiting_in-join ps s)
+
+pub copies_in-join : (ps : List Place) (s i : ℕ) → copies_in i (ps ++ place s Quiet ∷ []) ≡ copies_in i ps + (cond (s == i) 1 0)
+copies_in-join [] s i = omega arith
+copies_in-join (p ∷ ps) s i = omega (arith, copies_in-join ps s i)
+
+-- no more are told before the first quiet one than wait
+pub told_ahead-le : (ps : List Place) → told_ahead ps ≤ waiting_in ps
+told_ahead-le [] = omega arith
+told_ahead-le (p ∷ ps) = grind (arith, told_ahead-le ps)
+
+-- a wake
+pub waiting_in-tell : (ps : List Place) → waiting_in (told_first ps) ≡ waiting_in ps
+waiting_in-tell [] = refl
+waiting_in-tell (p ∷ ps) = grind (arith, waiting_in-tell ps)
+
+pub told_ahead-tell : (ps : List Place) → min (told_ahead ps + 1) (waiting_in ps) ≤ told_ahead (told_first ps)
+told_ahead-tell [] = omega arith
+told_ahead-tell (p ∷ ps) = grind (arith, told_ahead-tell ps)
+
+-- one leaves
+pub waiting_in-without : (s : ℕ) (ps : List Place) → waiting_in (without s ps) + weight_at s ps ≡ waiting_in ps
+waiting_in-without s [] = refl
+waiting_in-without s (p ∷ ps) = grind (arith, waiting_in-without s ps)
+
+pub told_ahead-without : (s : ℕ) (ps : List Place) → told_ahead ps ≤ told_ahead (without s ps) + 1
+told_ahead-without s [] = omega arith
+told_ahead-without s (p ∷ ps) = grind (arith, told_ahead-without s ps)
+
+-- one who was told nothing, or who does not wait, leaves
+pub told_ahead-without_untold : (s : ℕ) (ps : List Place) → told_at s ps ≡ false → told_ahead ps ≤ told_ahead (without s ps)
+told_ahead-without_untold s [] e = omega arith
+told_ahead-without_untold s (p ∷ ps) e = grind (arith, told_ahead-without_untold s ps)
+
+-- one who was told waits
+pub weight_at-told : (s : ℕ) (ps : List Place) → told_at s ps ≡ true → weight_at s ps ≡ 1
+weight_at-told s [] e = absurd cc
+weight_at-told s (p ∷ ps) e = grind (arith, weight_at-told s ps)
+
+pub weight_at-le : (s : ℕ) (ps : List Place) → weight_at s ps ≤ waiting_in ps
+weight_at-le s [] = omega arith
+weight_at-le s (p ∷ ps) = grind (arith, weight_at-le s ps)
+
+-- one is served
+pub waiting_in-served : (s : ℕ) (ps : List Place) → waiting_in (with_standing s Served ps) + weight_at s ps ≡ waiting_in ps
+waiting_in-served s [] = refl
+waiting_in-served s (p ∷ ps) = grind (arith, waiting_in-served s ps)
+
+pub told_ahead-served : (s : ℕ) (ps : List Place) → told_ahead ps ≤ told_ahead (with_standing s Served ps) + 1
+told_ahead-served s [] = omega arith
+told_ahead-served s (p ∷ ps) = grind (arith, told_ahead-served s ps)
+
+-- one goes on waiting
+pub waiting_in-quiet : (s : ℕ) (ps : List Place) → 0 < copies_in s ps → waiting_in (with_standing s Quiet ps) + weight_at s ps ≡ waiting_in ps + 1
+waiting_in-quiet s [] e = absurd (omega arith)
+waiting_in-quiet s (p ∷ ps) e = grind (arith, waiting_in-quiet s ps)
+
+pub told_ahead-quiet : (s : ℕ) (ps : List Place) → min (told_ahead ps) (ahead s ps) ≤ told_ahead (with_standing s Quiet ps)
+told_ahead-quiet s [] = omega arith
+told_ahead-quiet s (p ∷ ps) = grind (arith, told_ahead-quiet s ps)
+
+-- slots
+pub copies_in-tell : (i : ℕ) (ps : List Place) → copies_in i (told_first ps) ≡ copies_in i ps
+copies_in-tell i [] = refl
+copies_in-tell i (p ∷ ps) = grind (arith, copies_in-tell i ps)
+
+pub copies_in-standing : (i s : ℕ) (t : Standing) (ps : List Place) → copies_in i (with_standing s t ps) ≡ copies_in i ps
+copies_in-standing i s t [] = refl
+copies_in-standing i s t (p ∷ ps) = grind (arith, copies_in-standing i s t ps)
+
+pub copies_in-without : (i s : ℕ) (ps : List Place) → 0 < copies_in s ps → copies_in i (without s ps) + (cond (s == i) 1 0) ≡ copies_in i ps
+copies_in-without i s [] e = absurd (omega arith)
+copies_in-without i s (p ∷ ps) e = grind (arith, copies_in-without i s ps)
+
+pub length-standing : (s : ℕ) (t : Standing) (ps : List Place) → length (with_standing s t ps) ≡ length ps
+length-standing s t [] = refl
+length-standing s t (p ∷ ps) = grind (arith, length-standing s t ps)
+
+pub length-tell : (ps : List Place) → length (told_first ps) ≡ length ps
+length-tell [] = refl
+length-tell (p ∷ ps) = grind (arith, length-tell ps)
+
+pub length-without : (s : ℕ) (ps : List Place) → 0 < copies_in s ps → length (without s ps) + 1 ≡ length ps
+length-without s [] e = absurd (omega arith)
+length-without s (p ∷ ps) e = grind (arith, length-without s ps)
+
+-- the lists that the code makes
+pub remove-is : (s : ℕ) (ps : List Place) → index_of s ps < length ps → take (index_of s ps) ps ++ drop (suc (index_of s ps)) ps ≡ without s ps
+remove-is s [] e = absurd (omega arith)
+remove-is s (p ∷ ps) e = elim (p.slot == s) as (λ b. b ≡ (p.slot == s) → take (cond b 0 (suc (index_of s ps))) (p ∷ ps) ++ drop (suc (cond b 0 (suc (index_of s ps)))) (p ∷ ps) ≡ cond b ps (p ∷ without s ps)) [ true ↦ λ w. refl | false ↦ λ w. ap (λ l. p ∷ l) (remove-is s ps (grind (arith))) ] refl
+
+pub copies_in-within : (s : ℕ) (ps : List Place) → index_of s ps < length ps → 0 < copies_in s ps
+copies_in-within s [] e = absurd (omega arith)
+copies_in-within s (p ∷ ps) e = grind (arith, copies_in-within s ps)
+
+pub without-none : (s : ℕ) (ps : List Place) → length ps ≤ index_of s ps → without s ps ≡ ps
+without-none s [] e = refl
+without-none s (p ∷ ps) e = grind (arith, without-none s ps)
+
+-- what a mark at an index makes
+pub set-is : (s : ℕ) (t : Standing) (ps : List Place) → index_of s ps < length ps → set ps (index_of s ps) (place s t) ≡ with_standing s t ps
+set-is s t [] e = absurd (omega arith)
+set-is s t (p ∷ ps) e = grind (arith, set-is s t ps)
+
+pub tell-is : (ps : List Place) (d : Place) → quiet_index ps < length ps → set ps (quiet_index ps) (place (get_or ps (quiet_index ps) d).slot Told) ≡ told_first ps
+tell-is [] d e = absurd (omega arith)
+tell-is (p ∷ ps) d e = grind (arith, tell-is ps d)
+
+pub first_quiet-is : (ps : List Place) (d : Place) → quiet_index ps < length ps → first_quiet ps ≡ Some (get_or ps (quiet_index ps) d).slot
+first_quiet-is [] d e = absurd (omega arith)
+first_quiet-is (p ∷ ps) d e = grind (arith, first_quiet-is ps d)
+
+pub tell-none : (ps : List Place) → length ps ≤ quiet_index ps → told_first ps ≡ ps
+tell-none [] e = refl
+tell-none (p ∷ ps) e = grind (arith, tell-none ps)
+
+pub first_quiet-none : (ps : List Place) → length ps ≤ quiet_index ps → first_quiet ps ≡ None
+first_quiet-none [] e = refl
+first_quiet-none (p ∷ ps) e = grind (arith, first_quiet-none ps)
+
+pub standing-none : (s : ℕ) (t : Standing) (ps : List Place) → length ps ≤ index_of s ps → with_standing s t ps ≡ ps
+standing-none s t [] e = refl
+standing-none s t (p ∷ ps) e = grind (arith, standing-none s t ps)
+
+pub weight_at-is : (s : ℕ) (ps : List Place) (d : Place) → index_of s ps < length ps → weight_at s ps ≡ weight (get_or ps (index_of s ps) d).standing
+weight_at-is s [] d e = absurd (omega arith)
+weight_at-is s (p ∷ ps) d e = grind (arith, weight_at-is s ps d)
+
+pub told_at-is : (s : ℕ) (ps : List Place) (d : Place) → index_of s ps < length ps → told_at s ps ≡ is_told (get_or ps (index_of s ps) d).standing
+told_at-is s [] d e = absurd (omega arith)
+told_at-is s (p ∷ ps) d e = grind (arith, told_at-is s ps d)
+
+pub told_at-none : (s : ℕ) (ps : List Place) → length ps ≤ index_of s ps → told_at s ps ≡ false
+told_at-none s [] e = refl
+told_at-none s (p ∷ ps) e = grind (arith, told_at-none s ps)
+
+pub waiting_in-le : (ps : List Place) → waiting_in ps ≤ length ps
+waiting_in-le [] = omega arith
+waiting_in-le (p ∷ ps) = grind (arith, waiting_in-le ps)
+
+pub copies_of-push : (xs : List ℕ) (s i : ℕ) → copies_of i (xs ++ s ∷ []) ≡ copies_of i xs + (cond (s == i) 1 0)
+copies_of-push [] s i = omega arith
+copies_of-push (x ∷ xs) s i = omega (arith, copies_of-push xs s i)
+
+pub waiting_in-standing : (s : ℕ) (t : Standing) (ps : List Place) → 0 < copies_in s ps → waiting_in (with_standing s t ps) + weight_at s ps ≡ waiting_in ps + weight t
+waiting_in-standing s t [] e = absurd (omega arith)
+waiting_in-standing s t (p ∷ ps) e = grind (arith, waiting_in-standing s t ps)
+
+pub copies_of-same : (xs : List ℕ) (s : ℕ) → copies_of s (xs ++ s ∷ []) ≡ copies_of s xs + 1
+copies_of-same [] s = grind arith
+copies_of-same (x ∷ xs) s = grind (arith, copies_of-same xs s)
+
+pub weight_at-one : (s : ℕ) (ps : List Place) → weight_at s ps ≤ 1
+weight_at-one s [] = omega arith
+weight_at-one s (p ∷ ps) = grind (arith, weight_at-one s ps)
+
+-- what one who waits no more takes from those who were told
+pub told_ahead-served_by : (s : ℕ) (ps : List Place) → told_ahead ps ≤ told_ahead (with_standing s Served ps) + weight_at s ps
+told_ahead-served_by s [] = omega arith
+told_ahead-served_by s (p ∷ ps) = grind (arith, told_ahead-served_by s ps)
+
+pub ahead-le : (s : ℕ) (ps : List Place) → ahead s ps ≤ waiting_in ps
+ahead-le s [] = omega arith
+ahead-le s (p ∷ ps) = grind (arith, ahead-le s ps)
+
+pub waiting_in-quiet_le : (s : ℕ) (ps : List Place) → waiting_in (with_standing s Quiet ps) ≤ waiting_in ps + 1
+waiting_in-quiet_le s [] = omega arith
+waiting_in-quiet_le s (p ∷ ps) = grind (arith, waiting_in-quiet_le s ps)
+
+-- slots that are made
+pub push_apart : (xs : List ℕ) (n s : ℕ) → copies_of s xs ≤ 1 → (n ≤ s → copies_of s xs ≡ 0) → copies_of s (xs ++ n ∷ []) ≤ 1
+push_apart xs n s a b = grind (arith, nat_tests, copies_of-push xs n s)
+
+pub push_below : (xs : List ℕ) (n s : ℕ) → n + 1 ≤ s → (n ≤ s → copies_of s xs ≡ 0) → copies_of s (xs ++ n ∷ []) ≡ 0
+push_below xs n s lt b = grind (arith, nat_tests, copies_of-push xs n s)
+
+-- of those who wait the first ones, as many as are idle, have been told: after each step
+pub kept_more : (idle : ℕ) (ps : List Place) → min idle (waiting_in ps) ≤ told_ahead ps → min (idle + 1) (waiting_in (told_first ps)) ≤ told_ahead (told_first ps)
+kept_more idle ps h = omega (arith, told_ahead-tell ps, waiting_in-tell ps)
+
+pub kept_told : (idle : ℕ) (ps : List Place) → min idle (waiting_in ps) ≤ told_ahead ps → min idle (waiting_in (told_first ps)) ≤ told_ahead (told_first ps)
+kept_told idle ps h = omega (arith, told_ahead-tell ps, waiting_in-tell ps)
+
+pub kept_join : (idle : ℕ) (ps : List Place) (s : ℕ) → idle ≤ waiting_in ps → min idle (waiting_in ps) ≤ told_ahead ps → min idle (waiting_in (ps ++ place s Quiet ∷ [])) ≤ told_ahead (ps ++ place s Quiet ∷ [])
+kept_join idle ps s le h = omega (arith, told_ahead-join ps s, waiting_in-join ps s)
+
+pub kept_served : (idle : ℕ) (s : ℕ) (ps : List Place) → min idle (waiting_in ps) ≤ told_ahead ps → min (idle - 1) (waiting_in (with_standing s Served ps)) ≤ told_ahead (with_standing s Served ps)
+kept_served idle s ps h = omega (arith, told_ahead-served_by s ps, waiting_in-served s ps, told_ahead-served s ps, weight_at-one s ps)
+
+pub kept_quiet : (idle : ℕ) (s : ℕ) (ps : List Place) → idle ≤ ahead s ps → min idle (waiting_in ps) ≤ told_ahead ps → min idle (waiting_in (with_standing s Quiet ps)) ≤ told_ahead (with_standing s Quiet ps)
+kept_quiet idle s ps le h = omega (arith, told_ahead-quiet s ps, ahead-le s ps, waiting_in-quiet_le s ps)
+
+pub kept_left_told : (idle : ℕ) (s : ℕ) (ps : List Place) → told_at s ps ≡ true → min idle (waiting_in ps) ≤ told_ahead ps → min idle (waiting_in (told_first (without s ps))) ≤ told_ahead (told_first (without s ps))
+kept_left_told idle s ps e h = omega (arith, told_ahead-tell (without s ps), waiting_in-tell (without s ps), told_ahead-without s ps, waiting_in-without s ps, weight_at-told s ps e)
+
+pub kept_left : (idle : ℕ) (s : ℕ) (ps : List Place) → told_at s ps ≡ false → min idle (waiting_in ps) ≤ told_ahead ps → min idle (waiting_in (without s ps)) ≤ told_ahead (without s ps)
+kept_left idle s ps e h = omega (arith, told_ahead-without_untold s ps e, waiting_in-without s ps)
+
+pub kept_joined : (idle : ℕ) (ps qs : List Place) (r : Option ℕ) → IfSome r (λ s. qs ≡ ps ++ place s Quiet ∷ []) → IfNone r (qs ≡ ps) → idle ≤ waiting_in ps → min idle (waiting_in ps) ≤ told_ahead ps → min idle (waiting_in qs) ≤ told_ahead qs
+kept_joined idle ps qs (Some s) joined full le h = let P : List Place → Type 0 = λ xs. min idle (waiting_in xs) ≤ told_ahead xs in subst P (sym joined) (kept_join idle ps s le h)
+kept_joined idle ps qs None joined full le h = let P : List Place → Type 0 = λ xs. min idle (waiting_in xs) ≤ told_ahead xs in subst P (sym full) h

@@ -1,0 +1,11 @@
+use Rattle.std.proofs.Common.{◌≡◌, ℕ, ◌≤◌, length, vec_capacity}
+use Rattle.r2d2.specs.Waiting.{copies_of}
+use Rattle.r2d2.proofs.line.queue.slots.Given as goal
+
+abbrev pub invariant-loop-slot : goal.invariant-loop-slot
+invariant-loop-slot g l = record {
+  len : length l.free.items ≡ l.slot;
+  capacity : l.room ≤ vec_capacity l.free;
+  apart : (s : ℕ) → copies_of s l.free.items ≤ 1;
+  below : (s : ℕ) → l.slot ≤ s → copies_of s l.free.items ≡ 0;
+}

@@ -1,0 +1,16 @@
+use Rattle.std.proofs.Common.{◌≡◌, ℕ, ◌+◌, ◌*◌, ◌<◌, ◌≤◌, List, [], ◌∷◌, length, refl, sym, ◌∙◌, ap, subst, arith}
+use Rattle.r2d2_core.specs.Picture.{Picture}
+use Rattle.r2d2.specs.declared.line.place.Place.{Place}
+use Rattle.r2d2.specs.Waiting.{AreTold, told_if, told_at, without}
+use Rattle.r2d2.proofs.Lined.{one_told, one_returned}
+use Rattle.r2d2.proofs.pool.lined_book.LinedBook.give_back.Goals as goal
+
+pub invariant_of-self : goal.invariant_of-self
+invariant_of-self g c =
+    let step = c.give_back-returned in
+    let ps = c.self.inside.line.places.items in
+    let old = c.self.inside.book.book.picture in
+    let new = step.new.self.book.picture in
+    let more = one_returned c.args.now c.args.id c.args.value c.args.broken step.result.0 old new step.result.1 step.ensures.step.of_core step.ensures.wakes in
+    let P : List Place → Type 0 = λ qs. AreTold (length new.idle) qs in
+    subst P (sym c.tell_if-told.ensures.places) (one_told step.result.1.caller (length old.idle) (length new.idle) ps c.self.invariant more)

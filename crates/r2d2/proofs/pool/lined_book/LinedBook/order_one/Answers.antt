@@ -1,0 +1,30 @@
+use Rattle.std.proofs.Common.{◌≡◌, ℕ, ◌+◌, ◌*◌, ◌<◌, ◌≤◌, List, [], ◌∷◌, length, refl, sym, ◌∙◌, ap, subst, arith}
+use Rattle.r2d2_core.specs.Picture.{Picture}
+use Rattle.r2d2.specs.declared.line.place.Place.{Place}
+use Rattle.r2d2.specs.Waiting.{AreTold, told_if, told_at, without}
+use Rattle.std.proofs.Common.{true}
+use Rattle.r2d2.proofs.Lined.{still_told, one_taken, none_counted}
+use Rattle.r2d2.proofs.pool.lined_book.LinedBook.order_one.Goals as goal
+
+pub invariant_of-self : goal.invariant_of-self
+invariant_of-self g c =
+    let ps = c.self.inside.line.places.items in
+    let old = c.self.inside.book.book.picture in
+    let new = c.lend-empty.new.self.book.picture in
+    let less = one_taken c.args.now true c.lend-empty.result.0 old new c.lend-empty.ensures.step.of_core in
+    still_told (length old.idle) (length new.idle) ps c.self.invariant (omega (arith, less))
+
+pub returns-clause-none : goal.returns-clause-none
+returns-clause-none g c =
+    let old = c.self.inside.book.book.picture in
+    let new = c.lend-empty.new.self.book.picture in
+    let none = subst (λ v. length v.book.picture.idle ≡ 0) (sym c.self.view_is) c.requires.none in
+    omega (arith, none, one_taken c.args.now true c.lend-empty.result.0 old new c.lend-empty.ensures.step.of_core)
+
+pub returns-clause-amount : goal.returns-clause-amount
+returns-clause-amount g c =
+    let old = c.self.inside.book.book.picture in
+    let new = c.lend-empty.new.self.book.picture in
+    let none = subst (λ v. length v.book.picture.idle ≡ 0) (sym c.self.view_is) c.requires.none in
+    none_counted _ _ _ _ c.lend-empty.ensures.amount
+    (omega (arith, none, one_taken c.args.now true c.lend-empty.result.0 old new c.lend-empty.ensures.step.of_core))

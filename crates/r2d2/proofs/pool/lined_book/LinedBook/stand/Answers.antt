@@ -1,0 +1,23 @@
+use Rattle.std.proofs.Common.{◌≡◌, ℕ, ◌+◌, ◌*◌, ◌<◌, ◌≤◌, List, [], ◌∷◌, length, refl, sym, ◌∙◌, ap, subst, arith}
+use Rattle.r2d2_core.specs.Picture.{Picture}
+use Rattle.r2d2.specs.declared.line.place.Place.{Place}
+use Rattle.r2d2.specs.Waiting.{AreTold, told_if, told_at, without}
+use Rattle.r2d2.specs.Waiting.{before}
+use Rattle.r2d2.proofs.Waiting.{kept_joined, kept_quiet}
+use Rattle.r2d2.proofs.pool.lined_book.LinedBook.stand.Goals as goal
+
+pub invariant_of-self : goal.invariant_of-self
+invariant_of-self g c =
+    let ps = c.self.inside.line.places.items in
+    let idle = length c.self.inside.book.book.picture.idle in
+    let none = subst (λ v. length v.book.picture.idle ≤ before c.args.place.now v.places) (sym c.self.view_is) c.requires in
+    kept_joined idle ps c.join-joined.new.self.places.items c.join-joined.result c.join-joined.ensures.joined c.join-joined.ensures.full
+    (subst (λ o. idle ≤ before o ps) c.in_default.is none) c.self.invariant
+
+pub invariant_of-self-2 : goal.invariant_of-self-2
+invariant_of-self-2 g c =
+    let ps = c.self.inside.line.places.items in
+    let idle = length c.self.inside.book.book.picture.idle in
+    let none = subst (λ v. length v.book.picture.idle ≤ before c.args.place.now v.places) (sym c.self.view_is) c.requires in
+    let P : List Place → Type 0 = λ qs. AreTold idle qs in
+    subst P (sym c.wait_on.ensures.places) (kept_quiet idle c.in-Some.slot ps (subst (λ o. idle ≤ before o ps) c.in-Some.is none) c.self.invariant)

@@ -1,0 +1,5 @@
+// Who waits for a connection, in order, and who was told to look. Nothing here waits: it is what
+// the pool's lock guards.
+
+pub(crate) mod place;
+pub(crate) mod queue;

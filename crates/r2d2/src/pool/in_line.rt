@@ -1,0 +1,126 @@
+// Those who wait in line: who has its turn is served.
+ghost use Rattle.std.specs.Prelude.{◌≡◌, ◌<◌, ◌+◌, IsSome, IfSome, IfOk, IfErr, OnErr, MatchOption, None};
+ghost use Rattle.std.specs.Option.{IsNone};
+ghost use Rattle.std.specs.Result.{IsOk};
+ghost use Rattle.r2d2.specs.Failures.{IsOfAGet};
+
+use super::call_time::CallTime;
+use super::lent::Lent;
+use super::lined_book::{LinedBook, Look, ToWake};
+use super::locking::{Guarded, Shared};
+use crate::engine::{TakeCounter, TakeTotal};
+use crate::{Error, ErrorKind};
+use std::alloc::AllocGlobal;
+use std::rt::Clock;
+use std::sync::{MutexGuard, Wait};
+use std::time::Duration;
+
+impl<P: Drop, C: TakeCounter, M, K, R: Clock + Wait + AllocGlobal> Shared<
+    LinedBook<P, C>,
+    M,
+    K,
+    R,
+> {
+    /// As `lend_until`, for a call that stands in line at this place, or nowhere yet, and waits
+    /// there until it has its turn. One that is lent a connection keeps the place where it asks for
+    /// that, so that it is the first again where the check fails; an error leaves none.
+    pub(super) fn take_in_line(
+        &self,
+        timeout: Duration,
+        time: &mut CallTime,
+        place: &mut Option<u32>,
+        keeps_place: bool,
+        tally: &mut C::Tally,
+    ) -> Result<Lent<P>, Error>
+        requires { 0 < C.parts tally.old }
+        ensures parts { C.parts tally.new ≡ C.parts tally.old }
+        ensures lent { IfOk result (λ _. C.amount tally.new ≡ C.amount tally.old + C.per_take) }
+        ensures refused { OnErr result (C.amount tally.new ≡ C.amount tally.old) }
+        ensures error { IfErr result IsOfAGet }
+    {
+        // Modelled in model/waiting.pml: keep both alike.
+        let mut guarded = self.lock_for(time);
+        for _ in self.rt.forever() {
+            let now = self.moment();
+            time.look(now);
+            if guarded.book.book().is_closed() {
+                return Err(self.leave_with(guarded, place, Error::closed()));
+            }
+            if self.tuning.asks_idle_times() {
+                time.find(guarded.book.book().next_idle_since());
+            }
+            let (look, to_wake) = guarded.book.look(now, place, keeps_place, tally);
+            let slot = match look {
+                Look::Found { id, value } => {
+                    drop(guarded);
+                    self.wake(to_wake);
+                    return Ok(Lent { id, payload: value });
+                }
+                Look::Stands(slot) => slot,
+                Look::Full => {
+                    drop(guarded);
+                    self.wake(to_wake);
+                    return Err(Error::full());
+                }
+            };
+            // Before the wait, which lets the lock go.
+            self.wake(to_wake);
+            let left = time.left_of(timeout);
+            let own = self.variable_of(slot);
+            let (again, outcome) = own.wait_timeout(&self.rt, guarded, left);
+            guarded = again;
+            if outcome.timed_out() {
+                time.look(self.moment());
+                return Err(self.give_up_in_line(guarded, place, time));
+            }
+        }
+        unreachable!()
+    }
+}
+
+impl<P: Drop, C: TakeTotal, M, K, R: Clock + Wait + AllocGlobal> Shared<LinedBook<P, C>, M, K, R> {
+    // Leaves the line, with this error.
+    fn leave_with(
+        &self,
+        mut guarded: MutexGuard<'_, Guarded<LinedBook<P, C>>>,
+        place: &mut Option<u32>,
+        error: Error,
+    ) -> Error
+        ensures { result ≡ error }
+    {
+        let to_wake = guarded.book.leave(place);
+        drop(guarded);
+        self.wake(to_wake);
+        error
+    }
+
+    // Gives up, as one that does not stand in line: who was told to look passes it on.
+    fn give_up_in_line(
+        &self,
+        mut guarded: MutexGuard<'_, Guarded<LinedBook<P, C>>>,
+        place: &mut Option<u32>,
+        time: &CallTime,
+    ) -> Error
+        ensures { result.kind ≡ ErrorKind.Timeout }
+    {
+        // Modelled in model/waiting.pml: keep both alike.
+        let to_wake = guarded.book.leave(place);
+        let status = guarded.status();
+        let error = guarded.book.take_error();
+        drop(guarded);
+        self.wake(to_wake);
+        Error::timeout(self.rt.alloc(), error, status, time.waited())
+    }
+
+    /// A call whose check is over leaves the line, where it stands in it.
+    pub(super) fn leave_line(&self, place: &mut Option<u32>) {
+        // Modelled in model/waiting.pml: keep both alike.
+        if place.is_none() {
+            return;
+        }
+        let mut guarded = self.lock();
+        let to_wake = guarded.book.leave(place);
+        drop(guarded);
+        self.wake(to_wake);
+    }
+}

@@ -1,0 +1,442 @@
+// The book beside the line of those who wait for it: what is idle is kept for the first of them.
+ghost use Rattle.std.specs.Prelude.{◌≡◌, ℕ, ◌+◌, ◌*◌, ◌<◌, ◌≤◌, ◌↔◌, [], length, map, vec_len, vec_capacity};
+ghost use Rattle.std.specs.Prelude.{IsTrue, IfOk, None, false};
+ghost use Rattle.std.specs.Duration.{as_nanos};
+ghost use Rattle.r2d2_core.specs.Seen.{seen_take, Empty, seen_returned, seen_released, map_ok};
+ghost use Rattle.r2d2_core.specs.BookSteps.{IsTake, IsBegin, IsNumbering, IsReturn, IsReap};
+ghost use Rattle.r2d2_core.specs.BookSteps.{IsTelling, IsClose};
+ghost use Rattle.r2d2_core.specs.Reports.{IsReportOf, IsSoundReport};
+ghost use Rattle.r2d2.specs.Wakes.{nobody, wakes_of_return, wakes_of_reap};
+ghost use Rattle.r2d2.specs.Settled.{seen_settled, wakes_of_settled, IsSettling};
+ghost use Rattle.r2d2.specs.Evicted.{evicted_of, after_eviction, IsEvicted};
+ghost use Rattle.r2d2.specs.Waiting.{waiting_in, before, stood_by, served, left_by, told_by};
+ghost use Rattle.r2d2.specs.Waiting.{told_if, slot_if, is_kept};
+
+use crate::engine::{CountingBook, LedgerCounter, Outcome, Settled, TakeCounter, TakeTotal, Wakes};
+use crate::line::queue::Line;
+use r2d2_core::machine::Leftover;
+use r2d2_core::{Book, Job, Refusal, Released, Report, Returned, Take};
+use std::alloc::AllocError;
+use std::marker::Model;
+use std::sync::ledger::{Ledger, Share};
+use std::time::Duration;
+
+/// Whom to wake once the lock is free. It can't be let go: `Shared::wake` uses it up.
+pub struct ToWake {
+    pub wakes: Wakes,
+    /// The slot of the caller in line that was told to look.
+    pub told: Option<u32>,
+}
+
+impl ToWake {
+    /// These, and nobody in line.
+    pub(super) fn these(wakes: Wakes) -> ToWake
+        ensures wakes { result.wakes ≡ wakes }
+        ensures told { result.told ≡ None }
+    {
+        ToWake { wakes, told: None }
+    }
+
+    /// After a refusal, or a reading.
+    pub(super) fn nobody() -> ToWake
+        ensures wakes { result.wakes ≡ nobody }
+        ensures told { result.told ≡ None }
+    {
+        ToWake::these(Wakes::nobody())
+    }
+}
+
+/// What a caller that may wait comes to.
+pub enum Look<P> {
+    /// It was its turn.
+    Found { id: u64, value: P },
+    /// It stands in line, and waits at this slot.
+    Stands(u32),
+    /// There is no room in line.
+    Full,
+}
+
+/// The book, and who stands in line for what it lends. Where a pool has no line, nobody ever does.
+#[derive(Drop)]
+pub struct LinedBook<P, C: TakeTotal> {
+    line: Line,
+    /// How many openings callers in line have yet to order, since what was idle was kept for
+    /// others.
+    owed: u32,
+    book: CountingBook<P, C>,
+}
+
+// Contracts see it as the book, what counts its takes, and who stands in line. Of those who wait
+// the first ones, as many as connections are idle, were told to look.
+impl<P, C: TakeTotal> Model for LinedBook<P, C> {
+    ghost use Rattle.std.specs.Prelude.{length};
+    ghost use Rattle.r2d2.specs.Lined.{SeenLined, seen_lined};
+    ghost use Rattle.r2d2.specs.Waiting.{AreTold};
+
+    ghost Value = { SeenLined P C };
+
+    ghost view = { λ l. seen_lined l.book.book l.book.total l.line.places.items };
+
+    ghost invariant = { λ l. AreTold (length l.book.book.picture.idle) l.line.places.items };
+}
+
+impl<P, C: TakeTotal> LinedBook<P, C> {
+    /// A book for which nobody waits yet.
+    pub(super) fn new(book: CountingBook<P, C>, line: Line) -> LinedBook<P, C>
+        requires { line.places.items ≡ [] }
+        ensures book { result.book ≡ book.book }
+        ensures total { result.total ≡ book.total }
+        ensures line { result.places ≡ [] }
+    {
+        LinedBook {
+            line,
+            owed: 0,
+            book,
+        }
+    }
+
+    /// The book, to be read.
+    pub(super) fn book(&self) -> &Book<P>
+        ensures value { result.now ≡ self.now.book }
+    {
+        self.book.book()
+    }
+
+    /// How many wait in line.
+    pub(super) fn in_line(&self) -> usize
+        ensures { result ≡ waiting_in self.now.places }
+    {
+        self.line.waiting()
+    }
+
+    /// As `CountingBook::give_back`. Where a caller is to be woken, the first in line that was told
+    /// nothing is told.
+    #[inline(always)]
+    pub(super) fn give_back(
+        &mut self,
+        now: Duration,
+        id: u64,
+        value: P,
+        broken: bool,
+    ) -> (Result<Returned<P>, (Refusal, P)>, ToWake)
+        ensures step { IsReturn now id value broken result.0 self.old.book self.new.book }
+        ensures wakes { result.1.wakes ≡ wakes_of_return (map_ok seen_returned result.0) }
+        ensures told { result.1.told ≡ slot_if result.1.wakes.caller self.old.places }
+        ensures line { self.new.places ≡ told_if result.1.wakes.caller self.old.places }
+        ensures total { self.new.total ≡ self.old.total }
+    {
+        let (returned, wakes) = self.book.give_back(now, id, value, broken);
+        let told = self.line.tell_if(wakes.caller);
+        (returned, ToWake { wakes, told })
+    }
+
+    /// As `CountingBook::settle`, and tells as `give_back`.
+    pub(super) fn settle(&mut self, now: Duration, outcome: Outcome<P>) -> (Settled<P>, ToWake)
+        ensures step { IsSettling now outcome result.0 self.old.book self.new.book }
+        ensures wakes { result.1.wakes ≡ wakes_of_settled (seen_settled result.0) }
+        ensures told { result.1.told ≡ slot_if result.1.wakes.caller self.old.places }
+        ensures line { self.new.places ≡ told_if result.1.wakes.caller self.old.places }
+        ensures total { self.new.total ≡ self.old.total }
+    {
+        let (settled, wakes) = self.book.settle(now, outcome);
+        let told = self.line.tell_if(wakes.caller);
+        (settled, ToWake { wakes, told })
+    }
+
+    /// As `CountingBook::sweep`, and tells as `give_back`.
+    pub(super) fn sweep(&mut self, now: Duration, out: &mut Vec<Released<P>>) -> (u32, ToWake)
+        requires empty { vec_len out.old ≡ 0 }
+        requires room { self.old.book.picture.on_order.limits.max_size ≤ vec_capacity out.old }
+        ensures step { IsReap now out.new.items result.0 self.old.book self.new.book }
+        ensures wakes { result.1.wakes ≡ wakes_of_reap (length out.new.items) result.0 }
+        ensures told { result.1.told ≡ slot_if result.1.wakes.caller self.old.places }
+        ensures line { self.new.places ≡ told_if result.1.wakes.caller self.old.places }
+        ensures total { self.new.total ≡ self.old.total }
+    {
+        let (ordered, wakes) = self.book.sweep(now, out);
+        let told = self.line.tell_if(wakes.caller);
+        (ordered, ToWake { wakes, told })
+    }
+
+    /// As `Book::begin`.
+    pub(super) fn begin(&mut self, now: Duration) -> Job
+        ensures step { IsBegin now result self.old.book self.new.book }
+        ensures line { self.new.places ≡ self.old.places }
+        ensures total { self.new.total ≡ self.old.total }
+    {
+        self.book.begin(now)
+    }
+
+    /// As `Book::number`.
+    pub(super) fn number(&mut self, tries: u32) -> Result<u64, Refusal>
+        ensures step { IsNumbering tries result self.old.book self.new.book }
+        ensures line { self.new.places ≡ self.old.places }
+        ensures total { self.new.total ≡ self.old.total }
+    {
+        self.book.number(tries)
+    }
+
+    /// As `Book::take_error`.
+    pub(super) fn take_error(&mut self) -> Option<String>
+        ensures step { IsTelling result self.old.book self.new.book }
+        ensures line { self.new.places ≡ self.old.places }
+        ensures total { self.new.total ≡ self.old.total }
+    {
+        self.book.take_error()
+    }
+
+    /// As `Book::close`.
+    pub(super) fn close(&mut self) -> Leftover<P>
+        ensures step { IsClose result self.old.book self.new.book }
+        ensures line { self.new.places ≡ self.old.places }
+        ensures total { self.new.total ≡ self.old.total }
+    {
+        self.book.close()
+    }
+
+    /// As `Book::report`.
+    pub(super) fn report(&self) -> Result<Report, AllocError>
+        ensures given { IfOk result (λ report. IsReportOf self.now.book report) }
+        ensures sound { IfOk result IsSoundReport }
+    {
+        self.book.report()
+    }
+
+    /// Whether more are idle than callers wait before this one.
+    pub(super) fn has_turn(&self, place: Option<u32>) -> bool
+        ensures { IsTrue result ↔ (before place self.now.places < length self.now.book.picture.idle) }
+    {
+        let before = match place {
+            Some(slot) => self.line.ahead(slot),
+            None => self.line.waiting(),
+        };
+        before < self.book.book().idle() as usize
+    }
+
+    // Whether all that is idle is kept for those in line.
+    #[inline(always)]
+    fn is_kept(&self) -> bool
+        ensures { result ≡ is_kept self.now.book.picture self.now.places }
+    {
+        let idle = self.book.book().idle() as usize;
+        0 < idle && idle <= self.line.waiting()
+    }
+
+    // The caller, whose turn it is not, waits: at the end of the line, or on in its place. The
+    // answer is its slot; None where there is no room.
+    fn stand(&mut self, place: &mut Option<u32>) -> Option<u32>
+        requires { length self.old.book.picture.idle ≤ before place.old self.old.places }
+        ensures book { self.new.book ≡ self.old.book }
+        ensures total { self.new.total ≡ self.old.total }
+        ensures place { result ≡ place.new }
+        ensures line { self.new.places ≡ stood_by place.old place.new self.old.places }
+    {
+        let Some(slot) = *place else {
+            let joined = self.line.join();
+            *place = joined;
+            return joined;
+        };
+        self.line.wait_on(slot);
+        Some(slot)
+    }
+
+    // The caller leaves the line. The answer is the slot of the one who is told in its stead.
+    fn pass_on(&mut self, place: &mut Option<u32>) -> Option<u32>
+        ensures line { self.new.places ≡ left_by place.old self.old.places }
+        ensures told { result ≡ told_by place.old self.old.places }
+        ensures gone { place.new ≡ None }
+        ensures book { self.new.book ≡ self.old.book }
+        ensures total { self.new.total ≡ self.old.total }
+    {
+        let slot = place.take()?;
+        let was_told = self.line.leave(slot);
+        self.line.tell_if(was_told)
+    }
+
+    /// The caller leaves the line. Where it was told to look, the next one is.
+    pub(super) fn leave(&mut self, place: &mut Option<u32>) -> ToWake
+        ensures line { self.new.places ≡ left_by place.old self.old.places }
+        ensures told { result.told ≡ told_by place.old self.old.places }
+        ensures wakes { result.wakes ≡ nobody }
+        ensures gone { place.new ≡ None }
+        ensures book { self.new.book ≡ self.old.book }
+        ensures total { self.new.total ≡ self.old.total }
+    {
+        let told = self.pass_on(place);
+        ToWake {
+            wakes: Wakes::nobody(),
+            told,
+        }
+    }
+}
+
+impl<P, L: Ledger> LinedBook<P, LedgerCounter<L>> {
+    ghost use Rattle.r2d2.specs.Counted.{counted_up_to};
+
+    /// As `Counted::audit`.
+    pub(super) fn audit(&mut self, all: &mut Share<L>) -> Result<Report, AllocError>
+        requires { all.old.parts ≡ L.parts }
+        ensures sound { IfOk result IsSoundReport }
+        ensures takes { IfOk result (λ report. report.takes ≡ counted_up_to all.old.amount) }
+        ensures book { self.new.book ≡ self.old.book }
+        ensures line { self.new.places ≡ self.old.places }
+        ensures amount { all.new.amount ≡ all.old.amount }
+        ensures parts { all.new.parts ≡ all.old.parts }
+    {
+        self.book.audit(all)
+    }
+}
+
+impl<P, C: TakeCounter> LinedBook<P, C> {
+    ghost use Rattle.r2d2.specs.Counted.{found_by};
+
+    /// As `CountingBook::lend`, for one that does not stand in line: what is idle is kept for those
+    /// who do.
+    #[inline(always)]
+    pub(super) fn lend(
+        &mut self,
+        now: Duration,
+        or_order: bool,
+        tally: &mut C::Tally,
+    ) -> (Take<P>, Wakes)
+        requires { 0 < C.parts tally.old }
+        ensures parts { C.parts tally.new ≡ C.parts tally.old }
+        ensures amount { C.amount tally.new
+            ≡ C.amount tally.old + found_by (seen_take result.0) * C.per_take }
+        ensures step { is_kept self.old.book.picture self.old.places ≡ false
+            → IsTake now or_order result.0 self.old.book self.new.book }
+        ensures kept { IsTrue (is_kept self.old.book.picture self.old.places)
+            → (seen_take result.0 ≡ Empty 0) × (self.new.book ≡ self.old.book) }
+        ensures line { self.new.places ≡ self.old.places }
+    {
+        if self.is_kept() {
+            return (Take::Empty { ordered: 0 }, Wakes::nobody());
+        }
+        self.book.lend(now, or_order, tally)
+    }
+
+    // The caller whose turn it is takes. It waits no more, and keeps its place.
+    fn take(&mut self, now: Duration, place: Option<u32>, tally: &mut C::Tally) -> (Take<P>, Wakes)
+        requires parts { 0 < C.parts tally.old }
+        requires turn { before place self.old.places < length self.old.book.picture.idle }
+        ensures step { IsTake now false result.0 self.old.book self.new.book }
+        ensures parts { C.parts tally.new ≡ C.parts tally.old }
+        ensures amount { C.amount tally.new
+            ≡ C.amount tally.old + found_by (seen_take result.0) * C.per_take }
+        ensures line { self.new.places ≡ served place self.old.places }
+    {
+        let (taken, wakes) = self.book.lend(now, false, tally);
+        let Some(slot) = place else {
+            return (taken, wakes);
+        };
+        self.line.serve(slot);
+        (taken, wakes)
+    }
+}
+
+impl<P: Drop, C: TakeCounter> LinedBook<P, C> {
+    ghost use Rattle.r2d2.specs.Counted.{found_by};
+    ghost use Rattle.r2d2.specs.Lined.{is_found, found_in, looked_by};
+
+    /// A caller that may wait looks: it takes where it has its turn, and keeps its place then where
+    /// it asks for that. Else it stands in line and orders one, unless there is no room.
+    pub(super) fn look(
+        &mut self,
+        now: Duration,
+        place: &mut Option<u32>,
+        keeps_place: bool,
+        tally: &mut C::Tally,
+    ) -> (Look<P>, ToWake)
+        requires { 0 < C.parts tally.old }
+        ensures turn { IsTrue (is_found result.0)
+            ↔ (before place.old self.old.places < length self.old.book.picture.idle) }
+        ensures parts { C.parts tally.new ≡ C.parts tally.old }
+        ensures amount { C.amount tally.new
+            ≡ C.amount tally.old + found_in result.0 * C.per_take }
+        ensures line { self.new.places ≡ looked_by (is_found result.0) keeps_place place.old
+            place.new self.old.places }
+    {
+        if !self.has_turn(*place) {
+            return match self.stand(place) {
+                Some(slot) => {
+                    let wakes = self.order(now, tally);
+                    (Look::Stands(slot), ToWake::these(wakes))
+                }
+                None => (Look::Full, ToWake::nobody()),
+            };
+        }
+        let (taken, mut wakes) = self.take(now, *place, tally);
+        let told = if keeps_place {
+            None
+        } else {
+            self.pass_on(place)
+        };
+        let paid = self.pay(now, tally);
+        wakes.workers = wakes.workers || paid.workers;
+        match taken {
+            Take::Found { id, value, .. } => (Look::Found { id, value }, ToWake { wakes, told }),
+            Take::Empty { .. } => unreachable!(),
+        }
+    }
+
+    // One who stands in line orders one; where something is idle, kept for others, it is owed.
+    fn order(&mut self, now: Duration, tally: &mut C::Tally) -> Wakes
+        requires { 0 < C.parts tally.old }
+        ensures parts { C.parts tally.new ≡ C.parts tally.old }
+        ensures amount { C.amount tally.new ≡ C.amount tally.old }
+        ensures line { self.new.places ≡ self.old.places }
+    {
+        self.owed = self.owed.saturating_add(1);
+        self.pay(now, tally)
+    }
+
+    // Where nothing is idle, orders what is owed, for as many as wait.
+    fn pay(&mut self, now: Duration, tally: &mut C::Tally) -> Wakes
+        requires { 0 < C.parts tally.old }
+        ensures parts { C.parts tally.new ≡ C.parts tally.old }
+        ensures amount { C.amount tally.new ≡ C.amount tally.old }
+        ensures line { self.new.places ≡ self.old.places }
+    {
+        let mut wakes = Wakes::nobody();
+        if self.book().idle() > 0 {
+            return wakes;
+        }
+        let owed = self.in_line().min(self.owed as usize);
+        self.owed = 0;
+        for _ in 0..owed {
+            let ordered = self.order_one(now, tally);
+            wakes.workers = wakes.workers || ordered.workers;
+        }
+        wakes
+    }
+
+    // Orders one, where nothing is idle.
+    fn order_one(&mut self, now: Duration, tally: &mut C::Tally) -> Wakes
+        requires parts { 0 < C.parts tally.old }
+        requires none { length self.old.book.picture.idle ≡ 0 }
+        ensures none { length self.new.book.picture.idle ≡ 0 }
+        ensures parts { C.parts tally.new ≡ C.parts tally.old }
+        ensures amount { C.amount tally.new ≡ C.amount tally.old }
+        ensures line { self.new.places ≡ self.old.places }
+    {
+        let (_empty, wakes) = self.book.lend(now, true, tally);
+        wakes
+    }
+
+    /// As `CountingBook::evict`. It tells nobody: who evicts wakes all.
+    pub(super) fn evict(&mut self, now: Duration, tally: &mut C::Tally, out: &mut Vec<Released<P>>)
+        requires parts { 0 < C.parts tally.old }
+        requires empty { vec_len out.old ≡ 0 }
+        requires room { self.old.book.picture.on_order.limits.max_size ≤ vec_capacity out.old }
+        ensures released { map seen_released out.new.items
+            ≡ evicted_of (as_nanos now) self.old.book.picture }
+        ensures after { self.new.book ≡ after_eviction (as_nanos now) self.old.book }
+        ensures comes_to { IsEvicted (as_nanos now) self.old.book.picture self.new.book.picture }
+        ensures line { self.new.places ≡ self.old.places }
+        ensures parts { C.parts tally.new ≡ C.parts tally.old }
+        ensures amount { C.amount tally.new
+            ≡ C.amount tally.old + length out.new.items * C.per_take }
+    {
+        self.book.evict(now, tally, out);
+    }
+}
