@@ -110,6 +110,7 @@ impl<A: Allocator> Line<A> {
     }
 
     /// Tells the first who was told nothing to look. The answer is its slot.
+    #[cold]
     pub fn tell_next(&mut self) -> Option<u32>
         ensures places { self.new.places.items ≡ told_first self.old.places.items }
         ensures who { result ≡ first_quiet self.old.places.items }
@@ -128,12 +129,17 @@ impl<A: Allocator> Line<A> {
     }
 
     /// The same, where a caller is to be woken.
+    #[inline(always)]
     pub fn tell_if(&mut self, is_to_wake: bool) -> Option<u32>
         ensures places { self.new.places.items ≡ told_if is_to_wake self.old.places.items }
         ensures who { result ≡ slot_if is_to_wake self.old.places.items }
         ensures free { self.new.free.items ≡ self.old.free.items }
     {
-        if is_to_wake { self.tell_next() } else { None }
+        if is_to_wake && !self.places.is_empty() {
+            self.tell_next()
+        } else {
+            None
+        }
     }
 
     // How the one with this slot stands from now on.

@@ -34,31 +34,9 @@ impl<C: TakeCounter, M: ManageConnection, K: Hooks<M>, R: PoolRuntime> AnyPool<C
         ensures lent { IfOk result
             (λ found. IfSome found (λ _. C.amount tally.old + C.per_take ≤ C.amount tally.new)) }
     {
-        match timeout {
-            Some(timeout) if self.shared().tuning.in_line => {
-                self.lend_in_line(timeout, tally).map(|lent| Some(lent))
-            }
-            _ => self.lend_to_any(timeout, tally),
+        if timeout.is_some() && self.shared().tuning.in_line {
+            return self.lend_in_line(timeout, tally);
         }
-    }
-
-    // As `lend_within`, where callers wait in no order.
-    #[inline(always)]
-    fn lend_to_any(
-        &self,
-        timeout: Option<Duration>,
-        tally: &mut C::Tally,
-    ) -> Result<Option<AnyConnection<C, M, K, R>>, Error>
-        requires { 0 < C.parts tally.old }
-        ensures settings { IfOk result (λ found. IfSome found (λ lent. lent.settings ≡ self.now)) }
-        ensures refused { IfErr result IsOfAGet }
-        ensures waits { IsSome timeout → IfOk result IsSome }
-        ensures at_once { IsNone timeout → IfErr result IsOfMemory }
-        ensures parts { C.parts tally.new ≡ C.parts tally.old }
-        ensures amount { C.amount tally.old ≤ C.amount tally.new }
-        ensures lent { IfOk result
-            (λ found. IfSome found (λ _. C.amount tally.old + C.per_take ≤ C.amount tally.new)) }
-    {
         // Modelled in model/waiting.pml: keep both alike.
         let shared = self.shared();
         let mut time = CallTime::new(shared.start_of_call());
@@ -90,16 +68,18 @@ impl<C: TakeCounter, M: ManageConnection, K: Hooks<M>, R: PoolRuntime> AnyPool<C
     #[cold]
     fn lend_in_line(
         &self,
-        timeout: Duration,
+        timeout: Option<Duration>,
         tally: &mut C::Tally,
-    ) -> Result<AnyConnection<C, M, K, R>, Error>
-        requires { 0 < C.parts tally.old }
-        ensures settings { IfOk result (λ lent. lent.settings ≡ self.now) }
+    ) -> Result<Option<AnyConnection<C, M, K, R>>, Error>
+        requires tally { 0 < C.parts tally.old }
+        requires waits { IsSome timeout }
+        ensures settings { IfOk result (λ found. IfSome found (λ lent. lent.settings ≡ self.now)) }
         ensures refused { IfErr result IsOfAGet }
+        ensures waits { IfOk result IsSome }
         ensures parts { C.parts tally.new ≡ C.parts tally.old }
         ensures amount { C.amount tally.old ≤ C.amount tally.new }
         ensures lent { IfOk result
-            (λ _. C.amount tally.old + C.per_take ≤ C.amount tally.new) }
+            (λ found. IfSome found (λ _. C.amount tally.old + C.per_take ≤ C.amount tally.new)) }
     {
         // Modelled in model/waiting.pml: keep both alike.
         let shared = self.shared();
@@ -109,28 +89,28 @@ impl<C: TakeCounter, M: ManageConnection, K: Hooks<M>, R: PoolRuntime> AnyPool<C
         let mut place = None;
         for _ in shared.rt.forever() {
             let found = match shared.take_in_line(
-                timeout,
+                timeout.unwrap_or(Duration::ZERO),
                 &mut time,
                 &mut place,
                 keeps_place,
                 tally,
             ) {
                 Ok(lent) => lent,
-                Err(error) => return Err(shared.tell_in_vain(error, Some(timeout))),
+                Err(error) => return Err(shared.tell_in_vain(error, timeout)),
             };
             let is_checked = shared.is_to_check(&time);
             if let Some(lent) = shared.if_sound(found, is_checked, &time) {
                 shared.leave_line(&mut place);
                 let lent_at = shared.check_out(lent.id, is_checked, &time);
-                return Ok(AnyConnection {
+                return Ok(Some(AnyConnection {
                     closer,
                     lent_at,
                     lent,
-                });
+                }));
             }
-            if let Some(error) = shared.give_up_if_late(Some(timeout), &mut time) {
+            if let Some(error) = shared.give_up_if_late(timeout, &mut time) {
                 shared.leave_line(&mut place);
-                return Err(shared.tell_in_vain(error, Some(timeout)));
+                return Err(shared.tell_in_vain(error, timeout));
             }
         }
         unreachable!()

@@ -337,6 +337,7 @@ impl<B, M, K, R> Shared<B, M, K, R> {
     }
 
     /// Wakes those for whom a step left something.
+    #[inline(always)]
     pub(super) fn wake(&self, to_wake: ToWake) {
         // Modelled in model/waiting.pml: keep both alike.
         let ToWake { wakes, told } = to_wake;
@@ -347,8 +348,14 @@ impl<B, M, K, R> Shared<B, M, K, R> {
             self.workers.notify_all();
         }
         if let Some(slot) = told {
-            self.variable_of(slot).notify_one();
+            self.wake_in_line(slot);
         }
+    }
+
+    // Wakes the one in line at this slot.
+    #[cold]
+    fn wake_in_line(&self, slot: u32) {
+        self.variable_of(slot).notify_one();
     }
 
     /// Where the caller in line with this slot waits.

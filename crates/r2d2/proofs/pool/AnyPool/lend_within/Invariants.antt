@@ -1,5 +1,5 @@
 use Rattle.std.proofs.Common.{◌≡◌, ◌≤◌}
-use Rattle.r2d2.proofs.pool.AnyPool.lend_to_any.Given as goal
+use Rattle.r2d2.proofs.pool.AnyPool.lend_within.Given as goal
 
 -- a connection whose check failed stays counted
 abbrev pub invariant-loop : goal.invariant-loop
