@@ -68,7 +68,7 @@ where
     }
     app.stop();
     for thread in threads {
-        thread.join(&rt);
+        thread.join(&rt)?;
     }
     Ok(())
 }

@@ -1,8 +1,9 @@
 //! What its threads do, and what the lines say.
 
-use postgres::PostgresConnection;
+use postgres::{PostgresConnection, PostgresError, Session};
 use r2d2::{Builder, ErrorKind, ManageConnection, PlainPool, PoolRuntime};
-use redis::{RedisConnection, Reply};
+use redis::{RedisConnection, RedisError, Reply};
+use std::alloc::{AllocError, Global};
 use std::sync::Arc;
 use std::sync::atomic::{AtomicU64, Ordering};
 use std::test::Fail;
@@ -11,18 +12,26 @@ use std::time::Duration;
 
 /// A connection to what counts for each thread.
 pub trait Counting {
-    /// Adds one to the count of a thread, and tells the count; None where that failed.
-    fn add_one(&mut self, thread: u32) -> Option<u64>;
+    /// The request that adds one to the count of a thread.
+    fn request(alloc: Global, thread: u32) -> Result<String, AllocError>;
+
+    /// Sends it, and tells the count; None where that failed.
+    fn add_one(&mut self, request: &str) -> Option<u64>;
 
     /// Goes back to the pool in the middle of what another caller must not see.
     fn leave_open(&mut self) -> bool;
+
+    /// Whether a request that the server refuses is an error, and the next one is not.
+    fn is_refused(&mut self) -> bool;
 }
 
 impl Counting for RedisConnection {
-    fn add_one(&mut self, thread: u32) -> Option<u64> {
-        let words = ["INCR", "0", "1", "2", "3", "4", "5", "6", "7"];
-        let key = words.get(thread as usize + 1)?;
-        match self.command(&["INCR", *key]) {
+    fn request(alloc: Global, thread: u32) -> Result<String, AllocError> {
+        format!(in alloc; "{thread}")
+    }
+
+    fn add_one(&mut self, request: &str) -> Option<u64> {
+        match self.command(&["INCR", request]) {
             Ok(Reply::Number(count)) => u64::try_from(count).ok(),
             _ => None,
         }
@@ -31,27 +40,31 @@ impl Counting for RedisConnection {
     fn leave_open(&mut self) -> bool {
         self.command(&["MULTI"]).is_ok() && self.command(&["INCR", "0"]).is_ok()
     }
+
+    fn is_refused(&mut self) -> bool {
+        let refused = matches!(self.command(&["NONE"]), Err(RedisError::Refused(_)));
+        refused && !self.is_broken() && self.ping().is_ok()
+    }
 }
 
 impl Counting for PostgresConnection {
-    fn add_one(&mut self, thread: u32) -> Option<u64> {
-        let queries = [
-            "UPDATE counts SET n = n + 1 WHERE thread = 0 RETURNING n",
-            "UPDATE counts SET n = n + 1 WHERE thread = 1 RETURNING n",
-            "UPDATE counts SET n = n + 1 WHERE thread = 2 RETURNING n",
-            "UPDATE counts SET n = n + 1 WHERE thread = 3 RETURNING n",
-            "UPDATE counts SET n = n + 1 WHERE thread = 4 RETURNING n",
-            "UPDATE counts SET n = n + 1 WHERE thread = 5 RETURNING n",
-            "UPDATE counts SET n = n + 1 WHERE thread = 6 RETURNING n",
-            "UPDATE counts SET n = n + 1 WHERE thread = 7 RETURNING n",
-        ];
-        let rows = self.query(*queries.get(thread as usize)?).ok()?;
+    fn request(alloc: Global, thread: u32) -> Result<String, AllocError> {
+        format!(in alloc; "UPDATE counts SET n = n + 1 WHERE thread = {thread} RETURNING n")
+    }
+
+    fn add_one(&mut self, request: &str) -> Option<u64> {
+        let rows = self.query(request).ok()?;
         rows.as_slice().first()?.get(0)?.parse::<u64>().ok()
     }
 
     fn leave_open(&mut self) -> bool {
         self.query("BEGIN; UPDATE counts SET n = n + 1 WHERE thread = 0")
             .is_ok()
+    }
+
+    fn is_refused(&mut self) -> bool {
+        let refused = matches!(self.query("SELECT 1/0"), Err(PostgresError::Refused(_)));
+        refused && self.session() == Session::Idle && self.query("SELECT 1").is_ok()
     }
 }
 
@@ -120,17 +133,18 @@ where
     }
 
     /// What a thread does: it counts, and holds each answer against what it may be.
-    pub fn serve(&self, thread: u32) {
+    pub fn serve(&self, thread: u32) -> Result<(), AllocError> {
+        let request = M::Connection::request(self.rt.alloc(), thread)?;
         let (mut last, mut unknown) = (None, 0u64);
         for _ in self.rt.forever() {
             if self.counts.is_over.load(Ordering::SeqCst) != 0 {
-                return;
+                break;
             }
             if !self.takes_one() {
                 thread::sleep(&self.rt, Duration::from_millis(1));
                 continue;
             }
-            match self.counted(thread) {
+            match self.counted(request.as_str()) {
                 None => unknown += 1,
                 Some(count) => {
                     if let Some(last) = last {
@@ -144,6 +158,7 @@ where
                 }
             }
         }
+        Ok(())
     }
 
     fn takes_one(&self) -> bool {
@@ -156,10 +171,10 @@ where
                 .is_ok()
     }
 
-    fn counted(&self, thread: u32) -> Option<u64> {
+    fn counted(&self, request: &str) -> Option<u64> {
         match self.pool.get() {
             Ok(mut connection) => {
-                let count = connection.add_one(thread);
+                let count = connection.add_one(request);
                 if count.is_none() {
                     add_one(&self.counts.failed);
                 }
@@ -189,6 +204,10 @@ where
             "evict" => println!(self.rt; "= {}", self.pool.evict()?)?,
             "open" => match self.pool.get() {
                 Ok(mut connection) => println!(self.rt; "= {}", connection.leave_open())?,
+                Err(error) => println!(self.rt; "= {error}")?,
+            },
+            "refuse" => match self.pool.get() {
+                Ok(mut connection) => println!(self.rt; "= {}", connection.is_refused())?,
                 Err(error) => println!(self.rt; "= {error}")?,
             },
             "get" => match self.pool.get() {

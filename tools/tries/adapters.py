@@ -35,7 +35,7 @@ def put_source(source, crate):
 
 def repository(mine):
     """A repository with the pool, both adapters, their first programs and the service."""
-    os.mkdir(mine)
+    os.makedirs(mine)
     subprocess.run(["git", "init", "-q", mine], check=True)
     subprocess.run([os.path.join(TOP, "vendor"), "--redis", "--postgres", mine], check=True, stdout=subprocess.DEVNULL)
     lines = "service: r2d2 redis postgres\n"
@@ -168,6 +168,7 @@ class Trial:
         self.check("all is counted", (counts["done"], counts["failed"]) == (400, 0), counts)
         self.is_told_exactly("what is acknowledged is what the server counts", counts, self.server)
         self.has_what_the_pool_has(service, self.server)
+        self.check("a refusal is an error, and no more", service.ask("refuse") == "true")
 
     def try_left_open(self, service):
         """A transaction that a caller left open reaches nobody."""
@@ -287,25 +288,35 @@ def false_server():
         yield listener.getsockname()[1]
 
 
+def try_servers(kinds, mine, place, tally):
+    """The service of a repository at these servers."""
+    aside = os.path.join(place, "aside")
+    os.mkdir(aside)
+    program = built(mine, aside, tally)
+    for kind in kinds if program else []:
+        folder = os.path.join(place, f"with_{kind.NAME}")
+        os.mkdir(folder)
+        os.chmod(place, 0o711)
+        try:
+            Trial(kind, program, folder, tally).run()
+        except (RuntimeError, OSError, ValueError, subprocess.SubprocessError) as error:
+            tally.check(kind.NAME, False, error)
+
+
+def those_there(tally):
+    """The servers that are installed."""
+    for kind in SERVERS:
+        if not kind.is_there():
+            tally.skip(f"{kind.PACKAGE} is not installed")
+    return [kind for kind in SERVERS if kind.is_there()]
+
+
 def tried():
     tally = Tally("adapters")
-    there = [kind for kind in SERVERS if kind.is_there()]
-    for kind in SERVERS:
-        if kind not in there:
-            tally.skip(f"{kind.PACKAGE} is not installed")
-    if not there:
-        return tally
-    with tempfile.TemporaryDirectory(prefix="adapters-") as place:
-        aside = os.path.join(place, "aside")
-        os.mkdir(aside)
-        repository(os.path.join(place, "mine"))
-        program = built(os.path.join(place, "mine"), aside, tally)
-        for kind in there if program else []:
-            folder = os.path.join(place, f"with_{kind.NAME}")
-            os.mkdir(folder)
-            os.chmod(place, 0o711)
-            try:
-                Trial(kind, program, folder, tally).run()
-            except (RuntimeError, OSError, ValueError, subprocess.SubprocessError) as error:
-                tally.check(kind.NAME, False, error)
+    kinds = those_there(tally)
+    if kinds:
+        with tempfile.TemporaryDirectory(prefix="adapters-") as place:
+            mine = os.path.join(place, "mine")
+            repository(mine)
+            try_servers(kinds, mine, place, tally)
     return tally
