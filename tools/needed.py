@@ -85,7 +85,7 @@ def provide(programs, say):
     """Installs what is missing of these, where that can be done, and names what is missing still."""
     wanted = missing(programs)
     if wanted and can_install():
-        say(f"{', '.join(wanted)} missing: installing {' '.join(packages(wanted))} by apt-get, without their services")
+        say(f"installing {' '.join(packages(wanted))} by apt-get, for {', '.join(wanted)}")
         install(wanted)
     for program in missing(programs):
-        say(f"{program} is missing, and what needs it is skipped: on Debian, as root, apt-get install {' '.join(PACKAGES[program])}")
+        say(f"{program} is missing, so what needs it is skipped. On Debian, as root: apt-get install {' '.join(PACKAGES[program])}")

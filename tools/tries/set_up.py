@@ -57,7 +57,7 @@ def provided(place, *programs, **machine_is):
 
 
 def named(said, program):
-    return f"{program} is missing, and what needs it is skipped: on Debian, as root, apt-get install {program}" in said
+    return f"{program} is missing, so what needs it is skipped. On Debian, as root: apt-get install {program}" in said
 
 
 def try_installing(top):
