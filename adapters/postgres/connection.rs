@@ -43,7 +43,8 @@ impl PostgresConnection {
         self.session
     }
 
-    /// Sends a query, or several with `;` between them, and reads the rows of all.
+    /// Sends a query, or several with `;` between them, and reads the rows of all. It has no
+    /// parameters: quote each value that you put into it.
     pub fn query(&mut self, text: &str) -> Result<Vec<Row>, PostgresError>
         ensures err { self.old.session ≡ Session.Broken → IsErr result }
         ensures stays { self.old.session ≡ Session.Broken → self.new.session ≡ Session.Broken }

@@ -52,21 +52,18 @@ impl Login<'_> {
         Err(PostgresError::Protocol)
     }
 
-    fn start(&self) -> Result<Vec<u8>, AllocError> {
+    // Names and values, each with a zero after it, which none of them may have in it.
+    fn start(&self) -> Result<Vec<u8>, PostgresError> {
+        if self.user.contains('\0') || self.database.contains('\0') {
+            return Err(PostgresError::Protocol);
+        }
         let mut body = Vec::new(self.alloc);
         body.extend_from_slice(&VERSION.to_be_bytes())?;
-        for text in [
-            "user",
-            self.user,
-            "database",
-            self.database,
-            "client_encoding",
-            "UTF8",
-            "",
-        ] {
+        for text in ["user", self.user, "database", self.database] {
             body.extend_from_slice(text.as_bytes())?;
             body.push(0)?;
         }
+        body.extend_from_slice(b"client_encoding\0UTF8\0\0")?;
         Ok(body)
     }
 
@@ -78,10 +75,7 @@ impl Login<'_> {
                 let answer = self.hashed(rest)?;
                 wire.send(Some(b'p'), answer.as_slice())
             }
-            BY_SASL
-                if rest
-                    .split(|byte| *byte == 0)
-                    .any(|name| name == MECHANISM.as_bytes()) => { self.answer_by_scram(wire) }
+            BY_SASL if is_offered(rest) => self.answer_by_scram(wire),
             _ => Err(PostgresError::UnknownLogin),
         }
     }
@@ -108,6 +102,7 @@ impl Login<'_> {
     }
 
     fn answer_by_scram(&self, wire: &mut Wire) -> Result<(), PostgresError> {
+        let password = self.password()?;
         let scram = Scram::new(self.alloc, &self.random)?;
         let first = scram.first()?;
         let length = u32::try_from(first.len()).map_err(|_| PostgresError::Protocol)?;
@@ -117,13 +112,19 @@ impl Login<'_> {
         body.extend_from_slice(&length.to_be_bytes())?;
         body.extend_from_slice(first.as_bytes())?;
         wire.send(Some(b'p'), body.as_slice())?;
-        let proof = scram.proof(text_of(wire, GOES_ON)?, self.password()?)?;
+        let proof = scram.proof(text_of(wire, GOES_ON)?, password)?;
         wire.send(Some(b'p'), proof.message.as_bytes())?;
         if text_of(wire, ENDS)? != proof.reply.as_str() {
             return Err(PostgresError::UnknownServer);
         }
         Ok(())
     }
+}
+
+// Whether that way is among those of the server, each with a zero after it.
+fn is_offered(ways: &[u8]) -> bool {
+    ways.split(|byte| *byte == 0)
+        .any(|way| way == MECHANISM.as_bytes())
 }
 
 // What a message of kind `R` asks for, and what else it says.

@@ -29,7 +29,8 @@ impl PostgresConnectionManager {
     /// `address` is a host and a port, as `127.0.0.1:5432`. A name is looked up at each opening, so
     /// that a server is found where it has moved to; the look-up has the system's own timeout.
     /// `timeout` is that of connecting to one address, of each read and of each write: so a query
-    /// that computes for longer fails, and its connection is broken.
+    /// that computes for longer fails, and its connection is broken. The server goes on with it, but
+    /// for a `statement_timeout` of its own.
     pub fn new(
         rt: HostRuntime,
         address: &str,
