@@ -76,9 +76,17 @@ def files(folder):
     return found
 
 
+def ours_of(crate):
+    """The files of a crate, but for what checks keep; those of an adapter under the names that they get."""
+    adapter = os.path.join(TOP, "adapters", crate)
+    if os.path.isdir(adapter):
+        return {os.path.join("src", re.sub(r"\.rs$", ".rt", path)): text for path, text in files(adapter).items()}
+    return {path: text for path, text in files(os.path.join(TOP, "crates", crate)).items() if not path.startswith("out/")}
+
+
 def arrives(mine, crate):
-    """Every file of a crate, but for what checks keep, is there as it is here."""
-    ours = {path: text for path, text in files(os.path.join(TOP, "crates", crate)).items() if not path.startswith("out/")}
+    """Every file of a crate is there as it is here."""
+    ours = ours_of(crate)
     theirs = files(os.path.join(mine, "crates", crate))
     differ = {path for path in ours.keys() | theirs.keys() if ours.get(path) != theirs.get(path)}
     check(f"{crate} arrives", ours and all(os.path.basename(path).startswith("LICENSE-") for path in differ), differ)
@@ -128,12 +136,38 @@ def try_reports(logged):
     arrives(logged, "pool_reports")
 
 
+def try_options(place):
+    """With all that there is beside the pool."""
+    mine, crates = os.path.join(place, "all"), ["pool_metrics", "pool_reports", "redis", "postgres"]
+    os.mkdir(mine)
+    words = ["--postgres", "--redis", "--reports", mine, "--metrics"]
+    answers("with all options", 0, "put there: HANDLES: made; it reads 'Handles allowed: Threads, Wait, Net.'", *words)
+    for crate in ["r2d2_core", "r2d2", *crates]:
+        arrives(mine, crate)
+    listed = [line.partition(":")[0].split()[0] for line in read(mine, "crates.txt").splitlines()]
+    check("each has its line", sorted(listed) == sorted(["r2d2_core", "r2d2", *crates]), listed)
+
+
+def try_an_adapter(place):
+    """It opens sockets, so it needs more handles than the pool alone."""
+    mine, first = os.path.join(place, "redis"), os.path.join(TOP, "adapters", "first_redis", "main.rs")
+    os.mkdir(mine)
+    shutil.copy(os.path.join(TOP, "HANDLES"), mine)
+    said = "vendor: HANDLES says 'Handles allowed: Threads, Wait.', and has to say 'Handles allowed: Threads, Wait, Net.'"
+    answers("an adapter without Net is refused", 1, said, "--redis", mine)
+    check("and is not there", os.listdir(mine) == ["HANDLES"], os.listdir(mine))
+    os.unlink(os.path.join(mine, "HANDLES"))
+    told = f"1. Write a program into crates/NAME/src/main.rt. To begin with, copy {first}"
+    answers("an adapter tells of its first program", 0, told, "--redis", mine)
+    check("the first program is there", os.path.isfile(first))
+
+
 def try_refusals(place):
     strict, lines = os.path.join(place, "strict"), os.path.join(place, "lines")
     os.mkdir(strict)
     write("Handles allowed: none.\n", strict, "HANDLES")
     before = files(strict)
-    said = "vendor: HANDLES says 'Handles allowed: none.', and the pool needs Threads and Wait"
+    said = "vendor: HANDLES says 'Handles allowed: none.', and has to say 'Handles allowed: Threads, Wait.'"
     answers("too few handles are refused", 1, said, strict)
     check("and stay", files(strict) == before)
     # A line of crates.txt with no folder beside it.
@@ -143,7 +177,8 @@ def try_refusals(place):
     none = os.path.join(place, "none")
     answers("no folder is refused", 1, f"vendor: {none} is no folder", none)
     answers("itself is refused", 1, f"vendor: {TOP} is this repository itself", TOP)
-    answers("no word shows how", 2, "Puts the pool into a repository of your own: vendor [--reports] FOLDER")
+    answers("no word shows how", 2, "Puts the pool into a repository of your own: vendor [OPTION..] FOLDER")
+    answers("no such option", 2, "Puts the pool into a repository of your own: vendor [OPTION..] FOLDER", "--mysql", none)
 
 
 def tried():
@@ -152,5 +187,7 @@ def tried():
         try_an_empty_folder(os.path.join(place, "mine"), lines)
         try_a_repository(os.path.join(place, "theirs"), lines)
         try_reports(os.path.join(place, "logged"))
+        try_options(place)
+        try_an_adapter(place)
         try_refusals(place)
     return TALLY

@@ -1,0 +1,12 @@
+//! Connections to Redis for the pool `r2d2`. This copy is yours, to be changed.
+#![tactic(auto)]
+
+mod connection;
+mod error;
+mod manager;
+mod wire;
+
+pub use connection::RedisConnection;
+pub use error::RedisError;
+pub use manager::RedisConnectionManager;
+pub use wire::Reply;

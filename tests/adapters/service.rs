@@ -1,0 +1,242 @@
+//! What its threads do, and what the lines say.
+
+use postgres::{PostgresConnection, PostgresError, Session};
+use r2d2::{Builder, ErrorKind, ManageConnection, PlainPool, PoolRuntime};
+use redis::{RedisConnection, RedisError, Reply};
+use std::alloc::{AllocError, Global};
+use std::sync::Arc;
+use std::sync::atomic::{AtomicU64, Ordering};
+use std::test::Fail;
+use std::thread;
+use std::time::Duration;
+
+/// A connection to what counts for each thread.
+pub trait Counting {
+    /// The request that adds one to the count of a thread.
+    fn request(alloc: Global, thread: u32) -> Result<String, AllocError>;
+
+    /// Sends it, and tells the count; None where that failed.
+    fn add_one(&mut self, request: &str) -> Option<u64>;
+
+    /// Goes back to the pool in the middle of what another caller must not see.
+    fn leave_open(&mut self) -> bool;
+
+    /// Whether a request that the server refuses is an error, and the next one is not.
+    fn is_refused(&mut self) -> bool;
+}
+
+impl Counting for RedisConnection {
+    fn request(alloc: Global, thread: u32) -> Result<String, AllocError> {
+        format!(in alloc; "{thread}")
+    }
+
+    fn add_one(&mut self, request: &str) -> Option<u64> {
+        match self.command(&["INCR", request]) {
+            Ok(Reply::Number(count)) => u64::try_from(count).ok(),
+            _ => None,
+        }
+    }
+
+    fn leave_open(&mut self) -> bool {
+        self.command(&["MULTI"]).is_ok() && self.command(&["INCR", "0"]).is_ok()
+    }
+
+    fn is_refused(&mut self) -> bool {
+        let refused = matches!(self.command(&["NONE"]), Err(RedisError::Refused(_)));
+        refused && !self.is_broken() && self.ping().is_ok()
+    }
+}
+
+impl Counting for PostgresConnection {
+    fn request(alloc: Global, thread: u32) -> Result<String, AllocError> {
+        format!(in alloc; "UPDATE counts SET n = n + 1 WHERE thread = {thread} RETURNING n")
+    }
+
+    fn add_one(&mut self, request: &str) -> Option<u64> {
+        let rows = self.query(request).ok()?;
+        rows.as_slice().first()?.get(0)?.parse::<u64>().ok()
+    }
+
+    fn leave_open(&mut self) -> bool {
+        self.query("BEGIN; UPDATE counts SET n = n + 1 WHERE thread = 0")
+            .is_ok()
+    }
+
+    fn is_refused(&mut self) -> bool {
+        let refused = matches!(self.query("SELECT 1/0"), Err(PostgresError::Refused(_)));
+        refused && self.session() == Session::Idle && self.query("SELECT 1").is_ok()
+    }
+}
+
+/// What all threads count.
+#[derive(Drop)]
+struct Counts {
+    left: AtomicU64,
+    is_over: AtomicU64,
+    done: AtomicU64,
+    failed: AtomicU64,
+    timeouts: AtomicU64,
+    closed: AtomicU64,
+    /// Answers that were not those of their own request.
+    wrong: AtomicU64,
+}
+
+fn add_one(count: &AtomicU64) {
+    count.fetch_add(1, Ordering::SeqCst);
+}
+
+#[derive(Drop)]
+pub struct App<M: ManageConnection, R: PoolRuntime> {
+    pool: PlainPool<M, R>,
+    counts: Arc<Counts>,
+    rt: R,
+}
+
+impl<M: ManageConnection, R: PoolRuntime + Print> App<M, R>
+where
+    M::Connection: Counting,
+{
+    pub fn new(rt: R, manager: M, is_checked: bool) -> Result<App<M, R>, Fail> {
+        let pool = Builder::new()
+            .max_size(4)
+            .test_on_check_out(is_checked)
+            .connection_timeout(Duration::from_secs(10))
+            .retry_at_most(Duration::from_millis(200))
+            .build_unchecked(rt, manager)?;
+        let zero = || AtomicU64::new(0);
+        let counts = Counts {
+            left: zero(),
+            is_over: zero(),
+            done: zero(),
+            failed: zero(),
+            timeouts: zero(),
+            closed: zero(),
+            wrong: zero(),
+        };
+        Ok(App {
+            pool,
+            counts: Arc::new(rt.alloc(), counts)?,
+            rt,
+        })
+    }
+
+    pub fn try_clone(&self) -> Result<App<M, R>, Fail> {
+        Ok(App {
+            pool: self.pool.try_clone()?,
+            counts: Arc::try_clone(&self.counts)?,
+            rt: self.rt,
+        })
+    }
+
+    pub fn stop(&self) {
+        self.counts.is_over.store(1, Ordering::SeqCst);
+    }
+
+    /// What a thread does: it counts, and holds each answer against what it may be.
+    pub fn serve(&self, thread: u32) -> Result<(), AllocError> {
+        let request = M::Connection::request(self.rt.alloc(), thread)?;
+        let (mut last, mut unknown) = (None, 0u64);
+        for _ in self.rt.forever() {
+            if self.counts.is_over.load(Ordering::SeqCst) != 0 {
+                break;
+            }
+            if !self.takes_one() {
+                thread::sleep(&self.rt, Duration::from_millis(1));
+                continue;
+            }
+            match self.counted(request.as_str()) {
+                None => unknown += 1,
+                Some(count) => {
+                    if let Some(last) = last {
+                        if count <= last || count > last + unknown + 1 {
+                            add_one(&self.counts.wrong);
+                        }
+                    }
+                    last = Some(count);
+                    unknown = 0;
+                    add_one(&self.counts.done);
+                }
+            }
+        }
+        Ok(())
+    }
+
+    fn takes_one(&self) -> bool {
+        let left = self.counts.left.load(Ordering::SeqCst);
+        left > 0
+            && self
+                .counts
+                .left
+                .compare_exchange(left, left - 1, Ordering::SeqCst, Ordering::SeqCst)
+                .is_ok()
+    }
+
+    fn counted(&self, request: &str) -> Option<u64> {
+        match self.pool.get() {
+            Ok(mut connection) => {
+                let count = connection.add_one(request);
+                if count.is_none() {
+                    add_one(&self.counts.failed);
+                }
+                count
+            }
+            Err(error) if error.kind() == ErrorKind::Closed => {
+                add_one(&self.counts.closed);
+                None
+            }
+            Err(error) => {
+                add_one(&self.counts.timeouts);
+                let _ = println!(self.rt; "# {error}");
+                None
+            }
+        }
+    }
+
+    /// Does what a line says, and answers it with a line.
+    pub fn obey(&self, line: &str) -> Result<(), Fail> {
+        let (word, rest) = line.split_once(' ').unwrap_or((line, "0"));
+        let number = rest.parse::<u64>().unwrap_or(0);
+        match word {
+            "go" => {
+                self.counts.left.fetch_add(number, Ordering::SeqCst);
+                println!(self.rt; "= going")?;
+            }
+            "evict" => println!(self.rt; "= {}", self.pool.evict()?)?,
+            "open" => match self.pool.get() {
+                Ok(mut connection) => println!(self.rt; "= {}", connection.leave_open())?,
+                Err(error) => println!(self.rt; "= {error}")?,
+            },
+            "refuse" => match self.pool.get() {
+                Ok(mut connection) => println!(self.rt; "= {}", connection.is_refused())?,
+                Err(error) => println!(self.rt; "= {error}")?,
+            },
+            "get" => match self.pool.get() {
+                Ok(_) => println!(self.rt; "= lent")?,
+                Err(error) => println!(self.rt; "= {error}")?,
+            },
+            "drain" => match self.pool.drain(Duration::from_millis(number)) {
+                Ok(()) => println!(self.rt; "= drained")?,
+                Err(status) => println!(self.rt; "= {} are lent", status.lent)?,
+            },
+            _ => self.tell()?,
+        }
+        Ok(())
+    }
+
+    fn tell(&self) -> Result<(), Fail> {
+        let (counts, status) = (&*self.counts, self.pool.status());
+        let read = |count: &AtomicU64| count.load(Ordering::SeqCst);
+        println!(self.rt;
+            "= left={} done={} failed={} timeouts={} closed={} wrong={} idle={} lent={}",
+            read(&counts.left),
+            read(&counts.done),
+            read(&counts.failed),
+            read(&counts.timeouts),
+            read(&counts.closed),
+            read(&counts.wrong),
+            status.idle,
+            status.lent
+        )?;
+        Ok(())
+    }
+}

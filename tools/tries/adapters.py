@@ -1,0 +1,322 @@
+"""The adapters of adapters/, in a repository that `vendor` makes: a service over each is driven against a real server on
+loopback, of Debian's packages redis-server and postgresql. Where one is not installed nobody has tried that adapter."""
+import contextlib
+import os
+import re
+import signal
+import socket
+import struct
+import subprocess
+import tempfile
+import threading
+
+from copies import Runs, TESTS, end_the_look_at_names
+from servers import HOST, SECONDS, Forwarder, Postgres, Redis, within
+from tally import TOP, Tally
+
+SERVERS = [Redis, Postgres]
+CONNECTIONS = 4
+# The service's checks read no memory that has ended; it keeps what its threads have, which is no leak.
+SETTINGS = {"ASAN_OPTIONS": "detect_leaks=0"}
+
+
+def write(text, *path):
+    os.makedirs(os.path.dirname(os.path.join(*path)), exist_ok=True)
+    with open(os.path.join(*path), "w", encoding="utf-8") as it:
+        it.write(text)
+
+
+def put_source(source, crate):
+    """Puts the files of a folder into a crate, under the names that a check reads."""
+    for file in os.listdir(source):
+        with open(os.path.join(source, file), encoding="utf-8") as it:
+            write(it.read(), crate, "src", os.path.splitext(file)[0] + ".rt")
+
+
+def repository(mine):
+    """A repository with the pool, both adapters, their first programs and the service."""
+    os.makedirs(mine)
+    subprocess.run(["git", "init", "-q", mine], check=True)
+    subprocess.run([os.path.join(TOP, "vendor"), "--redis", "--postgres", mine], check=True, stdout=subprocess.DEVNULL)
+    lines = "service: r2d2 redis postgres\n"
+    put_source(os.path.join(TESTS, "adapters"), os.path.join(mine, "crates", "service"))
+    for name in ("redis", "postgres"):
+        put_source(os.path.join(TOP, "adapters", f"first_{name}"), os.path.join(mine, "crates", f"first_{name}"))
+        lines += f"first_{name}: r2d2 {name} anyhow\n"
+    with open(os.path.join(mine, "crates.txt"), "a", encoding="utf-8") as it:
+        it.write(lines)
+
+
+def built(mine, aside, tally):
+    """The service, built without proof. It hands itself out."""
+    program = os.path.join(aside, "service")
+    how = {"cwd": os.path.join(mine, "crates", "service"), "env": {**os.environ, "TMPDIR": aside}}
+    _, said = Runs().run(["rt", "try", "--", program], end_the_look_at_names, **how)
+    is_built = os.path.exists(program)
+    tally.check("the service is built", is_built, said[-3000:])
+    if is_built:
+        os.chmod(program, 0o700)
+    return program if is_built else None
+
+
+class Service:
+    """The service at a port."""
+
+    def __init__(self, program, kind, port, *words):
+        words, how = [program, kind, f"{HOST}:{port}", *words], {"text": True, "env": SETTINGS, "bufsize": 1}
+        self.process = subprocess.Popen(words, stdin=subprocess.PIPE, stdout=subprocess.PIPE, stderr=subprocess.STDOUT, **how)
+        self.said, self.asked = [], 0
+
+    def ask(self, line):
+        """The answer to a line."""
+        try:
+            self.process.stdin.write(line + "\n")
+            self.process.stdin.flush()
+        except OSError:
+            pass
+        for answer in self.process.stdout:
+            if answer.startswith("= "):
+                return answer[2:].strip()
+            self.said.append(answer)
+        raise RuntimeError("the service has ended: " + "".join(self.said)[-2000:])
+
+    def counts(self):
+        return {name: int(number) for name, number in re.findall(r"(\w+)=(\d+)", self.ask("tell"))}
+
+    def begins(self, count):
+        """Lets it do so much more."""
+        self.asked += count
+        self.ask(f"go {count}")
+
+    def rests(self):
+        """What it counts once all of that was done, or failed."""
+        def is_done():
+            counts = self.counts()
+            return sum(counts[name] for name in ("done", "failed", "timeouts", "closed")) == self.asked and counts["lent"] == 0
+        within(SECONDS, is_done)
+        return self.counts()
+
+    def goes(self, count):
+        self.begins(count)
+        return self.rests()
+
+    def end(self):
+        with contextlib.suppress(OSError):
+            self.process.stdin.close()
+        try:
+            return self.process.wait(SECONDS)
+        except subprocess.TimeoutExpired:
+            self.process.kill()
+            return self.process.wait()
+
+
+class Trial:
+    """What is tried with one kind of server."""
+
+    def __init__(self, kind, program, place, tally):
+        self.kind, self.program, self.tally = kind, program, tally
+        self.server = kind(os.path.join(place, kind.NAME))
+        self.other = Postgres(os.path.join(place, "other"), self.server) if kind is Postgres else Redis(os.path.join(place, "other"))
+        self.words = ["trusted"] if kind is Postgres else []
+        self.running = []
+
+    def check(self, what, holds, seen=""):
+        self.tally.check(f"{self.kind.NAME}: {what}", holds, seen)
+
+    def service(self, port, *words):
+        service = Service(self.program, self.kind.NAME, port, *(words or self.words))
+        self.running.append(service)
+        return service
+
+    def run(self):
+        try:
+            self.server.start()
+            self.forwarder = Forwarder(self.server.port)
+            service = self.service(self.forwarder.port)
+            self.try_counts(service)
+            self.try_left_open(service)
+            self.try_killed_connections(service)
+            self.try_crash(service)
+            self.try_move(service)
+            self.try_drain(service)
+            if self.kind is Postgres:
+                self.try_logins()
+            else:
+                self.try_silence()
+                self.try_password()
+        finally:
+            for it in self.running:
+                it.process.kill()
+                it.process.wait()
+            for it in (self.server, self.other):
+                it.end()
+
+    def is_told_exactly(self, what, counts, server):
+        """What was acknowledged is what the server counts, but for what nobody knows of."""
+        is_so = counts["wrong"] == 0 and counts["timeouts"] == 0 and counts["done"] <= server.total() <= counts["done"] + counts["failed"]
+        self.check(what, is_so, (counts, server.total()))
+
+    def has_what_the_pool_has(self, service, server):
+        """The server's connections are those of the pool."""
+        def are_the_same():
+            counts = service.counts()
+            return counts["idle"] + counts["lent"] == server.connections() == CONNECTIONS
+        self.check("its connections are the pool's", within(SECONDS, are_the_same), (service.counts(), server.connections()))
+
+    def try_counts(self, service):
+        counts = service.goes(400)
+        self.check("all is counted", (counts["done"], counts["failed"]) == (400, 0), counts)
+        self.is_told_exactly("what is acknowledged is what the server counts", counts, self.server)
+        self.has_what_the_pool_has(service, self.server)
+        self.check("a refusal is an error, and no more", service.ask("refuse") == "true")
+
+    def try_left_open(self, service):
+        """A transaction that a caller left open reaches nobody."""
+        before = self.server.total()
+        self.check("one is left open", service.ask("open") == "true")
+        counts = service.goes(40)
+        self.check("nobody meets what was left open", counts["failed"] == 0 and counts["wrong"] == 0, counts)
+        self.check("what was left open is not counted", self.server.total() == before + 40, (before, self.server.total()))
+
+    def try_killed_connections(self, service):
+        service.begins(2000)
+        killed = sum(self.server.kill_connections() for _ in range(3))
+        self.check("connections are killed", killed > 0, killed)
+        self.is_told_exactly("killed connections", service.rests(), self.server)
+        self.works_again("after that", service, self.server)
+
+    def try_silence(self):
+        """A server stands still for longer than a read waits. What it answers late is no answer to another request, and each
+        connection that waits for one is closed as it comes back: no check before a lending is needed for that."""
+        service = Service(self.program, "redis-unchecked", self.server.port)
+        self.running.append(service)
+        begun = {**service.goes(40), "total": self.server.total()}
+        self.server.process.send_signal(signal.SIGSTOP)
+        service.begins(8)
+        is_seen = within(SECONDS, lambda: service.counts()["failed"] >= CONNECTIONS)
+        self.server.process.send_signal(signal.SIGCONT)
+        counts = service.rests()
+        self.check("reads run out of time", is_seen and begun["failed"] == 0, counts)
+        after = service.goes(200)
+        self.check("each that did is closed", (after["failed"], after["done"]) == (counts["failed"], counts["done"] + 200), (counts, after))
+        self.check("no answer is another's", after["wrong"] == 0, after)
+        told = self.server.total() - begun["total"]
+        self.check("a server that stood still", after["done"] - 40 <= told <= after["done"] - 40 + after["failed"], (after, told))
+        self.check("that service ends", service.end() == 0)
+
+    def try_crash(self, service):
+        service.begins(2000)
+        self.server.crash()
+        threading.Event().wait(1)
+        self.server.start()
+        self.is_told_exactly("killed and restarted", service.rests(), self.server)
+        self.works_again("after that", service, self.server)
+
+    def works_again(self, what, service, server):
+        before = service.counts()
+        counts = service.goes(100)
+        is_so = counts["done"] == before["done"] + 100 and counts["failed"] == before["failed"]
+        self.check(f"{what} all is well", is_so, (before, counts))
+        self.has_what_the_pool_has(service, server)
+
+    def try_move(self, service):
+        """Another server takes its place. `evict` closes what the pool has at the one before, and what is there is left alone."""
+        before, counted = self.server.total(), service.counts()
+        self.other.start()
+        behind = self.other.total()
+        self.forwarder.target = self.other.port
+        self.check("all idle connections are evicted", int(service.ask("evict")) == CONNECTIONS)
+        counts = service.goes(200)
+        is_so = counts["done"] == counted["done"] + 200 and counts["failed"] == counted["failed"]
+        self.check("the new server counts on", is_so and self.other.total() == behind + 200, (counted, counts, behind, self.other.total()))
+        self.check("the old one counts nothing more", self.server.total() == before, (before, self.server.total()))
+        self.check("nobody is at the old one", within(SECONDS, lambda: self.server.connections() == 0), self.server.connections())
+        self.has_what_the_pool_has(service, self.other)
+
+    def try_drain(self, service):
+        self.check("drained", service.ask("drain 10000") == "drained")
+        self.check("nobody is connected any more", within(SECONDS, lambda: self.other.connections() == 0), self.other.connections())
+        self.check("callers are told so", "closed" in service.ask("get"))
+        self.check("the service ends", service.end() == 0)
+
+    def try_password(self):
+        self.server.ask("CONFIG", "SET", "requirepass", "kept")
+        self.check("a password", self.service(self.server.port, "kept").ask("get") == "lent")
+        self.check("a wrong password", "WRONGPASS" in self.service(self.server.port, "lost").ask("get"))
+        self.check("no password", "NOAUTH" in self.service(self.server.port).ask("get"))
+
+    def try_logins(self):
+        for user in ("hashed", "salted"):
+            self.check(f"a login of {user}", self.service(self.server.port, user, "kept").ask("get") == "lent")
+        wrong = self.service(self.server.port, "salted", "lost").ask("get")
+        self.check("a wrong password", "password authentication failed" in wrong, wrong)
+        none = self.service(self.server.port, "salted").ask("get")
+        self.check("no password", "asks for a password, and there is none" in none, none)
+        with false_server() as port:
+            false = self.service(port, "salted", "kept").ask("get")
+        self.check("a server that does not know the password", "does not know the password itself" in false, false)
+
+
+@contextlib.contextmanager
+def false_server():
+    """A port at which a server takes each login by SCRAM, and does not know the password."""
+    def message(kind, asked, text=b""):
+        body = struct.pack("!I", asked) + text
+        return kind + struct.pack("!I", len(body) + 4) + body
+
+    def read(stream, has_kind):
+        head = stream.read(5 if has_kind else 4)
+        return stream.read(struct.unpack("!I", head[-4:])[0] - 4)
+
+    def take(connection):
+        with contextlib.suppress(OSError, struct.error, IndexError), connection, connection.makefile("rb") as stream:
+            read(stream, False)
+            connection.sendall(message(b"R", 10, b"SCRAM-SHA-256\0\0"))
+            nonce = read(stream, True).partition(b"r=")[2]
+            connection.sendall(message(b"R", 11, b"r=" + nonce + b"more,s=c2FsdA==,i=1"))
+            read(stream, True)
+            connection.sendall(message(b"R", 12, b"v=" + b"A" * 43 + b"=") + message(b"R", 0) + b"Z\0\0\0\5I")
+            stream.read(1)
+
+    def accept(listener):
+        with contextlib.suppress(OSError):
+            while True:
+                threading.Thread(target=take, args=[listener.accept()[0]], daemon=True).start()
+
+    with socket.create_server((HOST, 0)) as listener:
+        threading.Thread(target=accept, args=[listener], daemon=True).start()
+        yield listener.getsockname()[1]
+
+
+def try_servers(kinds, mine, place, tally):
+    """The service of a repository at these servers."""
+    aside = os.path.join(place, "aside")
+    os.mkdir(aside)
+    program = built(mine, aside, tally)
+    for kind in kinds if program else []:
+        folder = os.path.join(place, f"with_{kind.NAME}")
+        os.mkdir(folder)
+        os.chmod(place, 0o711)
+        try:
+            Trial(kind, program, folder, tally).run()
+        except (RuntimeError, OSError, ValueError, subprocess.SubprocessError) as error:
+            tally.check(kind.NAME, False, error)
+
+
+def those_there(tally):
+    """The servers that are installed."""
+    for kind in SERVERS:
+        if not kind.is_there():
+            tally.skip(f"{kind.PACKAGE} is not installed")
+    return [kind for kind in SERVERS if kind.is_there()]
+
+
+def tried():
+    tally = Tally("adapters")
+    kinds = those_there(tally)
+    if kinds:
+        with tempfile.TemporaryDirectory(prefix="adapters-") as place:
+            mine = os.path.join(place, "mine")
+            repository(mine)
+            try_servers(kinds, mine, place, tally)
+    return tally

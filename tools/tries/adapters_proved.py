@@ -1,0 +1,114 @@
+"""The prover takes the adapters and their first programs, in a repository that `vendor` makes, and their tests pass. It refuses wrong
+bodies of theirs; those that no clause refuses, a real server shows."""
+import os
+import re
+import shutil
+import tempfile
+
+import adapters
+from copies import Runs
+from tally import Tally
+
+CRATES = ["redis", "postgres", "first_redis", "first_postgres"]
+# A function, a passage of its file, and what somebody could write in its place. The prover refuses each, all of a crate at once.
+REFUSED = [
+    ("redis::connection::RedisConnection::new", "is_broken: false,", "is_broken: true,"),
+    ("redis::connection::RedisConnection::is_broken", "{\n        self.is_broken\n", "{\n        let _ = self;\n        false\n"),
+    ("redis::connection::RedisConnection::exchange", "self.is_broken = true;\n        self.wire", "self.wire"),
+    ("postgres::answer::Session::of", "Ok(Session::InFailedTransaction)", "Ok(Session::Broken)"),
+    ("postgres::connection::PostgresConnection::session", "{\n        self.session\n", "{\n        let _ = self;\n        Session::Idle\n"),
+    ("postgres::connection::PostgresConnection::exchange", "self.session = Session::Broken;\n", ""),
+    ("postgres::connection::PostgresConnection::end_transaction", "        self.session == Session::Idle\n", "        true\n"),
+]
+# A file, such a passage, and the check that is to fail: the bodies of a list are made together.
+SEEN = [
+    [
+        ("redis/manager", "connection.is_broken()", "{\n            let _ = connection;\n            false\n        }", "redis: each that did is closed"),
+        ("postgres/manager", "!connection.end_transaction()", "connection.session() == crate::answer::Session::Broken", "postgres: nobody meets what was left open"),
+        ("postgres/login", "!= proof.reply.as_str()", "== \"\"", "postgres: a server that does not know the password"),
+    ],
+    [
+        ("redis/wire", "Ok(Answer::Refusal(String::from_str(self.alloc, rest)?))", "Ok(Answer::Reply(Reply::Nothing))", "redis: a refusal is an error, and no more"),
+        ("postgres/answer", "refused = Some(PostgresError::Refused(wire.refusal()?))", "{}", "postgres: a refusal is an error, and no more"),
+        ("postgres/connection", "self.session = answer.session;", "self.session = Session::Idle;", "postgres: what was left open is not counted"),
+    ],
+]
+
+
+class Seen(Tally):
+    """Keeps the names of the checks that fail, and what was seen."""
+
+    def __init__(self):
+        super().__init__("bodies")
+        self.names = {}
+
+    def check(self, what, holds, seen=""):
+        if not holds:
+            self.names[what] = seen
+
+
+def source(mine, file):
+    crate, _, name = file.partition("/")
+    return os.path.join(mine, "crates", crate, "src", f"{name}.rt")
+
+
+def put_body(mine, file, old, new):
+    """Puts a wrong body into a source. Its passage stands there once."""
+    path = source(mine, file)
+    with open(path, encoding="utf-8") as it:
+        text = it.read()
+    if text.count(old) != 1:
+        raise SystemExit(f"adapters/{file}.rs: {old!r} stands there {text.count(old)} times")
+    adapters.write(text.replace(old, new), path)
+
+
+def checked(mine, crate):
+    return Runs().run(["rt", "check"], cwd=os.path.join(mine, "crates", crate))
+
+
+def try_proofs(mine, tally):
+    for crate in CRATES:
+        status, said = checked(mine, crate)
+        tally.check(f"{crate} is proved", status == 0 and "logic=proved" in said, said[-2000:])
+    status, said = Runs().run(["rt", "test"], cwd=os.path.join(mine, "crates", "postgres"))
+    tally.check("the tests of postgres", status == 0 and "test result: ok. 0 passed" not in said, said[-2000:])
+
+
+def try_refused(mine, tally):
+    """Over what the proofs have kept."""
+    for crate in ("redis", "postgres"):
+        bodies = [body for body in REFUSED if body[0].startswith(crate + "::")]
+        for function, old, new in bodies:
+            put_body(mine, "/".join(function.split("::")[:2]), old, new)
+        status, said = checked(mine, crate)
+        for function, _, _ in bodies:
+            is_open = re.search(rf"^fn {function}: no proof: .*did not prove", said, re.MULTILINE)
+            tally.check(f"a wrong body of {function}", status != 0 and is_open, said[-3000:])
+
+
+def try_seen(place, tally):
+    kinds = adapters.those_there(tally)
+    for number, bodies in enumerate(SEEN):
+        inner = os.path.join(place, f"bodies-{number}")
+        mine = os.path.join(inner, "mine")
+        adapters.repository(mine)
+        for file, old, new, _ in bodies:
+            put_body(mine, file, old, new)
+        seen = Seen()
+        adapters.try_servers(kinds, mine, inner, seen)
+        for file, _, _, what in bodies:
+            if any(file.startswith(kind.NAME) for kind in kinds):
+                tally.check(f"a wrong body of {file}, which a server shows", what in seen.names, seen.names)
+        shutil.rmtree(inner)
+
+
+def tried():
+    tally = Tally("adapters-proved")
+    with tempfile.TemporaryDirectory(prefix="adapters-") as place:
+        os.chmod(place, 0o711)
+        mine = os.path.join(place, "mine")
+        adapters.repository(mine)
+        try_proofs(mine, tally)
+        try_refused(mine, tally)
+        try_seen(place, tally)
+    return tally
