@@ -389,7 +389,7 @@ fn draws_up_to_the_report(rt: HostRuntime) -> Result<(), Fail> {
     };
     let plain = text(alloc, &report, &notes)?;
     let plain = plain.as_str();
-    assert!(rt; plain.contains("; nothing happened in the last 1 h\n"));
+    assert!(rt; plain.contains(",\nnothing happened in the last 1 h\n"));
     assert!(rt; plain.contains("end at 1 h: 3 lent, 0 idle, 0 opening\n"));
     let said = "connection 2 is still lent, for 1 h, since 2030-01-02T03:04:05Z\n";
     assert!(rt; plain.contains(said));

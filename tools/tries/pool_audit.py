@@ -90,7 +90,7 @@ def lanes(drawing):
 def try_pictures():
     first, _, wrong, *_ = [line for line in read("crates", "pool_audit", "stdin").splitlines(keepends=True)]
     told = subprocess.run([SCRIPT, "--text"], input=first, stdout=subprocess.PIPE, timeout=60).stdout.decode()
-    check("--text", told.startswith("line 1: replays\n  covers ") and len(told.splitlines()) > 5, told)
+    check("--text", told.startswith("line 1: replays\n  ! ") and len(told.splitlines()) > 5, told)
     check("the width of --text", max(len(line) for line in told.splitlines()) <= 100, told)
     (picture, page), names = drawn(["--svg", "*", "--html", "*"], first, 0)
     check("--svg", picture.startswith(b"<svg") and picture.count(b"</svg>") == 1, picture)

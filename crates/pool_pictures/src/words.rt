@@ -95,7 +95,7 @@ pub(crate) fn span(alloc: Global, story: &Story) -> Result<String, AllocError> {
     let quiet = story.quiet();
     if !quiet.is_zero() {
         let quiet = Length(quiet);
-        write!(span, "; nothing happened in the last {quiet}")?;
+        write!(span, ",\nnothing happened in the last {quiet}")?;
     }
     Ok(span)
 }
