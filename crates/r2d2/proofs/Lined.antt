@@ -9,6 +9,7 @@ use Rattle.r2d2_core.specs.declared.machine.answers.Refusal.{Refusal}
 use Rattle.r2d2_core.specs.declared.machine.answers.Returned.{Returned}
 use Rattle.r2d2_core.specs.declared.machine.answers.Released.{Released}
 use Rattle.r2d2_core.specs.declared.machine.answers.Take.{Take}
+use Rattle.r2d2_core.specs.declared.machine.answers.Take.TheVariants as take
 use Rattle.r2d2_core.specs.Connections.{SeenIdleConnection, is_kept, idle_connection}
 use Rattle.r2d2_core.specs.Lending.{next_to_lend, still_idle}
 use Rattle.r2d2_core.specs.Refusals.{ok_unless, ok_or_back, unless_refused}
@@ -55,6 +56,9 @@ none_counted before after found per_take e none = e ∙ (ap (λ n. before + n * 
 fewer : {X : Type 0} (f : X → Bool) (xs : List X) → length (filter f xs) ≤ length xs
 fewer f [] = omega arith
 fewer f (x ∷ xs) = grind (arith, fewer f xs)
+
+not_both : ◌≡◌ {A = ℕ} 0 1 → ⊥
+not_both e = cc
 
 module _ {T : Type 0} where
   -- A RETURN
@@ -140,8 +144,12 @@ module _ {T : Type 0} where
       → length old.idle ≡ length new.idle + found_by (seen_take result)
   one_taken now or_order result old new step =
       let p : Picture T = table.raised_to (as_nanos now) old in
-      omega (arith, ap (λ (s : Picture T). length s.idle) step.after, ap found_by step.answer,
-      taken_by (table.next_of old) or_order (table.take_orders (table.next_of old) or_order old) p refl)
+      omega (
+        arith,
+        ap (λ (s : Picture T). length s.idle) step.after,
+        ap found_by step.answer,
+        taken_by (table.next_of old) or_order (table.take_orders (table.next_of old) or_order old) p refl,
+      )
 
   found_by_some : (n : Option (SeenIdleConnection T)) (m : ℕ) (p : Picture T) → table.next_of p ≡ n → 0 < length p.idle → found_by (take_with n m) ≡ 1
   found_by_some None m p e some = absurd (omega (arith, some, ap length (none_is_next p.on_order.limits.order p.idle e)))
@@ -157,3 +165,8 @@ module _ {T : Type 0} where
       → 0 < length old.idle → length old.idle ≡ length new.idle + 1
   one_found now or_order result old new step some =
       omega (arith, one_taken now or_order result old new step, found_where_idle now or_order result old new step some)
+
+  pub never_empty : (now : Duration) (result : Take T) (old new : Picture T) (n : ℕ) → core.IsTake now false result old new → 0 < length old.idle
+      → result ≡ take.Empty n → ⊥
+  never_empty now result old new n step some is =
+      not_both (sym (ap (λ (r : Take T). found_by (seen_take r)) is) ∙ found_where_idle now false result old new step some)
