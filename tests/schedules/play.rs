@@ -215,7 +215,12 @@ fn gets<R: Host>(rt: R, plan: &Plan, seen: &Seen<R>, pool: &Watched<R>, wait: u6
             }
             ErrorKind::Full => {
                 seen.tell("is told that as many wait as may");
-                watch.check(seen, "a get takes time to be refused", 0, plan.seconds_of_checks(1));
+                watch.check(
+                    seen,
+                    "a get takes time to be refused",
+                    0,
+                    plan.seconds_of_checks(1),
+                );
                 if plan.most == 0 {
                     seen.fault("a get is refused where as many may wait as come");
                 }
