@@ -34,7 +34,7 @@ impl<C: TakeCounter, M: ManageConnection, K: Hooks<M>, R: PoolRuntime> AnyPool<C
         ensures lent { IfOk result
             (λ found. IfSome found (λ _. C.amount tally.old + C.per_take ≤ C.amount tally.new)) }
     {
-        if timeout.is_some() && self.shared().tuning.in_line {
+        if let (Some(timeout), true) = (timeout, self.shared().tuning.in_line) {
             return self.lend_in_line(timeout, tally);
         }
         // Modelled in model/waiting.pml: keep both alike.
@@ -68,11 +68,10 @@ impl<C: TakeCounter, M: ManageConnection, K: Hooks<M>, R: PoolRuntime> AnyPool<C
     #[cold]
     fn lend_in_line(
         &self,
-        timeout: Option<Duration>,
+        timeout: Duration,
         tally: &mut C::Tally,
     ) -> Result<Option<AnyConnection<C, M, K, R>>, Error>
-        requires tally { 0 < C.parts tally.old }
-        requires waits { IsSome timeout }
+        requires { 0 < C.parts tally.old }
         ensures settings { IfOk result (λ found. IfSome found (λ lent. lent.settings ≡ self.now)) }
         ensures refused { IfErr result IsOfAGet }
         ensures waits { IfOk result IsSome }
@@ -89,14 +88,14 @@ impl<C: TakeCounter, M: ManageConnection, K: Hooks<M>, R: PoolRuntime> AnyPool<C
         let mut place = None;
         for _ in shared.rt.forever() {
             let found = match shared.take_in_line(
-                timeout.unwrap_or(Duration::ZERO),
+                timeout,
                 &mut time,
                 &mut place,
                 keeps_place,
                 tally,
             ) {
                 Ok(lent) => lent,
-                Err(error) => return Err(shared.tell_in_vain(error, timeout)),
+                Err(error) => return Err(shared.tell_in_vain(error, Some(timeout))),
             };
             let is_checked = shared.is_to_check(&time);
             if let Some(lent) = shared.if_sound(found, is_checked, &time) {
@@ -108,9 +107,9 @@ impl<C: TakeCounter, M: ManageConnection, K: Hooks<M>, R: PoolRuntime> AnyPool<C
                     lent,
                 }));
             }
-            if let Some(error) = shared.give_up_if_late(timeout, &mut time) {
+            if let Some(error) = shared.give_up_if_late(Some(timeout), &mut time) {
                 shared.leave_line(&mut place);
-                return Err(shared.tell_in_vain(error, timeout));
+                return Err(shared.tell_in_vain(error, Some(timeout)));
             }
         }
         unreachable!()
