@@ -123,7 +123,7 @@ byte holders = WAITERS;   /* those who hold the pool */
 bool built = (BUILD == 0);
 hidden byte ordered, k;   /* for use inside one step alone */
 
-/* What is proved of each step of the book, as a test of this model. */
+/* What is proved for each step of the book, as a test of this model. */
 inline sound() {
   assert(connections + pending <= SIZE);
   assert(closed || idle + pending >= WANTED || connections + pending == SIZE)
