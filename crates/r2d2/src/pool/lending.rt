@@ -34,9 +34,6 @@ impl<C: TakeCounter, M: ManageConnection, K: Hooks<M>, R: PoolRuntime> AnyPool<C
         ensures lent { IfOk result
             (λ found. IfSome found (λ _. C.amount tally.old + C.per_take ≤ C.amount tally.new)) }
     {
-        if let (Some(timeout), true) = (timeout, self.shared().tuning.in_line) {
-            return self.lend_in_line(timeout, tally);
-        }
         // Modelled in model/waiting.pml: keep both alike.
         let shared = self.shared();
         let mut time = CallTime::new(shared.start_of_call());
@@ -63,22 +60,25 @@ impl<C: TakeCounter, M: ManageConnection, K: Hooks<M>, R: PoolRuntime> AnyPool<C
         unreachable!()
     }
 
-    // As `lend_within`, where callers wait in line. Who takes keeps its place until its check went
-    // well, so that it is the first again if it does not.
+    /// Whether callers wait in line.
+    pub(super) fn is_in_line(&self) -> bool {
+        self.shared().tuning.in_line
+    }
+
+    /// As `lend_within`, where callers wait in line. Who takes keeps its place until its check went
+    /// well, so that it is the first again if it does not.
     #[cold]
-    fn lend_in_line(
+    pub(super) fn lend_in_line(
         &self,
         timeout: Duration,
         tally: &mut C::Tally,
-    ) -> Result<Option<AnyConnection<C, M, K, R>>, Error>
+    ) -> Result<AnyConnection<C, M, K, R>, Error>
         requires { 0 < C.parts tally.old }
-        ensures settings { IfOk result (λ found. IfSome found (λ lent. lent.settings ≡ self.now)) }
+        ensures settings { IfOk result (λ lent. lent.settings ≡ self.now) }
         ensures refused { IfErr result IsOfAGet }
-        ensures waits { IfOk result IsSome }
         ensures parts { C.parts tally.new ≡ C.parts tally.old }
         ensures amount { C.amount tally.old ≤ C.amount tally.new }
-        ensures lent { IfOk result
-            (λ found. IfSome found (λ _. C.amount tally.old + C.per_take ≤ C.amount tally.new)) }
+        ensures lent { IfOk result (λ _. C.amount tally.old + C.per_take ≤ C.amount tally.new) }
     {
         // Modelled in model/waiting.pml: keep both alike.
         let shared = self.shared();
@@ -101,11 +101,11 @@ impl<C: TakeCounter, M: ManageConnection, K: Hooks<M>, R: PoolRuntime> AnyPool<C
             if let Some(lent) = shared.if_sound(found, is_checked, &time) {
                 shared.leave_line(&mut place);
                 let lent_at = shared.check_out(lent.id, is_checked, &time);
-                return Ok(Some(AnyConnection {
+                return Ok(AnyConnection {
                     closer,
                     lent_at,
                     lent,
-                }));
+                });
             }
             if let Some(error) = shared.give_up_if_late(Some(timeout), &mut time) {
                 shared.leave_line(&mut place);
