@@ -225,12 +225,9 @@ fn gets<R: Host>(rt: R, plan: &Plan, who: u64, seen: &Seen<R>, pool: &Watched<R>
             }
             ErrorKind::Full => {
                 seen.tell("is told that as many wait as may");
-                watch.check(
-                    seen,
-                    "a get takes time to be refused",
-                    0,
-                    plan.seconds_of_checks(1),
-                );
+                // One that waited, and whose check failed then, may be one too many.
+                let most = if plan.checks { None } else { Some(0) };
+                watch.check(seen, "a get takes time to be refused", 0, most);
                 if plan.may_wait() == 0 {
                     seen.fault("a get is refused where as many may wait as come");
                 }
