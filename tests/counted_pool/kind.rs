@@ -83,6 +83,10 @@ impl<
         self.pool.made_at()
     }
 
+    pub(crate) fn moment(&self) -> Duration {
+        self.pool.moment()
+    }
+
     pub(crate) fn state(&self) -> State {
         self.pool.state()
     }

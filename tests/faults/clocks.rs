@@ -101,6 +101,7 @@ fn a_clock_that_cannot_be_read_at_the_making(rt: HostRuntime) -> Result<(), Fail
     for record in &report.records {
         assert!(rt; record.at().is_zero(), "{record:?}");
     }
+    assert!(rt; pool.moment().is_zero());
     drop(pool);
     assert_eq!(rt; watched(&rt, &play.managers_dropped, 1, 1000), 1);
     assert_eq!(rt; play.dropped.load(Ordering::SeqCst), 1);
@@ -143,6 +144,7 @@ fn a_clock_that_cannot_be_read_later(rt: HostRuntime) -> Result<(), Fail> {
     );
     assert_eq!(rt; taken, kept);
     assert!(rt; !admitted.is_zero());
+    assert!(rt; pool.moment().is_zero());
     drop(pool);
     assert_eq!(rt; watched(&rt, &play.managers_dropped, 1, 1000), 1);
     assert_eq!(rt; play.dropped.load(Ordering::SeqCst), 1);

@@ -51,6 +51,19 @@ fn a_pool_tells_when_it_was_made(rt: HostRuntime) -> Result<(), Fail> {
 }
 
 #[test]
+fn a_pool_tells_its_moment(rt: HostRuntime) -> Result<(), Fail> {
+    let before = Instant::now(&rt)?;
+    let pool = with_one_idle(rt)?;
+    let after = Instant::now(&rt)?;
+    thread::sleep(&rt, Duration::from_millis(20));
+    let least = after.elapsed(&rt)?;
+    let moment = pool.moment();
+    assert!(rt; least <= moment && moment <= before.elapsed(&rt)?);
+    assert!(rt; moment <= pool.moment());
+    Ok(())
+}
+
+#[test]
 fn a_status_tells_what_there_is(rt: HostRuntime) -> Result<(), Fail> {
     let pool = with_one_idle(rt)?;
     let first = pool.get()?;

@@ -253,6 +253,7 @@ impl<
         requires { 0 < max_size }
         ensures { result ≡ record self { max_size = max_size } }
     {
+        prove!(max_size > 0);
         self.config.max_size = max_size;
         self
     }
@@ -278,6 +279,7 @@ impl<
         requires { 0 < workers }
         ensures { result ≡ record self { thread_pool = workers } }
     {
+        prove!(workers > 0);
         self.config.thread_pool = workers;
         self
     }
@@ -302,6 +304,9 @@ impl<
         requires { ForSome max_lifetime (λ d. 0 < as_nanos d) }
         ensures { result ≡ record self { max_lifetime = max_lifetime } }
     {
+        if let Some(age) = max_lifetime {
+            prove!(!age.is_zero());
+        }
         self.config.max_lifetime = max_lifetime;
         self
     }
@@ -318,6 +323,9 @@ impl<
         requires { ForSome idle_timeout (λ d. 0 < as_nanos d) }
         ensures { result ≡ record self { idle_timeout = idle_timeout } }
     {
+        if let Some(length) = idle_timeout {
+            prove!(!length.is_zero());
+        }
         self.config.idle_timeout = idle_timeout;
         self
     }
@@ -334,6 +342,7 @@ impl<
         requires { 0 < as_nanos connection_timeout }
         ensures { result ≡ record self { connection_timeout = connection_timeout } }
     {
+        prove!(!connection_timeout.is_zero());
         self.config.connection_timeout = connection_timeout;
         self
     }
@@ -416,6 +425,7 @@ impl<
         requires { 0 < as_nanos longest }
         ensures { result ≡ self }
     {
+        prove!(!longest.is_zero());
         self.tuning.retry_at_most = Some(longest);
         self
     }
@@ -444,6 +454,7 @@ impl<
         requires { 0 < callers }
         ensures { result ≡ self }
     {
+        prove!(callers > 0);
         self.tuning.max_waiting = Some(callers);
         self
     }
@@ -462,6 +473,7 @@ impl<
         requires { 0 < callers }
         ensures { result ≡ self }
     {
+        prove!(callers > 0);
         self.tuning.max_waiting = Some(callers);
         self.tuning.in_line = true;
         self

@@ -122,6 +122,12 @@ impl<C: TakeTotal, M: ManageConnection, K: Hooks<M>, R: PoolRuntime> AnyPool<C, 
         self.shared().made_at
     }
 
+    /// The moment of a step that is made now: the time since the pool was made, as a journal's
+    /// records have it. Zero where the clock can't be read.
+    pub fn moment(&self) -> Duration {
+        self.shared().moment()
+    }
+
     /// What happened last, as far back as the setting `journal_room` reaches, what stood before
     /// that, and what there is now. Where its `lost` is 0, that is all since the pool was made. The
     /// error is lack of memory; then nothing has changed.

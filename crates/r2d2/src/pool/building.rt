@@ -4,6 +4,7 @@ ghost use Rattle.std.specs.Option.{ForSome};
 ghost use Rattle.std.specs.Arc.{arc_value};
 ghost use Rattle.r2d2_core.specs.Table.{first_picture};
 ghost use Rattle.r2d2_core.specs.Journal.{first_journal};
+ghost use Rattle.r2d2_core.specs.Limits.{seen_limits};
 ghost use Rattle.r2d2_core.specs.Book.{seen_book};
 ghost use Rattle.r2d2.specs.Settings.{limits_within};
 ghost use Rattle.r2d2.specs.Room.{HasRoom};
@@ -21,7 +22,7 @@ use crate::line::queue::Line;
 use crate::payload::PayloadOf;
 use crate::tuning::Tuning;
 use crate::{CustomizeConnection, Error, ErrorKind, HandleError, ManageConnection};
-use r2d2_core::{Book, Released};
+use r2d2_core::{Book, Limits, Released};
 use std::alloc::{AllocError, Global};
 use std::sync::ledger::Ledger;
 use std::sync::{Arc, Condvar, Mutex, ledger};
@@ -105,16 +106,25 @@ impl<
         ensures workers { IfOk result (λ made. length made.2.items ≡ self.thread_pool) }
         ensures room { IfOk result (λ made. All (HasRoom self.max_size) made.2.items) }
     {
-        let timeout = self.timeout_of_book();
-        let Some(limits) = self.limits_within(timeout) else {
-            unreachable!()
-        };
+        let limits = self.limits_with_min_idle_up_to_max_size();
         let first_id = self.id_of_the_first();
         let config = self.into_config();
         let lists = reap_lists(alloc, config.thread_pool, limits.max_size())?;
         let room = config.journal_room;
         let book = Book::with_first_id(alloc, limits, Duration::ZERO, first_id, room)?;
         Ok((config, book, lists))
+    }
+
+    // The limits of the book. Its name says what a run without proof has found not to hold where it
+    // stops here.
+    fn limits_with_min_idle_up_to_max_size(&self) -> Limits
+        requires { ForSome self.now.min_idle (λ n. n ≤ self.now.max_size) }
+        ensures { (timeout : _) × (seen_limits result ≡ limits_within timeout self.now) }
+    {
+        let Some(limits) = self.limits_within(self.timeout_of_book()) else {
+            unreachable!()
+        };
+        limits
     }
 }
 
