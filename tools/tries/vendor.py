@@ -157,7 +157,7 @@ def try_an_adapter(place):
     answers("an adapter without Net is refused", 1, said, "--redis", mine)
     check("and is not there", os.listdir(mine) == ["HANDLES"], os.listdir(mine))
     os.unlink(os.path.join(mine, "HANDLES"))
-    told = f"1. Write a program into crates/NAME/src/main.rt. To begin with, copy {first}"
+    told = f"    cp {first} crates/hello/src/main.rt"
     answers("an adapter tells of its first program", 0, told, "--redis", mine)
     check("the first program is there", os.path.isfile(first))
 
