@@ -202,8 +202,9 @@ pub fn run<T: Drop>(
     Ok((core, answers))
 }
 
-/// As `run`, on a new book that keeps `room` records: gives what the book reports in the end, and
-/// the answers.
+/// As `run`, on a new book made at `now`, which keeps the newest `room` records of what `steps` did:
+/// gives what the book reports in the end, and one answer to each step. The error comes only where
+/// memory is refused.
 pub fn run_and_report<T: Drop>(
     alloc: Global,
     limits: Limits,
