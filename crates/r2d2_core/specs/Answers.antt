@@ -7,7 +7,8 @@ use Rattle.r2d2_core.specs.declared.run.Step.{Step}
 use Rattle.r2d2_core.specs.declared.run.Step.TheVariants as step
 use Rattle.r2d2_core.specs.declared.machine.answers.Refusal.{Refusal}
 use Rattle.r2d2_core.specs.declared.machine.answers.Refusal.TheVariants as refusal
-use Rattle.r2d2_core.specs.Limits.{top_up, later_by, delay_of, has_reached}
+use Rattle.r2d2_core.specs.Limits.{wanted_of, top_up, later_by, delay_of, has_reached}
+use Rattle.r2d2_core.specs.Sums.{FitsIn, IsReplenished}
 use Rattle.r2d2_core.specs.Lending.{next_to_lend}
 use Rattle.r2d2_core.specs.Connections.{closed_of, pair_of}
 use Rattle.r2d2_core.specs.Refusals.{refused_if, ok_unless, ok_or_back}
@@ -157,3 +158,11 @@ module _ {T : Type 0} where
     connections = connections_of h;
     last_error = last_error_of h;
   }
+
+  -- THE TWO SUMS
+
+  -- what the steps of a history come to keeps both
+  pub record HasSums (h : History T) : Type 0 where
+    pub fits : FitsIn (limits_of h).max_size (connections_of h) (pending_of h)
+    pub replenished : IsReplenished (wanted_of (limits_of h)) (limits_of h).max_size
+        (length (idle_of h)) (connections_of h) (pending_of h) (is_closed h)

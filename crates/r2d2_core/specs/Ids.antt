@@ -1,7 +1,7 @@
 -- Lists of things with ids.
 use Rattle.std.specs.Prelude.{ℕ, ◌+◌, ◌-◌, ◌==◌, if◌then◌else◌, List, [], ◌∷◌, length, take, Option}
-use Rattle.std.specs.Prelude.{Some, None}
-use Rattle.std.specs.List.{list_any, last_or}
+use Rattle.std.specs.Prelude.{None}
+use Rattle.std.specs.List.{find, list_any, last_or}
 
 -- the last of a list
 abbrev pub last_of : {X : Type 0} → List X → Option X
@@ -13,8 +13,7 @@ front xs = take (length xs - 1) xs
 
 -- the first with the id, if there is one
 abbrev pub found : {X : Type 0} → (X → ℕ) → ℕ → List X → Option X
-found id_of i [] = None
-found id_of i (x ∷ xs) = if id_of x == i then Some x else found id_of i xs
+found id_of i xs = find (λ x. id_of x == i) xs
 
 -- all but the first with the id
 abbrev pub without : {X : Type 0} → (X → ℕ) → ℕ → List X → List X

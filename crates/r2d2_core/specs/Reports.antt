@@ -9,7 +9,10 @@ use Rattle.r2d2_core.specs.Records.{SeenRecord, seen_record, takes_in}
 use Rattle.r2d2_core.specs.Connections.{id_of_idle, id_of_lent}
 use Rattle.r2d2_core.specs.Bases.{SeenBase, base_of, seen_bare, seen_lent, IsLegalBase, first_base}
 use Rattle.r2d2_core.specs.Folding.{replay, AreLegalFrom}
-use Rattle.r2d2_core.specs.Book.{SeenBook}
+use Rattle.r2d2_core.specs.Book.{SeenBook, bare}
+use Rattle.r2d2_core.specs.History.{History, limits_of, is_closed}
+use Rattle.r2d2_core.specs.Deeds.{idle_of, lent_of, connections_of}
+use Rattle.r2d2_core.specs.Pending.{pending_of}
 
 module _ {B : Type 0} where
   -- a `Base`
@@ -71,3 +74,12 @@ module _ {T B : Type 0} where
     pub connections : r.connections ≡ a.picture.connections
     pub pending : r.pending ≡ a.picture.on_order.pending
     pub closed : r.closed ≡ a.picture.on_order.closed
+
+  -- what its records come to is what a history comes to
+  pub record IsReportAfter (h : History T) (r : Report B) : Type 0 where
+    pub limits : seen_limits r.limits ≡ limits_of h
+    pub idle : (told_in r).idle ≡ map bare (idle_of h)
+    pub lent : (told_in r).lent ≡ lent_of h
+    pub connections : (told_in r).connections ≡ connections_of h
+    pub pending : (told_in r).pending ≡ pending_of h
+    pub closed : (told_in r).closed ≡ is_closed h

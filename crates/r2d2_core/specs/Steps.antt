@@ -1,6 +1,7 @@
 -- A step of any kind: what it answers, what it makes of the picture, and what a book notes of it.
 -- Each line is that of the step's own call.
-use Rattle.std.specs.Prelude.{Bool, true, false, length, map, option_map, string_bytes}
+use Rattle.std.specs.Prelude.{Bool, true, false, List, [], ◌∷◌, length, map, option_map}
+use Rattle.std.specs.Prelude.{string_bytes}
 use Rattle.std.specs.Duration.{as_nanos}
 use Rattle.r2d2_core.specs.declared.run.Step.{Step}
 use Rattle.r2d2_core.specs.declared.run.Step.TheVariants as step
@@ -13,7 +14,7 @@ use Rattle.r2d2_core.specs.Seen.{PutBack, Reaped, TakeError, Close, seen_take, s
 use Rattle.r2d2_core.specs.Seen.{seen_gone, seen_released, map_ok}
 use Rattle.r2d2_core.specs.Table as table
 use Rattle.r2d2_core.specs.Journal.{SeenJournal}
-use Rattle.r2d2_core.specs.Book.{SeenBook}
+use Rattle.r2d2_core.specs.Book.{SeenBook, seen_book}
 use Rattle.r2d2_core.specs.Noted.{noted_take, noted_admission, noted_return, noted_check}
 use Rattle.r2d2_core.specs.Noted.{noted_reap, noted_close}
 
@@ -76,6 +77,12 @@ module _ {T : Type 0} where
       (table.reap_orders (as_nanos now) b.picture) b
   noted_step step.Close b = noted_close b
   noted_step _ b = b.journal
+
+  -- the book after all of these steps
+  abbrev pub book_after : List (Step T) → SeenBook T → SeenBook T
+  book_after [] b = b
+  book_after (s ∷ steps) b =
+      book_after steps (seen_book (after_step s b.picture) (noted_step s b))
 
   abbrev pub is_reap : Step T → Bool
   is_reap (step.Reap now) = true

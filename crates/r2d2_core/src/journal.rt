@@ -1,5 +1,5 @@
 // A journal beside a machine: what each step did.
-ghost use Rattle.std.specs.Prelude.{◌≡◌, ◌≤◌, length, vec_len, vec_capacity, option_map, IfOk};
+ghost use Rattle.std.specs.Prelude.{◌≡◌, ◌≤◌, length, vec_len, vec_capacity, option_map, IfOk, OnOk};
 ghost use Rattle.std.specs.Duration.{as_nanos};
 
 use crate::machine::{Core, Gone, Leftover, Refusal, Released, Returned, Take};
@@ -184,6 +184,7 @@ impl<T, A: Allocator> Book<T, A> {
         ensures sound { IfOk result IsSoundReport }
         ensures since { IfOk result
             (λ report. report.lost ≡ 0 → as_nanos report.base.at ≡ self.now.journal.made) }
+        ensures facts { OnOk result (HasFacts self.now) }
     {
         self.report_in(self.alloc)
     }
@@ -196,6 +197,7 @@ impl<T, A: Allocator> Book<T, A> {
         ensures sound { IfOk result IsSoundReport }
         ensures since { IfOk result
             (λ report. report.lost ≡ 0 → as_nanos report.base.at ≡ self.now.journal.made) }
+        ensures facts { OnOk result (HasFacts self.now) }
     {
         let base = self.base(alloc)?;
         let records = self.journal.copied(alloc)?;

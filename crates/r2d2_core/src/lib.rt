@@ -19,8 +19,9 @@
 //! }
 //! ```
 //!
-//! A [`Book`] is a core with a journal, [`run`](run::run) takes a list of steps, and [`reuse`]
-//! compares lending the newest connection first, lending the oldest first, and other choices.
+//! A [`Book`] is a core with a journal, [`run`](run::run) takes a list of steps, as does
+//! [`run_and_report`](run::run_and_report) by a book, and [`reuse`] compares lending the newest
+//! connection first, lending the oldest first, and other choices.
 #![tactic(auto)]
 
 pub mod journal;

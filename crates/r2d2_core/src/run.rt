@@ -4,10 +4,14 @@ ghost use Rattle.std.specs.Duration.{as_nanos};
 ghost use Rattle.r2d2_core.specs.Limits.{seen_limits};
 ghost use Rattle.r2d2_core.specs.Picture.{IsSound};
 ghost use Rattle.r2d2_core.specs.History.{History, Made};
-ghost use Rattle.r2d2_core.specs.Answers.{answers_of, after_all, picture_of};
-ghost use Rattle.r2d2_core.specs.Steps.{seen_answer};
+ghost use Rattle.r2d2_core.specs.Answers.{answers_of, after_all, picture_of, HasSums};
+ghost use Rattle.r2d2_core.specs.Steps.{seen_answer, book_after};
+ghost use Rattle.r2d2_core.specs.Table.{first_picture};
+ghost use Rattle.r2d2_core.specs.Journal.{first_journal};
+ghost use Rattle.r2d2_core.specs.Book.{seen_book};
+ghost use Rattle.r2d2_core.specs.Reports.{IsReportOf, IsSoundReport, IsReportAfter};
 
-use crate::journal::Book;
+use crate::journal::{Book, Report};
 use crate::machine::{Core, Gone, Leftover, Limits, Refusal, Released, Returned, Take};
 use crate::schedule::Job;
 use std::alloc::{AllocError, Allocator, Global};
@@ -186,6 +190,8 @@ pub fn run<T: Drop>(
         (λ r. r.0 ≡ picture_of (after_all (Made (seen_limits limits)
         (as_nanos now) 0) steps.items)) }
     ensures sound { IfOk result (λ r. IsSound r.0) }
+    ensures sums { OnOk result
+        (HasSums (after_all (Made (seen_limits limits) (as_nanos now) 0) steps.items)) }
 {
     let mut core: Core<T> = Core::new(alloc, limits, now)?;
     let mut answers = Vec::with_capacity(alloc, steps.len())?;
@@ -194,4 +200,36 @@ pub fn run<T: Drop>(
         answers.push(answer)?;
     }
     Ok((core, answers))
+}
+
+/// As `run`, on a new book made at `now`, which keeps the newest `room` records of what `steps` did:
+/// gives what the book reports in the end, and one answer to each step. The error comes only where
+/// memory is refused.
+pub fn run_and_report<T: Drop>(
+    alloc: Global,
+    limits: Limits,
+    now: Duration,
+    room: usize,
+    steps: Vec<Step<T>>,
+) -> Result<(Report, Vec<Answer<T>>), AllocError>
+    ensures answers { IfOk result
+        (λ r. map seen_answer r.1.items
+        ≡ answers_of (Made (seen_limits limits) (as_nanos now) 0) steps.items) }
+    ensures told { IfOk result
+        (λ r. IsReportAfter (after_all (Made (seen_limits limits) (as_nanos now) 0) steps.items)
+        r.0) }
+    ensures sound { IfOk result (λ r. IsSoundReport r.0) }
+    ensures given { IfOk result
+        (λ r. IsReportOf (book_after steps.items
+        (seen_book (first_picture (seen_limits limits) (as_nanos now) 0)
+        (first_journal (seen_limits limits) (as_nanos now) room))) r.0) }
+{
+    let mut book: Book<T> = Book::new(alloc, limits, now, room)?;
+    let mut answers = Vec::with_capacity(alloc, steps.len())?;
+    for step in steps {
+        let answer = book.answer(alloc, step)?;
+        answers.push(answer)?;
+    }
+    let report = book.report()?;
+    Ok((report, answers))
 }

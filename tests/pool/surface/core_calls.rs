@@ -6,7 +6,7 @@ use r2d2::journal::{
 };
 use r2d2::machine::{Core, Gone, Leftover, Limits, Refusal, Released, Returned, Take};
 use r2d2::reuse::{Comparison, Move, compare, is_in_order};
-use r2d2::run::{Answer, Step, run};
+use r2d2::run::{Answer, Step, run, run_and_report};
 use r2d2::schedule::{Job, LendingOrder, Schedule, delay};
 use r2d2::steps::Steps;
 use std::alloc::Global;
@@ -165,6 +165,18 @@ fn lists_of_steps(rt: HostRuntime) -> Result<(), Fail> {
     let (core, answers) = run(rt.alloc(), limits, now, steps)?;
     assert!(rt; matches!(answers.first(), Some(Answer::Begin(Job::Open { tries: 0 }))));
     assert!(rt; core.is_closed());
+    Ok(())
+}
+
+#[test]
+fn a_run_and_its_report(rt: HostRuntime) -> Result<(), Fail> {
+    let limits = limits().ok_or("limits")?;
+    let now = Duration::ZERO;
+    let steps: Vec<Step<u32>> = vec![in rt.alloc(); Step::Begin { now }, Step::Close]?;
+    let (report, answers) = run_and_report(rt.alloc(), limits, now, 1, steps)?;
+    assert!(rt; matches!(answers.first(), Some(Answer::Begin(Job::Open { tries: 0 }))));
+    assert!(rt; report.records.as_slice() == [Record::ClosedAll { at: now }].as_slice());
+    assert_eq!(rt; (report.connections, report.pending, report.closed), (0, 0, true));
     Ok(())
 }
 

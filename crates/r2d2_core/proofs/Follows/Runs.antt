@@ -3,12 +3,17 @@ use Rattle.std.proofs.Common.{◌≡◌, List, [], ◌∷◌, ◌++◌, map, ref
 use Rattle.std.proofs.lemmas.List.{map-append}
 use Rattle.r2d2_core.specs.declared.run.Step.{Step}
 use Rattle.r2d2_core.specs.declared.run.Answer.{Answer}
-use Rattle.r2d2_core.specs.Picture.{Picture}
+use Rattle.r2d2_core.specs.Picture.{Picture, IsSound}
+use Rattle.r2d2_core.specs.Pending.{on_order_of}
 use Rattle.r2d2_core.specs.History.{History}
-use Rattle.r2d2_core.specs.Answers.{answer_of, after, answers_of, after_all, picture_of}
+use Rattle.r2d2_core.specs.Answers.{answer_of, after, answers_of, after_all, picture_of, HasSums}
+use Rattle.r2d2_core.specs.Book.{SeenBook, seen_book, bare, HasFacts}
+use Rattle.r2d2_core.specs.Reports.{IsReportOf, IsReportAfter}
+use Rattle.r2d2_core.specs.declared.journal.report.Report.{Report}
 use Rattle.r2d2_core.proofs.Histories.Kept.{IsKept}
-use Rattle.r2d2_core.specs.Steps.{seen_answer, step_answer, after_step}
+use Rattle.r2d2_core.specs.Steps.{seen_answer, step_answer, after_step, noted_step, book_after}
 use Rattle.r2d2_core.proofs.Follows.Step.{follows_there}
+use Rattle.r2d2_core.proofs.Recording.Reporting.{report_comes_to}
 
 module _ {T : Type 0} where
   pub after_all-push : (h : History T) (steps : List (Step T)) (s : Step T) → after_all h (steps ++ s ∷ []) ≡ after (after_all h steps) s
@@ -19,6 +24,11 @@ module _ {T : Type 0} where
       → answers_of h (steps ++ s ∷ []) ≡ answers_of h steps ++ answer_of (after_all h steps) s ∷ []
   answers_of-push h [] s = refl
   answers_of-push h (x ∷ steps) s = ap (λ l. answer_of h x ∷ l) (answers_of-push (after h x) steps s)
+
+  pub book_after-push : (b : SeenBook T) (steps : List (Step T)) (s : Step T)
+      → book_after (steps ++ s ∷ []) b ≡ (let c = book_after steps b in seen_book (after_step s c.picture) (noted_step s c))
+  book_after-push b [] s = refl
+  book_after-push b (x ∷ steps) s = book_after-push (seen_book (after_step x b.picture) (noted_step x b)) steps s
 
 module _ {T A : Type 0} where
   -- the answers and the picture are those of the steps
@@ -40,4 +50,39 @@ module _ {T A : Type 0} where
             ∙ sym (answers_of-push start steps s))));
         picture_is = f.picture_is ∙ ap picture_of (sym next);
         kept = subst IsKept (sym next) f.kept;
+      }
+
+  -- the same of a book, which is what the steps make of the first one
+  pub record IsBookRun (start : History T) (first : SeenBook T) (steps : List (Step T)) (answers : List (Answer T A)) (book : SeenBook T) : Type 0 where
+    pub run : IsRun start steps answers book.picture
+    pub book_is : book ≡ book_after steps first
+
+  pub book_run_more : (start : History T) (first : SeenBook T) (steps : List (Step T)) (answers more : List (Answer T A)) (book new : SeenBook T) (s : Step T) (a : Answer T A)
+      → IsBookRun start first steps answers book → more ≡ answers ++ a ∷ [] → seen_answer a ≡ step_answer s book.picture
+      → new.picture ≡ after_step s book.picture → new.journal ≡ noted_step s book
+      → IsBookRun start first (steps ++ s ∷ []) more new
+  book_run_more start first steps answers more book new s a there pushed answered went noted = record {
+    run = run_more start steps answers more book.picture new.picture s a there.run pushed answered went;
+    book_is = ap (λ p. seen_book p new.journal) went ∙ (ap (λ j. seen_book (after_step s book.picture) j) noted
+        ∙ (ap (λ b. seen_book (after_step s b.picture) (noted_step s b)) there.book_is ∙ sym (book_after-push first steps s)));
+  }
+
+module _ {T : Type 0} where
+  -- the limits and counts of a history are those of its picture
+  pub has_sums : (h : History T) → IsSound (picture_of h) → HasSums h
+  unfolding picture_of on_order_of
+  has_sums h sound = record { fits = sound.steady.fits; replenished = sound.replenished }
+
+  -- the records of a report come to a history, where its book shows the picture of that history
+  pub told_after : {B : Type 0} (h : History T) (b : SeenBook T) (r : Report B) → b.picture ≡ picture_of h → IsReportOf b r → HasFacts b → IsReportAfter h r
+  unfolding picture_of on_order_of
+  told_after h b r shown given facts =
+      let k = report_comes_to b r given facts.replayed in
+      record {
+        limits = given.limits ∙ ap (λ p. p.on_order.limits) shown;
+        idle = k.shows.idle ∙ ap (λ p. map bare p.idle) shown;
+        lent = k.shows.lent ∙ ap (λ p. p.lent) shown;
+        connections = k.shows.connections ∙ ap (λ p. p.connections) shown;
+        pending = k.shows.pending ∙ ap (λ p. p.on_order.pending) shown;
+        closed = k.shows.closed ∙ ap (λ p. p.on_order.closed) shown;
       }

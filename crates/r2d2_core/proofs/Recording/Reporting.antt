@@ -9,8 +9,8 @@ use Rattle.r2d2_core.specs.declared.journal.report.Report.{Report}
 use Rattle.r2d2_core.specs.Connections.{id_of_idle, id_of_lent}
 use Rattle.r2d2_core.specs.Records.{SeenRecord, takes_in}
 use Rattle.r2d2_core.specs.Bases.{SeenBase, first_base}
-use Rattle.r2d2_core.specs.Book.{SeenBook, ReplayTo, IsReplayed}
-use Rattle.r2d2_core.specs.BookParts.{IsRecorded}
+use Rattle.r2d2_core.specs.Book.{SeenBook, ReplayTo, IsReplayed, HasFacts}
+use Rattle.r2d2_core.specs.BookParts.{IsRecorded, IsFaithful}
 use Rattle.r2d2_core.specs.Journal.{CountsTakes, BeginsAtTheMaking}
 use Rattle.r2d2_core.specs.Reports.{seen_base, seen_records, DoesReplay, IsReportOf, HasSoundCounts, CountsItsTakes, BeginsAtAMaking}
 use Rattle.r2d2_core.proofs.Recording.Replaying.{ids_bare}
@@ -19,13 +19,22 @@ use Rattle.r2d2_core.proofs.Recording.Replaying.{ids_bare}
 pub is_replayed : {T : Type 0} (a : SeenBook T) → IsRecorded a → IsReplayed a
 is_replayed a k = subst (λ (l : LimitSettings). ReplayTo l a.journal.base a.journal.records a.picture) k.same k.replays
 
+-- and holds of what they see
+pub facts_of : {T : Type 0} (a b : SeenBook T) → IsFaithful a → a ≡ b → HasFacts b
+facts_of a b kept same = subst HasFacts same (record { sound = kept.sound; replayed = is_replayed a kept.recorded })
+
+-- the records of a report come to what its book shows
+pub report_comes_to : {T B : Type 0} (a : SeenBook T) (r : Report B) → IsReportOf a r → IsReplayed a
+    → ReplayTo (seen_limits r.limits) (seen_base r.base) (seen_records r) a.picture
+report_comes_to a r is replayed =
+    subst (λ (l : LimitSettings). ReplayTo l (seen_base r.base) (seen_records r) a.picture) (sym is.limits)
+    (subst (λ (b : SeenBase). ReplayTo a.picture.on_order.limits b (seen_records r) a.picture) (sym is.base)
+    (subst (λ (rs : List SeenRecord). ReplayTo a.picture.on_order.limits a.journal.base rs a.picture) (sym is.records) replayed))
+
 -- the records of a book replay, so those of its report do
 pub report_replays : {T B : Type 0} (a : SeenBook T) (r : Report B) → IsReportOf a r → IsReplayed a → DoesReplay r
 report_replays a r is replayed =
-    let k : ReplayTo (seen_limits r.limits) (seen_base r.base) (seen_records r) a.picture =
-    subst (λ (l : LimitSettings). ReplayTo l (seen_base r.base) (seen_records r) a.picture) (sym is.limits)
-    (subst (λ (b : SeenBase). ReplayTo a.picture.on_order.limits b (seen_records r) a.picture) (sym is.base)
-    (subst (λ (rs : List SeenRecord). ReplayTo a.picture.on_order.limits a.journal.base rs a.picture) (sym is.records) replayed)) in
+    let k = report_comes_to a r is replayed in
     record {
       base = k.base;
       legal = k.legal;

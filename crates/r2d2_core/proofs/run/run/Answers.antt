@@ -6,10 +6,10 @@ use Rattle.std.proofs.lemmas.Iterator.Adapters.{YieldsList-from_vec}
 use Rattle.r2d2_core.specs.Limits.{seen_limits, wanted_of}
 use Rattle.r2d2_core.specs.Picture.{IsSound}
 use Rattle.r2d2_core.specs.History.{Made}
-use Rattle.r2d2_core.specs.Answers.{answers_of, after_all, picture_of}
+use Rattle.r2d2_core.specs.Answers.{answers_of, after_all, picture_of, HasSums}
 use Rattle.r2d2_core.specs.Steps.{seen_answer}
 use Rattle.r2d2_core.proofs.Histories.Made.{kept_made, picture_of-made}
-use Rattle.r2d2_core.proofs.Follows.Runs.{run_more}
+use Rattle.r2d2_core.proofs.Follows.Runs.{run_more, has_sums}
 use Rattle.r2d2_core.proofs.run.run.Goals as goal
 
 pub loop-step-init : goal.loop-step-init
@@ -46,3 +46,13 @@ returns-clause-picture g c =
 
 pub returns-clause-sound : goal.returns-clause-sound
 returns-clause-sound g c = subst IsSound (sym c.loop-step.invariant.picture_is) c.loop-step.invariant.kept.sound
+
+pub returns-clause-sums : goal.returns-clause-sums
+returns-clause-sums g c =
+    let e = c.into_iter-step-iterator.ensures.into_iter_gives in
+    let whole = YieldsList-end (YieldsList-from_vec c.args.steps.items e.0 (e.1
+    ∙ c.args.steps.ok.0)) c.loop-step.yielded c.loop-step.step-iterator c.loop-step.yielded_by c.next.result c.next.new.self c.in-None.is
+    c.next.ensures.steps in
+    let start = Made (seen_limits c.args.limits) (as_nanos c.args.now) 0 in
+    subst (λ l. HasSums (after_all start l)) (sym (map-id c.loop-step.yielded) ∙ whole.0)
+    (has_sums (after_all start c.loop-step.yielded) c.loop-step.invariant.kept.sound)

@@ -4,7 +4,7 @@ use Rattle.r2d2_core.specs.Book.{SeenBook, IsReplayed}
 use Rattle.r2d2_core.specs.BookParts.{IsRecorded, book_in}
 use Rattle.r2d2_core.specs.Reports.{IsReportOf}
 use Rattle.r2d2_core.specs.Picture.{IsSound}
-use Rattle.r2d2_core.proofs.Recording.Reporting.{is_replayed, report_replays, report_sound, report_counts, report_since, report_whole}
+use Rattle.r2d2_core.proofs.Recording.Reporting.{is_replayed, facts_of, report_replays, report_sound, report_counts, report_since, report_whole}
 use Rattle.r2d2_core.proofs.journal.Book.report_in.Goals as goal
 
 pub returns-clause-given : goal.returns-clause-given
@@ -49,3 +49,6 @@ returns-clause-sound g c =
 pub returns-clause-since : goal.returns-clause-since
 returns-clause-since g c = report_since c.args.self.now _ (returns-clause-given g c) (subst IsRecorded c.self.view_is c.self.invariant.recorded)
     (subst (λ (a : SeenBook _). BeginsAtTheMaking a.journal) c.self.view_is c.self.invariant.begins)
+
+pub returns-clause-facts : goal.returns-clause-facts
+returns-clause-facts g c = facts_of (book_in c.self.inside.machine c.self.inside.journal) c.args.self.now c.self.invariant c.self.view_is

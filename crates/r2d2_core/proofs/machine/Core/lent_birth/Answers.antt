@@ -1,4 +1,4 @@
-use Rattle.std.proofs.Common.{◌≡◌, ◌≤◌, sym, subst, map}
+use Rattle.std.proofs.Common.{◌≤◌, sym, subst, map}
 use Rattle.r2d2_core.specs.Ids.{copies_of}
 use Rattle.r2d2_core.specs.Connections.{id_of_lent}
 use Rattle.r2d2_core.specs.Picture.{IsSound}
