@@ -10,6 +10,8 @@ from copies import Runs
 from tally import Tally
 
 CRATES = ["redis", "postgres", "first_redis", "first_postgres"]
+# What they stand on, whose proofs this repository may have kept.
+BELOW = ["r2d2_core", "r2d2"]
 # A function, a passage of its file, and what somebody could write in its place. The prover refuses each.
 REFUSED = [
     ("redis::connection::RedisConnection::new", "is_broken: false,", "is_broken: true,"),
@@ -62,6 +64,14 @@ def put_body(mine, file, old, new):
     adapters.write(text.replace(old, new), path)
 
 
+def bring_proofs(mine):
+    """What the checks of this repository keep of the proofs of the pool, over which its checks there go on."""
+    for crate in BELOW:
+        kept = os.path.join("crates", crate, "out", "incremental")
+        if os.path.isdir(os.path.join(adapters.TOP, kept)):
+            shutil.copytree(os.path.join(adapters.TOP, kept), os.path.join(mine, kept))
+
+
 def checked(mine, crate):
     """The status of a check, and what it said: how far it was ends in no line feed."""
     status, said = Runs().run(["rt", "check"], cwd=os.path.join(mine, "crates", crate))
@@ -111,6 +121,7 @@ def tried():
         os.chmod(place, 0o711)
         mine = os.path.join(place, "mine")
         adapters.repository(mine)
+        bring_proofs(mine)
         try_proofs(mine, tally)
         try_refused(mine, tally)
         try_seen(place, tally)
