@@ -5,10 +5,11 @@ use Rattle.std.specs.Prelude.{◌==◌, IfSome, IfNone}
 use Rattle.std.specs.List.{AllByRecursion}
 use Rattle.std.proofs.lemmas.Bool.Decides.{nat_tests}
 use Rattle.std.proofs.lemmas.Grind.{common_steps}
+use Rattle.r2d2_core.specs.Picture.{Picture}
 use Rattle.r2d2.specs.declared.line.place.Place.{Place}
 use Rattle.r2d2.specs.declared.line.place.Standing.{Standing}
 use Rattle.r2d2.specs.declared.line.place.Standing.TheVariants.{Quiet, Told, Served}
-use Rattle.r2d2.specs.Waiting.{place, is_quiet, weight, waiting_in, ahead, weight_at, without, with_standing, first_quiet, told_first, copies_in, copies_of}
+use Rattle.r2d2.specs.Waiting.{is_kept, place, is_quiet, weight, waiting_in, ahead, weight_at, without, with_standing, first_quiet, told_first, copies_in, copies_of}
 use Rattle.r2d2.specs.Order.{Event, Came, WasTold, WaitsOn, Took, Left, TookAtOnce, standing_in, came_in, IsUntold, is_waiting, Waits, IsFirstUntold, AreFewer, IsInTurn, IsInOrder, comings, services, IsOneByOne, standing_at, slots_of, waiting_slots, StandAsTheyCame, IsHistoryOf}
 
 -- the slots after each change
@@ -399,3 +400,7 @@ took_at_once h idle ps lt is = record {
   in_order = (all_in_turn h idle ps lt is, is.in_order);
   one_by_one = is.one_by_one;
 }
+
+-- where not all that is idle is kept for those who wait
+pub more_than_wait : {T : Type 0} (p : Picture T) (ps : List Place) → is_kept p ps ≡ false → 0 < length p.idle → waiting_in ps < length p.idle
+more_than_wait p ps free some = grind (arith, nat_tests)

@@ -150,3 +150,38 @@ pub record IsHistoryOf (h : List Event) (ps : List Place) : Type 0 where
   pub in_order : IsInOrder h
   -- the order of service is that of coming: first those who were served, and then those who wait
   pub one_by_one : IsOneByOne h → comings h ≡ services h ++ waiting_slots ps
+
+-- WHAT A CALL ADDS
+
+-- the caller stands in line at this slot, or nowhere
+abbrev pub IsPlaceIn : List Event → Option ℕ → Type 0
+IsPlaceIn h None = Unit {0}
+IsPlaceIn h (Some s) = StandsIn h s
+
+-- the one at this slot is told, or nobody is
+abbrev pub with_told : Option ℕ → List Event → List Event
+with_told None h = h
+with_told (Some s) h = WasTold s ∷ h
+
+-- it takes, where so many are idle
+abbrev pub with_take : Option ℕ → ℕ → List Event → List Event
+with_take None idle h = TookAtOnce idle ∷ h
+with_take (Some s) idle h = Took s idle ∷ h
+
+-- it waits on, or comes, and has this slot then; nothing, where there is no room
+abbrev pub with_wait : Option ℕ → Option ℕ → List Event → List Event
+with_wait (Some s) new h = WaitsOn s ∷ h
+with_wait None (Some s) h = Came s ∷ h
+with_wait None None h = h
+
+-- it leaves, and another one is told, or nobody is
+abbrev pub with_leave : Option ℕ → Option ℕ → List Event → List Event
+with_leave None told h = h
+with_leave (Some s) told h = with_told told (Left s ∷ h)
+
+-- it looks: it takes, and keeps its place or leaves; or it waits
+abbrev pub with_look :
+    Bool → Bool → Option ℕ → Option ℕ → Option ℕ → ℕ → List Event → List Event
+with_look true true old new told idle h = with_take old idle h
+with_look true false old new told idle h = with_leave old told (with_take old idle h)
+with_look false keeps_place old new told idle h = with_wait old new h

@@ -1,10 +1,10 @@
 // A line of at most so many, whose memory is taken at its making.
 ghost use Rattle.std.specs.Prelude.{◌≡◌, ℕ, ◌+◌, ◌<◌, ◌≤◌, ◌++◌, ◌∷◌, ◌↔◌, [], length, IfOk, IfSome, IfNone, IsSome, IsTrue, vec_capacity, vec_len};
-ghost use Rattle.std.specs.Prelude.{List, MatchOption};
+ghost use Rattle.std.specs.Prelude.{List};
 ghost use Rattle.r2d2.specs.declared.line.place.Standing.TheVariants.{Quiet, Served};
 ghost use Rattle.r2d2.specs.Waiting.{weight as weight_of, is_told, place, waiting_in, told_ahead, ahead, index_of, told_at, weight_at, without, with_standing, quiet_index, first_quiet, told_first, told_if, slot_if, copies_in, copies_of};
-ghost use Rattle.r2d2.specs.Order.{Event, Came, WasTold, WaitsOn, Took, Left};
-ghost use Rattle.r2d2.specs.Order.{IsUntold, StandsIn, IsHistoryOf};
+ghost use Rattle.r2d2.specs.Order.{Event, Came, WaitsOn, Took, Left, IsUntold, StandsIn};
+ghost use Rattle.r2d2.specs.Order.{IsHistoryOf, with_told};
 
 use super::place::{Place, Standing};
 use std::alloc::{AllocError, Allocator, Global};
@@ -128,8 +128,9 @@ impl<A: Allocator> Line<A> {
         ensures places { self.new.places.items ≡ told_first self.old.places.items }
         ensures who { result ≡ first_quiet self.old.places.items }
         ensures history { (h : List Event) → IsHistoryOf h self.old.places.items
-            → MatchOption result ((s : ℕ) → ¬ IsUntold h s)
-            (λ s. IsHistoryOf (WasTold s ∷ h) self.new.places.items) }
+            → IsHistoryOf (with_told result h) self.new.places.items }
+        ensures nobody { (h : List Event) → IsHistoryOf h self.old.places.items
+            → IfNone result ((s : ℕ) → ¬ IsUntold h s) }
         ensures free { self.new.free.items ≡ self.old.free.items }
     {
         let index = quiet_index(&self.places);
@@ -149,6 +150,8 @@ impl<A: Allocator> Line<A> {
     pub fn tell_if(&mut self, is_to_wake: bool) -> Option<u32>
         ensures places { self.new.places.items ≡ told_if is_to_wake self.old.places.items }
         ensures who { result ≡ slot_if is_to_wake self.old.places.items }
+        ensures history { (h : List Event) → IsHistoryOf h self.old.places.items
+            → IsHistoryOf (with_told result h) self.new.places.items }
         ensures free { self.new.free.items ≡ self.old.free.items }
     {
         if is_to_wake && !self.places.is_empty() {

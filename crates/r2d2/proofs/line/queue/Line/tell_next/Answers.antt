@@ -58,7 +58,10 @@ returns-clause-who g c =
     ap (λ (x : Place). Some x.slot) it ∙ sym (first_quiet-is ps at lt)
 
 pub returns-then-index-len-clause-history : goal.returns-then-index-len-clause-history
-returns-then-index-len-clause-history g c = λ h is s untold.
+returns-then-index-len-clause-history g c = λ h is. is
+
+pub returns-then-index-len-clause-nobody : goal.returns-then-index-len-clause-nobody
+returns-then-index-len-clause-nobody g c = λ h is s untold.
     none_untold s c.args.self.now.places.items (sym (returns-then-index-len-clause-who g c)) (is.stand s ∙ untold)
 
 pub returns-clause-history : goal.returns-clause-history
