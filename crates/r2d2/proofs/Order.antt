@@ -9,7 +9,7 @@ use Rattle.r2d2_core.specs.Picture.{Picture}
 use Rattle.r2d2.specs.declared.line.place.Place.{Place}
 use Rattle.r2d2.specs.declared.line.place.Standing.{Standing}
 use Rattle.r2d2.specs.declared.line.place.Standing.TheVariants.{Quiet, Told, Served}
-use Rattle.r2d2.specs.Waiting.{is_kept, place, is_quiet, weight, waiting_in, ahead, weight_at, without, with_standing, first_quiet, told_first, copies_in, copies_of}
+use Rattle.r2d2.specs.Waiting.{AreTold, told_ahead, is_kept, place, is_quiet, weight, waiting_in, ahead, weight_at, without, with_standing, first_quiet, told_first, copies_in, copies_of}
 use Rattle.r2d2.specs.Order.{Event, Came, WasTold, WaitsOn, Took, Left, TookAtOnce, standing_in, came_in, IsUntold, is_waiting, Waits, IsFirstUntold, AreFewer, IsInTurn, IsInOrder, comings, services, IsOneByOne, standing_at, slots_of, waiting_slots, StandAsTheyCame, IsHistoryOf}
 
 -- the slots after each change
@@ -374,14 +374,14 @@ waits_on h s ps some is = record {
   one_by_one = λ one. is.one_by_one one.1 ∙ ap (λ xs. services h ++ xs) (sym (waiting-marked s ps (subst Waits (sym (is.stand s)) one.0)));
 }
 
-pub took : (h : List Event) (s idle : ℕ) (ps : List Place) → IsSome (standing_in h s) → ahead s ps < idle → IsHistoryOf h ps → IsHistoryOf (Took s idle ∷ h) (with_standing s Served ps)
-took h s idle ps some lt is = record {
+pub took : (h : List Event) (s idle : ℕ) (ps : List Place) → IsSome (standing_in h s) → (IsUntold h s → ⊥) → ahead s ps < idle → IsHistoryOf h ps → IsHistoryOf (Took s idle ∷ h) (with_standing s Served ps)
+took h s idle ps some told lt is = record {
   stand = λ t. stand-marked s t Served ps (subst IsSome (sym (is.stand s)) some) ∙ ap (cond (s == t) (Some Served)) (is.stand t);
   as_they_came = subst (StandAsTheyCame (came_in h)) (sym (slots-standing s Served ps)) is.as_they_came;
-  in_order = (in_its_turn h s idle ps lt is, is.in_order);
+  in_order = (in_its_turn h s idle ps lt is, told, is.in_order);
   one_by_one = λ one.
-      let first : ahead s ps ≡ 0 = omega (arith, lt, one.1) in
-      is.one_by_one one.2 ∙ ap (λ xs. services h ++ xs) (waiting-served s ps (subst Waits (sym (is.stand s)) one.0) first)
+      let first : ahead s ps ≡ 0 = omega (arith, lt, one.0) in
+      is.one_by_one one.2 ∙ ap (λ xs. services h ++ xs) (waiting-served s ps (subst Waits (sym (is.stand s)) one.1) first)
       ∙ sym (append_assoc (services h) (s ∷ []) (waiting_slots (with_standing s Served ps)));
 }
 
@@ -404,3 +404,35 @@ took_at_once h idle ps lt is = record {
 -- where not all that is idle is kept for those who wait
 pub more_than_wait : {T : Type 0} (p : Picture T) (ps : List Place) → is_kept p ps ≡ false → 0 < length p.idle → waiting_in ps < length p.idle
 more_than_wait p ps free some = grind (arith, nat_tests)
+
+-- of those who wait the first ones, as many as are idle, were told: so was one that has its turn
+quiet_if : (standing : Standing) → ◌≡◌ {A = Option Standing} (Some standing) (Some Quiet) → is_quiet standing ≡ true
+quiet_if Quiet e = refl
+quiet_if Told e = absurd cc
+quiet_if Served e = absurd cc
+
+told_before : (s : ℕ) (ps : List Place) → standing_at s ps ≡ Some Quiet → told_ahead ps ≤ ahead s ps
+told_before s [] e = absurd cc
+told_before s (p ∷ ps) e =
+    elim (p.slot == s) as (λ b. cond b (Some p.standing) (standing_at s ps) ≡ Some Quiet → told_ahead (p ∷ ps) ≤ cond b 0 (weight p.standing + ahead s ps)) [
+      | true ↦ λ w. let quiet : is_quiet p.standing ≡ true = quiet_if p.standing w in omega (arith, ap (λ b. cond b 0 (weight p.standing + told_ahead ps)) quiet)
+      | false ↦ λ w. grind (arith, told_before s ps w)
+    ] e
+
+weighs : (standing : Standing) → ◌≡◌ {A = Option Standing} (Some standing) (Some Quiet) → 0 < weight standing
+weighs Quiet e = omega arith
+weighs Told e = omega arith
+weighs Served e = absurd cc
+
+quiet_waits : (s : ℕ) (ps : List Place) → standing_at s ps ≡ Some Quiet → ahead s ps < waiting_in ps
+quiet_waits s [] e = absurd cc
+quiet_waits s (p ∷ ps) e =
+    elim (p.slot == s) as (λ b. cond b (Some p.standing) (standing_at s ps) ≡ Some Quiet → cond b 0 (weight p.standing + ahead s ps) < weight p.standing + waiting_in ps) [
+      | true ↦ λ w. let some : 0 < weight p.standing = weighs p.standing w in omega (arith, some)
+      | false ↦ λ w. omega (arith, quiet_waits s ps w)
+    ] e
+
+pub was_told_in_turn : (h : List Event) (s idle : ℕ) (ps : List Place) → AreTold idle ps → ahead s ps < idle → IsHistoryOf h ps → IsUntold h s → ⊥
+was_told_in_turn h s idle ps told lt is untold =
+    let quiet : standing_at s ps ≡ Some Quiet = is.stand s ∙ untold in
+    omega (arith, told, lt, told_before s ps quiet, quiet_waits s ps quiet)

@@ -1,7 +1,7 @@
 -- What happened at a line, and the order of service: that of coming. A caller is known by the slot
 -- at which it stands.
-use Rattle.std.specs.Prelude.{◌≡◌, ◌<◌, ◌≤◌, ℕ, ◌+◌, ◌==◌, if◌then◌else◌, List, [], ◌∷◌, ◌++◌, length, map}
-use Rattle.std.specs.Prelude.{Bool, true, false, IsTrue, Option, Some, None, IsSome}
+use Rattle.std.specs.Prelude.{◌≡◌, ◌<◌, ◌≤◌, ℕ, ◌+◌, ◌==◌, if◌then◌else◌, Bool, true, false, IsTrue}
+use Rattle.std.specs.Prelude.{List, [], ◌∷◌, ◌++◌, length, map, Option, Some, None, IsSome}
 use Rattle.std.specs.List.{AllByRecursion}
 use Rattle.r2d2.specs.declared.line.place.Place.{Place}
 use Rattle.r2d2.specs.declared.line.place.Standing.{Standing}
@@ -39,11 +39,7 @@ standing_in (TookAtOnce idle ∷ h) s = standing_in h s
 abbrev pub came_in : List Event → ℕ → ℕ
 came_in [] s = 0
 came_in (Came slot ∷ h) s = if slot == s then length h + 1 else came_in h s
-came_in (WasTold slot ∷ h) s = came_in h s
-came_in (WaitsOn slot ∷ h) s = came_in h s
-came_in (Took slot idle ∷ h) s = came_in h s
-came_in (Left slot ∷ h) s = came_in h s
-came_in (TookAtOnce idle ∷ h) s = came_in h s
+came_in (_ ∷ h) s = came_in h s
 
 -- it stands in line
 abbrev pub StandsIn : List Event → ℕ → Type 0
@@ -71,23 +67,21 @@ IsFirstUntold h s = IsUntold h s × ((t : ℕ) → IsUntold h t → came_in h s 
 
 -- so many slots or more do not all pass
 abbrev pub AreFewer : ℕ → (ℕ → Type 0) → Type 0
-AreFewer n P =
-    (slots : List ℕ) → ((s : ℕ) → copies_of s slots ≤ 1) → AllByRecursion P slots → length slots < n
+AreFewer n P = (slots : List ℕ) → ((s : ℕ) → copies_of s slots ≤ 1) → AllByRecursion P slots
+    → length slots < n
 
 -- of those who wait fewer came before it than are idle: none did, where one is
 abbrev pub IsInTurn : List Event → ℕ → ℕ → Type 0
 IsInTurn h s idle = AreFewer idle (λ t. Waits (standing_in h t) × (came_in h t < came_in h s))
 
--- Who was told was then the first of those who were not; who took had its turn; and who took without
--- standing in line left enough for all who waited.
+-- Who was told was the first of those who were not; who took had its turn, and was told; and who
+-- took without standing in line left enough for all who waited.
 abbrev pub IsInOrder : List Event → Type 0
 IsInOrder [] = Unit {0}
-IsInOrder (Came slot ∷ h) = IsInOrder h
 IsInOrder (WasTold slot ∷ h) = IsFirstUntold h slot × IsInOrder h
-IsInOrder (WaitsOn slot ∷ h) = IsInOrder h
-IsInOrder (Took slot idle ∷ h) = IsInTurn h slot idle × IsInOrder h
-IsInOrder (Left slot ∷ h) = IsInOrder h
+IsInOrder (Took slot idle ∷ h) = IsInTurn h slot idle × ¬ IsUntold h slot × IsInOrder h
 IsInOrder (TookAtOnce idle ∷ h) = AreFewer idle (λ t. Waits (standing_in h t)) × IsInOrder h
+IsInOrder (_ ∷ h) = IsInOrder h
 
 -- ONE BY ONE
 
@@ -95,32 +89,22 @@ IsInOrder (TookAtOnce idle ∷ h) = AreFewer idle (λ t. Waits (standing_in h t)
 abbrev pub comings : List Event → List ℕ
 comings [] = []
 comings (Came slot ∷ h) = comings h ++ slot ∷ []
-comings (WasTold slot ∷ h) = comings h
-comings (WaitsOn slot ∷ h) = comings h
-comings (Took slot idle ∷ h) = comings h
-comings (Left slot ∷ h) = comings h
-comings (TookAtOnce idle ∷ h) = comings h
+comings (_ ∷ h) = comings h
 
 -- who of them was served, in the order of service
 abbrev pub services : List Event → List ℕ
 services [] = []
-services (Came slot ∷ h) = services h
-services (WasTold slot ∷ h) = services h
-services (WaitsOn slot ∷ h) = services h
 services (Took slot idle ∷ h) = services h ++ slot ∷ []
-services (Left slot ∷ h) = services h
-services (TookAtOnce idle ∷ h) = services h
+services (_ ∷ h) = services h
 
--- one connection is idle at each take, nobody who waits gives up, and nobody who was served comes
--- back, as one does whose check failed
+-- one connection is idle at each take, nobody who waits gives up, and nobody who was served looks
+-- again, as one does whose check failed
 abbrev pub IsOneByOne : List Event → Type 0
 IsOneByOne [] = Unit {0}
-IsOneByOne (Came slot ∷ h) = IsOneByOne h
-IsOneByOne (WasTold slot ∷ h) = IsOneByOne h
+IsOneByOne (Took slot idle ∷ h) = (idle ≡ 1) × Waits (standing_in h slot) × IsOneByOne h
 IsOneByOne (WaitsOn slot ∷ h) = Waits (standing_in h slot) × IsOneByOne h
-IsOneByOne (Took slot idle ∷ h) = Waits (standing_in h slot) × (idle ≡ 1) × IsOneByOne h
-IsOneByOne (Left slot ∷ h) = (Waits (standing_in h slot) → ⊥) × IsOneByOne h
-IsOneByOne (TookAtOnce idle ∷ h) = IsOneByOne h
+IsOneByOne (Left slot ∷ h) = ¬ Waits (standing_in h slot) × IsOneByOne h
+IsOneByOne (_ ∷ h) = IsOneByOne h
 
 -- WHO STANDS IN LINE AFTER IT
 
@@ -135,7 +119,8 @@ slots_of ps = map (λ (p : Place). p.slot) ps
 -- of those who wait
 abbrev pub waiting_slots : List Place → List ℕ
 waiting_slots [] = []
-waiting_slots (p ∷ ps) = if is_waiting p.standing then p.slot ∷ waiting_slots ps else waiting_slots ps
+waiting_slots (p ∷ ps) =
+    if is_waiting p.standing then p.slot ∷ waiting_slots ps else waiting_slots ps
 
 -- each came before all that stand behind it
 abbrev pub StandAsTheyCame : (ℕ → ℕ) → List ℕ → Type 0
@@ -174,14 +159,13 @@ with_wait (Some s) new h = WaitsOn s ∷ h
 with_wait None (Some s) h = Came s ∷ h
 with_wait None None h = h
 
--- it leaves, and another one is told, or nobody is
-abbrev pub with_leave : Option ℕ → Option ℕ → List Event → List Event
-with_leave None told h = h
-with_leave (Some s) told h = with_told told (Left s ∷ h)
+-- it leaves, where it stands in line
+abbrev pub with_leave : Option ℕ → List Event → List Event
+with_leave None h = h
+with_leave (Some s) h = Left s ∷ h
 
 -- it looks: it takes, and keeps its place or leaves; or it waits
-abbrev pub with_look :
-    Bool → Bool → Option ℕ → Option ℕ → Option ℕ → ℕ → List Event → List Event
-with_look true true old new told idle h = with_take old idle h
-with_look true false old new told idle h = with_leave old told (with_take old idle h)
-with_look false keeps_place old new told idle h = with_wait old new h
+abbrev pub with_look : Bool → Bool → Option ℕ → Option ℕ → ℕ → List Event → List Event
+with_look true true old new idle h = with_take old idle h
+with_look true false old new idle h = with_leave old (with_take old idle h)
+with_look false keeps_place old new idle h = with_wait old new h

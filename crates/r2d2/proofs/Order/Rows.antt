@@ -58,6 +58,9 @@ a_newcomer_takes_what_is_kept : IsInOrder (TookAtOnce 1 ∷ Came 4 ∷ []) → �
 a_newcomer_takes_what_is_kept h =
     let wrong : 1 < 1 = h.0 (4 ∷ []) (apart 4) (refl, tt) in omega (arith, wrong)
 
+one_takes_that_was_not_told : IsInOrder (Took 4 1 ∷ Came 4 ∷ []) → ⊥
+one_takes_that_was_not_told h = h.1 refl
+
 -- WHAT CAN BE
 
 abbrev two_wait : List Place
@@ -66,9 +69,11 @@ two_wait = place 4 Quiet ∷ place 2 Quiet ∷ []
 two_came : IsHistoryOf (Came 2 ∷ Came 4 ∷ []) two_wait
 two_came = came (Came 4 ∷ []) 2 (place 4 Quiet ∷ []) refl (came [] 4 [] refl began)
 
-the_second_takes_where_two_are_idle : IsHistoryOf (Took 2 2 ∷ Came 2 ∷ Came 4 ∷ []) (place 4 Quiet ∷ place 2 Served ∷ [])
-the_second_takes_where_two_are_idle = took (Came 2 ∷ Came 4 ∷ []) 2 2 two_wait refl (omega arith) two_came
-
 the_second_is_told_after_the_first : IsHistoryOf (WasTold 2 ∷ WasTold 4 ∷ Came 2 ∷ Came 4 ∷ []) (place 4 Told ∷ place 2 Told ∷ [])
 the_second_is_told_after_the_first =
     was_told (WasTold 4 ∷ Came 2 ∷ Came 4 ∷ []) 2 (place 4 Told ∷ place 2 Quiet ∷ []) refl (was_told (Came 2 ∷ Came 4 ∷ []) 4 two_wait refl two_came)
+
+the_second_takes_where_two_are_idle : IsHistoryOf (Took 2 2 ∷ WasTold 2 ∷ WasTold 4 ∷ Came 2 ∷ Came 4 ∷ []) (place 4 Told ∷ place 2 Served ∷ [])
+the_second_takes_where_two_are_idle =
+    let told : Some Told ≡ Some Quiet → ⊥ = λ w. cc in
+    took (WasTold 2 ∷ WasTold 4 ∷ Came 2 ∷ Came 4 ∷ []) 2 2 (place 4 Told ∷ place 2 Told ∷ []) refl told (omega arith) the_second_is_told_after_the_first

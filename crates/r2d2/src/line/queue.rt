@@ -104,7 +104,7 @@ impl<A: Allocator> Line<A> {
         ensures places { self.new.places.items
             ≡ with_standing slot Served self.old.places.items }
         ensures history { (h : List Event) (idle : ℕ) → IsHistoryOf h self.old.places.items
-            → StandsIn h slot → ahead slot self.old.places.items < idle
+            → StandsIn h slot → ¬ IsUntold h slot → ahead slot self.old.places.items < idle
             → IsHistoryOf (Took slot idle ∷ h) self.new.places.items }
         ensures free { self.new.free.items ≡ self.old.free.items }
     {

@@ -256,7 +256,7 @@ impl<P, C: TakeTotal> LinedBook<P, C> {
         ensures line { self.new.places ≡ left_by place.old self.old.places }
         ensures told { result ≡ told_by place.old self.old.places }
         ensures history { (h : List Event) → IsHistoryOf h self.old.places
-            → IsHistoryOf (with_leave place.old result h) self.new.places }
+            → IsHistoryOf (with_told result (with_leave place.old h)) self.new.places }
         ensures gone { place.new ≡ None }
         ensures book { self.new.book ≡ self.old.book }
         ensures total { self.new.total ≡ self.old.total }
@@ -271,7 +271,7 @@ impl<P, C: TakeTotal> LinedBook<P, C> {
         ensures line { self.new.places ≡ left_by place.old self.old.places }
         ensures told { result.told ≡ told_by place.old self.old.places }
         ensures history { (h : List Event) → IsHistoryOf h self.old.places
-            → IsHistoryOf (with_leave place.old result.told h) self.new.places }
+            → IsHistoryOf (with_told result.told (with_leave place.old h)) self.new.places }
         ensures wakes { result.wakes ≡ nobody }
         ensures gone { place.new ≡ None }
         ensures book { self.new.book ≡ self.old.book }
@@ -377,8 +377,9 @@ impl<P: Drop, C: TakeCounter> LinedBook<P, C> {
         ensures line { self.new.places ≡ looked_by (is_found result.0) keeps_place place.old
             place.new self.old.places }
         ensures history { (h : List Event) → IsHistoryOf h self.old.places
-            → IsPlaceIn h place.old → IsHistoryOf (with_look (is_found result.0) keeps_place
-            place.old place.new result.1.told (length self.old.book.picture.idle) h) self.new.places }
+            → IsPlaceIn h place.old → IsHistoryOf (with_told result.1.told
+            (with_look (is_found result.0) keeps_place place.old place.new
+            (length self.old.book.picture.idle) h)) self.new.places }
     {
         if !self.has_turn(*place) {
             return match self.stand(place) {

@@ -3,7 +3,7 @@ use Rattle.r2d2_core.specs.Picture.{Picture}
 use Rattle.r2d2.specs.declared.line.place.Place.{Place}
 use Rattle.r2d2.specs.Waiting.{AreTold, told_if, told_at, without}
 use Rattle.r2d2.proofs.Lined.{left_told}
-use Rattle.r2d2.specs.Order.{Event, Left, IsHistoryOf, with_leave}
+use Rattle.r2d2.specs.Order.{Event, Left, IsHistoryOf, with_told, with_leave}
 use Rattle.r2d2.proofs.pool.lined_book.LinedBook.pass_on.Goals as goal
 
 pub invariant_of-self : goal.invariant_of-self
@@ -22,6 +22,6 @@ returns-clause-history g c =
     let ps = c.self.inside.line.places.items in
     let s = c.in_ok-slot.slot in
     let after = c.tell_if.new.self.places.items in
-    let gone : (h : List Event) → IsHistoryOf h ps → IsHistoryOf (with_leave c.args.place.now c.tell_if.result h) after =
-    λ h is. subst (λ o. IsHistoryOf (with_leave o c.tell_if.result h) after) c.in_ok-slot.ensures.value (c.tell_if.ensures.history (Left s ∷ h) (c.leave-was_told.ensures.history h is)) in
-    subst (λ v. (h : List Event) → IsHistoryOf h v.places → IsHistoryOf (with_leave c.args.place.now c.tell_if.result h) after) c.self.view_is gone
+    let gone : (h : List Event) → IsHistoryOf h ps → IsHistoryOf (with_told c.tell_if.result (with_leave c.args.place.now h)) after =
+    λ h is. subst (λ o. IsHistoryOf (with_told c.tell_if.result (with_leave o h)) after) c.in_ok-slot.ensures.value (c.tell_if.ensures.history (Left s ∷ h) (c.leave-was_told.ensures.history h is)) in
+    subst (λ v. (h : List Event) → IsHistoryOf h v.places → IsHistoryOf (with_told c.tell_if.result (with_leave c.args.place.now h)) after) c.self.view_is gone

@@ -6,7 +6,7 @@ use Rattle.r2d2.specs.declared.line.place.Standing.TheVariants.{Served}
 use Rattle.r2d2.specs.Waiting.{before}
 use Rattle.r2d2.proofs.Lined.{still_told, one_taken, one_found, one_less_served}
 use Rattle.r2d2.specs.Order.{Event, IsHistoryOf, IsPlaceIn, with_take}
-use Rattle.r2d2.proofs.Order.{took_at_once}
+use Rattle.r2d2.proofs.Order.{took_at_once, was_told_in_turn}
 use Rattle.r2d2.proofs.pool.lined_book.LinedBook.take.Goals as goal
 
 pub invariant_of-self : goal.invariant_of-self
@@ -44,6 +44,6 @@ returns-clause-history g c =
     let idle = length c.self.inside.book.book.picture.idle in
     let turn = subst (λ v. before c.args.place v.places < length v.book.picture.idle) (sym c.self.view_is) c.requires.turn in
     let here : (h : List Event) → IsHistoryOf h ps → IsPlaceIn h c.args.place → IsHistoryOf (with_take c.args.place idle h) after =
-    λ h is at. subst (λ o. before o ps < idle → IsPlaceIn h o → IsHistoryOf (with_take o idle h) after) (sym c.in-Some.is) (λ lt stands. c.serve.ensures.history h idle is stands lt) turn at in
+    λ h is at. subst (λ o. before o ps < idle → IsPlaceIn h o → IsHistoryOf (with_take o idle h) after) (sym c.in-Some.is) (λ lt stands. c.serve.ensures.history h idle is stands (was_told_in_turn h c.in-Some.slot idle ps c.self.invariant lt is) lt) turn at in
     subst (λ v. (h : List Event) → IsHistoryOf h v.places → IsPlaceIn h c.args.place → IsHistoryOf (with_take c.args.place (length v.book.picture.idle) h) after) c.self.view_is
     here
