@@ -1,11 +1,10 @@
 -- Worked rows: what the definitions say of histories. A row's name says what it shows.
-use Rattle.std.proofs.Common.{◌≡◌, ℕ, ◌+◌, ◌<◌, ◌≤◌, List, [], ◌∷◌, ◌++◌, Some, None, refl, arith, lit<, lit≤}
-use Rattle.std.specs.List.{AllByRecursion}
+use Rattle.std.proofs.Common.{◌≡◌, ℕ, ◌<◌, ◌≤◌, List, [], ◌∷◌, Some, None, refl, arith}
 use Rattle.r2d2.specs.declared.line.place.Place.{Place}
 use Rattle.r2d2.specs.declared.line.place.Standing.TheVariants.{Quiet, Told, Served}
 use Rattle.r2d2.specs.Waiting.{place, copies_of}
 use Rattle.r2d2.specs.Order.{Event, Came, WasTold, WaitsOn, Took, Left, TookAtOnce, standing_in, came_in, IsInOrder, comings, services, IsHistoryOf}
-use Rattle.r2d2.proofs.Order.{began, came, was_told, took, left}
+use Rattle.r2d2.proofs.Order.{began, came, was_told, took}
 
 -- callers come at the slots 4, 2 and 7; the first is told, and takes
 abbrev three : List Event

@@ -240,7 +240,8 @@ impl<P, C: TakeTotal> LinedBook<P, C> {
         ensures place { result ≡ place.new }
         ensures line { self.new.places ≡ stood_by place.old place.new self.old.places }
         ensures history { (h : List Event) → IsHistoryOf h self.old.places
-            → IsPlaceIn h place.old → IsHistoryOf (with_wait place.old place.new h) self.new.places }
+            → IsPlaceIn h place.old
+            → IsHistoryOf (with_wait place.old place.new h) self.new.places }
     {
         let Some(slot) = *place else {
             let joined = self.line.join();

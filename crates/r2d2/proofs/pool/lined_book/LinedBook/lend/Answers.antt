@@ -1,7 +1,4 @@
-use Rattle.std.proofs.Common.{◌≡◌, ℕ, ◌+◌, ◌*◌, ◌<◌, ◌≤◌, List, [], ◌∷◌, length, false, refl, sym, ◌∙◌, ap, subst, arith}
-use Rattle.r2d2_core.specs.Picture.{Picture}
-use Rattle.r2d2.specs.declared.line.place.Place.{Place}
-use Rattle.r2d2.specs.Waiting.{AreTold, told_if, told_at, without}
+use Rattle.std.proofs.Common.{◌≡◌, ◌<◌, List, ◌∷◌, length, false, sym, ◌∙◌, subst, arith}
 use Rattle.r2d2.proofs.Lined.{still_told, one_taken}
 use Rattle.r2d2_core.specs.Seen.{seen_take}
 use Rattle.r2d2.specs.Counted.{found_by}
