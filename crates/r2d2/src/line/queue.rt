@@ -1,7 +1,10 @@
 // A line of at most so many, whose memory is taken at its making.
 ghost use Rattle.std.specs.Prelude.{◌≡◌, ℕ, ◌+◌, ◌<◌, ◌≤◌, ◌++◌, ◌∷◌, ◌↔◌, [], length, IfOk, IfSome, IfNone, IsSome, IsTrue, vec_capacity, vec_len};
+ghost use Rattle.std.specs.Prelude.{List};
 ghost use Rattle.r2d2.specs.declared.line.place.Standing.TheVariants.{Quiet, Served};
 ghost use Rattle.r2d2.specs.Waiting.{weight as weight_of, is_told, place, waiting_in, told_ahead, ahead, index_of, told_at, weight_at, without, with_standing, quiet_index, first_quiet, told_first, told_if, slot_if, copies_in, copies_of};
+ghost use Rattle.r2d2.specs.Order.{Event, Came, WaitsOn, Took, Left, IsUntold, StandsIn};
+ghost use Rattle.r2d2.specs.Order.{IsHistoryOf, with_told};
 
 use super::place::{Place, Standing};
 use std::alloc::{AllocError, Allocator, Global};
@@ -27,7 +30,8 @@ impl<A: Allocator> Line<A> {
     where
         A: Copy,
         ensures { IfOk result
-            (λ line. (line.places.items ≡ []) × (length line.free.items ≡ room)) }
+            (λ line. (line.places.items ≡ []) × (length line.free.items ≡ room)
+            × IsHistoryOf [] line.places.items) }
     {
         let places = Vec::with_capacity(alloc, room as usize)?;
         let free = slots(alloc, room)?;
@@ -58,6 +62,8 @@ impl<A: Allocator> Line<A> {
         ensures joined { IfSome result
             (λ s. self.new.places.items ≡ self.old.places.items ++ place s Quiet ∷ []) }
         ensures fresh { IfSome result (λ s. copies_in s self.old.places.items ≡ 0) }
+        ensures history { (h : List Event) → IsHistoryOf h self.old.places.items
+            → IfSome result (λ s. IsHistoryOf (Came s ∷ h) self.new.places.items) }
         ensures full { IfNone result (self.new.places.items ≡ self.old.places.items) }
         ensures refused { IsSome result ↔ (0 < length self.old.free.items) }
         ensures room { length self.new.places.items + length self.new.free.items
@@ -77,6 +83,8 @@ impl<A: Allocator> Line<A> {
     pub fn leave(&mut self, slot: u32) -> bool
         ensures places { self.new.places.items ≡ without slot self.old.places.items }
         ensures told { result ≡ told_at slot self.old.places.items }
+        ensures history { (h : List Event) → IsHistoryOf h self.old.places.items
+            → IsHistoryOf (Left slot ∷ h) self.new.places.items }
         ensures room { length self.new.places.items + length self.new.free.items
             ≡ length self.old.places.items + length self.old.free.items }
     {
@@ -95,6 +103,9 @@ impl<A: Allocator> Line<A> {
     pub fn serve(&mut self, slot: u32)
         ensures places { self.new.places.items
             ≡ with_standing slot Served self.old.places.items }
+        ensures history { (h : List Event) (idle : ℕ) → IsHistoryOf h self.old.places.items
+            → StandsIn h slot → ¬ IsUntold h slot → ahead slot self.old.places.items < idle
+            → IsHistoryOf (Took slot idle ∷ h) self.new.places.items }
         ensures free { self.new.free.items ≡ self.old.free.items }
     {
         self.mark(slot, Standing::Served);
@@ -104,6 +115,8 @@ impl<A: Allocator> Line<A> {
     pub fn wait_on(&mut self, slot: u32)
         ensures places { self.new.places.items
             ≡ with_standing slot Quiet self.old.places.items }
+        ensures history { (h : List Event) → IsHistoryOf h self.old.places.items
+            → StandsIn h slot → IsHistoryOf (WaitsOn slot ∷ h) self.new.places.items }
         ensures free { self.new.free.items ≡ self.old.free.items }
     {
         self.mark(slot, Standing::Quiet);
@@ -114,6 +127,10 @@ impl<A: Allocator> Line<A> {
     pub fn tell_next(&mut self) -> Option<u32>
         ensures places { self.new.places.items ≡ told_first self.old.places.items }
         ensures who { result ≡ first_quiet self.old.places.items }
+        ensures history { (h : List Event) → IsHistoryOf h self.old.places.items
+            → IsHistoryOf (with_told result h) self.new.places.items }
+        ensures nobody { (h : List Event) → IsHistoryOf h self.old.places.items
+            → IfNone result ((s : ℕ) → ¬ IsUntold h s) }
         ensures free { self.new.free.items ≡ self.old.free.items }
     {
         let index = quiet_index(&self.places);
@@ -133,6 +150,8 @@ impl<A: Allocator> Line<A> {
     pub fn tell_if(&mut self, is_to_wake: bool) -> Option<u32>
         ensures places { self.new.places.items ≡ told_if is_to_wake self.old.places.items }
         ensures who { result ≡ slot_if is_to_wake self.old.places.items }
+        ensures history { (h : List Event) → IsHistoryOf h self.old.places.items
+            → IsHistoryOf (with_told result h) self.new.places.items }
         ensures free { self.new.free.items ≡ self.old.free.items }
     {
         if is_to_wake && !self.places.is_empty() {

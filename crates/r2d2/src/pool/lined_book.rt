@@ -1,6 +1,6 @@
 // The book beside the line of those who wait for it: what is idle is kept for the first of them.
 ghost use Rattle.std.specs.Prelude.{◌≡◌, ℕ, ◌+◌, ◌*◌, ◌<◌, ◌≤◌, ◌↔◌, [], length, map, vec_len, vec_capacity};
-ghost use Rattle.std.specs.Prelude.{IsTrue, IfOk, None, false};
+ghost use Rattle.std.specs.Prelude.{IsTrue, IfOk, None, false, List, ◌∷◌};
 ghost use Rattle.std.specs.Duration.{as_nanos};
 ghost use Rattle.r2d2_core.specs.Seen.{seen_take, Empty, seen_returned, seen_released, map_ok};
 ghost use Rattle.r2d2_core.specs.BookSteps.{IsTake, IsBegin, IsNumbering, IsReturn, IsReap};
@@ -11,6 +11,8 @@ ghost use Rattle.r2d2.specs.Settled.{seen_settled, wakes_of_settled, IsSettling}
 ghost use Rattle.r2d2.specs.Evicted.{evicted_of, after_eviction, IsEvicted};
 ghost use Rattle.r2d2.specs.Waiting.{waiting_in, before, stood_by, served, left_by, told_by};
 ghost use Rattle.r2d2.specs.Waiting.{told_if, slot_if, is_kept};
+ghost use Rattle.r2d2.specs.Order.{Event, TookAtOnce, IsHistoryOf, IsPlaceIn, with_told, with_take};
+ghost use Rattle.r2d2.specs.Order.{with_wait, with_leave};
 
 use crate::engine::{CountingBook, LedgerCounter, Outcome, Settled, TakeCounter, TakeTotal, Wakes};
 use crate::line::queue::Line;
@@ -87,6 +89,7 @@ impl<P, C: TakeTotal> LinedBook<P, C> {
         ensures book { result.book ≡ book.book }
         ensures total { result.total ≡ book.total }
         ensures line { result.places ≡ [] }
+        ensures history { IsHistoryOf [] result.places }
     {
         LinedBook {
             line,
@@ -123,6 +126,8 @@ impl<P, C: TakeTotal> LinedBook<P, C> {
         ensures wakes { result.1.wakes ≡ wakes_of_return (map_ok seen_returned result.0) }
         ensures told { result.1.told ≡ slot_if result.1.wakes.caller self.old.places }
         ensures line { self.new.places ≡ told_if result.1.wakes.caller self.old.places }
+        ensures history { (h : List Event) → IsHistoryOf h self.old.places
+            → IsHistoryOf (with_told result.1.told h) self.new.places }
         ensures total { self.new.total ≡ self.old.total }
     {
         let (returned, wakes) = self.book.give_back(now, id, value, broken);
@@ -136,6 +141,8 @@ impl<P, C: TakeTotal> LinedBook<P, C> {
         ensures wakes { result.1.wakes ≡ wakes_of_settled (seen_settled result.0) }
         ensures told { result.1.told ≡ slot_if result.1.wakes.caller self.old.places }
         ensures line { self.new.places ≡ told_if result.1.wakes.caller self.old.places }
+        ensures history { (h : List Event) → IsHistoryOf h self.old.places
+            → IsHistoryOf (with_told result.1.told h) self.new.places }
         ensures total { self.new.total ≡ self.old.total }
     {
         let (settled, wakes) = self.book.settle(now, outcome);
@@ -151,6 +158,8 @@ impl<P, C: TakeTotal> LinedBook<P, C> {
         ensures wakes { result.1.wakes ≡ wakes_of_reap (length out.new.items) result.0 }
         ensures told { result.1.told ≡ slot_if result.1.wakes.caller self.old.places }
         ensures line { self.new.places ≡ told_if result.1.wakes.caller self.old.places }
+        ensures history { (h : List Event) → IsHistoryOf h self.old.places
+            → IsHistoryOf (with_told result.1.told h) self.new.places }
         ensures total { self.new.total ≡ self.old.total }
     {
         let (ordered, wakes) = self.book.sweep(now, out);
@@ -230,6 +239,9 @@ impl<P, C: TakeTotal> LinedBook<P, C> {
         ensures total { self.new.total ≡ self.old.total }
         ensures place { result ≡ place.new }
         ensures line { self.new.places ≡ stood_by place.old place.new self.old.places }
+        ensures history { (h : List Event) → IsHistoryOf h self.old.places
+            → IsPlaceIn h place.old
+            → IsHistoryOf (with_wait place.old place.new h) self.new.places }
     {
         let Some(slot) = *place else {
             let joined = self.line.join();
@@ -244,6 +256,8 @@ impl<P, C: TakeTotal> LinedBook<P, C> {
     fn pass_on(&mut self, place: &mut Option<u32>) -> Option<u32>
         ensures line { self.new.places ≡ left_by place.old self.old.places }
         ensures told { result ≡ told_by place.old self.old.places }
+        ensures history { (h : List Event) → IsHistoryOf h self.old.places
+            → IsHistoryOf (with_told result (with_leave place.old h)) self.new.places }
         ensures gone { place.new ≡ None }
         ensures book { self.new.book ≡ self.old.book }
         ensures total { self.new.total ≡ self.old.total }
@@ -257,6 +271,8 @@ impl<P, C: TakeTotal> LinedBook<P, C> {
     pub(super) fn leave(&mut self, place: &mut Option<u32>) -> ToWake
         ensures line { self.new.places ≡ left_by place.old self.old.places }
         ensures told { result.told ≡ told_by place.old self.old.places }
+        ensures history { (h : List Event) → IsHistoryOf h self.old.places
+            → IsHistoryOf (with_told result.told (with_leave place.old h)) self.new.places }
         ensures wakes { result.wakes ≡ nobody }
         ensures gone { place.new ≡ None }
         ensures book { self.new.book ≡ self.old.book }
@@ -308,6 +324,9 @@ impl<P, C: TakeCounter> LinedBook<P, C> {
         ensures kept { IsTrue (is_kept self.old.book.picture self.old.places)
             → (seen_take result.0 ≡ Empty 0) × (self.new.book ≡ self.old.book) }
         ensures line { self.new.places ≡ self.old.places }
+        ensures history { (h : List Event) → IsHistoryOf h self.old.places
+            → 0 < found_by (seen_take result.0)
+            → IsHistoryOf (TookAtOnce (length self.old.book.picture.idle) ∷ h) self.new.places }
     {
         if self.is_kept() {
             return (Take::Empty { ordered: 0 }, Wakes::nobody());
@@ -324,6 +343,8 @@ impl<P, C: TakeCounter> LinedBook<P, C> {
         ensures amount { C.amount tally.new
             ≡ C.amount tally.old + found_by (seen_take result.0) * C.per_take }
         ensures line { self.new.places ≡ served place self.old.places }
+        ensures history { (h : List Event) → IsHistoryOf h self.old.places → IsPlaceIn h place
+            → IsHistoryOf (with_take place (length self.old.book.picture.idle) h) self.new.places }
     {
         let (taken, wakes) = self.book.lend(now, false, tally);
         let Some(slot) = place else {
@@ -337,6 +358,7 @@ impl<P, C: TakeCounter> LinedBook<P, C> {
 impl<P: Drop, C: TakeCounter> LinedBook<P, C> {
     ghost use Rattle.r2d2.specs.Counted.{found_by};
     ghost use Rattle.r2d2.specs.Lined.{is_found, found_in, looked_by};
+    ghost use Rattle.r2d2.specs.Order.{with_look};
 
     /// A caller that may wait looks: it takes where it has its turn, and keeps its place then where
     /// it asks for that. Else it stands in line and orders one, unless there is no room.
@@ -355,6 +377,10 @@ impl<P: Drop, C: TakeCounter> LinedBook<P, C> {
             ≡ C.amount tally.old + found_in result.0 * C.per_take }
         ensures line { self.new.places ≡ looked_by (is_found result.0) keeps_place place.old
             place.new self.old.places }
+        ensures history { (h : List Event) → IsHistoryOf h self.old.places
+            → IsPlaceIn h place.old → IsHistoryOf (with_told result.1.told
+            (with_look (is_found result.0) keeps_place place.old place.new
+            (length self.old.book.picture.idle) h)) self.new.places }
     {
         if !self.has_turn(*place) {
             return match self.stand(place) {

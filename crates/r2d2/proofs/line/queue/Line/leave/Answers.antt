@@ -1,10 +1,10 @@
-use Rattle.std.proofs.Common.{rules, ◌≡◌, ℕ, suc, ◌+◌, ◌<◌, ◌≤◌, ◌-◌, ◌++◌, ◌∷◌, [], length, take, drop, set, get_or, List, Option, Some, None, refl, sym, ◌∙◌, ap, arith, Bool, true, false, cond}
-use Rattle.std.specs.Prelude.{◌==◌}
+use Rattle.std.proofs.Common.{◌≡◌, suc, ◌<◌, ◌≤◌, ◌++◌, ◌∷◌, length, take, drop, get_or, sym, ◌∙◌, ap, arith}
 use Rattle.r2d2.specs.declared.line.place.Place.{Place}
-use Rattle.r2d2.specs.declared.line.place.Standing.{Standing}
-use Rattle.r2d2.specs.declared.line.place.Standing.TheVariants.{Quiet, Told, Served}
-use Rattle.r2d2.specs.Waiting.{weight as weight_of, is_told, place, waiting_in, told_ahead, ahead, index_of, told_at, weight_at, without, with_standing, quiet_index, first_quiet, told_first, copies_in, copies_of}
-use Rattle.r2d2.proofs.Waiting.{told_ahead-join, waiting_in-join, copies_in-join, waiting_in-tell, copies_in-tell, length-tell, tell-is, tell-none, first_quiet-is, first_quiet-none, waiting_in-without, weight_at-is, weight_at-le, told_at-is, told_at-none, remove-is, without-none, copies_in-within, copies_in-without, length-without, copies_of-push, set-is, standing-none, copies_in-standing, length-standing, waiting_in-le, waiting_in-standing, copies_of-same}
+use Rattle.r2d2.specs.Waiting.{weight as weight_of, is_told, waiting_in, index_of, without, copies_in, copies_of}
+use Rattle.r2d2.proofs.Waiting.{waiting_in-without, weight_at-is, weight_at-le, told_at-is, told_at-none, remove-is, without-none, copies_in-within, copies_in-without, copies_of-push}
+use Rattle.std.proofs.Common.{subst}
+use Rattle.r2d2.specs.Order.{Left, IsHistoryOf}
+use Rattle.r2d2.proofs.Order.{left}
 use Rattle.r2d2.proofs.line.queue.Line.leave.Goals as goal
 
 pub returns-then-index-len-clause-places : goal.returns-then-index-len-clause-places
@@ -64,3 +64,13 @@ returns-clause-told g c =
     let gone = c.remove-gone.result in
     let it : gone ≡ get_or ps (index_of s ps) gone = c.remove-gone.ensures.value ∙ ap (λ n. get_or ps n gone) i in
     c.was_told.ensures ∙ ap (λ (x : Place). is_told x.standing) it ∙ sym (told_at-is s ps gone lt)
+
+pub returns-then-index-len-clause-history : goal.returns-then-index-len-clause-history
+returns-then-index-len-clause-history g c = λ h is.
+    let s = c.args.slot in
+    subst (IsHistoryOf (Left s ∷ h)) (sym (returns-then-index-len-clause-places g c)) (left h s c.args.self.now.places.items is)
+
+pub returns-clause-history : goal.returns-clause-history
+returns-clause-history g c = λ h is.
+    let s = c.args.slot in
+    subst (IsHistoryOf (Left s ∷ h)) (sym (returns-clause-places g c)) (left h s c.args.self.now.places.items is)

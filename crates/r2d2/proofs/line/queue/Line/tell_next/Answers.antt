@@ -1,10 +1,11 @@
-use Rattle.std.proofs.Common.{rules, ◌≡◌, ℕ, suc, ◌+◌, ◌<◌, ◌≤◌, ◌-◌, ◌++◌, ◌∷◌, [], length, take, drop, set, get_or, List, Option, Some, None, refl, sym, ◌∙◌, ap, arith, Bool, true, false, cond}
-use Rattle.std.specs.Prelude.{◌==◌}
+use Rattle.std.proofs.Common.{◌≡◌, ◌<◌, ◌≤◌, ◌∷◌, length, set, get_or, Some, sym, ◌∙◌, ap, arith}
 use Rattle.r2d2.specs.declared.line.place.Place.{Place}
-use Rattle.r2d2.specs.declared.line.place.Standing.{Standing}
-use Rattle.r2d2.specs.declared.line.place.Standing.TheVariants.{Quiet, Told, Served}
-use Rattle.r2d2.specs.Waiting.{weight as weight_of, is_told, place, waiting_in, told_ahead, ahead, index_of, told_at, weight_at, without, with_standing, quiet_index, first_quiet, told_first, copies_in, copies_of}
-use Rattle.r2d2.proofs.Waiting.{told_ahead-join, waiting_in-join, copies_in-join, waiting_in-tell, copies_in-tell, length-tell, tell-is, tell-none, first_quiet-is, first_quiet-none, waiting_in-without, weight_at-is, weight_at-le, told_at-is, told_at-none, remove-is, without-none, copies_in-within, copies_in-without, length-without, copies_of-push, set-is, standing-none, copies_in-standing, length-standing, waiting_in-le, waiting_in-standing, copies_of-same}
+use Rattle.r2d2.specs.declared.line.place.Standing.TheVariants.{Told}
+use Rattle.r2d2.specs.Waiting.{place, waiting_in, quiet_index, told_first, copies_in}
+use Rattle.r2d2.proofs.Waiting.{waiting_in-tell, copies_in-tell, length-tell, tell-is, tell-none, first_quiet-is, first_quiet-none}
+use Rattle.std.proofs.Common.{subst}
+use Rattle.r2d2.specs.Order.{WasTold, IsHistoryOf}
+use Rattle.r2d2.proofs.Order.{was_told, none_untold}
 use Rattle.r2d2.proofs.line.queue.Line.tell_next.Goals as goal
 
 pub returns-then-index-len-clause-places : goal.returns-then-index-len-clause-places
@@ -53,3 +54,15 @@ returns-clause-who g c =
     let at = c.index.result.now in
     let it : at ≡ get_or ps (quiet_index ps) at = c.index.ensures ∙ ap (λ n. get_or ps n at) i in
     ap (λ (x : Place). Some x.slot) it ∙ sym (first_quiet-is ps at lt)
+
+pub returns-then-index-len-clause-history : goal.returns-then-index-len-clause-history
+returns-then-index-len-clause-history g c = λ h is. is
+
+pub returns-then-index-len-clause-nobody : goal.returns-then-index-len-clause-nobody
+returns-then-index-len-clause-nobody g c = λ h is s untold.
+    none_untold s c.args.self.now.places.items (sym (returns-then-index-len-clause-who g c)) (is.stand s ∙ untold)
+
+pub returns-clause-history : goal.returns-clause-history
+returns-clause-history g c = λ h is.
+    let s = c.index.result.now.slot in
+    subst (IsHistoryOf (WasTold s ∷ h)) (sym (returns-clause-places g c)) (was_told h s c.args.self.now.places.items (sym (returns-clause-who g c)) is)

@@ -1,8 +1,10 @@
-use Rattle.std.proofs.Common.{◌≡◌, ℕ, ◌+◌, ◌*◌, ◌<◌, ◌≤◌, List, [], ◌∷◌, length, refl, sym, ◌∙◌, ap, subst, arith}
-use Rattle.r2d2_core.specs.Picture.{Picture}
-use Rattle.r2d2.specs.declared.line.place.Place.{Place}
-use Rattle.r2d2.specs.Waiting.{AreTold, told_if, told_at, without}
+use Rattle.std.proofs.Common.{◌≡◌, ◌<◌, List, ◌∷◌, length, false, sym, ◌∙◌, subst, arith}
 use Rattle.r2d2.proofs.Lined.{still_told, one_taken}
+use Rattle.r2d2_core.specs.Seen.{seen_take}
+use Rattle.r2d2.specs.Counted.{found_by}
+use Rattle.r2d2.specs.Waiting.{is_kept}
+use Rattle.r2d2.specs.Order.{Event, TookAtOnce, IsHistoryOf}
+use Rattle.r2d2.proofs.Order.{took_at_once, more_than_wait}
 use Rattle.r2d2.proofs.pool.lined_book.LinedBook.lend.Goals as goal
 
 pub invariant_of-self : goal.invariant_of-self
@@ -12,3 +14,15 @@ invariant_of-self g c =
     let new = c.lend.new.self.book.picture in
     let less = one_taken c.args.now c.args.or_order c.lend.result.0 old new c.lend.ensures.step.of_core in
     still_told (length old.idle) (length new.idle) ps c.self.invariant (omega (arith, less))
+
+pub returns-clause-history : goal.returns-clause-history
+returns-clause-history g c =
+    let ps = c.self.inside.line.places.items in
+    let old = c.self.inside.book.book.picture in
+    let new = c.lend.new.self.book.picture in
+    let found = found_by (seen_take c.lend.result.0) in
+    let free = subst (λ v. is_kept v.book.picture v.places ≡ false) (sym c.self.view_is) (sym c.is_kept.ensures ∙ c.if-is_kept.false) in
+    let less = one_taken c.args.now c.args.or_order c.lend.result.0 old new c.lend.ensures.step.of_core in
+    let at_once : (h : List Event) → IsHistoryOf h ps → 0 < found → IsHistoryOf (TookAtOnce (length old.idle) ∷ h) ps =
+    λ h is some. took_at_once h (length old.idle) ps (more_than_wait old ps free (omega (arith, less, some))) is in
+    subst (λ v. (h : List Event) → IsHistoryOf h v.places → 0 < found → IsHistoryOf (TookAtOnce (length v.book.picture.idle) ∷ h) ps) c.self.view_is at_once

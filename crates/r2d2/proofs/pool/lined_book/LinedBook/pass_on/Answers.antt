@@ -1,8 +1,8 @@
-use Rattle.std.proofs.Common.{◌≡◌, ℕ, ◌+◌, ◌*◌, ◌<◌, ◌≤◌, List, [], ◌∷◌, length, refl, sym, ◌∙◌, ap, subst, arith}
-use Rattle.r2d2_core.specs.Picture.{Picture}
+use Rattle.std.proofs.Common.{◌≡◌, List, ◌∷◌, length, sym, ◌∙◌, ap, subst}
 use Rattle.r2d2.specs.declared.line.place.Place.{Place}
 use Rattle.r2d2.specs.Waiting.{AreTold, told_if, told_at, without}
 use Rattle.r2d2.proofs.Lined.{left_told}
+use Rattle.r2d2.specs.Order.{Event, Left, IsHistoryOf, with_told, with_leave}
 use Rattle.r2d2.proofs.pool.lined_book.LinedBook.pass_on.Goals as goal
 
 pub invariant_of-self : goal.invariant_of-self
@@ -15,3 +15,12 @@ invariant_of-self g c =
     let now : c.tell_if.new.self.places.items ≡ told_if (told_at s ps) (without s ps) =
     c.tell_if.ensures.places ∙ (ap (told_if left.result) left.ensures.places ∙ ap (λ b. told_if b (without s ps)) left.ensures.told) in
     subst P (sym now) (left_told idle s ps c.self.invariant)
+
+pub returns-clause-history : goal.returns-clause-history
+returns-clause-history g c =
+    let ps = c.self.inside.line.places.items in
+    let s = c.in_ok-slot.slot in
+    let after = c.tell_if.new.self.places.items in
+    let gone : (h : List Event) → IsHistoryOf h ps → IsHistoryOf (with_told c.tell_if.result (with_leave c.args.place.now h)) after =
+    λ h is. subst (λ o. IsHistoryOf (with_told c.tell_if.result (with_leave o h)) after) c.in_ok-slot.ensures.value (c.tell_if.ensures.history (Left s ∷ h) (c.leave-was_told.ensures.history h is)) in
+    subst (λ v. (h : List Event) → IsHistoryOf h v.places → IsHistoryOf (with_told c.tell_if.result (with_leave c.args.place.now h)) after) c.self.view_is gone

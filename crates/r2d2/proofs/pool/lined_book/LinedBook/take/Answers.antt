@@ -1,10 +1,10 @@
-use Rattle.std.proofs.Common.{◌≡◌, ℕ, ◌+◌, ◌*◌, ◌<◌, ◌≤◌, false, List, [], ◌∷◌, length, refl, sym, ◌∙◌, ap, subst, arith}
-use Rattle.r2d2_core.specs.Picture.{Picture}
+use Rattle.std.proofs.Common.{◌<◌, false, List, length, sym, subst, arith}
 use Rattle.r2d2.specs.declared.line.place.Place.{Place}
-use Rattle.r2d2.specs.Waiting.{AreTold, told_if, told_at, without}
-use Rattle.r2d2.specs.declared.line.place.Standing.TheVariants.{Served}
+use Rattle.r2d2.specs.Waiting.{AreTold}
 use Rattle.r2d2.specs.Waiting.{before}
 use Rattle.r2d2.proofs.Lined.{still_told, one_taken, one_found, one_less_served}
+use Rattle.r2d2.specs.Order.{Event, IsHistoryOf, IsPlaceIn, with_take}
+use Rattle.r2d2.proofs.Order.{took_at_once, was_told_in_turn}
 use Rattle.r2d2.proofs.pool.lined_book.LinedBook.take.Goals as goal
 
 pub invariant_of-self : goal.invariant_of-self
@@ -24,3 +24,24 @@ invariant_of-self-2 g c =
     let one = one_found c.args.now false c.lend-taken.result.0 old new c.lend-taken.ensures.step.of_core (omega (arith, turn)) in
     let P : List Place → Type 0 = λ qs. AreTold (length new.idle) qs in
     subst P (sym c.serve.ensures.places) (one_less_served (length old.idle) (length new.idle) c.in-Some.slot ps c.self.invariant one)
+
+pub returns-in_default-clause-history : goal.returns-in_default-clause-history
+returns-in_default-clause-history g c =
+    let ps = c.self.inside.line.places.items in
+    let idle = length c.self.inside.book.book.picture.idle in
+    let turn = subst (λ v. before c.args.place v.places < length v.book.picture.idle) (sym c.self.view_is) c.requires.turn in
+    let nowhere : (h : List Event) → IsHistoryOf h ps → IsPlaceIn h c.args.place → IsHistoryOf (with_take c.args.place idle h) ps =
+    λ h is at. subst (λ o. before o ps < idle → IsPlaceIn h o → IsHistoryOf (with_take o idle h) ps) (sym c.in_default.is) (λ lt none. took_at_once h idle ps lt is) turn at in
+    subst (λ v. (h : List Event) → IsHistoryOf h v.places → IsPlaceIn h c.args.place → IsHistoryOf (with_take c.args.place (length v.book.picture.idle) h) ps) c.self.view_is
+    nowhere
+
+pub returns-clause-history : goal.returns-clause-history
+returns-clause-history g c =
+    let ps = c.self.inside.line.places.items in
+    let after = c.serve.new.self.places.items in
+    let idle = length c.self.inside.book.book.picture.idle in
+    let turn = subst (λ v. before c.args.place v.places < length v.book.picture.idle) (sym c.self.view_is) c.requires.turn in
+    let here : (h : List Event) → IsHistoryOf h ps → IsPlaceIn h c.args.place → IsHistoryOf (with_take c.args.place idle h) after =
+    λ h is at. subst (λ o. before o ps < idle → IsPlaceIn h o → IsHistoryOf (with_take o idle h) after) (sym c.in-Some.is) (λ lt stands. c.serve.ensures.history h idle is stands (was_told_in_turn h c.in-Some.slot idle ps c.self.invariant lt is) lt) turn at in
+    subst (λ v. (h : List Event) → IsHistoryOf h v.places → IsPlaceIn h c.args.place → IsHistoryOf (with_take c.args.place (length v.book.picture.idle) h) after) c.self.view_is
+    here
