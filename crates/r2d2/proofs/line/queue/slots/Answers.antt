@@ -1,4 +1,4 @@
-use Rattle.std.proofs.Common.{rules, ◌≡◌, ℕ, ◌+◌, ◌≤◌, ◌++◌, ◌∷◌, [], length, sym, ◌∙◌, ap, subst, arith}
+use Rattle.std.proofs.Common.{◌∙◌, ap, arith}
 use Rattle.r2d2.specs.Waiting.{copies_of}
 use Rattle.r2d2.proofs.Waiting.{push_apart, push_below}
 use Rattle.r2d2.proofs.line.queue.slots.Goals as goal

@@ -1,8 +1,6 @@
-use Rattle.std.proofs.Common.{◌≡◌, ℕ, ◌+◌, ◌*◌, ◌<◌, ◌≤◌, false, List, [], ◌∷◌, length, refl, sym, ◌∙◌, ap, subst, arith}
-use Rattle.r2d2_core.specs.Picture.{Picture}
+use Rattle.std.proofs.Common.{◌<◌, false, List, length, sym, subst, arith}
 use Rattle.r2d2.specs.declared.line.place.Place.{Place}
-use Rattle.r2d2.specs.Waiting.{AreTold, told_if, told_at, without}
-use Rattle.r2d2.specs.declared.line.place.Standing.TheVariants.{Served}
+use Rattle.r2d2.specs.Waiting.{AreTold}
 use Rattle.r2d2.specs.Waiting.{before}
 use Rattle.r2d2.proofs.Lined.{still_told, one_taken, one_found, one_less_served}
 use Rattle.r2d2.proofs.pool.lined_book.LinedBook.take.Goals as goal
