@@ -1,5 +1,5 @@
 -- An idle connection that is taken and given back as a broken one.
-use Rattle.std.proofs.Common.{◌≡◌, ℕ, ◌+◌, ◌-◌, ◌*◌, ◌<◌, ◌≤◌, max, true, false, not, List, [], ◌∷◌, ◌++◌, map, length, append_assoc, Option, Some, None}
+use Rattle.std.proofs.Common.{◌≡◌, ℕ, ◌+◌, ◌-◌, ◌*◌, ◌<◌, ◌≤◌, max, Bool, true, false, not, List, [], ◌∷◌, ◌++◌, map, length, append_assoc, Option, Some, None}
 use Rattle.std.proofs.Common.{Result, Ok, Err, refl, sym, ◌∙◌, ap, subst, arith}
 use Rattle.std.specs.Prelude.{option_map, unwrap_or, is_some, reverse}
 use Rattle.std.proofs.lemmas.List.{reverse-append, append-nil, length_push}
@@ -118,10 +118,10 @@ module _ {T : Type 0} where
   latest_after t p q e = omega (arith, ap (λ x. x.latest) e ∙ latest_of (next_of p) t p)
 
   -- a book is what it shows and what it notes
-  pub taken_is : (t : ℕ) (b q : SeenBook T) (answer : SeenTake T) → answer ≡ take_answer false b.picture → q.picture ≡ after_take t false b.picture
-      → q.journal ≡ noted_take t answer b → q ≡ book_taken t b
-  taken_is t b q answer is shows notes =
-      ap (λ p. seen_book p q.journal) shows ∙ ap (λ j. seen_book (after_take t false b.picture) j) (notes ∙ ap (λ a. noted_take t a b) is)
+  pub taken_is : (t : ℕ) (or_order : Bool) (b q : SeenBook T) (answer : SeenTake T) → answer ≡ take_answer or_order b.picture
+      → q.picture ≡ after_take t or_order b.picture → q.journal ≡ noted_take t answer b → q ≡ book_taken t or_order b
+  taken_is t or_order b q answer is shows notes =
+      ap (λ p. seen_book p q.journal) shows ∙ ap (λ j. seen_book (after_take t or_order b.picture) j) (notes ∙ ap (λ a. noted_take t a b) is)
 
   pub broken_is : (t id : ℕ) (v : T) (q s : SeenBook T) (answer : Result (SeenReturned T) (Refusal × T)) → answer ≡ return_answer t id v true q.picture
       → s.picture ≡ after_return t id v true q.picture → s.journal ≡ noted_return t id answer q → s ≡ book_broken t id v q
@@ -129,16 +129,16 @@ module _ {T : Type 0} where
       ap (λ p. seen_book p s.journal) shows ∙ ap (λ j. seen_book (after_return t id v true q.picture) j) (notes ∙ ap (λ a. noted_return t id a q) is)
 
   -- the next one went, or there was none
-  pub one_went : (t id birth : ℕ) (v : T) (b q s : SeenBook T) → Next (next_of b.picture) id birth v → q ≡ book_taken t b → s ≡ book_broken t id v q
+  pub one_went : (t id birth : ℕ) (v : T) (b q s : SeenBook T) → Next (next_of b.picture) id birth v → q ≡ book_taken t false b → s ≡ book_broken t id v q
       → s ≡ one_evicted t (next_of b.picture) b
   one_went t id birth v b q s n taken came =
       came
       ∙ (ap (λ x. book_broken t id v x) taken
-      ∙ (ap (λ i. book_broken t i v (book_taken t b)) (sym n.same_id)
-      ∙ (ap (λ w. book_broken t n.c.id w (book_taken t b)) (sym n.same_value)
+      ∙ (ap (λ i. book_broken t i v (book_taken t false b)) (sym n.same_id)
+      ∙ (ap (λ w. book_broken t n.c.id w (book_taken t false b)) (sym n.same_value)
       ∙ sym (ap (λ o. one_evicted t o b) n.is_next))))
 
-  pub none_went : (t m : ℕ) (b q : SeenBook T) → Empty m ≡ take_answer false b.picture → q ≡ book_taken t b → q ≡ one_evicted t (next_of b.picture) b
+  pub none_went : (t m : ℕ) (b q : SeenBook T) → Empty m ≡ take_answer false b.picture → q ≡ book_taken t false b → q ≡ one_evicted t (next_of b.picture) b
   none_went t m b q e taken = taken ∙ sym (ap (λ o. one_evicted t o b) (none_next (next_of b.picture) (take_orders (next_of b.picture) false b.picture) m e))
 
 some_same : {X : Type 0} {x y : X} → Some x ≡ Some y → x ≡ y

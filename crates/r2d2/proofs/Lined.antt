@@ -1,5 +1,5 @@
 -- What a step of the book does to the number of idle connections, beside whom it wakes.
-use Rattle.std.proofs.Common.{◌≡◌, ℕ, ◌+◌, ◌*◌, ◌<◌, ◌≤◌, Bool, true, false, cond, List, [], ◌∷◌, ◌++◌, length, filter, Option, Some, None, Result, Ok, Err, refl, sym, ◌∙◌, ap, arith}
+use Rattle.std.proofs.Common.{◌≡◌, ℕ, ◌+◌, ◌*◌, ◌<◌, ◌≤◌, Bool, true, false, cond, List, [], ◌∷◌, length, filter, Option, Some, None, Result, refl, sym, ◌∙◌, ap, arith}
 use Rattle.std.specs.declared.time.Duration.{Duration}
 use Rattle.std.specs.Duration.{as_nanos}
 use Rattle.std.proofs.lemmas.List.{length_push}
@@ -11,11 +11,10 @@ use Rattle.r2d2_core.specs.declared.machine.answers.Released.{Released}
 use Rattle.r2d2_core.specs.declared.machine.answers.Take.{Take}
 use Rattle.r2d2_core.specs.declared.machine.answers.Take.TheVariants as take
 use Rattle.r2d2_core.specs.Connections.{SeenIdleConnection, is_kept, idle_connection}
-use Rattle.r2d2_core.specs.Lending.{next_to_lend, still_idle}
-use Rattle.r2d2_core.specs.Refusals.{ok_unless, ok_or_back, unless_refused}
+use Rattle.r2d2_core.specs.Refusals.{ok_or_back, unless_refused}
 use Rattle.r2d2_core.specs.OnOrder.{admit_refusal, fail_refusal}
 use Rattle.r2d2_core.specs.Picture.{Picture}
-use Rattle.r2d2_core.specs.Seen.{SeenTake, Found, Empty, take_with, seen_take, seen_returned, map_ok}
+use Rattle.r2d2_core.specs.Seen.{take_with, seen_take, seen_returned, map_ok}
 use Rattle.r2d2_core.specs.Table as table
 use Rattle.r2d2_core.specs.CoreSteps as core
 use Rattle.r2d2_core.proofs.Lists.Lending.{none_is_next, length-still_idle}
@@ -25,10 +24,10 @@ use Rattle.r2d2.specs.declared.engine.Outcome.TheVariants as outcome
 use Rattle.r2d2.specs.declared.engine.Settled.{Settled}
 use Rattle.r2d2.specs.declared.line.place.Place.{Place}
 use Rattle.r2d2.specs.Counted.{found_by}
-use Rattle.r2d2.specs.Wakes.{wakes_of_return, wakes_of_take}
-use Rattle.r2d2.specs.Settled.{IsSettling, seen_settled, settle_answer, after_settle, wakes_of_settled, settled_admission}
+use Rattle.r2d2.specs.Wakes.{wakes_of_return}
+use Rattle.r2d2.specs.Settled.{seen_settled, settle_answer, after_settle, wakes_of_settled, settled_admission}
 use Rattle.r2d2.specs.declared.line.place.Standing.TheVariants.{Served}
-use Rattle.r2d2.specs.Waiting.{AreTold, told_if, told_at, waiting_in, told_ahead, without, with_standing}
+use Rattle.r2d2.specs.Waiting.{AreTold, told_if, told_at, without, with_standing}
 use Rattle.r2d2.proofs.Waiting.{told_ahead-tell, waiting_in-tell, kept_served, kept_left_told, kept_left}
 
 -- those who wait stay told, where at most one connection more is idle, and then one more is told

@@ -1,7 +1,5 @@
 -- What a call that wants a connection saw of the clock, with moments in nanoseconds.
-use Rattle.std.specs.Prelude.{ℕ, ◌-◌, ◌^◌, min, max, nat_lt, Bool, Option, Some, None, unwrap_or}
-use Rattle.std.specs.declared.time.Duration.{Duration}
-use Rattle.std.specs.Duration.{as_nanos}
+use Rattle.std.specs.Prelude.{ℕ, ◌-◌, ◌^◌, min, max, Option, Some, None, unwrap_or}
 use Rattle.r2d2_core.specs.Limits.{later_by}
 
 pub record SeenCallTime : Type 0 where

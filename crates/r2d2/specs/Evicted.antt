@@ -20,16 +20,16 @@ module _ {T : Type 0} where
   evicted_of t p = map (released_at (max p.latest t)) (in_lending_order p.on_order.limits.order p.idle)
 
   -- a book after a take, and after an id came back broken
-  abbrev pub book_taken : ℕ → SeenBook T → SeenBook T
-  book_taken t b = seen_book (after_take t false b.picture) (noted_take t (take_answer false b.picture) b)
+  abbrev pub book_taken : ℕ → Bool → SeenBook T → SeenBook T
+  book_taken t or_order b = seen_book (after_take t or_order b.picture) (noted_take t (take_answer or_order b.picture) b)
 
   abbrev pub book_broken : ℕ → ℕ → T → SeenBook T → SeenBook T
   book_broken t id value b = seen_book (after_return t id value true b.picture) (noted_return t id (return_answer t id value true b.picture) b)
 
   -- after an idle connection was taken and came back broken; where none is idle, after a take that finds none
   abbrev pub one_evicted : ℕ → Option (SeenIdleConnection T) → SeenBook T → SeenBook T
-  one_evicted t None b = book_taken t b
-  one_evicted t (Some c) b = book_broken t c.id c.value (book_taken t b)
+  one_evicted t None b = book_taken t false b
+  one_evicted t (Some c) b = book_broken t c.id c.value (book_taken t false b)
 
   -- after each of some was, and a last take found none
   abbrev pub each_evicted : ℕ → List (SeenIdleConnection T) → SeenBook T → SeenBook T

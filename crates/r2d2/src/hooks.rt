@@ -1,4 +1,5 @@
 // What the pool tells its handlers, and asks its customizer: one bound for the three of them.
+ghost use Rattle.std.specs.Prelude.{◌≡◌};
 
 use crate::config::Config;
 use crate::event::{
@@ -58,11 +59,15 @@ impl<
 > Hooks<M> for Config<H, V, Z> {
     type Customizer = Z;
 
-    fn customizer(&self) -> &Z {
+    fn customizer(&self) -> &Z
+        ensures { result.now ≡ self.now.connection_customizer }
+    {
         &self.connection_customizer
     }
 
-    fn test_on_check_out(&self) -> bool {
+    fn test_on_check_out(&self) -> bool
+        ensures { result ≡ self.now.test_on_check_out }
+    {
         self.test_on_check_out
     }
 

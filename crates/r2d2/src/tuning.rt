@@ -115,6 +115,7 @@ impl Tuning {
         age: Duration,
     ) -> bool
         ensures off { IsNone self.now.lifetime_jitter → IsFalse result }
+        ensures endless { IsNone longest → IsFalse result }
         ensures early { IsTrue result → IfSome longest (λ longest. IfSome self.now.lifetime_jitter
             (λ jitter. as_nanos longest - as_nanos jitter ≤ as_nanos age)) }
         ensures late { IsSome self.now.lifetime_jitter → IfSome longest

@@ -1,12 +1,12 @@
 // The book beside the line of those who wait for it: what is idle is kept for the first of them.
 ghost use Rattle.std.specs.Prelude.{◌≡◌, ℕ, ◌+◌, ◌*◌, ◌<◌, ◌≤◌, ◌↔◌, [], length, map, vec_len, vec_capacity};
-ghost use Rattle.std.specs.Prelude.{IsTrue, IfOk, None, false, List, ◌∷◌};
+ghost use Rattle.std.specs.Prelude.{IsTrue, IfOk, None, false, true, List, ◌∷◌, option_map};
 ghost use Rattle.std.specs.Duration.{as_nanos};
 ghost use Rattle.r2d2_core.specs.Seen.{seen_take, Empty, seen_returned, seen_released, map_ok};
 ghost use Rattle.r2d2_core.specs.BookSteps.{IsTake, IsBegin, IsNumbering, IsReturn, IsReap};
 ghost use Rattle.r2d2_core.specs.BookSteps.{IsTelling, IsClose};
 ghost use Rattle.r2d2_core.specs.Reports.{IsReportOf, IsSoundReport};
-ghost use Rattle.r2d2.specs.Wakes.{nobody, wakes_of_return, wakes_of_reap};
+ghost use Rattle.r2d2.specs.Wakes.{nobody, wakes_of_take, wakes_of_return, wakes_of_reap};
 ghost use Rattle.r2d2.specs.Settled.{seen_settled, wakes_of_settled, IsSettling};
 ghost use Rattle.r2d2.specs.Evicted.{evicted_of, after_eviction, IsEvicted};
 ghost use Rattle.r2d2.specs.Waiting.{waiting_in, before, stood_by, served, left_by, told_by};
@@ -68,8 +68,8 @@ pub struct LinedBook<P, C: TakeTotal> {
     book: CountingBook<P, C>,
 }
 
-// Contracts see it as the book, what counts its takes, and who stands in line. Of those who wait
-// the first ones, as many as connections are idle, were told to look.
+// Contracts see it as the book, what counts its takes, who stands in line, and what is owed. Of
+// those who wait the first ones, as many as connections are idle, were told to look.
 impl<P, C: TakeTotal> Model for LinedBook<P, C> {
     ghost use Rattle.std.specs.Prelude.{length};
     ghost use Rattle.r2d2.specs.Lined.{SeenLined, seen_lined};
@@ -77,7 +77,7 @@ impl<P, C: TakeTotal> Model for LinedBook<P, C> {
 
     ghost Value = { SeenLined P C };
 
-    ghost view = { λ l. seen_lined l.book.book l.book.total l.line.places.items };
+    ghost view = { λ l. seen_lined l.book.book l.book.total l.line.places.items l.owed };
 
     ghost invariant = { λ l. AreTold (length l.book.book.picture.idle) l.line.places.items };
 }
@@ -90,6 +90,7 @@ impl<P, C: TakeTotal> LinedBook<P, C> {
         ensures total { result.total ≡ book.total }
         ensures line { result.places ≡ [] }
         ensures history { IsHistoryOf [] result.places }
+        ensures owed { result.owed ≡ 0 }
     {
         LinedBook {
             line,
@@ -129,6 +130,7 @@ impl<P, C: TakeTotal> LinedBook<P, C> {
         ensures history { (h : List Event) → IsHistoryOf h self.old.places
             → IsHistoryOf (with_told result.1.told h) self.new.places }
         ensures total { self.new.total ≡ self.old.total }
+        ensures owed { self.new.owed ≡ self.old.owed }
     {
         let (returned, wakes) = self.book.give_back(now, id, value, broken);
         let told = self.line.tell_if(wakes.caller);
@@ -144,6 +146,7 @@ impl<P, C: TakeTotal> LinedBook<P, C> {
         ensures history { (h : List Event) → IsHistoryOf h self.old.places
             → IsHistoryOf (with_told result.1.told h) self.new.places }
         ensures total { self.new.total ≡ self.old.total }
+        ensures owed { self.new.owed ≡ self.old.owed }
     {
         let (settled, wakes) = self.book.settle(now, outcome);
         let told = self.line.tell_if(wakes.caller);
@@ -161,6 +164,7 @@ impl<P, C: TakeTotal> LinedBook<P, C> {
         ensures history { (h : List Event) → IsHistoryOf h self.old.places
             → IsHistoryOf (with_told result.1.told h) self.new.places }
         ensures total { self.new.total ≡ self.old.total }
+        ensures owed { self.new.owed ≡ self.old.owed }
     {
         let (ordered, wakes) = self.book.sweep(now, out);
         let told = self.line.tell_if(wakes.caller);
@@ -172,6 +176,7 @@ impl<P, C: TakeTotal> LinedBook<P, C> {
         ensures step { IsBegin now result self.old.book self.new.book }
         ensures line { self.new.places ≡ self.old.places }
         ensures total { self.new.total ≡ self.old.total }
+        ensures owed { self.new.owed ≡ self.old.owed }
     {
         self.book.begin(now)
     }
@@ -181,6 +186,7 @@ impl<P, C: TakeTotal> LinedBook<P, C> {
         ensures step { IsNumbering tries result self.old.book self.new.book }
         ensures line { self.new.places ≡ self.old.places }
         ensures total { self.new.total ≡ self.old.total }
+        ensures owed { self.new.owed ≡ self.old.owed }
     {
         self.book.number(tries)
     }
@@ -190,6 +196,7 @@ impl<P, C: TakeTotal> LinedBook<P, C> {
         ensures step { IsTelling result self.old.book self.new.book }
         ensures line { self.new.places ≡ self.old.places }
         ensures total { self.new.total ≡ self.old.total }
+        ensures owed { self.new.owed ≡ self.old.owed }
     {
         self.book.take_error()
     }
@@ -199,6 +206,7 @@ impl<P, C: TakeTotal> LinedBook<P, C> {
         ensures step { IsClose result self.old.book self.new.book }
         ensures line { self.new.places ≡ self.old.places }
         ensures total { self.new.total ≡ self.old.total }
+        ensures owed { self.new.owed ≡ self.old.owed }
     {
         self.book.close()
     }
@@ -237,6 +245,7 @@ impl<P, C: TakeTotal> LinedBook<P, C> {
         requires { length self.old.book.picture.idle ≤ before place.old self.old.places }
         ensures book { self.new.book ≡ self.old.book }
         ensures total { self.new.total ≡ self.old.total }
+        ensures owed { self.new.owed ≡ self.old.owed }
         ensures place { result ≡ place.new }
         ensures line { self.new.places ≡ stood_by place.old place.new self.old.places }
         ensures history { (h : List Event) → IsHistoryOf h self.old.places
@@ -261,6 +270,7 @@ impl<P, C: TakeTotal> LinedBook<P, C> {
         ensures gone { place.new ≡ None }
         ensures book { self.new.book ≡ self.old.book }
         ensures total { self.new.total ≡ self.old.total }
+        ensures owed { self.new.owed ≡ self.old.owed }
     {
         let slot = place.take()?;
         let was_told = self.line.leave(slot);
@@ -277,6 +287,7 @@ impl<P, C: TakeTotal> LinedBook<P, C> {
         ensures gone { place.new ≡ None }
         ensures book { self.new.book ≡ self.old.book }
         ensures total { self.new.total ≡ self.old.total }
+        ensures owed { self.new.owed ≡ self.old.owed }
     {
         let told = self.pass_on(place);
         ToWake {
@@ -296,6 +307,8 @@ impl<P, L: Ledger> LinedBook<P, LedgerCounter<L>> {
         ensures takes { IfOk result (λ report. report.takes ≡ counted_up_to all.old.amount) }
         ensures book { self.new.book ≡ self.old.book }
         ensures line { self.new.places ≡ self.old.places }
+        ensures total { self.new.total ≡ self.old.total }
+        ensures owed { self.new.owed ≡ self.old.owed }
         ensures amount { all.new.amount ≡ all.old.amount }
         ensures parts { all.new.parts ≡ all.old.parts }
     {
@@ -304,7 +317,7 @@ impl<P, L: Ledger> LinedBook<P, LedgerCounter<L>> {
 }
 
 impl<P, C: TakeCounter> LinedBook<P, C> {
-    ghost use Rattle.r2d2.specs.Counted.{found_by};
+    ghost use Rattle.r2d2.specs.Counted.{found_by, counted_where};
 
     /// As `CountingBook::lend`, for one that does not stand in line: what is idle is kept for those
     /// who do.
@@ -323,10 +336,13 @@ impl<P, C: TakeCounter> LinedBook<P, C> {
             → IsTake now or_order result.0 self.old.book self.new.book }
         ensures kept { IsTrue (is_kept self.old.book.picture self.old.places)
             → (seen_take result.0 ≡ Empty 0) × (self.new.book ≡ self.old.book) }
+        ensures wakes { result.1 ≡ wakes_of_take (seen_take result.0) }
         ensures line { self.new.places ≡ self.old.places }
         ensures history { (h : List Event) → IsHistoryOf h self.old.places
             → 0 < found_by (seen_take result.0)
             → IsHistoryOf (TookAtOnce (length self.old.book.picture.idle) ∷ h) self.new.places }
+        ensures total { counted_where C.counts (seen_take result.0) self.old.total self.new.total }
+        ensures owed { self.new.owed ≡ self.old.owed }
     {
         if self.is_kept() {
             return (Take::Empty { ordered: 0 }, Wakes::nobody());
@@ -339,12 +355,15 @@ impl<P, C: TakeCounter> LinedBook<P, C> {
         requires parts { 0 < C.parts tally.old }
         requires turn { before place self.old.places < length self.old.book.picture.idle }
         ensures step { IsTake now false result.0 self.old.book self.new.book }
+        ensures wakes { result.1 ≡ wakes_of_take (seen_take result.0) }
         ensures parts { C.parts tally.new ≡ C.parts tally.old }
         ensures amount { C.amount tally.new
             ≡ C.amount tally.old + found_by (seen_take result.0) * C.per_take }
         ensures line { self.new.places ≡ served place self.old.places }
         ensures history { (h : List Event) → IsHistoryOf h self.old.places → IsPlaceIn h place
             → IsHistoryOf (with_take place (length self.old.book.picture.idle) h) self.new.places }
+        ensures total { counted_where C.counts (seen_take result.0) self.old.total self.new.total }
+        ensures owed { self.new.owed ≡ self.old.owed }
     {
         let (taken, wakes) = self.book.lend(now, false, tally);
         let Some(slot) = place else {
@@ -357,8 +376,13 @@ impl<P, C: TakeCounter> LinedBook<P, C> {
 
 impl<P: Drop, C: TakeCounter> LinedBook<P, C> {
     ghost use Rattle.r2d2.specs.Counted.{found_by};
-    ghost use Rattle.r2d2.specs.Lined.{is_found, found_in, looked_by};
     ghost use Rattle.r2d2.specs.Order.{with_look};
+    ghost use Rattle.r2d2.specs.Lined.{is_found, found_in, pair_found, looked_by, told_looked};
+    ghost use Rattle.r2d2.specs.Lined.{book_looked, owed_looked, book_paid, still_owed};
+    ghost use Rattle.r2d2.specs.Lined.{one_more_owed, wakes_between};
+    ghost use Rattle.r2d2_core.specs.Connections.{pair_of};
+    ghost use Rattle.r2d2_core.specs.Table.{next_of};
+    ghost use Rattle.r2d2.specs.Evicted.{book_taken};
 
     /// A caller that may wait looks: it takes where it has its turn, and keeps its place then where
     /// it asks for that. Else it stands in line and orders one, unless there is no room.
@@ -375,6 +399,15 @@ impl<P: Drop, C: TakeCounter> LinedBook<P, C> {
         ensures parts { C.parts tally.new ≡ C.parts tally.old }
         ensures amount { C.amount tally.new
             ≡ C.amount tally.old + found_in result.0 * C.per_take }
+        ensures next { IsTrue (is_found result.0)
+            → pair_found result.0 ≡ option_map pair_of (next_of self.old.book.picture) }
+        ensures book { self.new.book ≡ book_looked (as_nanos now) result.0
+            (waiting_in self.new.places) self.old.owed self.old.book }
+        ensures owed { self.new.owed
+            ≡ owed_looked (as_nanos now) result.0 self.old.owed self.old.book }
+        ensures wakes { result.1.wakes ≡ wakes_between self.old.book self.new.book }
+        ensures told { result.1.told
+            ≡ told_looked (is_found result.0) keeps_place place.old self.old.places }
         ensures line { self.new.places ≡ looked_by (is_found result.0) keeps_place place.old
             place.new self.old.places }
         ensures history { (h : List Event) → IsHistoryOf h self.old.places
@@ -408,6 +441,10 @@ impl<P: Drop, C: TakeCounter> LinedBook<P, C> {
     // One who stands in line orders one; where something is idle, kept for others, it is owed.
     fn order(&mut self, now: Duration, tally: &mut C::Tally) -> Wakes
         requires { 0 < C.parts tally.old }
+        ensures book { self.new.book ≡ book_paid (as_nanos now) (waiting_in self.old.places)
+            (one_more_owed self.old.owed) self.old.book }
+        ensures owed { self.new.owed ≡ still_owed (one_more_owed self.old.owed) self.old.book }
+        ensures wakes { result ≡ wakes_between self.old.book self.new.book }
         ensures parts { C.parts tally.new ≡ C.parts tally.old }
         ensures amount { C.amount tally.new ≡ C.amount tally.old }
         ensures line { self.new.places ≡ self.old.places }
@@ -419,6 +456,12 @@ impl<P: Drop, C: TakeCounter> LinedBook<P, C> {
     // Where nothing is idle, orders what is owed, for as many as wait.
     fn pay(&mut self, now: Duration, tally: &mut C::Tally) -> Wakes
         requires { 0 < C.parts tally.old }
+        ensures book { self.new.book ≡ book_paid (as_nanos now) (waiting_in self.old.places)
+            self.old.owed self.old.book }
+        ensures owed { self.new.owed ≡ still_owed self.old.owed self.old.book }
+        ensures wakes { result ≡ wakes_between self.old.book self.new.book }
+        ensures more { self.old.book.picture.on_order.pending
+            ≤ self.new.book.picture.on_order.pending }
         ensures parts { C.parts tally.new ≡ C.parts tally.old }
         ensures amount { C.amount tally.new ≡ C.amount tally.old }
         ensures line { self.new.places ≡ self.old.places }
@@ -441,6 +484,12 @@ impl<P: Drop, C: TakeCounter> LinedBook<P, C> {
         requires parts { 0 < C.parts tally.old }
         requires none { length self.old.book.picture.idle ≡ 0 }
         ensures none { length self.new.book.picture.idle ≡ 0 }
+        ensures book { self.new.book ≡ book_taken (as_nanos now) true self.old.book }
+        ensures wakes { result ≡ wakes_between self.old.book self.new.book }
+        ensures more { self.old.book.picture.on_order.pending
+            ≤ self.new.book.picture.on_order.pending }
+        ensures total { self.new.total ≡ self.old.total }
+        ensures owed { self.new.owed ≡ self.old.owed }
         ensures parts { C.parts tally.new ≡ C.parts tally.old }
         ensures amount { C.amount tally.new ≡ C.amount tally.old }
         ensures line { self.new.places ≡ self.old.places }
@@ -459,6 +508,7 @@ impl<P: Drop, C: TakeCounter> LinedBook<P, C> {
         ensures after { self.new.book ≡ after_eviction (as_nanos now) self.old.book }
         ensures comes_to { IsEvicted (as_nanos now) self.old.book.picture self.new.book.picture }
         ensures line { self.new.places ≡ self.old.places }
+        ensures owed { self.new.owed ≡ self.old.owed }
         ensures parts { C.parts tally.new ≡ C.parts tally.old }
         ensures amount { C.amount tally.new
             ≡ C.amount tally.old + length out.new.items * C.per_take }

@@ -129,6 +129,9 @@ impl<P, C: TakeTotal> Guarded<LinedBook<P, C>> {
         now: Duration,
     ) -> bool
         ensures off { IsNone tuning.now.lifetime_jitter → IsFalse result }
+        ensures endless { IsNone self.now.book.book.picture.on_order.limits.max_lifetime
+            → IsFalse result }
+        ensures unknown { IsNone (birth_in id self.now.book.book.picture.lent) → IsFalse result }
         ensures early { IsTrue result → IfSome (birth_in id self.now.book.book.picture.lent)
             (λ birth. IfSome self.now.book.book.picture.on_order.limits.max_lifetime
             (λ longest. IfSome tuning.now.lifetime_jitter
@@ -181,6 +184,7 @@ impl<P, C: TakeTotal> Guarded<LinedBook<P, C>> {
     ghost use Rattle.r2d2.specs.Settled.{seen_settled, wakes_of_settled, IsSettling};
     ghost use Rattle.r2d2.specs.Events.{reason_of_return};
     ghost use Rattle.r2d2.specs.Failed.{IsOneOpeningMore, IsOneCheckMore};
+    ghost use Rattle.r2d2.specs.Waiting.{told_if, slot_if};
     ghost use Rattle.r2d2.specs.Evicted.{is_evicted, is_to_close};
 
     /// Why a connection is closed, if it is, that comes back now and is unfit for this reason or
@@ -212,6 +216,9 @@ impl<P, C: TakeTotal> Guarded<LinedBook<P, C>> {
             (is_to_close unfit outlived id self.old.evicted_below) result.0 self.old.book.book
             self.new.book.book }
         ensures wakes { result.1.wakes ≡ wakes_of_return (map_ok seen_returned result.0) }
+        ensures told { result.1.told ≡ slot_if result.1.wakes.caller self.old.book.places }
+        ensures line { self.new.book.places ≡ told_if result.1.wakes.caller self.old.book.places }
+        ensures total { self.new.book.total ≡ self.old.book.total }
         ensures kept { self.new.evicted_below ≡ self.old.evicted_below }
         ensures waiting { self.new.waiting ≡ self.old.waiting }
         ensures failures { self.new.failures ≡ self.old.failures }
@@ -230,6 +237,9 @@ impl<P, C: TakeTotal> Guarded<LinedBook<P, C>> {
         ensures step { IsSettling now (outcome.Failed tries text) result.0 self.old.book.book
             self.new.book.book }
         ensures wakes { result.1.wakes ≡ wakes_of_settled (seen_settled result.0) }
+        ensures told { result.1.told ≡ slot_if result.1.wakes.caller self.old.book.places }
+        ensures line { self.new.book.places ≡ told_if result.1.wakes.caller self.old.book.places }
+        ensures total { self.new.book.total ≡ self.old.book.total }
         ensures failures { IsOneOpeningMore self.old.failures self.new.failures }
         ensures kept { self.new.evicted_below ≡ self.old.evicted_below }
         ensures waiting { self.new.waiting ≡ self.old.waiting }
@@ -250,6 +260,9 @@ impl<P, C: TakeTotal> Guarded<LinedBook<P, C>> {
         ensures step { IsSettling now (outcome.Unsound id text) result.0 self.old.book.book
             self.new.book.book }
         ensures wakes { result.1.wakes ≡ wakes_of_settled (seen_settled result.0) }
+        ensures told { result.1.told ≡ slot_if result.1.wakes.caller self.old.book.places }
+        ensures line { self.new.book.places ≡ told_if result.1.wakes.caller self.old.book.places }
+        ensures total { self.new.book.total ≡ self.old.book.total }
         ensures failures { IsOneCheckMore distrusted_before self.old.failures self.new.failures }
         ensures kept { self.new.evicted_below ≡ self.old.evicted_below }
         ensures waiting { self.new.waiting ≡ self.old.waiting }
@@ -282,6 +295,7 @@ impl<P: Drop, C: TakeCounter> Guarded<LinedBook<P, C>> {
         ensures comes_to { IsEvicted (as_nanos now) self.old.book.book.picture
             self.new.book.book.picture }
         ensures kept { self.new.evicted_below ≡ self.old.book.book.picture.on_order.next_id }
+        ensures line { self.new.book.places ≡ self.old.book.places }
         ensures waiting { self.new.waiting ≡ self.old.waiting }
         ensures failures { self.new.failures ≡ self.old.failures }
         ensures parts { C.parts tally.new ≡ C.parts tally.old }
@@ -421,9 +435,10 @@ impl<B, M, K, R> Shared<B, M, K, R> {
 }
 
 impl<P: Drop, C: TakeTotal, M, K, R: Clock + Wait> Shared<LinedBook<P, C>, M, K, R> {
-    ghost use Rattle.r2d2_core.specs.Book.{SeenBook};
     ghost use Rattle.r2d2_core.specs.BookSteps.{IsNumbering, IsClose};
-    ghost use Rattle.r2d2.specs.Settled.{IsSettling};
+    ghost use Rattle.r2d2.specs.Lined.{SeenLined};
+    ghost use Rattle.r2d2.specs.Settled.{seen_settled, wakes_of_settled, IsSettling};
+    ghost use Rattle.r2d2.specs.Waiting.{told_if};
     ghost use Rattle.r2d2.specs.Status.{IsStatus};
 
     /// The counts.
@@ -449,14 +464,17 @@ impl<P: Drop, C: TakeTotal, M, K, R: Clock + Wait> Shared<LinedBook<P, C>, M, K,
 
     /// Gives an opened connection its id.
     pub(super) fn number(&self, tries: u32) -> Result<u64, Refusal>
-        ensures { (old : SeenBook P) × (new : SeenBook P) × IsNumbering tries result old new }
+        ensures { (old : SeenLined P C) × (new : SeenLined P C)
+            × IsNumbering tries result old.book new.book × (new.places ≡ old.places) }
     {
         self.step(|guarded, _now| (guarded.book.number(tries), ToWake::nobody()))
     }
 
     /// Tells the book of an outcome.
     pub(super) fn settle(&self, outcome: Outcome<P>) -> Settled<P>
-        ensures { (now : _) × (old : _) × (new : _) × IsSettling now outcome result old new }
+        ensures { (now : _) × (old : SeenLined P C) × (new : SeenLined P C)
+            × IsSettling now outcome result old.book new.book
+            × (new.places ≡ told_if (wakes_of_settled (seen_settled result)).caller old.places) }
     {
         self.step(|guarded, now| guarded.book.settle(now, outcome))
     }
@@ -468,7 +486,8 @@ impl<P: Drop, C: TakeTotal, M, K, R: Clock + Wait> Shared<LinedBook<P, C>, M, K,
 
     /// Closes the book, tells all who wait, and hands over what was idle.
     pub(super) fn close(&self) -> Leftover<P>
-        ensures { (old : _) × (new : _) × IsClose result old new }
+        ensures { (old : SeenLined P C) × (new : SeenLined P C)
+            × IsClose result old.book new.book × (new.places ≡ old.places) }
     {
         let left = self.step(|guarded, _now| (guarded.book.close(), ToWake::nobody()));
         self.wake_all();

@@ -5,6 +5,7 @@ ghost use Rattle.r2d2_core.specs.Limits.{seen_limits, has_reached};
 ghost use Rattle.r2d2_core.specs.BookSteps.{IsReap};
 ghost use Rattle.r2d2.specs.Events.{reason_of_reap};
 ghost use Rattle.r2d2.specs.Room.{HasRoom};
+ghost use Rattle.r2d2.specs.Waiting.{told_if, slot_if};
 ghost use Rattle.r2d2.specs.Wakes.{wakes_of_reap};
 
 use super::PoolRuntime;
@@ -119,6 +120,9 @@ impl<P: Drop, C: TakeTotal> Guarded<LinedBook<P, C>> {
         ensures step { HasRoom self.old.book.book.picture.on_order.limits.max_size expired.old
             → (ordered : _) × (result.wakes ≡ wakes_of_reap (length expired.new.items) ordered)
             × IsReap now expired.new.items ordered self.old.book.book self.new.book.book }
+        ensures told { result.told ≡ slot_if result.wakes.caller self.old.book.places }
+        ensures line { self.new.book.places ≡ told_if result.wakes.caller self.old.book.places }
+        ensures total { self.new.book.total ≡ self.old.book.total }
         ensures kept { self.new.evicted_below ≡ self.old.evicted_below }
         ensures waiting { self.new.waiting ≡ self.old.waiting }
         ensures failures { self.new.failures ≡ self.old.failures }

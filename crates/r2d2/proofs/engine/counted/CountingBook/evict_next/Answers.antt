@@ -1,4 +1,4 @@
-use Rattle.std.proofs.Common.{◌-◌, max, Ok, sym, ◌∙◌, ap}
+use Rattle.std.proofs.Common.{◌-◌, max, false, Ok, sym, ◌∙◌, ap}
 use Rattle.std.specs.Duration.{as_nanos}
 use Rattle.r2d2_core.specs.Seen.{seen_take, seen_returned, map_ok}
 use Rattle.r2d2.proofs.Evicting.{next, idle_of_none, lent_after, closing, lent_then, released_next, never_refused, same_age, same_value, latest_after, taken_is, broken_is, one_went, none_went}
@@ -61,7 +61,7 @@ returns-in_default-clause-after g c =
     let t = as_nanos c.args.now in
     let b = c.args.self.now.book in
     let q = c.lend-taken.new.self.book in
-    let taken = taken_is t b q _ lending.of_core.answer lending.of_core.after lending.noted in
+    let taken = taken_is t false b q _ lending.of_core.answer lending.of_core.after lending.noted in
     none_went t _ b q (sym (ap seen_take c.in_default.is) ∙ lending.of_core.answer) taken
 
 pub returns-clause-after : goal.returns-clause-after
@@ -73,6 +73,6 @@ returns-clause-after g c =
     let q = c.lend-taken.new.self.book in
     let back = c.give_back-answer in
     let n = next _ _ c.in-Found.id (as_nanos c.in-Found.birth) _ c.in-Found.value (sym (ap seen_take c.in-Found.is) ∙ lending.of_core.answer) in
-    let taken = taken_is t b q _ lending.of_core.answer lending.of_core.after lending.noted in
+    let taken = taken_is t false b q _ lending.of_core.answer lending.of_core.after lending.noted in
     let came = broken_is t c.in-Found.id c.in-Found.value q back.new.self.book _ returning.of_core.answer returning.of_core.after returning.noted in
     one_went t c.in-Found.id (as_nanos c.in-Found.birth) c.in-Found.value b q back.new.self.book n taken came

@@ -1,4 +1,4 @@
-use Rattle.std.proofs.Common.{◌≡◌, ◌<◌, length, arith}
+use Rattle.std.proofs.Common.{◌<◌, length, arith}
 use Rattle.r2d2.specs.Waiting.{before}
 use Rattle.r2d2.proofs.Lined.{never_empty}
 use Rattle.r2d2.proofs.pool.lined_book.LinedBook.look.Goals as goal

@@ -1,7 +1,4 @@
-use Rattle.std.proofs.Common.{◌≡◌, ℕ, ◌+◌, ◌*◌, ◌<◌, ◌≤◌, List, [], ◌∷◌, length, refl, sym, ◌∙◌, ap, subst, arith}
-use Rattle.r2d2_core.specs.Picture.{Picture}
-use Rattle.r2d2.specs.declared.line.place.Place.{Place}
-use Rattle.r2d2.specs.Waiting.{AreTold, told_if, told_at, without}
+use Rattle.std.proofs.Common.{length}
 use Rattle.r2d2.proofs.Lined.{still_told, none_more_numbered}
 use Rattle.r2d2.proofs.pool.lined_book.LinedBook.number.Goals as goal
 

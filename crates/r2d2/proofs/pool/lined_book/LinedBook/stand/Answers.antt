@@ -1,7 +1,6 @@
-use Rattle.std.proofs.Common.{◌≡◌, ℕ, ◌+◌, ◌*◌, ◌<◌, ◌≤◌, List, [], ◌∷◌, length, refl, sym, ◌∙◌, ap, subst, arith}
-use Rattle.r2d2_core.specs.Picture.{Picture}
+use Rattle.std.proofs.Common.{◌≤◌, List, length, sym, subst}
 use Rattle.r2d2.specs.declared.line.place.Place.{Place}
-use Rattle.r2d2.specs.Waiting.{AreTold, told_if, told_at, without}
+use Rattle.r2d2.specs.Waiting.{AreTold}
 use Rattle.r2d2.specs.Waiting.{before}
 use Rattle.r2d2.proofs.Waiting.{kept_joined, kept_quiet}
 use Rattle.r2d2.proofs.pool.lined_book.LinedBook.stand.Goals as goal
