@@ -3,3 +3,4 @@ pub mod Places
 pub mod Evicting
 pub mod Waiting
 pub mod Lined
+pub mod Standing

@@ -14,3 +14,4 @@ pub mod CallTime
 pub mod Room
 pub mod Waiting
 pub mod Lined
+pub mod Standing
