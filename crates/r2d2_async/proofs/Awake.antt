@@ -1,6 +1,7 @@
 -- Who was told to look is awake, after each change of the line.
 use Rattle.std.proofs.Common.{◌≡◌, ◌≢◌, ℕ, ◌+◌, ◌<◌, ◌≤◌, Bool, true, false, List, [], ◌∷◌, ◌++◌, Option, Some, None, ◌⊎◌, inl, inr, refl, sym, ◌∙◌, ap, subst, arith}
-use Rattle.std.specs.Prelude.{◌==◌, IfSome, Vec, is_some}
+use Rattle.std.specs.Prelude.{◌==◌, IfSome, IsSome, Vec}
+use Rattle.std.proofs.lemmas.Option.{none-some}
 use Rattle.std.proofs.lemmas.Bool.{cases_eq}
 use Rattle.futures.specs.declared.task.waker.Waker.{Waker}
 use Rattle.r2d2.specs.declared.line.place.Place.{Place}
@@ -101,11 +102,6 @@ module _ {A : Type 0} where
       → ((s : ℕ) → s ≢ x → waker_at new s ≡ waker_at old s) → AreAwake ps old → AreAwake ps new
   awake_registered x ps old new quiet others awake s told = registered_at x ps old new quiet others awake s told (cases_eq s x)
 
-  -- nothing is left to wake one who is not asleep
-  pub not_asleep : (o : Option Waker) → is_some o ≡ false → o ≡ None
-  not_asleep None e = refl
-  not_asleep (Some w) e = absurd cc
-
   -- a step that told one, or nobody
   pub awake_after : (b : Bool) (ps qs : List Place) (o : Option ℕ) (old new : Vec (Option Waker) A) → qs ≡ told_if b ps → o ≡ slot_if b ps
       → AreAwake ps old → IfSome o (λ s. waker_at new s ≡ None) → ((s : ℕ) → waker_at old s ≡ None → waker_at new s ≡ None) → AreAwake qs new
@@ -119,3 +115,20 @@ module _ {A : Type 0} where
 
   pub awake_line : (ps : List Place) (old : Vec (Option Waker) A) → ps ≡ [] → AreAwake ps old
   awake_line ps old line s told = let none : told_at s ps ≡ false = ap (told_at s) line in absurd cc
+
+  -- who sleeps was told nothing
+  untold_by : (told : Bool) (o : Option Waker) → (told ≡ true → o ≡ None) → IsSome o → told ≡ false
+  untold_by false o awake asleep = refl
+  untold_by true (Some w) awake asleep = absurd (none-some w (sym (awake refl)))
+  untold_by true None awake asleep = absurd asleep
+
+  pub untold_asleep : (s : ℕ) (ps : List Place) (old : Vec (Option Waker) A) → AreAwake ps old → IsSome (waker_at old s) → told_at s ps ≡ false
+  untold_asleep s ps old awake asleep = untold_by (told_at s ps) (waker_at old s) (awake s) asleep
+
+  -- one left the line, whose waker was cleared
+  pub awake_gone : (o : Option ℕ) (ps qs : List Place) (t : Option ℕ) (old mid new : Vec (Option Waker) A) → qs ≡ left_by o ps → t ≡ told_by o ps
+      → AreAwake ps old → IfSome o (λ x. waker_at mid x ≡ None) → ((s : ℕ) → waker_at old s ≡ None → waker_at mid s ≡ None)
+      → IfSome t (λ x. waker_at new x ≡ None) → ((s : ℕ) → waker_at mid s ≡ None → waker_at new s ≡ None) → AreAwake qs new
+  awake_gone o ps qs t old mid new line told awake cleared to_mid woken to_new =
+      subst (λ rs. AreAwake rs new) (sym line)
+      (awake_left o ps mid new (awake_kept ps old mid awake to_mid) cleared (subst (λ v. IfSome v (λ x. waker_at new x ≡ None)) told woken) to_new)

@@ -13,7 +13,7 @@ module _ {P M T K R Z : Type 0} where
 
   -- the settings of a future's pool, until it has ended
   abbrev pub settings_of : Option (Arc (Closer P M T K R) Z) → Option Config
-  settings_of closer = option_map (λ c. (arc_value (arc_value c).shared).config) closer
+  settings_of closer = option_map (λ (c : Arc (Closer P M T K R) Z). (arc_value (arc_value c).shared).config) closer
 
   -- the source that fires for a worker once an opening is ordered, or the pool is closed
   abbrev pub orders_of : Arc (Shared P M T K R) Z → ℕ

@@ -1,13 +1,14 @@
 // The settings of a pool.
 ghost use Rattle.std.specs.Prelude.{◌≡◌, ◌<◌, ◌≤◌, ◌↔◌, IsSome, IfSome, IfOk, IfErr};
 ghost use Rattle.std.specs.Option.{ForSome};
+ghost use Rattle.std.specs.Arc.{arc_value};
 ghost use Rattle.std.specs.Duration.{as_nanos};
 ghost use Rattle.r2d2_core.specs.Limits.{seen_limits};
 ghost use Rattle.r2d2.specs.Failures.{IsOfMemory};
 
-use crate::hooks::{Handlers, Hooks};
+use crate::hooks::Handlers;
 use crate::pool::Pool;
-use crate::shared::{Closer, PayloadOf, Shared};
+use crate::shared::{Closer, Shared};
 use crate::task_book::TaskBook;
 use crate::{AsyncRuntime, ManageConnection, Timer};
 use futures::task::Source;
@@ -271,20 +272,26 @@ impl<H, V, Z> Builder<H, V, Z> {
         H: Drop,
         ensures { result ≡ self }
     {
+        let Builder {
+            config,
+            tuning,
+            handlers,
+            listens,
+        } = self;
         let Handlers {
+            error_handler: _,
             event_handler,
             connection_customizer,
-            ..
-        } = self.handlers;
+        } = handlers;
         Builder {
-            config: self.config,
-            tuning: self.tuning,
+            config,
+            tuning,
             handlers: Handlers {
                 error_handler: handler,
                 event_handler,
                 connection_customizer,
             },
-            listens: self.listens,
+            listens,
         }
     }
 
@@ -294,14 +301,20 @@ impl<H, V, Z> Builder<H, V, Z> {
         V: Drop,
         ensures { result ≡ self }
     {
+        let Builder {
+            config,
+            tuning,
+            handlers,
+            listens: _,
+        } = self;
         let Handlers {
             error_handler,
+            event_handler: _,
             connection_customizer,
-            ..
-        } = self.handlers;
+        } = handlers;
         Builder {
-            config: self.config,
-            tuning: self.tuning,
+            config,
+            tuning,
             handlers: Handlers {
                 error_handler,
                 event_handler: handler,
@@ -318,20 +331,26 @@ impl<H, V, Z> Builder<H, V, Z> {
         Z: Drop,
         ensures { result ≡ self }
     {
+        let Builder {
+            config,
+            tuning,
+            handlers,
+            listens,
+        } = self;
         let Handlers {
             error_handler,
             event_handler,
-            ..
-        } = self.handlers;
+            connection_customizer: _,
+        } = handlers;
         Builder {
-            config: self.config,
-            tuning: self.tuning,
+            config,
+            tuning,
             handlers: Handlers {
                 error_handler,
                 event_handler,
                 connection_customizer: customizer,
             },
-            listens: self.listens,
+            listens,
         }
     }
 
@@ -398,15 +417,16 @@ impl<H, V, Z> Builder<H, V, Z> {
             handlers,
             listens,
         } = self;
-        open_pool(
+        let made = shared_state(
             rt, limits, config, tuning, handlers, listens, manager, timer,
-        )
-        .map_err(|_| Error::memory())
+        );
+        let closer = made.map_err(|_| Error::memory())?;
+        Ok(Pool { closer })
     }
 }
 
-// The pool with these limits, in which nothing has happened.
-fn open_pool<M: ManageConnection, T: Timer, K: Hooks<M>, R: AsyncRuntime>(
+// What a pool with these limits shares, in which nothing has happened.
+fn shared_state<P: Drop, M: Drop, T: Drop, K: Drop, R: AsyncRuntime>(
     rt: R,
     limits: Limits,
     config: Config,
@@ -415,11 +435,12 @@ fn open_pool<M: ManageConnection, T: Timer, K: Hooks<M>, R: AsyncRuntime>(
     listens: bool,
     manager: M,
     timer: T,
-) -> Result<Pool<M, T, K, R>, AllocError>
-    ensures { IfOk result (λ pool. pool ≡ config) }
+) -> Result<Arc<Closer<P, M, T, K, R>>, AllocError>
+    ensures { IfOk result (λ closer. (arc_value (arc_value closer).shared).config ≡ config) }
 {
-    let room = config.journal_room;
-    let book: Book<PayloadOf<M>> = Book::new(rt.alloc(), limits, Duration::ZERO, room)?;
+    let made = Instant::now(&rt).ok();
+    let made_at = SystemTime::now(&rt).ok();
+    let book = Book::new(rt.alloc(), limits, Duration::ZERO, config.journal_room)?;
     let tasks = TaskBook::new(rt.alloc(), book, config.max_waiting)?;
     let shared = Shared {
         told: Source::new(),
@@ -432,11 +453,10 @@ fn open_pool<M: ManageConnection, T: Timer, K: Hooks<M>, R: AsyncRuntime>(
         config,
         tuning,
         listens,
-        made: Instant::now(&rt).ok(),
-        made_at: SystemTime::now(&rt).ok(),
+        made,
+        made_at,
         rt,
     };
     let shared = Arc::new(rt.alloc(), shared)?;
-    let closer = Arc::new(rt.alloc(), Closer { shared })?;
-    Ok(Pool { closer })
+    Ok(Arc::new(rt.alloc(), Closer { shared })?)
 }

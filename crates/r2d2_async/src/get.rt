@@ -280,7 +280,8 @@ fn abandon<M: ManageConnection, T: Timer, K: Hooks<M>, R: AsyncRuntime>(
     place: &mut Option<u32>,
     checking: Option<CheckingOf<M>>,
 ) {
-    if let Some(Checking { id, check, .. }) = checking {
+    if let Some(checking) = checking {
+        let Checking { id, check, .. } = checking;
         drop(check);
         if let Some(gone) = shared.fail_check(id, None, Duration::ZERO) {
             shared.hooks.gone(id, gone.age, ReleaseReason::CheckFailed);

@@ -1,6 +1,5 @@
 // The pool's calls.
 ghost use Rattle.std.specs.Prelude.{◌≡◌, ◌≤◌, None, Some, IsSome, IfSome, IfOk, IfErr};
-ghost use Rattle.std.specs.Arc.{arc_value};
 ghost use Rattle.r2d2_core.specs.Reports.{IsSoundReport};
 ghost use Rattle.r2d2.specs.Failures.{IsOfMemory, IsOfAGet};
 ghost use Rattle.r2d2.specs.Status.{IsStatus};
@@ -11,7 +10,6 @@ use crate::get::Get;
 use crate::hooks::Hooks;
 use crate::lent::PooledConnection;
 use crate::shared::{CloserOf, PayloadOf, SharedOf};
-use crate::task_book::Looked;
 use crate::work::Work;
 use crate::{AsyncRuntime, ManageConnection, Timer};
 use futures::spin::lock;
@@ -47,6 +45,7 @@ pub struct Pool<M: ManageConnection, T: Timer, K: Hooks<M>, R: AsyncRuntime> {
 
 // Contracts see a pool as its settings: what its lock holds, other tasks change.
 impl<M: ManageConnection, T: Timer, K: Hooks<M>, R: AsyncRuntime> Model for Pool<M, T, K, R> {
+    ghost use Rattle.std.specs.Arc.{arc_value};
     ghost use Rattle.r2d2_async.specs.declared.config.Config.{Config};
 
     ghost Value = { Config };
@@ -106,14 +105,14 @@ impl<M: ManageConnection, T: Timer, K: Hooks<M>, R: AsyncRuntime> Pool<M, T, K, 
     {
         let closer = Arc::try_clone(&self.closer).map_err(|_| Error::memory())?;
         let shared = &closer.shared;
-        let (looked, now) = match lock(&shared.tasks) {
+        let (taken, now) = match lock(&shared.tasks) {
             Some(mut tasks) => {
                 let now = shared.moment();
                 (tasks.try_take(now), now)
             }
             None => return Ok(None),
         };
-        let Looked::Found { id, payload, .. } = looked else {
+        let Some((id, payload)) = taken else {
             return Ok(None);
         };
         if shared.listens {

@@ -1,6 +1,6 @@
 // What the lock of a pool guards: a book, the callers in line for what it lends, and what wakes
 // each of them.
-ghost use Rattle.std.specs.Prelude.{◌≡◌, ◌≢◌, ◌≤◌, ◌<◌, ◌↔◌, ℕ, [], length, true, false, None, IsSome, IsSomeAnd, IfSome, IfOk, IsTrue, is_some, vec_len, vec_capacity};
+ghost use Rattle.std.specs.Prelude.{◌≡◌, ◌≢◌, ◌≤◌, ◌<◌, ◌↔◌, ℕ, [], length, true, false, None, IsSome, IsSomeAnd, IfSome, IfNone, IfOk, IsTrue, Some, vec_len, vec_capacity};
 ghost use Rattle.futures.specs.Task.{Covers, Keeps};
 ghost use Rattle.futures.specs.Poll.{IfReady, OnPending};
 ghost use Rattle.r2d2.specs.Waiting.{told_at};
@@ -112,21 +112,16 @@ impl<P: Drop> TaskBook<P> {
 
     /// Takes an idle connection for a caller who does not wait: one that is not kept for those in
     /// line.
-    pub fn try_take(&mut self, now: Duration) -> Looked<P>
+    pub fn try_take(&mut self, now: Duration) -> Option<(u64, P)>
         ensures line { self.new.guarded.book.places ≡ self.old.guarded.book.places }
     {
-        let idle_since = self.guarded.book.book().next_idle_since();
         let (taken, wakes) = self.guarded.book.lend(now, false, &mut ());
         if wakes.workers {
             self.workers.wake_all();
         }
         match taken {
-            Take::Found { id, value, .. } => Looked::Found {
-                id,
-                payload: value,
-                idle_since,
-            },
-            Take::Empty { .. } => Looked::Full,
+            Take::Found { id, value, .. } => Some((id, value)),
+            Take::Empty { .. } => None,
         }
     }
 
@@ -160,11 +155,9 @@ impl<P: Drop> TaskBook<P> {
             self.leave(place);
             return Poll::Ready(Looked::Closed);
         }
-        if let Some(slot) = *place {
-            if sleeps(&self.wakers, slot) {
-                // Nobody told it anything, so it is not its turn.
-                return register(&mut self.wakers, cx, source, slot);
-            }
+        if let Some(slot) = asleep_at(&self.wakers, *place) {
+            // Nobody told it anything, so it is not its turn.
+            return register(&mut self.wakers, cx, source, slot);
         }
         let idle_since = self.guarded.book.book().next_idle_since();
         let (look, to_wake) = self.guarded.book.look(now, place, keeps_place, &mut ());
@@ -187,9 +180,7 @@ impl<P: Drop> TaskBook<P> {
             ≡ left_by place.old self.old.guarded.book.places }
         ensures book { self.new.guarded.book.book ≡ self.old.guarded.book.book }
     {
-        if let Some(slot) = *place {
-            clear(&mut self.wakers, slot);
-        }
+        clear_at(&mut self.wakers, *place);
         let to_wake = self.guarded.book.leave(place);
         wake(&mut self.wakers, &mut self.workers, to_wake);
     }
@@ -397,13 +388,16 @@ fn no_wakers(alloc: Global, room: u32) -> Result<Vec<Option<Waker>>, AllocError>
     Ok(wakers)
 }
 
-// Whether the caller at this slot sleeps.
-fn sleeps(wakers: &Vec<Option<Waker>>, slot: u32) -> bool
-    ensures { result ≡ is_some (waker_at wakers.now slot) }
+// The slot of a caller in line, where it sleeps there.
+fn asleep_at(wakers: &Vec<Option<Waker>>, place: Option<u32>) -> Option<u32>
+    ensures asleep { IfSome result
+        (λ slot. (place ≡ Some slot) × IsSome (waker_at wakers.now slot)) }
+    ensures awake { IfNone result (IfSome place (λ slot. waker_at wakers.now slot ≡ None)) }
 {
+    let slot = place?;
     match wakers.get(slot as usize) {
-        Some(waker) => waker.is_some(),
-        None => false,
+        Some(Some(_)) => Some(slot),
+        _ => None,
     }
 }
 
@@ -440,6 +434,17 @@ fn clear(wakers: &mut Vec<Option<Waker>>, slot: u32)
     }
 }
 
+// The same, where it stands in line.
+fn clear_at(wakers: &mut Vec<Option<Waker>>, place: Option<u32>)
+    ensures cleared { IfSome place (λ slot. waker_at wakers.new slot ≡ None) }
+    ensures others { (other : ℕ) → waker_at wakers.old other ≡ None
+        → waker_at wakers.new other ≡ None }
+{
+    if let Some(slot) = place {
+        clear(wakers, slot);
+    }
+}
+
 // Wakes all callers in line.
 fn clear_all(wakers: &mut Vec<Option<Waker>>)
     ensures { (slot : ℕ) → waker_at wakers.new slot ≡ None }
@@ -456,9 +461,7 @@ fn wake(wakers: &mut Vec<Option<Waker>>, workers: &mut WaitList<()>, to_wake: To
         → waker_at wakers.new other ≡ None }
 {
     let ToWake { wakes, told } = to_wake;
-    if let Some(slot) = told {
-        clear(wakers, slot);
-    }
+    clear_at(wakers, told);
     if wakes.workers {
         workers.wake_all();
     }
