@@ -40,11 +40,14 @@ pub struct Caller<R: AsyncRuntime> {
 impl<R: AsyncRuntime + RandomSource> Stage<R> {
     /// A pool of one connection, whose checks are on where they take polls.
     pub fn new(rt: R, faults: Faults) -> Result<Stage<R>, Fail> {
-        let builder = Builder::new().max_waiting(2).retry_at_most(Duration::from_millis(1));
+        let builder = Builder::new()
+            .max_size(1)
+            .max_waiting(2)
+            .retry_at_most(Duration::from_millis(1));
         Stage::over(rt, faults, builder)
     }
 
-    /// The same, with further settings.
+    /// The same, with other settings.
     pub fn over(rt: R, faults: Faults, builder: Builder) -> Result<Stage<R>, Fail> {
         let counts = Arc::new(rt.alloc(), Counts::new())?;
         let manager = Faulty {
@@ -52,7 +55,6 @@ impl<R: AsyncRuntime + RandomSource> Stage<R> {
             faults,
         };
         let pool = builder
-            .max_size(1)
             .min_idle(Some(0))
             .test_on_check_out(faults.check_polls > 0)
             .build(rt, manager, TestTimer { rt })?;

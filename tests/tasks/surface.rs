@@ -45,8 +45,8 @@ fn kept_for_who_was_told(rt: HostRuntime) -> Result<(), Fail> {
 
 #[test]
 fn a_sleeper_orders_once(rt: HostRuntime) -> Result<(), Fail> {
-    let builder = Builder::new();
-    let mut stage = Stage::over(rt, Faults::none(), builder)?;
+    let builder = Builder::new().max_size(5);
+    let stage = Stage::over(rt, Faults::none(), builder)?;
     let mut caller = stage.caller()?;
     for _ in 0..10 {
         caller.waits()?;
@@ -132,6 +132,7 @@ fn detached(rt: HostRuntime) -> Result<(), Fail> {
 #[test]
 fn reaped(rt: HostRuntime) -> Result<(), Fail> {
     let builder = Builder::new()
+        .max_size(1)
         .idle_timeout(Some(Duration::from_millis(2)))
         .reaper_rate(Duration::from_millis(1));
     let mut stage = Stage::over(rt, Faults::none(), builder)?;
@@ -188,7 +189,7 @@ fn no_memory(rt: HostRuntime) -> Result<(), Fail> {
 
 #[test]
 fn journal(rt: HostRuntime) -> Result<(), Fail> {
-    let builder = Builder::new().journal_room(10);
+    let builder = Builder::new().max_size(1).journal_room(10);
     let mut stage = Stage::over(rt, Faults::none(), builder)?;
     drop(stage.lend()?);
     let report = stage.pool.try_clone()?.journal()?;

@@ -1,6 +1,6 @@
 -- Who was told to look is awake, after each change of the line.
 use Rattle.std.proofs.Common.{◌≡◌, ◌≢◌, ℕ, ◌+◌, ◌<◌, ◌≤◌, Bool, true, false, List, [], ◌∷◌, ◌++◌, Option, Some, None, ◌⊎◌, inl, inr, refl, sym, ◌∙◌, ap, subst, arith}
-use Rattle.std.specs.Prelude.{◌==◌, IfSome, IsSome, Vec}
+use Rattle.std.specs.Prelude.{◌==◌, zero, suc, IfSome, IsSome, Vec, slice_index_or}
 use Rattle.std.proofs.lemmas.Option.{none-some}
 use Rattle.std.proofs.lemmas.Bool.{cases_eq}
 use Rattle.futures.specs.declared.task.waker.Waker.{Waker}
@@ -38,6 +38,18 @@ told_at-served : (x : ℕ) (ps : List Place) → told_at x (with_standing x Serv
 told_at-served x [] = refl
 told_at-served x (p ∷ ps) = grind (arith, told_at-served x ps)
 
+untold_by : (told : Bool) (o : Option Waker) → (told ≡ true → o ≡ None) → IsSome o → told ≡ false
+untold_by false o awake asleep = refl
+untold_by true None awake asleep = absurd cc
+untold_by true (Some w) awake asleep = absurd (none-some w (sym (awake refl)))
+
+-- one more slot, at which nobody sleeps
+pub push_none : {X : Type 0} (xs : List X) (d : X) (i : ℕ) → slice_index_or xs i d ≡ d → slice_index_or (xs ++ d ∷ []) i d ≡ d
+push_none [] d zero e = refl
+push_none [] d (suc i) e = refl
+push_none (x ∷ xs) d zero e = e
+push_none (x ∷ xs) d (suc i) e = push_none xs d i e
+
 module _ {A : Type 0} where
   -- the one who is told is woken, and nobody else lies down
   at_told : (o : Option ℕ) (s : ℕ) (new : Vec (Option Waker) A) → IfSome o (λ x. waker_at new x ≡ None) → o ≡ Some s → waker_at new s ≡ None
@@ -68,8 +80,8 @@ module _ {A : Type 0} where
       → IfSome (told_by o ps) (λ s. waker_at new s ≡ None) → ((s : ℕ) → waker_at old s ≡ None → waker_at new s ≡ None)
       → AreAwake (left_by o ps) new
   awake_left None ps old new awake none woken stay s told = stay s (awake s told)
-  awake_left (Some x) ps old new awake none woken stay =
-      awake_told (told_at x ps) (without x ps) old new (awake_without x ps old awake none) woken stay
+  awake_left (Some x) ps old new awake none woken stay s told =
+      awake_told (told_at x ps) (without x ps) old new (awake_without x ps old awake none) woken stay s told
 
   -- one who takes, or waits on, was not told by it
   pub awake_looked : (found keeps : Bool) (o q : Option ℕ) (ps : List Place) (old : Vec (Option Waker) A) → AreAwake ps old
@@ -77,11 +89,11 @@ module _ {A : Type 0} where
   awake_looked true true None q ps old awake none s told = awake s told
   awake_looked true true (Some x) q ps old awake none s told = awake s (told_at-standing s x Served ps (λ e. absurd cc) told)
   awake_looked true false None q ps old awake none s told = awake s told
-  awake_looked true false (Some x) q ps old awake none =
-      let kept : AreAwake (with_standing x Served ps) old = λ s told. awake s (told_at-standing s x Served ps (λ e. absurd cc) told) in
+  awake_looked true false (Some x) q ps old awake none s told =
+      let kept : AreAwake (with_standing x Served ps) old = λ i was. awake i (told_at-standing i x Served ps (λ e. absurd cc) was) in
       let nobody : told_by (Some x) (with_standing x Served ps) ≡ None = ap (λ b. slot_if b (without x (with_standing x Served ps))) (told_at-served x ps) in
       awake_left (Some x) (with_standing x Served ps) old old kept none
-      (subst (λ t. IfSome t (λ s. waker_at old s ≡ None)) (sym nobody) tt) (λ s e. e)
+      (subst (λ t. IfSome t (λ i. waker_at old i ≡ None)) (sym nobody) tt) (λ i e. e) s told
   awake_looked false keeps (Some x) q ps old awake none s told = awake s (told_at-standing s x Quiet ps (λ e. absurd cc) told)
   awake_looked false keeps None None ps old awake none s told = awake s told
   awake_looked false keeps None (Some x) ps old awake none s told = awake s (told_at-joined s x ps told)
@@ -117,11 +129,6 @@ module _ {A : Type 0} where
   awake_line ps old line s told = let none : told_at s ps ≡ false = ap (told_at s) line in absurd cc
 
   -- who sleeps was told nothing
-  untold_by : (told : Bool) (o : Option Waker) → (told ≡ true → o ≡ None) → IsSome o → told ≡ false
-  untold_by false o awake asleep = refl
-  untold_by true (Some w) awake asleep = absurd (none-some w (sym (awake refl)))
-  untold_by true None awake asleep = absurd asleep
-
   pub untold_asleep : (s : ℕ) (ps : List Place) (old : Vec (Option Waker) A) → AreAwake ps old → IsSome (waker_at old s) → told_at s ps ≡ false
   untold_asleep s ps old awake asleep = untold_by (told_at s ps) (waker_at old s) (awake s) asleep
 
@@ -132,3 +139,9 @@ module _ {A : Type 0} where
   awake_gone o ps qs t old mid new line told awake cleared to_mid woken to_new =
       subst (λ rs. AreAwake rs new) (sym line)
       (awake_left o ps mid new (awake_kept ps old mid awake to_mid) cleared (subst (λ v. IfSome v (λ x. waker_at new x ≡ None)) told woken) to_new)
+
+  -- a look
+  pub awake_look : (found keeps : Bool) (o q : Option ℕ) (ps qs : List Place) (old new : Vec (Option Waker) A) → qs ≡ looked_by found keeps o q ps
+      → AreAwake ps old → IfSome o (λ x. waker_at old x ≡ None) → ((s : ℕ) → waker_at old s ≡ None → waker_at new s ≡ None) → AreAwake qs new
+  awake_look found keeps o q ps qs old new line awake none stay =
+      subst (λ rs. AreAwake rs new) (sym line) (awake_kept (looked_by found keeps o q ps) old new (awake_looked found keeps o q ps old awake none) stay)

@@ -1,5 +1,7 @@
 -- What a caller comes to.
 use Rattle.std.specs.Prelude.{◌≡◌, Bool, true, false}
+use Rattle.futures.specs.declared.task.Poll.{Poll}
+use Rattle.futures.specs.declared.task.Poll.TheVariants.{Ready, Pending}
 use Rattle.r2d2_async.specs.declared.task_book.Looked.{Looked}
 use Rattle.r2d2_async.specs.declared.task_book.Looked.TheVariants as look
 
@@ -15,3 +17,8 @@ module _ {T : Type 0} where
   IsClosedLook closed (look.Found id payload idle_since) = closed ≡ false
   IsClosedLook closed look.Closed = closed ≡ true
   IsClosedLook closed look.Full = closed ≡ false
+
+  -- the poll ended, with a connection
+  abbrev pub IsServed : Poll (Looked T) → Type 0
+  IsServed (Ready l) = is_found l ≡ true
+  IsServed Pending = ⊥

@@ -124,8 +124,8 @@ impl<H, V, Z> Builder<H, V, Z> {
     }
 
     /// How many connections the pool tries to keep idle, as far as `max_size` leaves room for them.
-    /// The default is None, which stands for `max_size`. With `Some(0)` none is kept ready: a caller
-    /// who finds none idle orders one and waits for it.
+    /// The default is None, which stands for `max_size`. With `Some(0)` none is kept ready: a
+    /// caller who finds none idle orders one and waits for it.
     ///
     /// It may not be above `max_size` when the pool is built. The test: `limits().is_some()` on the
     /// finished builder.
@@ -149,8 +149,8 @@ impl<H, V, Z> Builder<H, V, Z> {
         self
     }
 
-    /// Whether a connection is checked by `ManageConnection::check` each time before it is lent. The
-    /// default is true.
+    /// Whether a connection is checked by `ManageConnection::check` each time before it is lent.
+    /// The default is true.
     pub fn test_on_check_out(mut self, test_on_check_out: bool) -> Self
         ensures { result ≡ record self { test_on_check_out = test_on_check_out } }
     {

@@ -1,5 +1,6 @@
 // How a task comes to a connection.
-ghost use Rattle.std.specs.Prelude.{◌≡◌, ◌⊎◌, ℕ, None, Some, IsSome, IfSome, IsSomeAnd, IfOk, IfErr};
+ghost use Rattle.std.specs.Prelude.{◌≡◌, ◌⊎◌, ℕ, None, Some, IsSome, IfSome, IsSomeAnd, IfOk};
+ghost use Rattle.std.specs.Prelude.{IfErr};
 ghost use Rattle.futures.specs.Task.{Hears, IsArmed, Keeps};
 ghost use Rattle.futures.specs.Poll.{IfReady, OnPending};
 ghost use Rattle.r2d2.specs.Failures.{IsOfAGet};
@@ -82,9 +83,11 @@ impl<M: ManageConnection, T: Timer, K: Hooks<M>, R: AsyncRuntime> Get<M, T, K, R
         ensures sleeps { OnPending result (T.Sleep.can_poll self.new.sleep) }
         ensures closer { OnPending result (self.new.closer ≡ self.old.closer) }
         ensures checking { OnPending result (self.new.checking ≡ self.old.checking) }
-        ensures heard { OnPending result ((s : ℕ) → T.Sleep.needs self.new.sleep s → Hears cx.new s) }
+        ensures heard { OnPending result
+            ((s : ℕ) → T.Sleep.needs self.new.sleep s → Hears cx.new s) }
         ensures value { IfReady result (λ r. IfErr r IsOfAGet) }
-        ensures none { IfReady result (λ r. IfOk r (λ lent. Some lent.settings ≡ settings_of self.old.closer)) }
+        ensures settings { IfReady result
+            (λ r. IfOk r (λ lent. Some lent.settings ≡ settings_of self.old.closer)) }
         ensures kept { Keeps cx.old cx.new }
     {
         if self.sleep.poll(cx).is_pending() {

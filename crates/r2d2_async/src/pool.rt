@@ -34,10 +34,10 @@ pub struct State {
 /// A pool of connections for tasks. It is made by a `Builder`; a task of its own gets a pool over
 /// the same connections by `try_clone`.
 ///
-/// `M` opens connections, `T` wakes tasks when time has passed, `K` is told of errors and events and
-/// changes connections as they come and go (a `Handlers`), and `R` is the runtime. The pool closes
-/// when the last `Pool` over its state, the last pending `Get` and the last lent connection are
-/// dropped.
+/// `M` opens connections, `T` wakes tasks when time has passed, `K` is told of errors and events
+/// and changes connections as they come and go (a `Handlers`), and `R` is the runtime. The pool
+/// closes when the last `Pool` over its state, the last pending `Get` and the last lent connection
+/// are dropped.
 #[derive(Drop)]
 pub struct Pool<M: ManageConnection, T: Timer, K: Hooks<M>, R: AsyncRuntime> {
     pub(crate) closer: Arc<CloserOf<M, T, K, R>>,
@@ -201,15 +201,16 @@ impl<M: ManageConnection, T: Timer, K: Hooks<M>, R: AsyncRuntime> Pool<M, T, K, 
 
     /// Closes the pool now, though pools over it and lent connections are still there. What is idle
     /// is dropped, as by the last drop, and nothing is opened any more. Who waits in a `get`, or
-    /// begins one later, gets `ErrorKind::Closed`; `try_get` finds none. Lent connections are closed
-    /// as they come back, the workers end. A second close does nothing.
+    /// begins one later, gets `ErrorKind::Closed`; `try_get` finds none. Lent connections are
+    /// closed as they come back, the workers end. A second close does nothing.
     pub fn close(&self) {
         drop(self.shared().close());
     }
 
-    /// Closes the pool at once; the future waits until nothing is lent any more, until `timeout` has
-    /// passed since this call. Its error is the status past that, in which at least one connection
-    /// is lent. The error of this call is lack of memory; the pool is then closed all the same.
+    /// Closes the pool at once; the future waits until nothing is lent any more, until `timeout`
+    /// has passed since this call. Its error is the status past that, in which at least one
+    /// connection is lent. The error of this call is lack of memory; the pool is then closed all
+    /// the same.
     pub fn drain(&self, timeout: Duration) -> Result<Drain<M, T, K, R>, Error>
         ensures { IfOk result (λ drain. IfSome drain.sleep T.Sleep.can_poll) }
     {

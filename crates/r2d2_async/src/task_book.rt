@@ -1,6 +1,8 @@
 // What the lock of a pool guards: a book, the callers in line for what it lends, and what wakes
 // each of them.
-ghost use Rattle.std.specs.Prelude.{◌≡◌, ◌≢◌, ◌≤◌, ◌<◌, ◌↔◌, ℕ, [], length, true, false, None, IsSome, IsSomeAnd, IfSome, IfNone, IfOk, IsTrue, Some, vec_len, vec_capacity};
+ghost use Rattle.std.specs.Prelude.{◌≡◌, ◌≢◌, ◌≤◌, ◌<◌, ◌↔◌, ℕ, [], length, true, false, None};
+ghost use Rattle.std.specs.Prelude.{IsSome, IsSomeAnd, IfSome, IfNone, IfOk, IsTrue, Some, vec_len};
+ghost use Rattle.std.specs.Prelude.{vec_capacity};
 ghost use Rattle.futures.specs.Task.{Covers, Keeps};
 ghost use Rattle.futures.specs.Poll.{IfReady, OnPending};
 ghost use Rattle.r2d2.specs.Waiting.{told_at};
@@ -51,15 +53,17 @@ pub struct TaskBook<P> {
 impl<P: Drop> TaskBook<P> {
     ghost use Rattle.std.specs.Duration.{as_nanos};
     ghost use Rattle.std.specs.Prelude.{map};
-    ghost use Rattle.r2d2_core.specs.Seen.{seen_released};
+    ghost use Rattle.r2d2_core.specs.Seen.{seen_released, seen_returned, map_ok};
     ghost use Rattle.r2d2_core.specs.Reports.{IsSoundReport};
-    ghost use Rattle.r2d2_core.specs.BookSteps.{IsBegin, IsNumbering, IsReturn, IsReap, IsTelling, IsClose};
+    ghost use Rattle.r2d2_core.specs.BookSteps.{IsBegin, IsNumbering, IsReturn, IsReap, IsTelling};
+    ghost use Rattle.r2d2_core.specs.BookSteps.{IsClose};
     ghost use Rattle.r2d2.specs.declared.engine.Outcome.TheVariants as outcome;
-    ghost use Rattle.r2d2.specs.Settled.{IsSettling};
+    ghost use Rattle.r2d2.specs.Settled.{IsSettling, seen_settled, wakes_of_settled};
+    ghost use Rattle.r2d2.specs.Wakes.{wakes_of_return};
     ghost use Rattle.r2d2.specs.Status.{IsStatus};
     ghost use Rattle.r2d2.specs.Evicted.{is_to_close, evicted_of, after_eviction};
-    ghost use Rattle.r2d2.specs.Waiting.{before, left_by};
-    ghost use Rattle.r2d2_async.specs.Looks.{is_found, IsClosedLook};
+    ghost use Rattle.r2d2.specs.Waiting.{before, left_by, told_if, is_kept};
+    ghost use Rattle.r2d2_async.specs.Looks.{is_found, IsClosedLook, IsServed};
 
     /// A book for which nobody waits yet, with room for so many in line. The error is lack of
     /// memory: all that the line needs is taken here.
@@ -113,6 +117,8 @@ impl<P: Drop> TaskBook<P> {
     /// Takes an idle connection for a caller who does not wait: one that is not kept for those in
     /// line.
     pub fn try_take(&mut self, now: Duration) -> Option<(u64, P)>
+        ensures kept { IsTrue (is_kept self.old.guarded.book.book.picture
+            self.old.guarded.book.places) → result ≡ None }
         ensures line { self.new.guarded.book.places ≡ self.old.guarded.book.places }
     {
         let (taken, wakes) = self.guarded.book.lend(now, false, &mut ());
@@ -142,7 +148,13 @@ impl<P: Drop> TaskBook<P> {
         ensures turn { IfReady result (λ look. IsTrue (is_found look)
             → before place.old self.old.guarded.book.places
             < length self.old.guarded.book.book.picture.idle) }
-        ensures closed { IfReady result (IsClosedLook self.old.guarded.book.book.picture.on_order.closed) }
+        // And who is awake in an open pool and has its turn is served.
+        ensures served { IfSome place.old (λ slot. waker_at self.old.wakers slot ≡ None)
+            → self.old.guarded.book.book.picture.on_order.closed ≡ false
+            → before place.old self.old.guarded.book.places
+            < length self.old.guarded.book.book.picture.idle → IsServed result }
+        ensures closed { IfReady result
+            (IsClosedLook self.old.guarded.book.book.picture.on_order.closed) }
         // Who sleeps stands in an open pool's line, and was told nothing; it left its waker there.
         ensures sleeps { OnPending result (IsSomeAnd place.new
             (λ slot. told_at slot self.new.guarded.book.places ≡ false)) }
@@ -198,6 +210,9 @@ impl<P: Drop> TaskBook<P> {
         ensures step { IsReturn now id payload
             (is_to_close unfit outlived id self.old.guarded.evicted_below) result
             self.old.guarded.book.book self.new.guarded.book.book }
+        ensures told { self.new.guarded.book.places
+            ≡ told_if (wakes_of_return (map_ok seen_returned result)).caller
+            self.old.guarded.book.places }
     {
         let (returned, to_wake) = self.guarded.give_back(now, id, payload, unfit, outlived);
         wake(&mut self.wakers, &mut self.workers, to_wake);
@@ -227,6 +242,9 @@ impl<P: Drop> TaskBook<P> {
     pub fn settle(&mut self, now: Duration, outcome: Outcome<P>) -> Settled<P>
         ensures step { IsSettling now outcome result
             self.old.guarded.book.book self.new.guarded.book.book }
+        ensures told { self.new.guarded.book.places
+            ≡ told_if (wakes_of_settled (seen_settled result)).caller
+            self.old.guarded.book.places }
     {
         let (settled, to_wake) = self.guarded.book.settle(now, outcome);
         wake(&mut self.wakers, &mut self.workers, to_wake);
@@ -238,6 +256,9 @@ impl<P: Drop> TaskBook<P> {
     pub fn fail(&mut self, now: Duration, tries: u32, text: Option<String>) -> Settled<P>
         ensures step { IsSettling now (outcome.Failed tries text) result
             self.old.guarded.book.book self.new.guarded.book.book }
+        ensures told { self.new.guarded.book.places
+            ≡ told_if (wakes_of_settled (seen_settled result)).caller
+            self.old.guarded.book.places }
     {
         let (settled, to_wake) = self.guarded.fail(now, tries, text);
         wake(&mut self.wakers, &mut self.workers, to_wake);
@@ -255,6 +276,9 @@ impl<P: Drop> TaskBook<P> {
     ) -> Settled<P>
         ensures step { IsSettling now (outcome.Unsound id text) result
             self.old.guarded.book.book self.new.guarded.book.book }
+        ensures told { self.new.guarded.book.places
+            ≡ told_if (wakes_of_settled (seen_settled result)).caller
+            self.old.guarded.book.places }
     {
         let (settled, to_wake) = self.guarded.fail_check(now, id, text, distrusted_before);
         wake(&mut self.wakers, &mut self.workers, to_wake);
@@ -297,6 +321,7 @@ impl<P: Drop> TaskBook<P> {
             ≡ evicted_of (as_nanos now) self.old.guarded.book.book.picture }
         ensures after { self.new.guarded.book.book
             ≡ after_eviction (as_nanos now) self.old.guarded.book.book }
+        ensures line { self.new.guarded.book.places ≡ self.old.guarded.book.places }
     {
         self.guarded.evict(now, &mut (), evicted);
         // What was ordered in their place.
@@ -310,12 +335,13 @@ impl<P: Drop> TaskBook<P> {
         self.guarded.book.take_error()
     }
 
-    /// Closes the book, hands over what was idle, and wakes all who wait: no caller sleeps after it.
+    /// Closes the book, hands over what was idle, and wakes all who wait: after it no caller
+    /// sleeps.
     pub fn close(&mut self) -> Leftover<P>
         ensures step { IsClose result self.old.guarded.book.book self.new.guarded.book.book }
         ensures nobody { (slot : ℕ) → waker_at self.new.wakers slot ≡ None }
     {
-        clear_all(&mut self.wakers);
+        self.wakers.clear();
         self.workers.wake_all();
         let left = self.guarded.book.close();
         self.wake_drains();
@@ -442,15 +468,6 @@ fn clear_at(wakers: &mut Vec<Option<Waker>>, place: Option<u32>)
 {
     if let Some(slot) = place {
         clear(wakers, slot);
-    }
-}
-
-// Wakes all callers in line.
-fn clear_all(wakers: &mut Vec<Option<Waker>>)
-    ensures { (slot : ℕ) → waker_at wakers.new slot ≡ None }
-{
-    for waker in wakers.iter_mut() {
-        *waker = None;
     }
 }
 

@@ -73,8 +73,11 @@ impl<M: ManageConnection, T: Timer, K: Hooks<M>, R: AsyncRuntime> Work<M, T, K, 
 
     // Asks the book, and lies down under the same lock where there is nothing to do now.
     fn ask(&mut self, cx: &mut Context<'_>) -> Next
+        requires opening { self.old.opening ≡ None }
+        requires sleep { self.old.sleep ≡ None }
         ensures shared { self.new.shared ≡ self.old.shared }
-        ensures opening { self.new.opening ≡ self.old.opening }
+        ensures opening { self.new.opening ≡ None }
+        ensures sleep { self.new.sleep ≡ None }
         ensures idle { result ≡ Next.Idle → Covers cx.new (λ s. s ≡ orders_of self.new.shared) }
         ensures sleeps { (d : _) → result ≡ Next.Sleep d
             → Covers cx.new (λ s. s ≡ orders_of self.new.shared) }

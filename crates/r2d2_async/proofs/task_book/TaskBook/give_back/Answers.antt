@@ -6,7 +6,7 @@ pub invariant_of-self : goal.invariant_of-self
 invariant_of-self g c =
     let old = c.args.self.now in
     let step = c.give_back-returned in
-    let woken = c.wake in
     record {
-      awake = awake_after step.result.1.wakes.caller old.guarded.book.places _ _ old.wakers _ step.ensures.line step.ensures.told old.awake woken.ensures.told woken.ensures.others;
+      awake = awake_after step.result.1.wakes.caller old.guarded.book.places step.new.self.book.places step.result.1.told old.wakers c.wake.new.wakers
+          step.ensures.line step.ensures.told old.awake c.wake.ensures.told c.wake.ensures.others;
     }
