@@ -4,3 +4,4 @@ pub mod Evicting
 pub mod Waiting
 pub mod Lined
 pub mod Order
+pub mod Standing

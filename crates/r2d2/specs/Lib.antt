@@ -15,3 +15,4 @@ pub mod Room
 pub mod Waiting
 pub mod Lined
 pub mod Order
+pub mod Standing

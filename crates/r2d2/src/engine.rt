@@ -12,8 +12,8 @@ mod counted;
 mod evicting;
 
 pub use crate::payload::{Payload, open};
-pub use counted::{Counted, lend_counted};
-pub(crate) use counted::{CountingBook, LedgerCounter, TakeCounter, TakeTotal, Uncounted};
+pub use counted::{Counted, Uncounted, lend_counted};
+pub(crate) use counted::{CountingBook, LedgerCounter, TakeCounter, TakeTotal};
 use r2d2_core::{Book, Gone, Refusal, Released, Returned, Take};
 use std::alloc::Allocator;
 use std::time::Duration;

@@ -65,7 +65,7 @@ impl Model for Error {
 impl Error {
     /// No connection came in time; the text is the latest error's, if one is known. The call gave
     /// up after so long, while the pool showed this; both are left out where memory is refused.
-    pub(crate) fn timeout(
+    pub fn timeout(
         alloc: Global,
         message: Option<String>,
         status: Status,
@@ -100,7 +100,7 @@ impl Error {
     }
 
     /// Memory was refused.
-    pub(crate) fn memory() -> Error
+    pub fn memory() -> Error
         ensures kind { result.kind ≡ ErrorKind.Memory }
     {
         Error::at_once(ErrorKind::Memory)
@@ -114,14 +114,14 @@ impl Error {
     }
 
     /// The pool was closed.
-    pub(crate) fn closed() -> Error
+    pub fn closed() -> Error
         ensures kind { result.kind ≡ ErrorKind.Closed }
     {
         Error::at_once(ErrorKind::Closed)
     }
 
     /// As many callers wait as may.
-    pub(crate) fn full() -> Error
+    pub fn full() -> Error
         ensures kind { result.kind ≡ ErrorKind.Full }
     {
         Error::at_once(ErrorKind::Full)
@@ -202,7 +202,7 @@ impl fmt::Display for Error {
 impl std::error::Error for Error {}
 
 /// The text of a manager's or a customizer's error; None where memory for it is refused.
-pub(crate) fn text_of<E: fmt::Display, A: Allocator>(alloc: A, error: &E) -> Option<String<A>>
+pub fn text_of<E: fmt::Display, A: Allocator>(alloc: A, error: &E) -> Option<String<A>>
     ensures { IfSome result
         (λ text. IfSome (E.output error.now) (λ bytes. string_bytes text ≡ bytes)) }
 {

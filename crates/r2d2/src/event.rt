@@ -47,6 +47,13 @@ impl Model for AcquireEvent {
 }
 
 impl AcquireEvent {
+    /// The event of a connection that has this id.
+    pub fn of(id: u64) -> AcquireEvent
+        ensures { result.id ≡ id }
+    {
+        AcquireEvent { id }
+    }
+
     /// The connection's id, which no other connection of its pool has.
     pub fn connection_id(&self) -> u64
         ensures { result ≡ self.now.id }
@@ -93,8 +100,8 @@ impl Model for ReleaseEvent {
 }
 
 impl ReleaseEvent {
-    // Of the connection that is as old as this.
-    pub(crate) fn of(id: u64, age: Duration, reason: ReleaseReason) -> ReleaseEvent
+    /// The event of a connection that leaves at this age, for this reason.
+    pub fn of(id: u64, age: Duration, reason: ReleaseReason) -> ReleaseEvent
         ensures id { result.id ≡ id }
         ensures age { result.age ≡ age }
         ensures reason { result.reason ≡ reason }
@@ -141,8 +148,8 @@ impl Model for CheckoutEvent {
 }
 
 impl CheckoutEvent {
-    // Of the connection that was lent at `lent_at` to a call that began at `start`.
-    pub(crate) fn of(id: u64, start: Duration, lent_at: Duration) -> CheckoutEvent
+    /// The event of a connection that was lent at `lent_at` to a call that began at `start`.
+    pub fn of(id: u64, start: Duration, lent_at: Duration) -> CheckoutEvent
         ensures id { result.id ≡ id }
         ensures duration { as_nanos result.duration ≡ as_nanos lent_at - as_nanos start }
     {
@@ -182,6 +189,13 @@ impl Model for TimeoutEvent {
 }
 
 impl TimeoutEvent {
+    /// The event of a caller who would wait for so long.
+    pub fn of(timeout: Duration) -> TimeoutEvent
+        ensures { result.timeout ≡ timeout }
+    {
+        TimeoutEvent { timeout }
+    }
+
     /// How long the caller would wait.
     pub fn timeout(&self) -> Duration
         ensures { result ≡ self.now.timeout }
@@ -206,8 +220,8 @@ impl Model for CheckinEvent {
 }
 
 impl CheckinEvent {
-    // Of the connection that was lent at `lent_at` and came back at `now`.
-    pub(crate) fn of(id: u64, lent_at: Duration, now: Duration) -> CheckinEvent
+    /// The event of a connection that was lent at `lent_at` and came back at `now`.
+    pub fn of(id: u64, lent_at: Duration, now: Duration) -> CheckinEvent
         ensures id { result.id ≡ id }
         ensures duration { as_nanos result.duration ≡ as_nanos now - as_nanos lent_at }
     {

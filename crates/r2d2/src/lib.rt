@@ -34,6 +34,8 @@ mod error;
 pub mod event;
 mod extensions;
 mod hooks;
+#[doc(hidden)]
+pub mod internals;
 mod line;
 mod payload;
 mod pool;

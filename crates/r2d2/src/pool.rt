@@ -4,9 +4,14 @@ ghost use Rattle.std.specs.Arc.{arc_value};
 ghost use Rattle.r2d2_core.specs.Reports.{IsSoundReport};
 
 use self::closing::Closer;
+pub use self::evicting::has_room;
+pub use self::failures::Failures;
 use self::lent::AnyConnection;
+pub use self::lined_book::{LinedBook, Look, ToWake};
+pub use self::locking::Guarded;
 use self::locking::SharedOf;
 pub use self::state::{State, Status};
+pub use self::worker::reason_of_reap;
 use crate::config::{Builder, Config};
 use crate::engine::{LedgerCounter, TakeCounter, TakeTotal, Uncounted};
 use crate::event::{HandleEvent, NopEventHandler};

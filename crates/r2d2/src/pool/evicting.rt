@@ -56,7 +56,7 @@ impl<C: TakeTotal, M: ManageConnection, K: Hooks<M>, R: PoolRuntime> SharedOf<C,
 
 /// Whether a reap or an eviction can use the list. It has room from the making on; but of a locked
 /// book its type alone is known, so this asks.
-pub(super) fn has_room<P>(book: &Book<P>, expired: &Vec<Released<P>>) -> bool
+pub fn has_room<P>(book: &Book<P>, expired: &Vec<Released<P>>) -> bool
     ensures { IsTrue result ↔ HasRoom book.now.picture.on_order.limits.max_size expired.now }
 {
     expired.is_empty() && expired.capacity() >= book.limits().max_size() as usize

@@ -43,7 +43,7 @@ impl Failures {
     }
 
     /// Whether a failed check tells of a connection that is idle since this moment.
-    pub(super) fn tell_of(&self, idle_since: Duration) -> bool
+    pub fn tell_of(&self, idle_since: Duration) -> bool
         ensures { IsTrue result ↔ (as_nanos idle_since < as_nanos self.now.distrusted_before) }
     {
         idle_since.checked_sub(self.distrusted_before).is_none()

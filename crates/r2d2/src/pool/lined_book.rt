@@ -1,6 +1,6 @@
 // The book beside the line of those who wait for it: what is idle is kept for the first of them.
 ghost use Rattle.std.specs.Prelude.{◌≡◌, ℕ, ◌+◌, ◌*◌, ◌<◌, ◌≤◌, ◌↔◌, [], length, map, vec_len, vec_capacity};
-ghost use Rattle.std.specs.Prelude.{IsTrue, IfOk, None, false, true, List, ◌∷◌, option_map};
+ghost use Rattle.std.specs.Prelude.{IsTrue, IfOk, IfSome, None, false, true, List, ◌∷◌, option_map};
 ghost use Rattle.std.specs.Duration.{as_nanos};
 ghost use Rattle.r2d2_core.specs.Seen.{seen_take, Empty, seen_returned, seen_released, map_ok};
 ghost use Rattle.r2d2_core.specs.BookSteps.{IsTake, IsBegin, IsNumbering, IsReturn, IsReap};
@@ -10,15 +10,17 @@ ghost use Rattle.r2d2.specs.Wakes.{nobody, wakes_of_take, wakes_of_return, wakes
 ghost use Rattle.r2d2.specs.Settled.{seen_settled, wakes_of_settled, IsSettling};
 ghost use Rattle.r2d2.specs.Evicted.{evicted_of, after_eviction, IsEvicted};
 ghost use Rattle.r2d2.specs.Waiting.{waiting_in, before, stood_by, served, left_by, told_by};
-ghost use Rattle.r2d2.specs.Waiting.{told_if, slot_if, is_kept};
+ghost use Rattle.r2d2.specs.Waiting.{told_if, slot_if, is_kept, told_at};
 ghost use Rattle.r2d2.specs.Order.{Event, TookAtOnce, IsHistoryOf, IsPlaceIn, with_told, with_take};
 ghost use Rattle.r2d2.specs.Order.{with_wait, with_leave};
 
-use crate::engine::{CountingBook, LedgerCounter, Outcome, Settled, TakeCounter, TakeTotal, Wakes};
+use crate::engine::{
+    CountingBook, LedgerCounter, Outcome, Settled, TakeCounter, TakeTotal, Uncounted, Wakes,
+};
 use crate::line::queue::Line;
 use r2d2_core::machine::Leftover;
 use r2d2_core::{Book, Job, Refusal, Released, Report, Returned, Take};
-use std::alloc::AllocError;
+use std::alloc::{AllocError, Global};
 use std::marker::Model;
 use std::sync::ledger::{Ledger, Share};
 use std::time::Duration;
@@ -82,6 +84,22 @@ impl<P, C: TakeTotal> Model for LinedBook<P, C> {
     ghost invariant = { λ l. AreTold (length l.book.book.picture.idle) l.line.places.items };
 }
 
+impl<P: Drop> LinedBook<P, Uncounted> {
+    /// A book whose takes nothing counts, and a line with room for so many, in which nobody stands.
+    /// The error is lack of memory for the line.
+    pub fn plain(
+        alloc: Global,
+        book: Book<P>,
+        room: u32,
+    ) -> Result<LinedBook<P, Uncounted>, AllocError>
+        ensures book { IfOk result (λ lined. lined.book ≡ book) }
+        ensures line { IfOk result (λ lined. lined.places ≡ []) }
+    {
+        let line = Line::new(alloc, room)?;
+        Ok(LinedBook::new(CountingBook::plain(book), line))
+    }
+}
+
 impl<P, C: TakeTotal> LinedBook<P, C> {
     /// A book for which nobody waits yet.
     pub(super) fn new(book: CountingBook<P, C>, line: Line) -> LinedBook<P, C>
@@ -100,14 +118,14 @@ impl<P, C: TakeTotal> LinedBook<P, C> {
     }
 
     /// The book, to be read.
-    pub(super) fn book(&self) -> &Book<P>
+    pub fn book(&self) -> &Book<P>
         ensures value { result.now ≡ self.now.book }
     {
         self.book.book()
     }
 
     /// How many wait in line.
-    pub(super) fn in_line(&self) -> usize
+    pub fn in_line(&self) -> usize
         ensures { result ≡ waiting_in self.now.places }
     {
         self.line.waiting()
@@ -116,7 +134,7 @@ impl<P, C: TakeTotal> LinedBook<P, C> {
     /// As `CountingBook::give_back`. Where a caller is to be woken, the first in line that was told
     /// nothing is told.
     #[inline(always)]
-    pub(super) fn give_back(
+    pub fn give_back(
         &mut self,
         now: Duration,
         id: u64,
@@ -138,7 +156,7 @@ impl<P, C: TakeTotal> LinedBook<P, C> {
     }
 
     /// As `CountingBook::settle`, and tells as `give_back`.
-    pub(super) fn settle(&mut self, now: Duration, outcome: Outcome<P>) -> (Settled<P>, ToWake)
+    pub fn settle(&mut self, now: Duration, outcome: Outcome<P>) -> (Settled<P>, ToWake)
         ensures step { IsSettling now outcome result.0 self.old.book self.new.book }
         ensures wakes { result.1.wakes ≡ wakes_of_settled (seen_settled result.0) }
         ensures told { result.1.told ≡ slot_if result.1.wakes.caller self.old.places }
@@ -154,7 +172,7 @@ impl<P, C: TakeTotal> LinedBook<P, C> {
     }
 
     /// As `CountingBook::sweep`, and tells as `give_back`.
-    pub(super) fn sweep(&mut self, now: Duration, out: &mut Vec<Released<P>>) -> (u32, ToWake)
+    pub fn sweep(&mut self, now: Duration, out: &mut Vec<Released<P>>) -> (u32, ToWake)
         requires empty { vec_len out.old ≡ 0 }
         requires room { self.old.book.picture.on_order.limits.max_size ≤ vec_capacity out.old }
         ensures step { IsReap now out.new.items result.0 self.old.book self.new.book }
@@ -172,7 +190,7 @@ impl<P, C: TakeTotal> LinedBook<P, C> {
     }
 
     /// As `Book::begin`.
-    pub(super) fn begin(&mut self, now: Duration) -> Job
+    pub fn begin(&mut self, now: Duration) -> Job
         ensures step { IsBegin now result self.old.book self.new.book }
         ensures line { self.new.places ≡ self.old.places }
         ensures total { self.new.total ≡ self.old.total }
@@ -182,7 +200,7 @@ impl<P, C: TakeTotal> LinedBook<P, C> {
     }
 
     /// As `Book::number`.
-    pub(super) fn number(&mut self, tries: u32) -> Result<u64, Refusal>
+    pub fn number(&mut self, tries: u32) -> Result<u64, Refusal>
         ensures step { IsNumbering tries result self.old.book self.new.book }
         ensures line { self.new.places ≡ self.old.places }
         ensures total { self.new.total ≡ self.old.total }
@@ -192,7 +210,7 @@ impl<P, C: TakeTotal> LinedBook<P, C> {
     }
 
     /// As `Book::take_error`.
-    pub(super) fn take_error(&mut self) -> Option<String>
+    pub fn take_error(&mut self) -> Option<String>
         ensures step { IsTelling result self.old.book self.new.book }
         ensures line { self.new.places ≡ self.old.places }
         ensures total { self.new.total ≡ self.old.total }
@@ -202,7 +220,7 @@ impl<P, C: TakeTotal> LinedBook<P, C> {
     }
 
     /// As `Book::close`.
-    pub(super) fn close(&mut self) -> Leftover<P>
+    pub fn close(&mut self) -> Leftover<P>
         ensures step { IsClose result self.old.book self.new.book }
         ensures line { self.new.places ≡ self.old.places }
         ensures total { self.new.total ≡ self.old.total }
@@ -212,7 +230,7 @@ impl<P, C: TakeTotal> LinedBook<P, C> {
     }
 
     /// As `Book::report`.
-    pub(super) fn report(&self) -> Result<Report, AllocError>
+    pub fn report(&self) -> Result<Report, AllocError>
         ensures given { IfOk result (λ report. IsReportOf self.now.book report) }
         ensures sound { IfOk result IsSoundReport }
     {
@@ -251,6 +269,7 @@ impl<P, C: TakeTotal> LinedBook<P, C> {
         ensures history { (h : List Event) → IsHistoryOf h self.old.places
             → IsPlaceIn h place.old
             → IsHistoryOf (with_wait place.old place.new h) self.new.places }
+        ensures quiet { IfSome result (λ slot. told_at slot self.new.places ≡ false) }
     {
         let Some(slot) = *place else {
             let joined = self.line.join();
@@ -278,7 +297,7 @@ impl<P, C: TakeTotal> LinedBook<P, C> {
     }
 
     /// The caller leaves the line. Where it was told to look, the next one is.
-    pub(super) fn leave(&mut self, place: &mut Option<u32>) -> ToWake
+    pub fn leave(&mut self, place: &mut Option<u32>) -> ToWake
         ensures line { self.new.places ≡ left_by place.old self.old.places }
         ensures told { result.told ≡ told_by place.old self.old.places }
         ensures history { (h : List Event) → IsHistoryOf h self.old.places
@@ -322,12 +341,7 @@ impl<P, C: TakeCounter> LinedBook<P, C> {
     /// As `CountingBook::lend`, for one that does not stand in line: what is idle is kept for those
     /// who do.
     #[inline(always)]
-    pub(super) fn lend(
-        &mut self,
-        now: Duration,
-        or_order: bool,
-        tally: &mut C::Tally,
-    ) -> (Take<P>, Wakes)
+    pub fn lend(&mut self, now: Duration, or_order: bool, tally: &mut C::Tally) -> (Take<P>, Wakes)
         requires { 0 < C.parts tally.old }
         ensures parts { C.parts tally.new ≡ C.parts tally.old }
         ensures amount { C.amount tally.new
@@ -383,10 +397,11 @@ impl<P: Drop, C: TakeCounter> LinedBook<P, C> {
     ghost use Rattle.r2d2_core.specs.Connections.{pair_of};
     ghost use Rattle.r2d2_core.specs.Table.{next_of};
     ghost use Rattle.r2d2.specs.Evicted.{book_taken};
+    ghost use Rattle.r2d2.specs.Standing.{StandsUntold};
 
     /// A caller that may wait looks: it takes where it has its turn, and keeps its place then where
     /// it asks for that. Else it stands in line and orders one, unless there is no room.
-    pub(super) fn look(
+    pub fn look(
         &mut self,
         now: Duration,
         place: &mut Option<u32>,
@@ -414,6 +429,7 @@ impl<P: Drop, C: TakeCounter> LinedBook<P, C> {
             → IsPlaceIn h place.old → IsHistoryOf (with_told result.1.told
             (with_look (is_found result.0) keeps_place place.old place.new
             (length self.old.book.picture.idle) h)) self.new.places }
+        ensures untold { StandsUntold result.0 place.new self.new.places }
     {
         if !self.has_turn(*place) {
             return match self.stand(place) {
@@ -499,7 +515,7 @@ impl<P: Drop, C: TakeCounter> LinedBook<P, C> {
     }
 
     /// As `CountingBook::evict`. It tells nobody: who evicts wakes all.
-    pub(super) fn evict(&mut self, now: Duration, tally: &mut C::Tally, out: &mut Vec<Released<P>>)
+    pub fn evict(&mut self, now: Duration, tally: &mut C::Tally, out: &mut Vec<Released<P>>)
         requires parts { 0 < C.parts tally.old }
         requires empty { vec_len out.old ≡ 0 }
         requires room { self.old.book.picture.on_order.limits.max_size ≤ vec_capacity out.old }

@@ -35,8 +35,8 @@ pub struct Guarded<B> {
     waiting: u64,
     /// The least id that no eviction has reached: those below it are closed as they come back.
     evicted_below: u64,
-    pub(super) book: B,
-    pub(super) failures: Failures,
+    pub book: B,
+    pub failures: Failures,
 }
 
 impl<B> Guarded<B> {
@@ -45,7 +45,7 @@ impl<B> Guarded<B> {
     ghost use Rattle.r2d2.specs.Evicted.{is_evicted};
 
     /// A book for which nobody waits yet, and of which nothing was evicted.
-    pub(super) fn new(book: B) -> Guarded<B>
+    pub fn new(book: B) -> Guarded<B>
         ensures book { result.book ≡ book }
         ensures waiting { result.waiting ≡ 0 }
         ensures evicted { result.evicted_below ≡ 0 }
@@ -103,7 +103,7 @@ impl<P, C: TakeTotal> Guarded<LinedBook<P, C>> {
     ghost use Rattle.r2d2.specs.Status.{IsStatus, all_who_wait, is_all_lent, is_full};
 
     /// The counts, with those of the callers who wait.
-    pub(super) fn status(&self) -> Status
+    pub fn status(&self) -> Status
         ensures sums { IsStatus result }
         ensures max_size { result.max_size ≡ self.now.book.book.picture.on_order.limits.max_size }
         ensures wanted { result.wanted ≡ wanted_of self.now.book.book.picture.on_order.limits }
@@ -121,7 +121,7 @@ impl<P, C: TakeTotal> Guarded<LinedBook<P, C>> {
 
     /// Whether the lent connection with this id has outlived its own lifetime, where lifetimes
     /// differ.
-    pub(super) fn is_outlived(
+    pub fn is_outlived(
         &self,
         tuning: &Tuning,
         made_at: Option<SystemTime>,
@@ -189,7 +189,7 @@ impl<P, C: TakeTotal> Guarded<LinedBook<P, C>> {
 
     /// Why a connection is closed, if it is, that comes back now and is unfit for this reason or
     /// for none.
-    pub(super) fn reason_of_return(&self, id: u64, unfit: Option<ReleaseReason>) -> ReleaseReason
+    pub fn reason_of_return(&self, id: u64, unfit: Option<ReleaseReason>) -> ReleaseReason
         ensures { result ≡ reason_of_return unfit (is_evicted id self.now.evicted_below)
             self.now.book.book.picture.on_order.closed }
     {
@@ -204,7 +204,7 @@ impl<P, C: TakeTotal> Guarded<LinedBook<P, C>> {
     /// Puts a lent connection back. One that is unfit, has outlived its own lifetime, or was opened
     /// before the latest eviction is closed, as a broken one is.
     #[inline(always)]
-    pub(super) fn give_back(
+    pub fn give_back(
         &mut self,
         now: Duration,
         id: u64,
@@ -228,12 +228,7 @@ impl<P, C: TakeTotal> Guarded<LinedBook<P, C>> {
     }
 
     /// Tells the book of an opening that failed.
-    pub(super) fn fail(
-        &mut self,
-        now: Duration,
-        tries: u32,
-        text: Option<String>,
-    ) -> (Settled<P>, ToWake)
+    pub fn fail(&mut self, now: Duration, tries: u32, text: Option<String>) -> (Settled<P>, ToWake)
         ensures step { IsSettling now (outcome.Failed tries text) result.0 self.old.book.book
             self.new.book.book }
         ensures wakes { result.1.wakes ≡ wakes_of_settled (seen_settled result.0) }
@@ -250,7 +245,7 @@ impl<P, C: TakeTotal> Guarded<LinedBook<P, C>> {
 
     /// Tells the book of a check that failed. What was idle before this moment is distrusted from
     /// now on.
-    pub(super) fn fail_check(
+    pub fn fail_check(
         &mut self,
         now: Duration,
         id: u64,
@@ -279,12 +274,7 @@ impl<P: Drop, C: TakeCounter> Guarded<LinedBook<P, C>> {
 
     /// Closes all that is idle, into the list, and has what is lent closed as it comes back. What
     /// is opened from now on stays.
-    pub(super) fn evict(
-        &mut self,
-        now: Duration,
-        tally: &mut C::Tally,
-        evicted: &mut Vec<Released<P>>,
-    )
+    pub fn evict(&mut self, now: Duration, tally: &mut C::Tally, evicted: &mut Vec<Released<P>>)
         requires parts { 0 < C.parts tally.old }
         requires empty { vec_len evicted.old ≡ 0 }
         requires room { self.old.book.book.picture.on_order.limits.max_size

@@ -3,6 +3,7 @@ use Rattle.r2d2.specs.declared.line.place.Place.{Place}
 use Rattle.r2d2.specs.Waiting.{AreTold}
 use Rattle.r2d2.specs.Waiting.{before}
 use Rattle.r2d2.proofs.Waiting.{kept_joined, kept_quiet}
+use Rattle.r2d2.proofs.Standing.{join_untold, told_at-quiet}
 use Rattle.r2d2.proofs.pool.lined_book.LinedBook.stand.Goals as goal
 
 pub invariant_of-self : goal.invariant_of-self
@@ -20,3 +21,10 @@ invariant_of-self-2 g c =
     let none = subst (λ v. length v.book.picture.idle ≤ before c.args.place.now v.places) (sym c.self.view_is) c.requires in
     let P : List Place → Type 0 = λ qs. AreTold idle qs in
     subst P (sym c.wait_on.ensures.places) (kept_quiet idle c.in-Some.slot ps (subst (λ o. idle ≤ before o ps) c.in-Some.is none) c.self.invariant)
+
+pub returns-in_default-clause-quiet : goal.returns-in_default-clause-quiet
+returns-in_default-clause-quiet g c =
+    join_untold c.join-joined.result c.self.inside.line.places.items c.join-joined.new.self.places.items c.join-joined.ensures.joined c.join-joined.ensures.fresh
+
+pub returns-clause-quiet : goal.returns-clause-quiet
+returns-clause-quiet g c = ap (told_at c.in-Some.slot) c.wait_on.ensures.places ∙ told_at-quiet c.in-Some.slot c.self.inside.line.places.items

@@ -1,0 +1,4 @@
+pub mod Wakers
+pub mod Looks
+pub mod Sources
+pub mod Settings

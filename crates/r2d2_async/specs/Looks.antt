@@ -1,0 +1,24 @@
+-- What a caller comes to.
+use Rattle.std.specs.Prelude.{◌≡◌, Bool, true, false}
+use Rattle.futures.specs.declared.task.Poll.{Poll}
+use Rattle.futures.specs.declared.task.Poll.TheVariants.{Ready, Pending}
+use Rattle.r2d2_async.specs.declared.task_book.Looked.{Looked}
+use Rattle.r2d2_async.specs.declared.task_book.Looked.TheVariants as look
+
+module _ {T : Type 0} where
+  -- it is lent a connection
+  abbrev pub is_found : Looked T → Bool
+  is_found (look.Found id payload idle_since) = true
+  is_found look.Closed = false
+  is_found look.Full = false
+
+  -- it is sent off exactly where the pool is closed
+  abbrev pub IsClosedLook : Bool → Looked T → Type 0
+  IsClosedLook closed (look.Found id payload idle_since) = closed ≡ false
+  IsClosedLook closed look.Closed = closed ≡ true
+  IsClosedLook closed look.Full = closed ≡ false
+
+  -- the poll ended, with a connection
+  abbrev pub IsServed : Poll (Looked T) → Type 0
+  IsServed (Ready l) = is_found l ≡ true
+  IsServed Pending = ⊥

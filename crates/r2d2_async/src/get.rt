@@ -1,0 +1,374 @@
+// How a task comes to a connection.
+ghost use Rattle.std.specs.Prelude.{◌≡◌, ◌⊎◌, ℕ, None, Some, IsSome, IfSome, IsSomeAnd, IfOk};
+ghost use Rattle.std.specs.Prelude.{IfErr};
+ghost use Rattle.futures.specs.Task.{Hears, IsArmed, Keeps};
+ghost use Rattle.futures.specs.Poll.{IfReady, OnPending};
+ghost use Rattle.r2d2.specs.Failures.{IsOfAGet};
+ghost use Rattle.r2d2_async.specs.Sources.{told_of, settings_of};
+
+use crate::hooks::Hooks;
+use crate::lent::PooledConnection;
+use crate::shared::{CloserOf, PayloadOf, SharedOf};
+use crate::task_book::Looked;
+use crate::{AsyncRuntime, ManageConnection, Timer};
+use futures::spin::lock;
+use futures::task::{Context, Poll};
+use futures::{Future, ready};
+use r2d2::engine::Payload;
+use r2d2::event::ReleaseReason;
+use r2d2::internals::text_of;
+use r2d2::{Error, Extension, Extensions};
+use std::sync::Arc;
+use std::time::Duration;
+
+// A connection that is checked.
+#[derive(Drop)]
+struct Checking<X: Extension, K> {
+    id: u64,
+    extensions: Extensions<X>,
+    idle_since: Option<Duration>,
+    check: K,
+}
+
+// A connection that is to be lent.
+#[derive(Drop)]
+struct Found<P> {
+    id: u64,
+    payload: P,
+    // The moment of the take, where nobody has to know a later one.
+    taken_at: Option<Duration>,
+}
+
+type CheckingOf<M> = Checking<<M as ManageConnection>::Extension, <M as ManageConnection>::Check>;
+
+type Output<M, T, K, R> = Result<PooledConnection<M, T, K, R>, Error>;
+
+/// The future of `Pool::get`: the connection, or why there is none.
+///
+/// It may be dropped at any time, and nothing is lost: it leaves the line, and where it was told to
+/// look the next caller is; a connection under check is closed, and told as one whose check failed.
+pub struct Get<M: ManageConnection, T: Timer, K: Hooks<M>, R: AsyncRuntime> {
+    // Moves to what is lent; None once it was ready.
+    closer: Option<Arc<CloserOf<M, T, K, R>>>,
+    // The slot in line, where it stands there.
+    place: Option<u32>,
+    checking: Option<CheckingOf<M>>,
+    sleep: T::Sleep,
+    timeout: Duration,
+    // When it first looked.
+    start: Option<Duration>,
+}
+
+impl<M: ManageConnection, T: Timer, K: Hooks<M>, R: AsyncRuntime> Get<M, T, K, R> {
+    pub(crate) fn new(closer: Arc<CloserOf<M, T, K, R>>, timeout: Duration) -> Get<M, T, K, R>
+        ensures closer { result.closer ≡ Some closer }
+        ensures checking { result.checking ≡ None }
+        ensures sleeps { T.Sleep.can_poll result.sleep }
+    {
+        let sleep = closer.shared.timer.sleep(timeout);
+        Get {
+            closer: Some(closer),
+            place: None,
+            checking: None,
+            sleep,
+            timeout,
+            start: None,
+        }
+    }
+
+    // It is pending at its own sources; so it waits for the time to run out too.
+    fn poll_sleep(&mut self, cx: &mut Context<'_>) -> Poll<Output<M, T, K, R>>
+        requires closer { IsSome self.old.closer }
+        requires sleeps { T.Sleep.can_poll self.old.sleep }
+        ensures sleeps { OnPending result (T.Sleep.can_poll self.new.sleep) }
+        ensures closer { OnPending result (self.new.closer ≡ self.old.closer) }
+        ensures checking { OnPending result (self.new.checking ≡ self.old.checking) }
+        ensures heard { OnPending result
+            ((s : ℕ) → T.Sleep.needs self.new.sleep s → Hears cx.new s) }
+        ensures value { IfReady result (λ r. IfErr r IsOfAGet) }
+        ensures settings { IfReady result
+            (λ r. IfOk r (λ lent. Some lent.settings ≡ settings_of self.old.closer)) }
+        ensures kept { Keeps cx.old cx.new }
+    {
+        if self.sleep.poll(cx).is_pending() {
+            return Poll::Pending;
+        }
+        let checking = self.checking.take();
+        let closer = self.closer.take().unwrap();
+        abandon::<M, T, K, R>(&closer.shared, &mut self.place, checking);
+        Poll::Ready(Err(give_up::<M, T, K, R>(&closer.shared, self.timeout, self.start)))
+    }
+
+    // One poll of a check, if there is one: what to lend. None where it has to look.
+    fn poll_check(&mut self, cx: &mut Context<'_>) -> Poll<Option<Found<PayloadOf<M>>>>
+        requires checks { IfSome self.old.checking (λ c. M.Check.can_poll c.check) }
+        ensures checks { IfSome self.new.checking (λ c. M.Check.can_poll c.check) }
+        ensures sleep { self.new.sleep ≡ self.old.sleep }
+        ensures closer { self.new.closer ≡ self.old.closer }
+        ensures ready { IfReady result (λ _. self.new.checking ≡ None) }
+        ensures pending { OnPending result (IsSome self.new.checking) }
+        ensures heard { OnPending result (IsArmed cx.new
+            × IfSome self.new.checking (λ c. (s : ℕ) → M.Check.needs c.check s → Hears cx.new s)) }
+        ensures kept { Keeps cx.old cx.new }
+    {
+        let Some(
+            Checking {
+                id,
+                extensions,
+                idle_since,
+                mut check,
+            },
+        ) = self.checking.take()
+        else {
+            return Poll::Ready(None);
+        };
+        let (connection, answer) = match check.poll(cx) {
+            Poll::Ready(checked) => checked,
+            Poll::Pending => {
+                self.checking = Some(Checking {
+                    id,
+                    extensions,
+                    idle_since,
+                    check,
+                });
+                return Poll::Pending;
+            }
+        };
+        match (answer, &self.closer) {
+            (Ok(()), _) => Poll::Ready(Some(Found {
+                id,
+                payload: Payload {
+                    connection,
+                    extensions,
+                },
+                taken_at: None,
+            })),
+            (Err(error), Some(closer)) => {
+                close_unsound::<M, T, K, R>(&closer.shared, id, connection, error, idle_since);
+                Poll::Ready(None)
+            }
+            (Err(_), None) => Poll::Ready(None),
+        }
+    }
+
+    // One look for a connection: what to lend. None where it is to be checked first, or where it
+    // has to look again.
+    fn poll_line(
+        &mut self,
+        cx: &mut Context<'_>,
+    ) -> Poll<Result<Option<Found<PayloadOf<M>>>, Error>>
+        requires closer { IsSome self.old.closer }
+        requires checking { self.old.checking ≡ None }
+        ensures checks { IfSome self.new.checking (λ c. M.Check.can_poll c.check) }
+        ensures sleep { self.new.sleep ≡ self.old.sleep }
+        ensures closer { self.new.closer ≡ self.old.closer }
+        ensures pending { OnPending result (self.new.checking ≡ None) }
+        ensures refused { IfReady result (λ r. IfErr r IsOfAGet) }
+        ensures heard { OnPending result (IsArmed cx.new
+            × IfSome self.new.closer (λ closer. Hears cx.new (told_of closer))) }
+        ensures kept { Keeps cx.old cx.new }
+    {
+        let closer = self.closer.as_ref().unwrap();
+        let shared = &closer.shared;
+        let keeps_place = shared.config.test_on_check_out || shared.tuning.distrust_idle;
+        let (polled, now) = match lock(&shared.tasks) {
+            Some(mut tasks) => {
+                let now = shared.moment();
+                let polled = tasks.poll_look(now, cx, &shared.told, &mut self.place, keeps_place);
+                (polled, now)
+            }
+            None => return cx.yield_now(),
+        };
+        if self.start.is_none() {
+            self.start = Some(now);
+        }
+        let (id, payload, idle_since) = match ready!(polled) {
+            Looked::Closed => return Poll::Ready(Err(Error::closed())),
+            Looked::Full => return Poll::Ready(Err(Error::full())),
+            Looked::Found {
+                id,
+                payload,
+                idle_since,
+            } => (id, payload, idle_since),
+        };
+        if shared.tuning.distrust_idle && shared.is_distrusted(idle_since) {
+            shared.put_back(id, payload, Some(ReleaseReason::Distrusted));
+            return Poll::Ready(Ok(None));
+        }
+        if !shared.config.test_on_check_out || !shared.tuning.is_check_due(idle_since, now) {
+            return Poll::Ready(Ok(Some(Found {
+                id,
+                payload,
+                taken_at: Some(now),
+            })));
+        }
+        let Payload {
+            connection,
+            extensions,
+        } = payload;
+        let check = shared.manager.check(connection);
+        self.checking = Some(Checking {
+            id,
+            extensions,
+            idle_since,
+            check,
+        });
+        Poll::Ready(Ok(None))
+    }
+
+    // One look, and one poll of the check: what to lend.
+    fn poll_lent(&mut self, cx: &mut Context<'_>) -> Poll<Result<Found<PayloadOf<M>>, Error>>
+        requires closer { IsSome self.old.closer }
+        requires checks { IfSome self.old.checking (λ c. M.Check.can_poll c.check) }
+        ensures checks { IfSome self.new.checking (λ c. M.Check.can_poll c.check) }
+        ensures sleep { self.new.sleep ≡ self.old.sleep }
+        ensures closer { self.new.closer ≡ self.old.closer }
+        ensures refused { IfReady result (λ r. IfErr r IsOfAGet) }
+        ensures armed { OnPending result (IsArmed cx.new) }
+        ensures line { OnPending result (self.new.checking ≡ None
+            → IfSome self.new.closer (λ closer. Hears cx.new (told_of closer))) }
+        ensures check { OnPending result (IfSome self.new.checking
+            (λ c. (s : ℕ) → M.Check.needs c.check s → Hears cx.new s)) }
+        ensures kept { Keeps cx.old cx.new }
+    {
+        if let Some(found) = ready!(self.poll_check(cx)) {
+            return Poll::Ready(Ok(found));
+        }
+        match ready!(self.poll_line(cx)) {
+            Ok(Some(found)) => return Poll::Ready(Ok(found)),
+            Ok(None) => {}
+            Err(error) => return Poll::Ready(Err(error)),
+        }
+        match ready!(self.poll_check(cx)) {
+            Some(found) => Poll::Ready(Ok(found)),
+            // It was unsound. Other tasks come first.
+            None => cx.yield_now(),
+        }
+    }
+
+    // Lends what it has, and leaves the line.
+    fn lend(&mut self, found: Found<PayloadOf<M>>) -> Output<M, T, K, R>
+        requires closer { IsSome self.old.closer }
+        ensures settings { IfOk result (λ lent. Some lent.settings ≡ settings_of self.old.closer) }
+        ensures refused { IfErr result IsOfAGet }
+    {
+        let closer = self.closer.take().unwrap();
+        let Found {
+            id,
+            payload,
+            taken_at,
+        } = found;
+        let shared = &closer.shared;
+        shared.leave_line(&mut self.place);
+        let lent_at = match taken_at {
+            Some(moment) if !shared.listens => moment,
+            _ => shared.moment(),
+        };
+        if shared.listens {
+            let start = self.start.unwrap_or(lent_at);
+            shared.hooks.check_out(id, start, lent_at);
+        }
+        Ok(PooledConnection {
+            closer,
+            id,
+            lent_at,
+            payload,
+        })
+    }
+}
+
+// Leaves the line, and gives up a check: its connection goes with it.
+fn abandon<M: ManageConnection, T: Timer, K: Hooks<M>, R: AsyncRuntime>(
+    shared: &SharedOf<M, T, K, R>,
+    place: &mut Option<u32>,
+    checking: Option<CheckingOf<M>>,
+) {
+    if let Some(checking) = checking {
+        let Checking { id, check, .. } = checking;
+        drop(check);
+        if let Some(gone) = shared.fail_check(id, None, Duration::ZERO) {
+            shared.hooks.gone(id, gone.age, ReleaseReason::CheckFailed);
+        }
+    }
+    shared.leave_line(place);
+}
+
+// Tells of a call whose time ran out, and answers its error.
+fn give_up<M: ManageConnection, T: Timer, K: Hooks<M>, R: AsyncRuntime>(
+    shared: &SharedOf<M, T, K, R>,
+    timeout: Duration,
+    start: Option<Duration>,
+) -> Error
+    ensures { IsOfAGet result }
+{
+    let now = shared.moment();
+    let waited = now.saturating_sub(start.unwrap_or(now));
+    let status = shared.status();
+    let message = shared.take_error();
+    shared.hooks.timeout(timeout);
+    Error::timeout(shared.rt.alloc(), message, status, waited)
+}
+
+// Closes a connection whose check failed, and that was idle since this moment.
+fn close_unsound<M: ManageConnection, T: Timer, K: Hooks<M>, R: AsyncRuntime>(
+    shared: &SharedOf<M, T, K, R>,
+    id: u64,
+    connection: M::Connection,
+    error: M::Error,
+    idle_since: Option<Duration>,
+) {
+    let text = text_of(shared.rt.alloc(), &error);
+    shared.hooks.error(error);
+    let distrusted_before = match idle_since {
+        Some(since) if shared.tuning.distrust_idle => since,
+        _ => Duration::ZERO,
+    };
+    if let Some(gone) = shared.fail_check(id, text, distrusted_before) {
+        let reason = ReleaseReason::CheckFailed;
+        shared.hooks.release(id, gone.age, reason, connection);
+    }
+}
+
+impl<M: ManageConnection, T: Timer, K: Hooks<M>, R: AsyncRuntime> Future for Get<M, T, K, R> {
+    type Output = Result<PooledConnection<M, T, K, R>, Error>;
+
+    // It has not ended yet.
+    ghost can_poll = { λ g. IsSome g.closer × (T.Sleep.can_poll g.sleep
+        × IfSome g.checking (λ c. M.Check.can_poll c.check)) };
+
+    // In line, that it is told to look; else what its check waits for; and its time.
+    ghost needs = { λ g s. ((g.checking ≡ None)
+        × IsSomeAnd g.closer (λ closer. s ≡ told_of closer))
+        ⊎ (IsSomeAnd g.checking (λ c. M.Check.needs c.check s) ⊎ T.Sleep.needs g.sleep s) };
+
+    // A connection of a pool with the same settings; or an error of a `get`.
+    ghost gives = { λ g r. IfOk r (λ lent. Some lent.settings ≡ settings_of g.closer)
+        × IfErr r IsOfAGet };
+
+    fn poll(&mut self, cx: &mut Context<'_>) -> Poll<Output<M, T, K, R>> {
+        match self.poll_lent(cx) {
+            Poll::Pending => self.poll_sleep(cx),
+            Poll::Ready(Ok(found)) => Poll::Ready(self.lend(found)),
+            Poll::Ready(Err(error)) => {
+                self.closer = None;
+                Poll::Ready(Err(error))
+            }
+        }
+    }
+}
+
+impl<M: ManageConnection, T: Timer, K: Hooks<M>, R: AsyncRuntime> Drop for Get<M, T, K, R> {
+    fn drop(self) {
+        let Get {
+            closer,
+            mut place,
+            checking,
+            sleep: _,
+            timeout: _,
+            start: _,
+        } = self;
+        if let Some(closer) = closer {
+            abandon::<M, T, K, R>(&closer.shared, &mut place, checking);
+        }
+    }
+}

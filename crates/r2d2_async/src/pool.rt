@@ -1,0 +1,230 @@
+// The pool's calls.
+ghost use Rattle.std.specs.Prelude.{◌≡◌, ◌≤◌, None, Some, IsSome, IfSome, IfOk, IfErr};
+ghost use Rattle.r2d2_core.specs.Reports.{IsSoundReport};
+ghost use Rattle.r2d2.specs.Failures.{IsOfMemory, IsOfAGet};
+ghost use Rattle.r2d2.specs.Status.{IsStatus};
+
+use crate::config::Config;
+use crate::drain::Drain;
+use crate::get::Get;
+use crate::hooks::Hooks;
+use crate::lent::PooledConnection;
+use crate::shared::{CloserOf, PayloadOf, SharedOf};
+use crate::work::Work;
+use crate::{AsyncRuntime, ManageConnection, Timer};
+use futures::spin::lock;
+use r2d2::event::ReleaseReason;
+use r2d2::internals::has_room;
+use r2d2::{Error, Status};
+use r2d2_core::{Released, Report};
+use std::marker::Model;
+use std::sync::Arc;
+use std::time::{Duration, SystemTime};
+
+/// How many connections a pool has at one moment.
+#[derive(Clone, Copy, PartialEq, Eq, Debug)]
+pub struct State {
+    /// How many connections there are, idle and lent ones together. Those that are being opened are
+    /// not among them.
+    pub connections: u32,
+    /// How many of them are idle.
+    pub idle_connections: u32,
+}
+
+/// A pool of connections for tasks. It is made by a `Builder`; a task of its own gets a pool over
+/// the same connections by `try_clone`.
+///
+/// `M` opens connections, `T` wakes tasks when time has passed, `K` is told of errors and events
+/// and changes connections as they come and go (a `Handlers`), and `R` is the runtime. The pool
+/// closes when the last `Pool` over its state, the last pending `Get` and the last lent connection
+/// are dropped.
+#[derive(Drop)]
+pub struct Pool<M: ManageConnection, T: Timer, K: Hooks<M>, R: AsyncRuntime> {
+    pub(crate) closer: Arc<CloserOf<M, T, K, R>>,
+}
+
+// Contracts see a pool as its settings: what its lock holds, other tasks change.
+impl<M: ManageConnection, T: Timer, K: Hooks<M>, R: AsyncRuntime> Model for Pool<M, T, K, R> {
+    ghost use Rattle.std.specs.Arc.{arc_value};
+    ghost use Rattle.r2d2_async.specs.declared.config.Config.{Config};
+
+    ghost Value = { Config };
+
+    ghost view = { λ p. (arc_value (arc_value p.closer).shared).config };
+}
+
+impl<M: ManageConnection, T: Timer, K: Hooks<M>, R: AsyncRuntime> Pool<M, T, K, R> {
+    ghost use Rattle.r2d2_async.specs.Sources.{settings_of};
+
+    // What it shares with its workers and with what it lends.
+    fn shared(&self) -> &SharedOf<M, T, K, R>
+        ensures { result.now.config ≡ self.now }
+    {
+        &self.closer.shared
+    }
+
+    /// Lends an idle connection, and waits for one as long as the setting `connection_timeout`
+    /// says. See `get_timeout`.
+    pub fn get(&self) -> Result<Get<M, T, K, R>, Error>
+        ensures settings { IfOk result (λ get. settings_of get.closer ≡ Some self.now) }
+        ensures fresh { IfOk result (λ get. get.checking ≡ None) }
+        ensures sleeps { IfOk result (λ get. T.Sleep.can_poll get.sleep) }
+        ensures refused { IfErr result IsOfMemory }
+    {
+        self.get_timeout(self.shared().config.connection_timeout)
+    }
+
+    /// Lends an idle connection, the newest unless the setting `lending_order` says the oldest; the
+    /// future waits in line for one, and gives up once `timeout` has passed since this call.
+    ///
+    /// If the setting `test_on_check_out` is on, the connection is checked first; one that fails is
+    /// closed, and the caller looks for another from the same place in line. A check that outlasts
+    /// the timeout is given up, and its connection closed.
+    ///
+    /// The future's error is a timeout, with the text of the latest error of an opening or a check
+    /// if there was one; or `ErrorKind::Closed`, where the pool is closed; or `ErrorKind::Full`, at
+    /// once, where as many stand in line as `max_waiting` allows. The error of this call is lack of
+    /// memory for a shared pointer: nothing later takes any.
+    pub fn get_timeout(&self, timeout: Duration) -> Result<Get<M, T, K, R>, Error>
+        ensures settings { IfOk result (λ get. settings_of get.closer ≡ Some self.now) }
+        ensures fresh { IfOk result (λ get. get.checking ≡ None) }
+        ensures sleeps { IfOk result (λ get. T.Sleep.can_poll get.sleep) }
+        ensures refused { IfErr result IsOfMemory }
+    {
+        let closer = Arc::try_clone(&self.closer).map_err(|_| Error::memory())?;
+        Ok(Get::new(closer, timeout))
+    }
+
+    /// Lends an idle connection that is not kept for those in line; None if there is none. It does
+    /// not wait, orders none, and makes no check. The error is lack of memory for a shared pointer,
+    /// and then nothing has changed.
+    pub fn try_get(&self) -> Result<Option<PooledConnection<M, T, K, R>>, Error>
+        ensures settings { IfOk result
+            (λ found. IfSome found (λ lent. lent.settings ≡ self.now)) }
+        ensures refused { IfErr result IsOfMemory }
+    {
+        let closer = Arc::try_clone(&self.closer).map_err(|_| Error::memory())?;
+        let shared = &closer.shared;
+        let (taken, now) = match lock(&shared.tasks) {
+            Some(mut tasks) => {
+                let now = shared.moment();
+                (tasks.try_take(now), now)
+            }
+            None => return Ok(None),
+        };
+        let Some((id, payload)) = taken else {
+            return Ok(None);
+        };
+        if shared.listens {
+            shared.hooks.check_out(id, now, now);
+        }
+        Ok(Some(PooledConnection {
+            closer,
+            id,
+            lent_at: now,
+            payload,
+        }))
+    }
+
+    /// A worker: a future that opens connections and closes expired ones until the pool is closed.
+    /// The user spawns it, and as many as openings may go on at once. The error is lack of memory
+    /// for a list of `max_size` connections and a place among the workers.
+    pub fn work(&self) -> Result<Work<M, T, K, R>, Error>
+        ensures { IfOk result (λ work. (work.opening ≡ None) × (work.sleep ≡ None)) }
+    {
+        let shared = Arc::try_clone(&self.closer.shared).map_err(|_| Error::memory())?;
+        Work::new(shared)
+    }
+
+    /// How many connections there are at this moment, and how many of them are idle.
+    pub fn state(&self) -> State
+        ensures { result.idle_connections ≤ result.connections }
+    {
+        let status = self.status();
+        State {
+            connections: status.connections,
+            idle_connections: status.idle,
+        }
+    }
+
+    /// What the pool is doing at this moment, in one look at it.
+    pub fn status(&self) -> Status
+        ensures { IsStatus result }
+    {
+        self.shared().status()
+    }
+
+    /// What the wall clock showed when the pool was made, from which its moments count; None where
+    /// it could not be read.
+    pub fn made_at(&self) -> Option<SystemTime> {
+        self.shared().made_at
+    }
+
+    /// What happened last, as far back as the setting `journal_room` reaches, what stood before
+    /// that, and what there is now. The error is lack of memory; then nothing has changed.
+    pub fn journal(&self) -> Result<Report, Error>
+        ensures sound { IfOk result IsSoundReport }
+        ensures refused { IfErr result IsOfMemory }
+    {
+        match lock(&self.shared().tasks) {
+            Some(tasks) => tasks.report().map_err(|_| Error::memory()),
+            None => Err(Error::memory()),
+        }
+    }
+
+    /// Closes each connection that is idle now, and each that is lent now when it comes back, as
+    /// where a database has moved. What is opened from now on stays.
+    ///
+    /// It answers how many were idle: each is told by its release event and to the customizer
+    /// before the call returns. The error is lack of memory for a list of `max_size` connections;
+    /// then nothing has changed.
+    pub fn evict(&self) -> Result<usize, Error>
+        ensures refused { IfErr result IsOfMemory }
+    {
+        let shared = self.shared();
+        let room = shared.config.max_size as usize;
+        let mut evicted: Vec<Released<PayloadOf<M>>> = Vec::with_capacity(
+            shared.rt.alloc(),
+            room,
+        ).map_err(|_| Error::memory())?;
+        if let Some(mut tasks) = lock(&shared.tasks) {
+            if has_room(tasks.book(), &evicted) {
+                tasks.evict(shared.moment(), &mut evicted);
+            }
+        }
+        let count = evicted.len();
+        for released in evicted.drain(..) {
+            shared.release(released, ReleaseReason::Evicted);
+        }
+        Ok(count)
+    }
+
+    /// Closes the pool now, though pools over it and lent connections are still there. What is idle
+    /// is dropped, as by the last drop, and nothing is opened any more. Who waits in a `get`, or
+    /// begins one later, gets `ErrorKind::Closed`; `try_get` finds none. Lent connections are
+    /// closed as they come back, the workers end. A second close does nothing.
+    pub fn close(&self) {
+        drop(self.shared().close());
+    }
+
+    /// Closes the pool at once; the future waits until nothing is lent any more, until `timeout`
+    /// has passed since this call. Its error is the status past that, in which at least one
+    /// connection is lent. The error of this call is lack of memory; the pool is then closed all
+    /// the same.
+    pub fn drain(&self, timeout: Duration) -> Result<Drain<M, T, K, R>, Error>
+        ensures { IfOk result (λ drain. IfSome drain.sleep T.Sleep.can_poll) }
+    {
+        self.close();
+        let shared = Arc::try_clone(&self.closer.shared).map_err(|_| Error::memory())?;
+        Drain::new(shared, timeout)
+    }
+
+    /// Another pool over the same connections, for another task. The error is lack of memory.
+    pub fn try_clone(&self) -> Result<Pool<M, T, K, R>, Error>
+        ensures settings { IfOk result (λ pool. pool ≡ self.now) }
+        ensures refused { IfErr result IsOfMemory }
+    {
+        let closer = Arc::try_clone(&self.closer).map_err(|_| Error::memory())?;
+        Ok(Pool { closer })
+    }
+}

@@ -1,0 +1,227 @@
+// What pools, workers, gets and lent connections share.
+ghost use Rattle.std.specs.Prelude.{◌≡◌, IfSome};
+ghost use Rattle.r2d2.specs.Status.{IsStatus};
+
+use crate::config::Config;
+use crate::hooks::Hooks;
+use crate::task_book::TaskBook;
+use crate::{AsyncRuntime, ManageConnection};
+use futures::spin::lock;
+use futures::task::Source;
+use r2d2::Status;
+use r2d2::engine::{Outcome, Payload, Settled};
+use r2d2::event::ReleaseReason;
+use r2d2::internals::Tuning;
+use r2d2_core::machine::Leftover;
+use r2d2_core::{Gone, Refusal, Released, Returned};
+use std::rt::Clock;
+use std::sync::{Arc, Mutex};
+use std::time::{Duration, Instant, SystemTime};
+
+/// What a pool of this manager keeps.
+pub type PayloadOf<M> = Payload<
+    <M as ManageConnection>::Connection,
+    <M as ManageConnection>::Extension,
+>;
+
+/// What pools, workers, gets and lent connections share. The lock is held for the book's steps, and
+/// while a report of it is copied.
+#[derive(Drop)]
+pub struct Shared<P, M, T, K, R> {
+    /// Fires for a caller in line once it is told to look, or the pool is closed.
+    pub(crate) told: Source,
+    /// Fires for a worker once an opening is ordered, or the pool is closed.
+    pub(crate) ordered: Source,
+    /// Fires for a drain once nothing is lent.
+    pub(crate) returned: Source,
+    pub(crate) tasks: Mutex<TaskBook<P>>,
+    pub(crate) manager: M,
+    pub(crate) timer: T,
+    pub(crate) hooks: K,
+    pub(crate) config: Config,
+    /// The settings that r2d2 has not.
+    pub(crate) tuning: Tuning,
+    /// Whether a handler of events was set: if not, nobody sees when a call began or ended.
+    pub(crate) listens: bool,
+    /// When the pool was made; None where the clock could not be read.
+    pub(crate) made: Option<Instant>,
+    /// What the wall clock showed then, where it could be read.
+    pub(crate) made_at: Option<SystemTime>,
+    pub(crate) rt: R,
+}
+
+/// What a pool shares, whose payload is its manager's.
+pub type SharedOf<M, T, K, R> = Shared<PayloadOf<M>, M, T, K, R>;
+
+/// A connection that came back and is closed.
+#[derive(Drop)]
+pub struct Closed<P> {
+    pub(crate) age: Duration,
+    pub(crate) reason: ReleaseReason,
+    pub(crate) payload: P,
+}
+
+// `lock` gives up after 2^64 tries, which no run makes: what stands at its `None` is never run.
+impl<P: Drop, M, T, K, R: Clock> Shared<P, M, T, K, R> {
+    /// The time since the pool was made; zero where the clock can't be read.
+    pub(crate) fn moment(&self) -> Duration {
+        match &self.made {
+            Some(made) => made.elapsed(&self.rt).unwrap_or(Duration::ZERO),
+            None => Duration::ZERO,
+        }
+    }
+
+    /// The counts.
+    pub(crate) fn status(&self) -> Status
+        ensures { IsStatus result }
+    {
+        match lock(&self.tasks) {
+            Some(tasks) => tasks.status(),
+            None => no_status(self.config.max_size),
+        }
+    }
+
+    /// The latest error, which is then none.
+    pub(crate) fn take_error(&self) -> Option<String> {
+        lock(&self.tasks)?.take_error()
+    }
+
+    /// Admits an opened connection under its id, or lets a lent one go for good.
+    pub(crate) fn settle(&self, outcome: Outcome<P>) -> Option<Settled<P>> {
+        let mut tasks = lock(&self.tasks)?;
+        Some(tasks.settle(self.moment(), outcome))
+    }
+
+    /// Gives an opened connection its id.
+    pub(crate) fn number(&self, tries: u32) -> Option<Result<u64, Refusal>> {
+        Some(lock(&self.tasks)?.number(tries))
+    }
+
+    /// Tells the book of an opening that failed.
+    pub(crate) fn fail(&self, tries: u32, text: Option<String>) {
+        if let Some(mut tasks) = lock(&self.tasks) {
+            tasks.fail(self.moment(), tries, text);
+        }
+    }
+
+    /// Tells the book of a check that failed. What was idle before this moment is distrusted from
+    /// now on.
+    pub(crate) fn fail_check(
+        &self,
+        id: u64,
+        text: Option<String>,
+        distrusted_before: Duration,
+    ) -> Option<Gone> {
+        let mut tasks = lock(&self.tasks)?;
+        match tasks.fail_check(self.moment(), id, text, distrusted_before) {
+            Settled::Gone(gone) => Some(gone),
+            _ => None,
+        }
+    }
+
+    /// Puts a lent connection back. One that is unfit for some reason, too old, or evicted is
+    /// closed, and so is each where the pool is closed: it answers that one.
+    pub(crate) fn give_back(
+        &self,
+        id: u64,
+        payload: P,
+        unfit: Option<ReleaseReason>,
+    ) -> Option<Closed<P>> {
+        let mut tasks = lock(&self.tasks)?;
+        let now = self.moment();
+        let reason = tasks.reason_of_return(id, unfit);
+        let outlived = tasks.is_outlived(&self.tuning, self.made_at, id, now);
+        let Ok(Returned::Closed { value, age, .. }) = tasks.give_back(
+            now, id, payload, unfit, outlived,
+        ) else {
+            return None;
+        };
+        Some(Closed {
+            age,
+            reason,
+            payload: value,
+        })
+    }
+
+    /// A caller leaves the line, where it stands in it. If it was told to look, the next one is.
+    pub(crate) fn leave_line(&self, place: &mut Option<u32>) {
+        if place.is_none() {
+            return;
+        }
+        if let Some(mut tasks) = lock(&self.tasks) {
+            tasks.leave(place);
+        }
+    }
+
+    /// Whether a check of a connection failed that was idle for less long than one that is idle
+    /// since this moment.
+    pub(crate) fn is_distrusted(&self, idle_since: Option<Duration>) -> bool {
+        match (idle_since, lock(&self.tasks)) {
+            (Some(since), Some(tasks)) => tasks.is_distrusted(since),
+            _ => false,
+        }
+    }
+
+    /// Closes the book, wakes all who wait, and hands over what was idle.
+    pub(crate) fn close(&self) -> Option<Leftover<P>> {
+        Some(lock(&self.tasks)?.close())
+    }
+}
+
+// What a closed pool shows.
+fn no_status(max_size: u32) -> Status
+    ensures { IsStatus result }
+{
+    Status {
+        max_size,
+        wanted: 0,
+        connections: 0,
+        idle: 0,
+        lent: 0,
+        opening: 0,
+        waiting: 0,
+        failed_openings: 0,
+        failed_checks: 0,
+        closed: true,
+    }
+}
+
+impl<M: ManageConnection, T, K: Hooks<M>, R: AsyncRuntime> SharedOf<M, T, K, R> {
+    /// Puts a lent connection back, and releases it where it is closed.
+    pub(crate) fn put_back(&self, id: u64, payload: PayloadOf<M>, unfit: Option<ReleaseReason>) {
+        if let Some(
+            Closed {
+                age,
+                reason,
+                payload,
+            },
+        ) = self.give_back(id, payload, unfit)
+        {
+            let Payload { connection, .. } = payload;
+            self.hooks.release(id, age, reason, connection);
+        }
+    }
+
+    /// Releases what was closed under the lock.
+    pub(crate) fn release(&self, released: Released<PayloadOf<M>>, reason: ReleaseReason) {
+        let Released { id, age, value } = released;
+        let Payload { connection, .. } = value;
+        self.hooks.release(id, age, reason, connection);
+    }
+}
+
+/// What pools, gets and lent connections hold: where the last of them goes, the pool is closed.
+pub struct Closer<P: Drop, M: Drop, T: Drop, K: Drop, R: Clock + Drop> {
+    pub(crate) shared: Arc<Shared<P, M, T, K, R>>,
+}
+
+/// A closer of what this manager's pool shares.
+pub type CloserOf<M, T, K, R> = Closer<PayloadOf<M>, M, T, K, R>;
+
+impl<P: Drop, M: Drop, T: Drop, K: Drop, R: Clock + Drop> Drop for Closer<P, M, T, K, R> {
+    // Closes the book, and drops what was idle, without events. The workers end.
+    fn drop(self) {
+        let Closer { shared } = self;
+        drop(shared.close());
+    }
+}

@@ -1,0 +1,501 @@
+// What the lock of a pool guards: a book, the callers in line for what it lends, and what wakes
+// each of them.
+ghost use Rattle.std.specs.Prelude.{◌≡◌, ◌≢◌, ◌≤◌, ◌<◌, ◌↔◌, ℕ, [], length, true, false, None};
+ghost use Rattle.std.specs.Prelude.{IsSome, IsSomeAnd, IfSome, IfNone, IfOk, IsTrue, Some, vec_len};
+ghost use Rattle.std.specs.Prelude.{vec_capacity};
+ghost use Rattle.futures.specs.Task.{Covers, Keeps};
+ghost use Rattle.futures.specs.Poll.{IfReady, OnPending};
+ghost use Rattle.r2d2.specs.Waiting.{told_at};
+ghost use Rattle.r2d2_async.specs.Wakers.{waker_at, AreAwake};
+
+use futures::task::{Context, Poll, Source, Waker};
+use futures::util::wait_list::{Ticket, WaitList};
+use r2d2::Status;
+use r2d2::engine::{Outcome, Settled, Uncounted};
+use r2d2::event::ReleaseReason;
+use r2d2::internals::{Guarded, LinedBook, Look, ToWake, Tuning};
+use r2d2_core::machine::Leftover;
+use r2d2_core::{Book, Job, Refusal, Released, Report, Returned, Take};
+use std::alloc::{AllocError, Global};
+use std::time::{Duration, SystemTime};
+
+/// What a caller comes to who wants a connection.
+#[derive(Drop)]
+pub enum Looked<P> {
+    /// It is lent this one, which came to be idle then.
+    Found {
+        id: u64,
+        payload: P,
+        idle_since: Option<Duration>,
+    },
+    /// The pool is closed.
+    Closed,
+    /// There is no room in line.
+    Full,
+}
+
+/// A book, the callers in line for what it lends, oldest first, and what wakes each of them.
+///
+/// Of those who wait the first ones, as many as connections are idle, were told to look: that is
+/// `LinedBook`'s own fact. Here each who was told is awake: no waker of it is left.
+#[derive(Drop)]
+pub struct TaskBook<P> {
+    guarded: Guarded<LinedBook<P, Uncounted>>,
+    // By the slot of a caller in line: what wakes it. A waker wakes its task when it is dropped.
+    wakers: Vec<Option<Waker>>,
+    // Who waits for something to be ordered.
+    workers: WaitList<()>,
+    // Who waits until nothing is lent.
+    drains: WaitList<()>,
+    ghost awake: { AreAwake guarded.book.places wakers },
+}
+
+impl<P: Drop> TaskBook<P> {
+    ghost use Rattle.std.specs.Duration.{as_nanos};
+    ghost use Rattle.std.specs.Prelude.{map};
+    ghost use Rattle.r2d2_core.specs.Seen.{seen_released, seen_returned, map_ok};
+    ghost use Rattle.r2d2_core.specs.Reports.{IsSoundReport};
+    ghost use Rattle.r2d2_core.specs.BookSteps.{IsBegin, IsNumbering, IsReturn, IsReap, IsTelling};
+    ghost use Rattle.r2d2_core.specs.BookSteps.{IsClose};
+    ghost use Rattle.r2d2.specs.declared.engine.Outcome.TheVariants as outcome;
+    ghost use Rattle.r2d2.specs.Settled.{IsSettling, seen_settled, wakes_of_settled};
+    ghost use Rattle.r2d2.specs.Wakes.{wakes_of_return};
+    ghost use Rattle.r2d2.specs.Status.{IsStatus};
+    ghost use Rattle.r2d2.specs.Evicted.{is_to_close, evicted_of, after_eviction};
+    ghost use Rattle.r2d2.specs.Waiting.{before, left_by, told_if, is_kept};
+    ghost use Rattle.r2d2_async.specs.Looks.{is_found, IsClosedLook, IsServed};
+
+    /// A book for which nobody waits yet, with room for so many in line. The error is lack of
+    /// memory: all that the line needs is taken here.
+    pub fn new(alloc: Global, book: Book<P>, room: u32) -> Result<TaskBook<P>, AllocError>
+        ensures book { IfOk result (λ tasks. tasks.guarded.book.book ≡ book) }
+        ensures line { IfOk result (λ tasks. tasks.guarded.book.places ≡ []) }
+    {
+        let guarded = Guarded::new(LinedBook::plain(alloc, book, room)?);
+        Ok(TaskBook {
+            guarded,
+            wakers: no_wakers(alloc, room)?,
+            workers: WaitList::new(alloc)?,
+            drains: WaitList::new(alloc)?,
+        })
+    }
+
+    /// The book, to be read.
+    pub fn book(&self) -> &Book<P>
+        ensures { result.now ≡ self.now.guarded.book.book }
+    {
+        self.guarded.book.book()
+    }
+
+    /// The counts, with those of the callers who wait.
+    pub fn status(&self) -> Status
+        ensures { IsStatus result }
+    {
+        self.guarded.status()
+    }
+
+    /// What the book reports.
+    pub fn report(&self) -> Result<Report, AllocError>
+        ensures { IfOk result IsSoundReport }
+    {
+        self.guarded.book.report()
+    }
+
+    /// How many connections are lent.
+    pub fn lent(&self) -> u32
+        ensures { result ≡ length self.now.guarded.book.book.picture.lent }
+    {
+        let book = self.guarded.book.book();
+        book.connections() - book.idle()
+    }
+
+    /// Whether a failed check tells of a connection that is idle since this moment.
+    pub fn is_distrusted(&self, idle_since: Duration) -> bool {
+        self.guarded.failures.tell_of(idle_since)
+    }
+
+    /// Takes an idle connection for a caller who does not wait: one that is not kept for those in
+    /// line.
+    pub fn try_take(&mut self, now: Duration) -> Option<(u64, P)>
+        ensures kept { IsTrue (is_kept self.old.guarded.book.book.picture
+            self.old.guarded.book.places) → result ≡ None }
+        ensures line { self.new.guarded.book.places ≡ self.old.guarded.book.places }
+    {
+        let (taken, wakes) = self.guarded.book.lend(now, false, &mut ());
+        if wakes.workers {
+            self.workers.wake_all();
+        }
+        match taken {
+            Take::Found { id, value, .. } => Some((id, value)),
+            Take::Empty { .. } => None,
+        }
+    }
+
+    /// One poll of a caller who waits, at its place in line or nowhere yet. It takes where more are
+    /// idle than callers wait before it; else it sleeps in line, at the end or where it was.
+    ///
+    /// Where it `keeps_place`, one that takes stays in line until it leaves, and is the first again
+    /// if its connection is found unsound.
+    pub fn poll_look(
+        &mut self,
+        now: Duration,
+        cx: &mut Context<'_>,
+        source: &Source,
+        place: &mut Option<u32>,
+        keeps_place: bool,
+    ) -> Poll<Looked<P>>
+        // Who is served is the one before whom fewer wait than connections are idle.
+        ensures turn { IfReady result (λ look. IsTrue (is_found look)
+            → before place.old self.old.guarded.book.places
+            < length self.old.guarded.book.book.picture.idle) }
+        // And who is awake in an open pool and has its turn is served.
+        ensures served { IfSome place.old (λ slot. waker_at self.old.wakers slot ≡ None)
+            → self.old.guarded.book.book.picture.on_order.closed ≡ false
+            → before place.old self.old.guarded.book.places
+            < length self.old.guarded.book.book.picture.idle → IsServed result }
+        ensures closed { IfReady result
+            (IsClosedLook self.old.guarded.book.book.picture.on_order.closed) }
+        // Who sleeps stands in an open pool's line, and was told nothing; it left its waker there.
+        ensures sleeps { OnPending result (IsSomeAnd place.new
+            (λ slot. told_at slot self.new.guarded.book.places ≡ false)) }
+        ensures open { OnPending result
+            (self.old.guarded.book.book.picture.on_order.closed ≡ false) }
+        ensures registered { OnPending result (Covers cx.new (λ s. s ≡ source.now.id)) }
+        ensures kept { Keeps cx.old cx.new }
+    {
+        if self.guarded.book.book().is_closed() {
+            self.leave(place);
+            return Poll::Ready(Looked::Closed);
+        }
+        if let Some(slot) = asleep_at(&self.wakers, *place) {
+            // Nobody told it anything, so it is not its turn.
+            return register(&mut self.wakers, cx, source, slot);
+        }
+        let idle_since = self.guarded.book.book().next_idle_since();
+        let (look, to_wake) = self.guarded.book.look(now, place, keeps_place, &mut ());
+        wake(&mut self.wakers, &mut self.workers, to_wake);
+        match look {
+            Look::Found { id, value } => Poll::Ready(Looked::Found {
+                id,
+                payload: value,
+                idle_since,
+            }),
+            Look::Full => Poll::Ready(Looked::Full),
+            Look::Stands(slot) => register(&mut self.wakers, cx, source, slot),
+        }
+    }
+
+    /// A caller leaves the line, where it stands in it. If it was told to look, the next one is.
+    pub fn leave(&mut self, place: &mut Option<u32>)
+        ensures gone { place.new ≡ None }
+        ensures line { self.new.guarded.book.places
+            ≡ left_by place.old self.old.guarded.book.places }
+        ensures book { self.new.guarded.book.book ≡ self.old.guarded.book.book }
+    {
+        clear_at(&mut self.wakers, *place);
+        let to_wake = self.guarded.book.leave(place);
+        wake(&mut self.wakers, &mut self.workers, to_wake);
+    }
+
+    /// Puts a lent connection back. One that is unfit, has outlived its own lifetime, or was opened
+    /// before the latest eviction is closed, as a broken one is: it comes back, with the reason.
+    pub fn give_back(
+        &mut self,
+        now: Duration,
+        id: u64,
+        payload: P,
+        unfit: Option<ReleaseReason>,
+        outlived: bool,
+    ) -> Result<Returned<P>, (Refusal, P)>
+        ensures step { IsReturn now id payload
+            (is_to_close unfit outlived id self.old.guarded.evicted_below) result
+            self.old.guarded.book.book self.new.guarded.book.book }
+        ensures told { self.new.guarded.book.places
+            ≡ told_if (wakes_of_return (map_ok seen_returned result)).caller
+            self.old.guarded.book.places }
+    {
+        let (returned, to_wake) = self.guarded.give_back(now, id, payload, unfit, outlived);
+        wake(&mut self.wakers, &mut self.workers, to_wake);
+        self.wake_drains();
+        returned
+    }
+
+    /// Why a connection is closed, if it is, that comes back now and is unfit for this reason or
+    /// for none.
+    pub fn reason_of_return(&self, id: u64, unfit: Option<ReleaseReason>) -> ReleaseReason {
+        self.guarded.reason_of_return(id, unfit)
+    }
+
+    /// Whether the lent connection with this id has outlived its own lifetime, where lifetimes
+    /// differ.
+    pub fn is_outlived(
+        &self,
+        tuning: &Tuning,
+        made_at: Option<SystemTime>,
+        id: u64,
+        now: Duration,
+    ) -> bool {
+        tuning.has_jitter() && self.guarded.is_outlived(tuning, made_at, id, now)
+    }
+
+    /// Admits an opened connection under its id, or lets a lent one go for good.
+    pub fn settle(&mut self, now: Duration, outcome: Outcome<P>) -> Settled<P>
+        ensures step { IsSettling now outcome result
+            self.old.guarded.book.book self.new.guarded.book.book }
+        ensures told { self.new.guarded.book.places
+            ≡ told_if (wakes_of_settled (seen_settled result)).caller
+            self.old.guarded.book.places }
+    {
+        let (settled, to_wake) = self.guarded.book.settle(now, outcome);
+        wake(&mut self.wakers, &mut self.workers, to_wake);
+        self.wake_drains();
+        settled
+    }
+
+    /// Tells the book of an opening that failed.
+    pub fn fail(&mut self, now: Duration, tries: u32, text: Option<String>) -> Settled<P>
+        ensures step { IsSettling now (outcome.Failed tries text) result
+            self.old.guarded.book.book self.new.guarded.book.book }
+        ensures told { self.new.guarded.book.places
+            ≡ told_if (wakes_of_settled (seen_settled result)).caller
+            self.old.guarded.book.places }
+    {
+        let (settled, to_wake) = self.guarded.fail(now, tries, text);
+        wake(&mut self.wakers, &mut self.workers, to_wake);
+        settled
+    }
+
+    /// Tells the book of a check that failed. What was idle before this moment is distrusted from
+    /// now on.
+    pub fn fail_check(
+        &mut self,
+        now: Duration,
+        id: u64,
+        text: Option<String>,
+        distrusted_before: Duration,
+    ) -> Settled<P>
+        ensures step { IsSettling now (outcome.Unsound id text) result
+            self.old.guarded.book.book self.new.guarded.book.book }
+        ensures told { self.new.guarded.book.places
+            ≡ told_if (wakes_of_settled (seen_settled result)).caller
+            self.old.guarded.book.places }
+    {
+        let (settled, to_wake) = self.guarded.fail_check(now, id, text, distrusted_before);
+        wake(&mut self.wakers, &mut self.workers, to_wake);
+        self.wake_drains();
+        settled
+    }
+
+    /// What a worker is to do.
+    pub fn begin(&mut self, now: Duration) -> Job
+        ensures { IsBegin now result self.old.guarded.book.book self.new.guarded.book.book }
+    {
+        self.guarded.book.begin(now)
+    }
+
+    /// Gives an opened connection its id.
+    pub fn number(&mut self, tries: u32) -> Result<u64, Refusal>
+        ensures { IsNumbering tries result self.old.guarded.book.book self.new.guarded.book.book }
+    {
+        self.guarded.book.number(tries)
+    }
+
+    /// Closes what is expired, into the list, which is empty and has room for all.
+    pub fn sweep(&mut self, now: Duration, expired: &mut Vec<Released<P>>)
+        requires empty { vec_len expired.old ≡ 0 }
+        requires room { self.old.guarded.book.book.picture.on_order.limits.max_size
+            ≤ vec_capacity expired.old }
+        ensures step { (ordered : _) × IsReap now expired.new.items ordered
+            self.old.guarded.book.book self.new.guarded.book.book }
+    {
+        let (_ordered, to_wake) = self.guarded.book.sweep(now, expired);
+        wake(&mut self.wakers, &mut self.workers, to_wake);
+    }
+
+    /// Closes all that is idle, into the list, and has what is lent closed as it comes back.
+    pub fn evict(&mut self, now: Duration, evicted: &mut Vec<Released<P>>)
+        requires empty { vec_len evicted.old ≡ 0 }
+        requires room { self.old.guarded.book.book.picture.on_order.limits.max_size
+            ≤ vec_capacity evicted.old }
+        ensures released { map seen_released evicted.new.items
+            ≡ evicted_of (as_nanos now) self.old.guarded.book.book.picture }
+        ensures after { self.new.guarded.book.book
+            ≡ after_eviction (as_nanos now) self.old.guarded.book.book }
+        ensures line { self.new.guarded.book.places ≡ self.old.guarded.book.places }
+    {
+        self.guarded.evict(now, &mut (), evicted);
+        // What was ordered in their place.
+        self.workers.wake_all();
+    }
+
+    /// The latest error, which is then none.
+    pub fn take_error(&mut self) -> Option<String>
+        ensures { IsTelling result self.old.guarded.book.book self.new.guarded.book.book }
+    {
+        self.guarded.book.take_error()
+    }
+
+    /// Closes the book, hands over what was idle, and wakes all who wait: after it no caller
+    /// sleeps.
+    pub fn close(&mut self) -> Leftover<P>
+        ensures step { IsClose result self.old.guarded.book.book self.new.guarded.book.book }
+        ensures nobody { (slot : ℕ) → waker_at self.new.wakers slot ≡ None }
+    {
+        self.wakers.clear();
+        self.workers.wake_all();
+        let left = self.guarded.book.close();
+        self.wake_drains();
+        left
+    }
+
+    // Wakes those who wait until nothing is lent, where nothing is.
+    fn wake_drains(&mut self)
+        ensures guarded { self.new.guarded ≡ self.old.guarded }
+        ensures wakers { self.new.wakers ≡ self.old.wakers }
+    {
+        if self.lent() == 0 {
+            self.drains.wake_all();
+        }
+    }
+}
+
+// Who waits beside the line: a worker for something to do, a drain until nothing is lent. Each has
+// its place from its making on, so that waiting takes no memory.
+impl<P: Drop> TaskBook<P> {
+    /// A place for a worker. The error is lack of memory.
+    pub fn add_worker(&mut self) -> Result<Ticket, AllocError> {
+        self.workers.insert(())
+    }
+
+    /// A worker sleeps until something is ordered.
+    pub fn park_worker<U>(&mut self, cx: &mut Context<'_>, source: &Source, key: usize) -> Poll<U>
+        ensures pending { result ≡ Poll.Pending }
+        ensures registered { Covers cx.new (λ s. s ≡ source.now.id) }
+        ensures kept { Keeps cx.old cx.new }
+    {
+        park(&mut self.workers, cx, source, key)
+    }
+
+    /// A worker ends.
+    pub fn remove_worker(&mut self, ticket: Ticket) {
+        let key = self.workers.redeem(ticket);
+        self.workers.remove(key);
+    }
+
+    /// A place for a drain. The error is lack of memory.
+    pub fn add_drain(&mut self) -> Result<Ticket, AllocError> {
+        self.drains.insert(())
+    }
+
+    /// A drain sleeps until nothing is lent.
+    pub fn park_drain<U>(&mut self, cx: &mut Context<'_>, source: &Source, key: usize) -> Poll<U>
+        ensures pending { result ≡ Poll.Pending }
+        ensures registered { Covers cx.new (λ s. s ≡ source.now.id) }
+        ensures kept { Keeps cx.old cx.new }
+    {
+        park(&mut self.drains, cx, source, key)
+    }
+
+    /// A drain ends.
+    pub fn remove_drain(&mut self, ticket: Ticket) {
+        let key = self.drains.redeem(ticket);
+        self.drains.remove(key);
+    }
+}
+
+// So many slots, at which nobody sleeps.
+fn no_wakers(alloc: Global, room: u32) -> Result<Vec<Option<Waker>>, AllocError>
+    ensures { IfOk result (λ wakers. (slot : ℕ) → waker_at wakers slot ≡ None) }
+{
+    let mut wakers = Vec::with_capacity(alloc, room as usize)?;
+    for _ in 0..room {
+        wakers.push(None)?;
+    }
+    Ok(wakers)
+}
+
+// The slot of a caller in line, where it sleeps there.
+fn asleep_at(wakers: &Vec<Option<Waker>>, place: Option<u32>) -> Option<u32>
+    ensures asleep { IfSome result
+        (λ slot. (place ≡ Some slot) × IsSome (waker_at wakers.now slot)) }
+    ensures awake { IfNone result (IfSome place (λ slot. waker_at wakers.now slot ≡ None)) }
+{
+    let slot = place?;
+    match wakers.get(slot as usize) {
+        Some(Some(_)) => Some(slot),
+        _ => None,
+    }
+}
+
+// The caller at this slot sleeps there.
+fn register<U>(
+    wakers: &mut Vec<Option<Waker>>,
+    cx: &mut Context<'_>,
+    source: &Source,
+    slot: u32,
+) -> Poll<U>
+    ensures pending { result ≡ Poll.Pending }
+    ensures registered { Covers cx.new (λ s. s ≡ source.now.id) }
+    ensures kept { Keeps cx.old cx.new }
+    ensures others { (other : ℕ) → other ≢ slot
+        → waker_at wakers.new other ≡ waker_at wakers.old other }
+{
+    let index = slot as usize;
+    if index >= wakers.len() {
+        // Each slot has one.
+        return cx.yield_now();
+    }
+    cx.register(source, &mut wakers[index])
+}
+
+// Wakes the caller at this slot, if it sleeps.
+fn clear(wakers: &mut Vec<Option<Waker>>, slot: u32)
+    ensures cleared { waker_at wakers.new slot ≡ None }
+    ensures others { (other : ℕ) → other ≢ slot
+        → waker_at wakers.new other ≡ waker_at wakers.old other }
+{
+    let index = slot as usize;
+    if index < wakers.len() {
+        wakers[index] = None;
+    }
+}
+
+// The same, where it stands in line.
+fn clear_at(wakers: &mut Vec<Option<Waker>>, place: Option<u32>)
+    ensures cleared { IfSome place (λ slot. waker_at wakers.new slot ≡ None) }
+    ensures others { (other : ℕ) → waker_at wakers.old other ≡ None
+        → waker_at wakers.new other ≡ None }
+{
+    if let Some(slot) = place {
+        clear(wakers, slot);
+    }
+}
+
+// Wakes those for whom a step left something.
+fn wake(wakers: &mut Vec<Option<Waker>>, workers: &mut WaitList<()>, to_wake: ToWake)
+    ensures told { IfSome to_wake.told (λ slot. waker_at wakers.new slot ≡ None) }
+    ensures others { (other : ℕ) → waker_at wakers.old other ≡ None
+        → waker_at wakers.new other ≡ None }
+{
+    let ToWake { wakes, told } = to_wake;
+    clear_at(wakers, told);
+    if wakes.workers {
+        workers.wake_all();
+    }
+}
+
+// One who waits beside the line sleeps until the list is woken.
+fn park<U>(list: &mut WaitList<()>, cx: &mut Context<'_>, source: &Source, key: usize) -> Poll<U>
+    ensures pending { result ≡ Poll.Pending }
+    ensures registered { Covers cx.new (λ s. s ≡ source.now.id) }
+    ensures kept { Keeps cx.old cx.new }
+{
+    if !list.is_queued(key) {
+        if list.get(key).is_none() {
+            // Its ticket keeps its place.
+            return cx.yield_now();
+        }
+        list.enqueue(key);
+    }
+    list.register(cx, source, key)
+}

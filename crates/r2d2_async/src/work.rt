@@ -1,0 +1,269 @@
+// How a worker opens and closes connections.
+ghost use Rattle.std.specs.Prelude.{◌≡◌, ◌⊎◌, ℕ, None, IfSome, IfOk, IsSomeAnd, vec_len};
+ghost use Rattle.futures.specs.Task.{Covers, Hears, IsArmed, Keeps};
+ghost use Rattle.futures.specs.Poll.{IfReady, OnPending};
+ghost use Rattle.r2d2_async.specs.Sources.{orders_of};
+
+use crate::hooks::Hooks;
+use crate::shared::{PayloadOf, SharedOf};
+use crate::{AsyncRuntime, ManageConnection, Timer};
+use futures::Future;
+use futures::spin::{lock, lock_or_give_up};
+use futures::task::{Context, Poll};
+use futures::util::wait_list::Ticket;
+use r2d2::Error;
+use r2d2::engine::{Outcome, Payload};
+use r2d2::internals::{has_room, reason_of_reap, text_of};
+use r2d2_core::{Job, Refusal, Released};
+use std::sync::Arc;
+use std::time::Duration;
+
+// An opening in work.
+#[derive(Drop)]
+struct Opening<K> {
+    tries: u32,
+    connect: K,
+}
+
+// What the book said.
+enum Next {
+    Again,
+    Sleep(Duration),
+    Idle,
+    Open(u32),
+    Reap,
+    End,
+}
+
+/// A worker of a pool: a future that opens connections and closes expired ones until the pool is
+/// closed. As many openings go on at once as workers are spawned.
+///
+/// It may be dropped at any time: an opening in work counts as one that failed, and is tried again
+/// by another worker.
+pub struct Work<M: ManageConnection, T: Timer, K: Hooks<M>, R: AsyncRuntime> {
+    shared: Arc<SharedOf<M, T, K, R>>,
+    ticket: Ticket,
+    opening: Option<Opening<M::Connect>>,
+    sleep: Option<T::Sleep>,
+    expired: Vec<Released<PayloadOf<M>>>,
+}
+
+impl<M: ManageConnection, T: Timer, K: Hooks<M>, R: AsyncRuntime> Work<M, T, K, R> {
+    // Its memory is taken here: the list for what a reap closes, and its place among the workers.
+    pub(crate) fn new(shared: Arc<SharedOf<M, T, K, R>>) -> Result<Work<M, T, K, R>, Error>
+        ensures { IfOk result (λ work. (work.opening ≡ None) × (work.sleep ≡ None)) }
+    {
+        let room = shared.config.max_size as usize;
+        let expired = Vec::with_capacity(shared.rt.alloc(), room).map_err(|_| Error::memory())?;
+        let added = match lock(&shared.tasks) {
+            Some(mut tasks) => tasks.add_worker(),
+            None => return Err(Error::memory()),
+        };
+        let Ok(ticket) = added else {
+            return Err(Error::memory());
+        };
+        Ok(Work {
+            shared,
+            ticket,
+            opening: None,
+            sleep: None,
+            expired,
+        })
+    }
+
+    // Asks the book, and lies down under the same lock where there is nothing to do now.
+    fn ask(&mut self, cx: &mut Context<'_>) -> Next
+        requires opening { self.old.opening ≡ None }
+        requires sleep { self.old.sleep ≡ None }
+        ensures shared { self.new.shared ≡ self.old.shared }
+        ensures opening { self.new.opening ≡ None }
+        ensures sleep { self.new.sleep ≡ None }
+        ensures idle { result ≡ Next.Idle → Covers cx.new (λ s. s ≡ orders_of self.new.shared) }
+        ensures sleeps { (d : _) → result ≡ Next.Sleep d
+            → Covers cx.new (λ s. s ≡ orders_of self.new.shared) }
+        ensures kept { Keeps cx.old cx.new }
+    {
+        let shared = &self.shared;
+        let Some(mut tasks) = lock(&shared.tasks) else {
+            return Next::Again;
+        };
+        let now = shared.moment();
+        match tasks.begin(now) {
+            Job::Open { tries } => Next::Open(tries),
+            Job::Reap => {
+                if has_room(tasks.book(), &self.expired) {
+                    tasks.sweep(now, &mut self.expired);
+                }
+                Next::Reap
+            }
+            Job::Wait(due) => {
+                let key = self.ticket.key();
+                let _pending: Poll<()> = tasks.park_worker(cx, &shared.ordered, key);
+                Next::Sleep(due.saturating_sub(now))
+            }
+            Job::Nothing => {
+                let key = self.ticket.key();
+                let _pending: Poll<()> = tasks.park_worker(cx, &shared.ordered, key);
+                Next::Idle
+            }
+            Job::Closed => Next::End,
+        }
+    }
+
+    // What a connect came to.
+    fn opened(&self, tries: u32, answer: Result<M::Connection, M::Error>) {
+        let shared = &self.shared;
+        let customized = match answer {
+            Ok(mut connection) => match shared.hooks.customize(&mut connection) {
+                Ok(()) => Ok(connection),
+                Err(error) => Err(error),
+            },
+            Err(error) => Err(error),
+        };
+        match customized {
+            Ok(connection) => self.admit(tries, connection),
+            Err(error) => {
+                let text = text_of(shared.rt.alloc(), &error);
+                shared.fail(tries, text);
+                shared.hooks.error(error);
+            }
+        }
+    }
+
+    // Gives an opened connection its id, tells of it, and admits it.
+    fn admit(&self, tries: u32, connection: M::Connection) {
+        let shared = &self.shared;
+        match shared.number(tries) {
+            Some(Ok(id)) => {
+                shared.hooks.acquire(id);
+                let value = Payload::new(shared.rt.alloc(), connection);
+                shared.settle(Outcome::Opened { id, value });
+            }
+            Some(Err(Refusal::IdsUsedUp)) => {
+                drop(connection);
+                shared.fail(tries, None);
+            }
+            // A pool that was closed meanwhile has no use for it. None other comes, since the
+            // opening is in work.
+            Some(Err(_)) | None => drop(connection),
+        }
+    }
+
+    // Releases what a reap closed.
+    fn release_expired(&mut self)
+        ensures shared { self.new.shared ≡ self.old.shared }
+        ensures opening { self.new.opening ≡ self.old.opening }
+    {
+        let shared = &self.shared;
+        let limits = match lock(&shared.tasks) {
+            Some(tasks) => tasks.book().limits(),
+            None => return,
+        };
+        for released in self.expired.drain(..) {
+            let reason = reason_of_reap(&limits, released.age);
+            shared.release(released, reason);
+        }
+    }
+
+    // One poll of an opening.
+    fn poll_opening(&mut self, cx: &mut Context<'_>) -> Poll<()>
+        requires opens { IfSome self.old.opening (λ o. M.Connect.can_poll o.connect) }
+        ensures opens { IfSome self.new.opening (λ o. M.Connect.can_poll o.connect) }
+        ensures opening { OnPending result (IsArmed cx.new × IsSomeAnd self.new.opening
+            (λ o. (s : ℕ) → M.Connect.needs o.connect s → Hears cx.new s)) }
+        ensures ready { IfReady result (λ _. self.new.opening ≡ None) }
+        ensures kept { Keeps cx.old cx.new }
+    {
+        let Some(Opening { tries, mut connect }) = self.opening.take() else {
+            return Poll::Ready(());
+        };
+        match connect.poll(cx) {
+            Poll::Ready(answer) => {
+                self.opened(tries, answer);
+                Poll::Ready(())
+            }
+            Poll::Pending => {
+                self.opening = Some(Opening { tries, connect });
+                Poll::Pending
+            }
+        }
+    }
+
+    // One poll of a sleep of this length, from now on.
+    fn poll_sleep(&mut self, cx: &mut Context<'_>, length: Duration) -> Poll<()>
+        requires opening { self.old.opening ≡ None }
+        requires parked { Covers cx.old (λ s. s ≡ orders_of self.old.shared) }
+        ensures opening { self.new.opening ≡ None }
+        ensures shared { self.new.shared ≡ self.old.shared }
+        ensures pending { result ≡ Poll.Pending }
+        ensures armed { IsArmed cx.new }
+        ensures heard { (s : ℕ) → IsSomeAnd self.new.sleep (λ sleep. T.Sleep.needs sleep s)
+            → Hears cx.new s }
+        ensures kept { Keeps cx.old cx.new }
+    {
+        let mut sleep = self.shared.timer.sleep(length);
+        let polled = sleep.poll(cx);
+        self.sleep = Some(sleep);
+        match polled {
+            Poll::Pending => Poll::Pending,
+            Poll::Ready(()) => {
+                self.sleep = None;
+                cx.yield_now()
+            }
+        }
+    }
+}
+
+impl<M: ManageConnection, T: Timer, K: Hooks<M>, R: AsyncRuntime> Future for Work<M, T, K, R> {
+    type Output = ();
+
+    ghost can_poll = { λ w. IfSome w.opening (λ o. M.Connect.can_poll o.connect) };
+
+    // What an opening waits for; else that something is ordered, and that something is due.
+    ghost needs = { λ w s. IsSomeAnd w.opening (λ o. M.Connect.needs o.connect s)
+        ⊎ ((w.opening ≡ None)
+        × ((s ≡ orders_of w.shared) ⊎ IsSomeAnd w.sleep (λ sleep. T.Sleep.needs sleep s))) };
+
+    fn poll(&mut self, cx: &mut Context<'_>) -> Poll<()> {
+        if self.poll_opening(cx).is_pending() {
+            return Poll::Pending;
+        }
+        self.sleep = None;
+        match self.ask(cx) {
+            Next::Again => cx.yield_now(),
+            Next::Idle => Poll::Pending,
+            Next::Sleep(length) => self.poll_sleep(cx, length),
+            Next::Open(tries) => {
+                let connect = self.shared.manager.connect();
+                self.opening = Some(Opening { tries, connect });
+                cx.yield_now()
+            }
+            Next::Reap => {
+                self.release_expired();
+                cx.yield_now()
+            }
+            Next::End => Poll::Ready(()),
+        }
+    }
+}
+
+impl<M: ManageConnection, T: Timer, K: Hooks<M>, R: AsyncRuntime> Drop for Work<M, T, K, R> {
+    // An opening in work goes back to the schedule.
+    fn drop(self) {
+        let Work {
+            shared,
+            ticket,
+            opening,
+            sleep: _,
+            expired: _,
+        } = self;
+        if let Some(Opening { tries, connect }) = opening {
+            drop(connect);
+            shared.fail(tries, None);
+        }
+        match lock_or_give_up(&shared.tasks) {
+            Ok(mut tasks) => tasks.remove_worker(ticket),
+            Err(gave_up) => ticket.abandon(gave_up),
+        }
+    }
+}
