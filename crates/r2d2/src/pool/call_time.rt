@@ -116,6 +116,13 @@ impl CallTime {
         self.start.is_some()
     }
 
+    /// When it began, by its first reading; None before that.
+    pub(super) fn begun(&self) -> Option<Duration>
+        ensures { option_map as_nanos result ≡ self.now.start }
+    {
+        self.start
+    }
+
     /// When it began.
     pub(super) fn start(&self) -> Duration
         ensures { as_nanos result ≡ start_of self.now }

@@ -3,13 +3,16 @@ ghost use Rattle.std.specs.Prelude.{◌≡◌, ◌≤◌, ◌<◌, ◌+◌, IfOk
 ghost use Rattle.std.specs.Prelude.{Some, false, is_some};
 ghost use Rattle.std.specs.Option.{IsNone};
 ghost use Rattle.std.specs.Duration.{as_nanos};
+ghost use Rattle.std.specs.Arc.{arc_value};
 
 use super::call_time::CallTime;
+use super::closing::Closer;
 use super::lent::AnyConnection;
 use super::locking::SharedOf;
 use super::{AnyPool, PoolRuntime};
 use crate::engine::{TakeCounter, TakeTotal};
 use crate::hooks::Hooks;
+use crate::payload::PayloadOf;
 use crate::{Error, ErrorKind, ManageConnection};
 use std::sync::Arc;
 use std::time::Duration;
@@ -38,10 +41,18 @@ impl<C: TakeCounter, M: ManageConnection, K: Hooks<M>, R: PoolRuntime> AnyPool<C
         let shared = self.shared();
         let mut time = CallTime::new(shared.start_of_call());
         let closer = Arc::try_clone(&self.closer).map_err(|_| Error::memory())?;
+        // Where callers wait in line it waits there, and takes here what is kept for nobody.
+        let patience = if shared.tuning.in_line { None } else { timeout };
         for _ in shared.rt.forever() {
-            let found = match shared.lend_until(timeout, &mut time, tally) {
+            let found = match shared.lend_until(patience, &mut time, tally) {
                 Ok(Some(lent)) => lent,
-                Ok(None) => return Ok(None),
+                Ok(None) => {
+                    let Some(timeout) = timeout else {
+                        return Ok(None);
+                    };
+                    let lent = self.lend_in_line(closer, timeout, time.begun(), tally)?;
+                    return Ok(Some(lent));
+                }
                 Err(error) => return Err(shared.tell_in_vain(error, timeout)),
             };
             let is_checked = shared.is_to_check(&time);
@@ -60,21 +71,20 @@ impl<C: TakeCounter, M: ManageConnection, K: Hooks<M>, R: PoolRuntime> AnyPool<C
         unreachable!()
     }
 
-    /// Whether callers wait in line.
-    pub(super) fn is_in_line(&self) -> bool {
-        self.shared().tuning.in_line
-    }
-
-    /// As `lend_within`, where callers wait in line. Who takes keeps its place until its check went
-    /// well, so that it is the first again if it does not.
+    // As `lend_within`, for a call that found none and waits in line; it looked at the clock first at
+    // `start`, if it did. Who takes keeps its place until its check went well, so that it is the
+    // first again if it does not.
     #[cold]
-    pub(super) fn lend_in_line(
+    fn lend_in_line(
         &self,
+        closer: Arc<Closer<PayloadOf<M>, C, M, K, R>>,
         timeout: Duration,
+        start: Option<Duration>,
         tally: &mut C::Tally,
     ) -> Result<AnyConnection<C, M, K, R>, Error>
         requires { 0 < C.parts tally.old }
-        ensures settings { IfOk result (λ lent. lent.settings ≡ self.now) }
+        ensures settings { IfOk result
+            (λ lent. lent.settings ≡ (arc_value (arc_value closer).shared).hooks) }
         ensures refused { IfErr result IsOfAGet }
         ensures parts { C.parts tally.new ≡ C.parts tally.old }
         ensures amount { C.amount tally.old ≤ C.amount tally.new }
@@ -82,8 +92,7 @@ impl<C: TakeCounter, M: ManageConnection, K: Hooks<M>, R: PoolRuntime> AnyPool<C
     {
         // Modelled in model/waiting.pml: keep both alike.
         let shared = self.shared();
-        let mut time = CallTime::new(shared.start_of_call());
-        let closer = Arc::try_clone(&self.closer).map_err(|_| Error::memory())?;
+        let mut time = CallTime::new(start);
         let keeps_place = shared.may_fail_check();
         let mut place = None;
         for _ in shared.rt.forever() {
