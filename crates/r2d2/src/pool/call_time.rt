@@ -2,7 +2,6 @@
 ghost use Rattle.std.specs.Prelude.{◌≡◌, ◌≤◌, ◌-◌, nat_lt, is_some, option_map};
 ghost use Rattle.std.specs.Duration.{as_nanos};
 
-use crate::tuning::Tuning;
 use std::marker::Model;
 use std::time::Duration;
 
@@ -17,8 +16,6 @@ pub struct CallTime {
     seen: Duration,
     /// How many more it may take, of a call that does not wait.
     left: u32,
-    /// Since when it was idle what the call took last, where a setting asks for it.
-    idle_since: Option<Duration>,
 }
 
 // Contracts see it with moments in nanoseconds.
@@ -35,14 +32,12 @@ impl Model for CallTime {
       step = as_nanos c.step;
       seen = as_nanos c.seen;
       left = c.left;
-      idle_since = option_map as_nanos c.idle_since;
     } };
 
     ghost invariant = { λ c. ForSome c.start (λ start. as_nanos start ≤ as_nanos c.seen) };
 }
 
 impl CallTime {
-    ghost use Rattle.std.specs.Prelude.{IsTrue, IfSome};
     ghost use Rattle.r2d2.specs.CallTime.{begun_at, looked_at, start_of, waited_of, left_of};
     ghost use Rattle.r2d2.specs.CallTime.{may_still_take, with_one_less};
 
@@ -55,7 +50,6 @@ impl CallTime {
             step: Duration::ZERO,
             seen: start.unwrap_or(Duration::ZERO),
             left: u32::MAX,
-            idle_since: None,
         }
     }
 
@@ -82,31 +76,6 @@ impl CallTime {
         if now.checked_sub(self.seen).is_some() {
             self.seen = now;
         }
-    }
-
-    /// What it takes next is idle since this moment.
-    pub(super) fn find(&mut self, idle_since: Option<Duration>)
-        ensures { self.new
-            ≡ record self.old { idle_since = option_map as_nanos idle_since } }
-    {
-        self.idle_since = idle_since;
-    }
-
-    /// Since when it was idle what the call took last, where it asked.
-    pub(super) fn idle_since(&self) -> Option<Duration>
-        ensures { option_map as_nanos result ≡ self.now.idle_since }
-    {
-        self.idle_since
-    }
-
-    /// Whether what it took last is idle for long enough to be checked.
-    #[inline(always)]
-    pub(super) fn has_check_due(&self, tuning: &Tuning) -> bool
-        ensures due { IsTrue result → IfSome tuning.now.check_after_idle
-            (λ least. IfSome self.now.idle_since (λ since. since ≤ self.now.step
-            → as_nanos least ≤ self.now.step - since)) }
-    {
-        tuning.is_check_due(self.idle_since, self.step)
     }
 
     /// Whether it looked at the clock.

@@ -40,11 +40,12 @@ impl<C: TakeCounter, M: ManageConnection, K: Hooks<M>, R: PoolRuntime> AnyPool<C
         // Modelled in model/waiting.pml: keep both alike.
         let shared = self.shared();
         let mut time = CallTime::new(shared.start_of_call());
+        let mut idle_since = None;
         let closer = Arc::try_clone(&self.closer).map_err(|_| Error::memory())?;
         // Where callers wait in line it waits there, and takes here what is kept for nobody.
         let patience = if shared.tuning.in_line { None } else { timeout };
         for _ in shared.rt.forever() {
-            let found = match shared.lend_until(patience, &mut time, tally) {
+            let found = match shared.lend_until(patience, &mut time, &mut idle_since, tally) {
                 Ok(Some(lent)) => lent,
                 Ok(None) => {
                     let Some(timeout) = timeout else {
@@ -55,8 +56,8 @@ impl<C: TakeCounter, M: ManageConnection, K: Hooks<M>, R: PoolRuntime> AnyPool<C
                 }
                 Err(error) => return Err(shared.tell_in_vain(error, timeout)),
             };
-            let is_checked = shared.is_to_check(&time);
-            if let Some(lent) = shared.if_sound(found, is_checked, &time) {
+            let is_checked = shared.is_to_check(&time, &idle_since);
+            if let Some(lent) = shared.if_sound(found, is_checked, &idle_since) {
                 let lent_at = shared.check_out(lent.id, is_checked, &time);
                 return Ok(Some(AnyConnection {
                     closer,
@@ -93,12 +94,14 @@ impl<C: TakeCounter, M: ManageConnection, K: Hooks<M>, R: PoolRuntime> AnyPool<C
         // Modelled in model/waiting.pml: keep both alike.
         let shared = self.shared();
         let mut time = CallTime::new(start);
+        let mut idle_since = None;
         let keeps_place = shared.may_fail_check();
         let mut place = None;
         for _ in shared.rt.forever() {
             let found = match shared.take_in_line(
                 timeout,
                 &mut time,
+                &mut idle_since,
                 &mut place,
                 keeps_place,
                 tally,
@@ -106,8 +109,8 @@ impl<C: TakeCounter, M: ManageConnection, K: Hooks<M>, R: PoolRuntime> AnyPool<C
                 Ok(lent) => lent,
                 Err(error) => return Err(shared.tell_in_vain(error, Some(timeout))),
             };
-            let is_checked = shared.is_to_check(&time);
-            if let Some(lent) = shared.if_sound(found, is_checked, &time) {
+            let is_checked = shared.is_to_check(&time, &idle_since);
+            if let Some(lent) = shared.if_sound(found, is_checked, &idle_since) {
                 shared.leave_line(&mut place);
                 let lent_at = shared.check_out(lent.id, is_checked, &time);
                 return Ok(AnyConnection {
