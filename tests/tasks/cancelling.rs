@@ -1,144 +1,189 @@
-// Each point at which a future may be dropped, by itself: nothing is lost, and who is next is told.
+// A future that is dropped before its end loses nothing, at whichever point: who is next is served.
 
-use crate::manager::Faults;
-use crate::stage::{Stage, Worker};
-use futures::test::MockTask;
+use crate::hand::Hand;
+use crate::play::{Play, Told};
 use r2d2::ErrorKind;
+use r2d2::event::ReleaseReason;
+use r2d2_async::Builder;
 use std::test::Fail;
 use std::time::Duration;
 
+// A pool of one connection, which is checked at each lending if so wanted.
+fn of_one(is_checked: bool) -> Builder {
+    Builder::new()
+        .max_size(1)
+        .min_idle(Some(0))
+        .test_on_check_out(is_checked)
+}
+
 #[test]
-fn dropped_in_line(rt: HostRuntime) -> Result<(), Fail> {
-    let mut stage = Stage::new(rt, Faults::none())?;
-    let lent = stage.lend()?;
-    let mut first = stage.caller()?;
-    let mut second = stage.caller()?;
-    first.waits()?;
-    second.waits()?;
-    assert_eq!(rt; stage.pool.status().waiting, 2);
-    drop(first);
-    assert_eq!(rt; stage.pool.status().waiting, 1);
-    assert!(rt; !second.task.is_woken());
-    drop(lent);
-    assert!(rt; second.task.is_woken());
-    assert!(rt; second.lent()?.is_some());
-    assert_eq!(rt; stage.pool.status().waiting, 0);
+fn one_that_was_never_polled(rt: HostRuntime) -> Result<(), Fail> {
+    let play = Play::new(rt)?;
+    let pool = play.pool(of_one(false))?;
+    drop(pool.get()?);
+    let status = pool.status();
+    assert_eq!(rt; (status.waiting, status.opening), (0, 0));
+    assert!(rt; play.went(&[]));
     Ok(())
 }
 
 #[test]
-fn dropped_when_told(rt: HostRuntime) -> Result<(), Fail> {
-    let mut stage = Stage::new(rt, Faults::none())?;
-    let lent = stage.lend()?;
-    let mut first = stage.caller()?;
-    let mut second = stage.caller()?;
-    first.waits()?;
-    second.waits()?;
+fn one_in_line(rt: HostRuntime) -> Result<(), Fail> {
+    let play = Play::new(rt)?;
+    let pool = play.pool(of_one(false))?;
+    let mut work = Hand::of(rt, pool.work()?)?;
+    let mut first = Hand::of(rt, pool.get()?)?;
+    assert!(rt; first.run().is_none() && work.run().is_none());
+    let lent = first.run().ok_or("pending")??;
+
+    let mut leaves = Hand::of(rt, pool.get()?)?;
+    let mut stays = Hand::of(rt, pool.get()?)?;
+    assert!(rt; leaves.run().is_none() && stays.run().is_none());
+    assert_eq!(rt; pool.status().waiting, 2);
+    drop(leaves);
+    assert_eq!(rt; pool.status().waiting, 1);
+    // Nothing is idle yet, so nobody is told.
+    assert!(rt; !stays.is_woken());
     drop(lent);
-    assert!(rt; first.task.is_woken());
-    assert!(rt; !second.task.is_woken());
-    drop(first);
-    assert!(rt; second.task.is_woken());
-    assert!(rt; second.lent()?.is_some());
-    assert_eq!(rt; stage.counts.opened(), 1);
+    assert!(rt; stays.is_woken());
+    assert!(rt; stays.run().ok_or("pending")?.is_ok());
+    assert_eq!(rt; pool.status().waiting, 0);
     Ok(())
 }
 
 #[test]
-fn dropped_under_check(rt: HostRuntime) -> Result<(), Fail> {
-    let faults = Faults {
-        check_polls: 3,
-        ..Faults::none()
-    };
-    let mut stage = Stage::new(rt, faults)?;
-    let lent = stage.lend()?;
-    let mut first = stage.caller()?;
-    let mut second = stage.caller()?;
-    first.waits()?;
-    second.waits()?;
-    drop(lent);
-    // It takes, and its check begins.
-    first.waits()?;
-    assert_eq!(rt; stage.pool.status().lent, 1);
-    drop(first);
-    assert_eq!(rt; stage.counts.dropped(), 1);
-    assert_eq!(rt; stage.pool.status().lent, 0);
-    assert_eq!(rt; stage.pool.status().failed_checks, 1);
-    assert!(rt; second.task.is_woken());
-    for _ in 0..100 {
-        stage.worker.step();
-        if second.lent()?.is_some() {
-            assert_eq!(rt; stage.counts.opened(), 2);
-            return Ok(());
-        }
-    }
-    Err("the second was not served".into())
-}
+fn one_that_was_handed(rt: HostRuntime) -> Result<(), Fail> {
+    let play = Play::new(rt)?;
+    let pool = play.pool(of_one(false))?;
+    let mut work = Hand::of(rt, pool.work()?)?;
+    let mut first = Hand::of(rt, pool.get()?)?;
+    assert!(rt; first.run().is_none() && work.run().is_none());
+    let lent = first.run().ok_or("pending")??;
 
-#[test]
-fn dropped_in_an_opening(rt: HostRuntime) -> Result<(), Fail> {
-    let faults = Faults {
-        opening_polls: 3,
-        ..Faults::none()
-    };
-    let mut stage = Stage::new(rt, faults)?;
-    let mut caller = stage.caller()?;
-    caller.waits()?;
-    stage.worker.step();
-    stage.worker.step();
-    assert_eq!(rt; stage.counts.tries.load(std::sync::atomic::Ordering::SeqCst), 1);
-    stage.worker = Worker {
-        work: stage.pool.work()?,
-        task: MockTask::new(&rt)?,
-    };
-    let status = stage.pool.status();
-    assert_eq!(rt; (status.opening, status.failed_openings), (1, 1));
-    for _ in 0..1_000_000 {
-        stage.worker.step();
-        if caller.task.is_woken() {
-            if caller.lent()?.is_some() {
-                assert_eq!(rt; stage.counts.opened(), 1);
-                return Ok(());
-            }
-        }
-    }
-    Err("nothing was opened again".into())
-}
-
-#[test]
-fn dropped_drain(rt: HostRuntime) -> Result<(), Fail> {
-    let mut stage = Stage::new(rt, Faults::none())?;
-    let lent = stage.lend()?;
-    let task = MockTask::new(&rt)?;
-    let mut drain = stage.pool.drain(Duration::from_secs(3600))?;
-    assert!(rt; task.poll(&mut drain).is_pending());
-    drop(drain);
+    let mut told = Hand::of(rt, pool.get()?)?;
+    let mut next = Hand::of(rt, pool.get()?)?;
+    assert!(rt; told.run().is_none() && next.run().is_none());
     drop(lent);
-    assert_eq!(rt; stage.counts.dropped(), 1);
-    assert!(rt; stage.pool.status().closed);
+    assert!(rt; told.is_woken() && !next.is_woken());
+    drop(told);
+    assert!(rt; next.is_woken());
+    let lent = next.run().ok_or("pending")??;
+    assert_eq!(rt; lent.number, 0);
+    assert_eq!(rt; (play.opened(), play.dropped()), (1, 0));
     Ok(())
 }
 
 #[test]
-fn given_up_in_line(rt: HostRuntime) -> Result<(), Fail> {
-    let mut stage = Stage::new(rt, Faults::none())?;
-    let lent = stage.lend()?;
-    let mut late = stage.caller_within(Duration::from_millis(5))?;
-    let mut second = stage.caller()?;
-    late.waits()?;
-    second.waits()?;
-    let mut error = None;
-    for _ in 0..10_000_000 {
-        error = late.refused()?;
-        if error.is_some() {
-            break;
-        }
-    }
-    let error = error.ok_or("no timeout")?;
-    assert_eq!(rt; error.kind(), ErrorKind::Timeout);
-    let status = error.status().ok_or("no status")?;
-    assert_eq!(rt; (status.lent, status.waiting), (1, 1));
+fn one_whose_connection_is_under_check(rt: HostRuntime) -> Result<(), Fail> {
+    let play = Play::new(rt)?;
+    let pool = play.pool(of_one(true))?;
+    let mut work = Hand::of(rt, pool.work()?)?;
+    let mut checks = Hand::of(rt, pool.get()?)?;
+    play.checks.hang(true);
+    assert!(rt; checks.run().is_none() && work.run().is_none() && checks.run().is_none());
+    let status = pool.status();
+    assert_eq!(rt; (status.lent, status.idle), (1, 0));
+    let mut next = Hand::of(rt, pool.get()?)?;
+    assert!(rt; next.run().is_none());
+    assert!(rt; play.went(&[Told::Acquire(0)]));
+
+    // The connection goes with its check, so it is told to no customizer.
+    drop(checks);
+    assert_eq!(rt; (play.opened(), play.dropped()), (1, 1));
+    assert!(rt; play.went(&[Told::Release(0, ReleaseReason::CheckFailed)]));
+    assert_eq!(rt; pool.status().failed_checks, 1);
+    // The next caller looks, and orders another one.
+    play.checks.hang(false);
+    assert!(rt; next.is_woken() && next.run().is_none());
+    assert!(rt; work.is_woken() && work.run().is_none());
+    assert!(rt; next.is_woken());
+    let lent = next.run().ok_or("pending")??;
+    assert_eq!(rt; lent.number, 1);
+    assert!(rt; play.went(&[Told::Acquire(1), Told::Checkout(1)]));
+    Ok(())
+}
+
+#[test]
+fn a_worker_in_an_opening(rt: HostRuntime) -> Result<(), Fail> {
+    let play = Play::new(rt)?;
+    let pool = play.pool(of_one(false))?;
+    let mut opens = Hand::of(rt, pool.work()?)?;
+    let mut other = Hand::of(rt, pool.work()?)?;
+    let mut get = Hand::of(rt, pool.get()?)?;
+    play.openings.hang(true);
+    assert!(rt; get.run().is_none() && opens.run().is_none() && other.run().is_none());
+    assert_eq!(rt; pool.status().opening, 1);
+    drop(opens);
+    assert_eq!(rt; play.given_up(), 1);
+    assert_eq!(rt; pool.status().failed_openings, 1);
+    // The opening is tried again after its delay, by another worker.
+    play.openings.hang(false);
+    play.pass(400);
+    assert!(rt; other.run().is_none());
+    assert!(rt; get.is_woken());
+    assert!(rt; get.run().ok_or("pending")?.is_ok());
+    // No handler of errors was told, since there was no error.
+    assert!(rt; play.went(&[Told::Acquire(0), Told::Checkout(0), Told::Checkin(0)]));
+    Ok(())
+}
+
+#[test]
+fn a_worker_that_sleeps(rt: HostRuntime) -> Result<(), Fail> {
+    let play = Play::new(rt)?;
+    let pool = play.pool(of_one(false))?;
+    let mut sleeps = Hand::of(rt, pool.work()?)?;
+    let mut other = Hand::of(rt, pool.work()?)?;
+    assert!(rt; sleeps.run().is_none() && other.run().is_none());
+    drop(sleeps);
+    let mut get = Hand::of(rt, pool.get()?)?;
+    assert!(rt; get.run().is_none());
+    assert!(rt; other.is_woken() && other.run().is_none());
+    assert!(rt; get.run().ok_or("pending")?.is_ok());
+    Ok(())
+}
+
+#[test]
+fn a_drain(rt: HostRuntime) -> Result<(), Fail> {
+    let play = Play::new(rt)?;
+    let pool = play.pool(of_one(false))?;
+    let mut work = Hand::of(rt, pool.work()?)?;
+    let mut get = Hand::of(rt, pool.get()?)?;
+    assert!(rt; get.run().is_none() && work.run().is_none());
+    let lent = get.run().ok_or("pending")??;
+
+    let mut leaves = Hand::of(rt, pool.drain(Duration::from_secs(5))?)?;
+    let mut stays = Hand::of(rt, pool.drain(Duration::from_secs(5))?)?;
+    assert!(rt; leaves.run().is_none() && stays.run().is_none());
+    drop(leaves);
+    // The pool stays closed.
+    let mut late = Hand::of(rt, pool.get()?)?;
+    let error = late.run().ok_or("pending")?.err().ok_or("a connection")?;
+    assert_eq!(rt; error.kind(), ErrorKind::Closed);
+    assert!(rt; !stays.is_woken());
     drop(lent);
-    assert!(rt; second.lent()?.is_some());
+    assert!(rt; stays.is_woken());
+    assert!(rt; stays.run().ok_or("pending")?.is_ok());
+    assert_eq!(rt; (play.opened(), play.dropped()), (1, 1));
+    Ok(())
+}
+
+#[test]
+fn all_that_wait_when_the_pool_goes(rt: HostRuntime) -> Result<(), Fail> {
+    let play = Play::new(rt)?;
+    let pool = play.pool(of_one(true))?;
+    let mut work = Hand::of(rt, pool.work()?)?;
+    let mut first = Hand::of(rt, pool.get()?)?;
+    let mut second = Hand::of(rt, pool.get()?)?;
+    play.checks.hang(true);
+    assert!(rt; first.run().is_none() && second.run().is_none() && work.run().is_none());
+    assert!(rt; first.run().is_none());
+    drop(pool);
+    // A caller who waits keeps the pool open.
+    assert!(rt; work.run().is_none());
+    drop(first);
+    drop(second);
+    // The last of them closed it.
+    assert!(rt; work.is_woken() && work.run().is_some());
+    assert_eq!(rt; (play.opened(), play.dropped()), (1, 1));
     Ok(())
 }

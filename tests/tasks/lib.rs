@@ -1,18 +1,21 @@
-//! The tests of a pool for tasks: crowds of tasks over failing managers, and each point at which a
-//! future may be dropped, by itself.
+//! Tests of a pool for tasks: what no clause says of it.
 #![tactic(auto)]
 
 #[cfg(test)]
 mod cancelling;
 #[cfg(test)]
-mod crowd;
+mod clock;
 #[cfg(test)]
-mod crowds;
+mod executors;
 #[cfg(test)]
-mod manager;
+mod hand;
 #[cfg(test)]
-mod stage;
+mod lending;
 #[cfg(test)]
-mod surface;
+mod play;
 #[cfg(test)]
-mod timer;
+mod waiting;
+#[cfg(test)]
+mod working;
+#[cfg(test)]
+mod world;

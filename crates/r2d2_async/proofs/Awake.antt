@@ -1,13 +1,13 @@
 -- Who was told to look is awake, after each change of the line.
-use Rattle.std.proofs.Common.{◌≡◌, ◌≢◌, ℕ, ◌+◌, ◌<◌, ◌≤◌, Bool, true, false, List, [], ◌∷◌, ◌++◌, Option, Some, None, ◌⊎◌, inl, inr, refl, sym, ◌∙◌, ap, subst, arith}
-use Rattle.std.specs.Prelude.{◌==◌, zero, suc, IfSome, IsSome, Vec, slice_index_or}
+use Rattle.std.proofs.Common.{◌≡◌, ◌≢◌, ℕ, Bool, true, false, List, [], ◌∷◌, ◌++◌, Option, Some, None, ◌⊎◌, inl, inr, refl, sym, ◌∙◌, ap, subst, arith}
+use Rattle.std.specs.Prelude.{zero, suc, IfSome, IsSome, Vec, slice_index_or}
 use Rattle.std.proofs.lemmas.Option.{none-some}
 use Rattle.std.proofs.lemmas.Bool.{cases_eq}
 use Rattle.futures.specs.declared.task.waker.Waker.{Waker}
 use Rattle.r2d2.specs.declared.line.place.Place.{Place}
 use Rattle.r2d2.specs.declared.line.place.Standing.{Standing}
 use Rattle.r2d2.specs.declared.line.place.Standing.TheVariants.{Quiet, Told, Served}
-use Rattle.r2d2.specs.Waiting.{place, told_at, told_first, first_quiet, told_if, slot_if, without, with_standing, served, stood_by, left_by, told_by}
+use Rattle.r2d2.specs.Waiting.{place, told_at, told_first, first_quiet, told_if, slot_if, without, with_standing, left_by, told_by}
 use Rattle.r2d2.specs.Lined.{looked_by}
 use Rattle.r2d2_async.specs.Wakers.{waker_at, AreAwake}
 

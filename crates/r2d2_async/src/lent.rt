@@ -43,6 +43,10 @@ impl<M: ManageConnection, T: Timer, K: Hooks<M>, R: AsyncRuntime> Model
 }
 
 impl<M: ManageConnection, T: Timer, K: Hooks<M>, R: AsyncRuntime> PooledConnection<M, T, K, R> {
+    ghost use Rattle.std.specs.Borrow.{sem, Lends};
+    ghost use Rattle.r2d2.specs.contracts.extensions.Extensions.{the_row as extensions_row};
+    ghost use Rattle.r2d2_async.specs.contracts.lent.PooledConnection.{the_row};
+
     /// The number that the pool gave the connection when it was opened: that of the events and of
     /// the journal. No other connection of the pool ever has it.
     pub fn id(this: &Self) -> u64
@@ -93,6 +97,14 @@ impl<M: ManageConnection, T: Timer, K: Hooks<M>, R: AsyncRuntime> PooledConnecti
     /// The same, to be changed.
     pub fn extensions_mut(this: &mut Self) -> &mut Extensions<M::Extension>
         ensures value { result.now ≡ this.old.extensions }
+        ensures* writes_back { sem 𝓛 (Lends (the_row M.row T.row K.row R.row M.Connection.row
+            M.Error.row M.Extension.row M.Connect.row M.Check.row M.Extension.Kind.row T.Sleep.row
+            M.Error.Display M.Extension.Extension M.Extension.Kind.PartialEq M.Connect.Future
+            M.Check.Future T.Sleep.Future
+            ⟦<Global as Allocator>⟧ ⟦<Global as Clone>⟧)
+            (extensions_row M.Extension.row M.Extension.Kind.row
+            M.Extension.Extension M.Extension.Kind.PartialEq) this.entry result
+            (λ w. record this.old { extensions = w })) }
     {
         &mut this.payload.extensions
     }

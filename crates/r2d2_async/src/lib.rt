@@ -4,16 +4,9 @@
 //! executor of theirs. What the pool decides is the same core that the pool of `r2d2` stands on;
 //! settings, events, handlers, extensions and errors are those of `r2d2`.
 //!
-//! ```rust
-//! let pool = Builder::new().max_size(8).build(rt, manager, timer)?;
-//! tasks.spawn(Task::Worker(pool.work()?))?;
-//! // In a task, by its `poll`:
-//! let get = pool.get()?;
-//! // ..
-//! let database = ready!(get.poll(cx))?;
-//! // It goes back to the pool, and the task that is first in line is told.
-//! drop(database);
-//! ```
+//! A `Builder` makes a pool over a manager and a timer of the user's. `Pool::work` gives a worker
+//! to be spawned, and `Pool::get` the future of a connection, which goes back to the pool when it is
+//! dropped.
 //!
 //! Callers stand in one line, and are served in the order in which they came. The memory for the
 //! line is taken when the pool is built: the setting `max_waiting` says how many may stand in it.

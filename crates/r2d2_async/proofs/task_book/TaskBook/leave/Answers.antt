@@ -1,4 +1,3 @@
-use Rattle.std.proofs.Common.{◌≡◌}
 use Rattle.r2d2_async.proofs.Awake.{awake_gone}
 use Rattle.r2d2_async.proofs.task_book.TaskBook.leave.Goals as goal
 

@@ -1,7 +1,5 @@
-use Rattle.std.proofs.Common.{◌≡◌, None}
-use Rattle.std.specs.Prelude.{IfSome}
 use Rattle.r2d2.specs.Lined.{is_found}
-use Rattle.r2d2_async.specs.Wakers.{waker_at, AreAwake}
+use Rattle.r2d2_async.specs.Wakers.{AreAwake}
 use Rattle.r2d2_async.proofs.Awake.{awake_look, awake_registered}
 use Rattle.r2d2_async.proofs.task_book.TaskBook.poll_look.Goals as goal
 

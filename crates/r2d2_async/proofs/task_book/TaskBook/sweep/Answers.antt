@@ -1,4 +1,3 @@
-use Rattle.std.proofs.Common.{◌≡◌}
 use Rattle.r2d2_async.proofs.Awake.{awake_after}
 use Rattle.r2d2_async.proofs.task_book.TaskBook.sweep.Goals as goal
 

@@ -1,4 +1,3 @@
-use Rattle.std.proofs.Common.{◌≡◌}
 use Rattle.r2d2_async.proofs.Awake.{awake_same}
 use Rattle.r2d2_async.proofs.task_book.TaskBook.try_take.Goals as goal
 
