@@ -2,6 +2,7 @@
 ghost use Rattle.std.specs.Prelude.{◌≡◌, ◌≤◌, ◌-◌, nat_lt, is_some, option_map};
 ghost use Rattle.std.specs.Duration.{as_nanos};
 
+use crate::tuning::Tuning;
 use std::marker::Model;
 use std::time::Duration;
 
@@ -38,6 +39,7 @@ impl Model for CallTime {
 }
 
 impl CallTime {
+    ghost use Rattle.std.specs.Prelude.{IsTrue, IfSome};
     ghost use Rattle.r2d2.specs.CallTime.{begun_at, looked_at, start_of, waited_of, left_of};
     ghost use Rattle.r2d2.specs.CallTime.{may_still_take, with_one_less};
 
@@ -76,6 +78,17 @@ impl CallTime {
         if now.checked_sub(self.seen).is_some() {
             self.seen = now;
         }
+    }
+
+    /// Whether what it took last, and was idle since this moment, is idle for long enough to be
+    /// checked.
+    #[inline(always)]
+    pub(super) fn has_check_due(&self, tuning: &Tuning, idle_since: &Option<Duration>) -> bool
+        ensures due { IsTrue result → IfSome tuning.now.check_after_idle
+            (λ least. IfSome idle_since.now (λ since. as_nanos since ≤ self.now.step
+            → as_nanos least ≤ self.now.step - as_nanos since)) }
+    {
+        tuning.is_check_due(*idle_since, self.step)
     }
 
     /// Whether it looked at the clock.

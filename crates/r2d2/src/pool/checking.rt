@@ -23,7 +23,7 @@ impl<C: TakeTotal, M: ManageConnection, K: Hooks<M>, R: PoolRuntime> SharedOf<C,
             (λ least. IfSome idle_since.now (λ since. as_nanos since ≤ time.now.step
             → as_nanos least ≤ time.now.step - as_nanos since)) }
     {
-        self.hooks.test_on_check_out() && self.tuning.is_check_due(*idle_since, time.step())
+        self.hooks.test_on_check_out() && time.has_check_due(&self.tuning, idle_since)
     }
 
     /// Whether what a call takes may be closed for a check, of it or of another.

@@ -1,6 +1,6 @@
 // How a caller comes to a connection.
 ghost use Rattle.std.specs.Prelude.{◌≡◌, ◌≤◌, ◌<◌, ◌+◌, IfOk, IfErr, IfSome, IsSome};
-ghost use Rattle.std.specs.Prelude.{Some, false, is_some};
+ghost use Rattle.std.specs.Prelude.{Some, true, false, is_some};
 ghost use Rattle.std.specs.Option.{IsNone};
 ghost use Rattle.std.specs.Duration.{as_nanos};
 ghost use Rattle.std.specs.Arc.{arc_value};
@@ -42,8 +42,7 @@ impl<C: TakeCounter, M: ManageConnection, K: Hooks<M>, R: PoolRuntime> AnyPool<C
         let mut time = CallTime::new(shared.start_of_call());
         let mut idle_since = None;
         let closer = Arc::try_clone(&self.closer).map_err(|_| Error::memory())?;
-        // Where callers wait in line it waits there, and takes here what is kept for nobody.
-        let patience = if shared.tuning.in_line { None } else { timeout };
+        let patience = shared.patience(timeout);
         for _ in shared.rt.forever() {
             let found = match shared.lend_until(patience, &mut time, &mut idle_since, tally) {
                 Ok(Some(lent)) => lent,
@@ -129,6 +128,20 @@ impl<C: TakeCounter, M: ManageConnection, K: Hooks<M>, R: PoolRuntime> AnyPool<C
 }
 
 impl<C: TakeTotal, M: ManageConnection, K: Hooks<M>, R: PoolRuntime> SharedOf<C, M, K, R> {
+    // How long a call waits that stands in no line. Where callers wait in line, not at all: it takes
+    // what is kept for nobody, and else goes on in line.
+    #[inline(always)]
+    fn patience(&self, timeout: Option<Duration>) -> Option<Duration>
+        ensures line { self.now.tuning.in_line ≡ true → IsNone result }
+        ensures alone { self.now.tuning.in_line ≡ false → result ≡ timeout }
+        ensures none { IsNone timeout → IsNone result }
+    {
+        if self.tuning.in_line {
+            return None;
+        }
+        timeout
+    }
+
     // The moment at which a call begins, where somebody sees it.
     fn start_of_call(&self) -> Option<Duration>
         ensures { is_some result ≡ self.now.listens }

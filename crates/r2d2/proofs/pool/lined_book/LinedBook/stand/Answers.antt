@@ -1,6 +1,6 @@
-use Rattle.std.proofs.Common.{◌≤◌, List, length, sym, subst}
+use Rattle.std.proofs.Common.{◌≤◌, List, length, sym, ◌∙◌, ap, subst}
 use Rattle.r2d2.specs.declared.line.place.Place.{Place}
-use Rattle.r2d2.specs.Waiting.{AreTold}
+use Rattle.r2d2.specs.Waiting.{AreTold, told_at}
 use Rattle.r2d2.specs.Waiting.{before}
 use Rattle.r2d2.proofs.Waiting.{kept_joined, kept_quiet}
 use Rattle.r2d2.proofs.Standing.{join_untold, told_at-quiet}
