@@ -46,13 +46,8 @@ impl<C: TakeCounter, M: ManageConnection, K: Hooks<M>, R: PoolRuntime> AnyPool<C
         for _ in shared.rt.forever() {
             let found = match shared.lend_until(patience, &mut time, &mut idle_since, tally) {
                 Ok(Some(lent)) => lent,
-                Ok(None) => {
-                    let Some(timeout) = timeout else {
-                        return Ok(None);
-                    };
-                    let lent = self.lend_in_line(closer, timeout, time.begun(), tally)?;
-                    return Ok(Some(lent));
-                }
+                Ok(None) if timeout.is_none() => return Ok(None),
+                Ok(None) => return self.go_on_in_line(closer, timeout, time.begun(), tally),
                 Err(error) => return Err(shared.tell_in_vain(error, timeout)),
             };
             let is_checked = shared.is_to_check(&time, &idle_since);
@@ -71,10 +66,38 @@ impl<C: TakeCounter, M: ManageConnection, K: Hooks<M>, R: PoolRuntime> AnyPool<C
         unreachable!()
     }
 
+    // As `lend_within`, for a call that found none where callers wait in line.
+    #[cold]
+    fn go_on_in_line(
+        &self,
+        closer: Arc<Closer<PayloadOf<M>, C, M, K, R>>,
+        timeout: Option<Duration>,
+        start: Option<Duration>,
+        tally: &mut C::Tally,
+    ) -> Result<Option<AnyConnection<C, M, K, R>>, Error>
+        requires { 0 < C.parts tally.old }
+        ensures settings { IfOk result (λ found. IfSome found
+            (λ lent. lent.settings ≡ (arc_value (arc_value closer).shared).hooks)) }
+        ensures refused { IfErr result IsOfAGet }
+        ensures waits { IsSome timeout → IfOk result IsSome }
+        ensures at_once { IsNone timeout → IfErr result IsOfMemory }
+        ensures parts { C.parts tally.new ≡ C.parts tally.old }
+        ensures amount { C.amount tally.old ≤ C.amount tally.new }
+        ensures lent { IfOk result
+            (λ found. IfSome found (λ _. C.amount tally.old + C.per_take ≤ C.amount tally.new)) }
+    {
+        match timeout {
+            Some(timeout) => {
+                let lent = self.lend_in_line(closer, timeout, start, tally)?;
+                Ok(Some(lent))
+            }
+            None => Ok(None),
+        }
+    }
+
     // As `lend_within`, for a call that found none and waits in line; it looked at the clock first at
     // `start`, if it did. Who takes keeps its place until its check went well, so that it is the
     // first again if it does not.
-    #[cold]
     fn lend_in_line(
         &self,
         closer: Arc<Closer<PayloadOf<M>, C, M, K, R>>,
