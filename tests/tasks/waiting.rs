@@ -123,6 +123,21 @@ fn one_too_many_is_refused_at_once(rt: HostRuntime) -> Result<(), Fail> {
 }
 
 #[test]
+fn one_that_was_checked_leaves_its_place(rt: HostRuntime) -> Result<(), Fail> {
+    let play = Play::new(rt)?;
+    let pool = play.pool(of_one(true).max_waiting(1))?;
+    let mut work = Hand::of(rt, pool.work()?)?;
+    let mut get = Hand::of(rt, pool.get()?)?;
+    let lent = first_lent(&pool, &mut work, &mut get)?;
+    // The only place is free again.
+    let mut waits = Hand::of(rt, pool.get()?)?;
+    assert!(rt; waits.run().is_none());
+    drop(lent);
+    assert!(rt; waits.run().ok_or("pending")?.is_ok());
+    Ok(())
+}
+
+#[test]
 fn one_whose_time_runs_out(rt: HostRuntime) -> Result<(), Fail> {
     let play = Play::new(rt)?;
     let pool = play.pool(of_one(false))?;

@@ -89,7 +89,11 @@ impl<P: Drop> TaskBook<P> {
 
     /// The counts, with those of the callers who wait.
     pub fn status(&self) -> Status
-        ensures { IsStatus result }
+        ensures sums { IsStatus result }
+        ensures idle { result.idle ≡ length self.now.guarded.book.book.picture.idle }
+        ensures lent { result.lent ≡ length self.now.guarded.book.book.picture.lent }
+        ensures opening { result.opening ≡ self.now.guarded.book.book.picture.on_order.pending }
+        ensures closed { result.closed ≡ self.now.guarded.book.book.picture.on_order.closed }
     {
         self.guarded.status()
     }
