@@ -191,16 +191,35 @@ impl<M: ManageConnection, T: Timer, K: Hooks<M>, R: AsyncRuntime> Get<M, T, K, R
                 idle_since,
             } => (id, payload, idle_since),
         };
+        Poll::Ready(Ok(self.if_unchecked(id, payload, idle_since, now)))
+    }
+
+    // What it took now, where it is lent without a check; else its check begins, or it is closed.
+    fn if_unchecked(
+        &mut self,
+        id: u64,
+        payload: PayloadOf<M>,
+        idle_since: Option<Duration>,
+        now: Duration,
+    ) -> Option<Found<PayloadOf<M>>>
+        requires closer { IsSome self.old.closer }
+        requires checking { self.old.checking ≡ None }
+        ensures checks { IfSome self.new.checking (λ c. M.Check.can_poll c.check) }
+        ensures sleep { self.new.sleep ≡ self.old.sleep }
+        ensures closer { self.new.closer ≡ self.old.closer }
+    {
+        let closer = self.closer.as_ref().unwrap();
+        let shared = &closer.shared;
         if shared.tuning.distrust_idle && shared.is_distrusted(idle_since) {
             shared.put_back(id, payload, Some(ReleaseReason::Distrusted));
-            return Poll::Ready(Ok(None));
+            return None;
         }
         if !shared.config.test_on_check_out || !shared.tuning.is_check_due(idle_since, now) {
-            return Poll::Ready(Ok(Some(Found {
+            return Some(Found {
                 id,
                 payload,
                 taken_at: Some(now),
-            })));
+            });
         }
         let Payload {
             connection,
@@ -213,7 +232,7 @@ impl<M: ManageConnection, T: Timer, K: Hooks<M>, R: AsyncRuntime> Get<M, T, K, R
             idle_since,
             check,
         });
-        Poll::Ready(Ok(None))
+        None
     }
 
     // One look, and one poll of the check: what to lend.
