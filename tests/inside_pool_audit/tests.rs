@@ -652,19 +652,65 @@ fn says_which_pool_a_report_is_of(rt: HostRuntime) -> Result<(), Fail> {
     Ok(())
 }
 
-// A drawing is of the last report, and has its pool's name.
+// What is drawn of the reports of a log.
+fn drawn(alloc: Global, asked: Asked<'_>, log: &str) -> Result<String, Fail> {
+    let mut written = Vec::new(alloc);
+    let mut writer = BufWriter::new(alloc, &mut written)?;
+    serve(alloc, asked, log.as_bytes(), &mut writer).map_err(|_| "a fault")?;
+    drop(writer);
+    Ok(String::from_str(alloc, str::from_utf8(written.as_slice())?)?)
+}
+
+// A drawing is of the last report, whichever pool that is of.
 #[test]
 fn draws_the_last_report(rt: HostRuntime) -> Result<(), Fail> {
     let alloc = rt.alloc();
-    let log = format!(in alloc; "{}\n{NEW}\n{}\n", LENT, named(alloc, "a<b")?.as_str())?;
-    let mut written = Vec::new(alloc);
-    let mut writer = BufWriter::new(alloc, &mut written)?;
-    let got = serve(alloc, all(Form::Html), log.as_bytes(), &mut writer);
-    drop(writer);
-    assert_eq!(rt; got, Ok(true));
-    let page = str::from_utf8(written.as_slice())?;
-    assert!(rt; page.contains("<h1>The journal of the pool a&lt;b</h1>"));
+    let log = format!(in alloc; "{NEW}\n{}\n{LENT}\n", named(alloc, "orders")?.as_str())?;
+    let last = drawn(alloc, all(Form::Svg), LENT)?;
+    assert_eq!(rt; drawn(alloc, all(Form::Svg), log.as_str())?.as_str(), last.as_str());
+    Ok(())
+}
+
+// A page has a section for each pool, about its last report, in the order in which they came; and
+// before them what to see first of each. A pool without a name is one too.
+#[test]
+fn a_page_has_a_section_for_each_pool(rt: HostRuntime) -> Result<(), Fail> {
+    let alloc = rt.alloc();
+    let (orders, users) = (named(alloc, "a<b")?, named(alloc, "users")?);
+    let wrong = users.as_str().replace(alloc, "\"takes\":0", "\"takes\":7")?;
+    let log = format!(in alloc; "{users}\n{LENT}\n{orders}\n{NEW}\n{wrong}\n")?;
+    let page = drawn(alloc, all(Form::Html), log.as_str())?;
+    let page = page.as_str();
     assert_eq!(rt; page.matches("<!doctype html>").count(), 1);
+    assert_eq!(rt; page.matches("<section id=").count(), 3);
+    let list = concat!(
+        "<h1>The journals of 3 pools</h1>\n<ul class=\"pools\">\n",
+        "<li class=\"is-wrong\"><a href=\"#pool-0\">users</a>: ",
+        "Not sound: the counts: takes is 7, but the records tell of 0</li>\n",
+    );
+    let well = "all well: nothing lent, opening or exhausted for as long as connection_timeout, 9 ns";
+    let list = format!(in alloc; "{list}{}{}",
+        format!(in alloc; "<li class=\"is-well\"><a href=\"#pool-1\">without a name</a>: {well}</li>\n")?
+            .as_str(),
+        format!(in alloc; "<li class=\"is-well\"><a href=\"#pool-2\">a&lt;b</a>: {well}</li>\n</ul>\n")?
+            .as_str(),
+    )?;
+    assert!(rt; page.contains(list.as_str()), "{page}");
+    let mut rest = page;
+    for (number, title) in ["pool users", "pool", "pool a&lt;b"].iter().enumerate() {
+        let article = if number == 1 { "a" } else { "the" };
+        let head = format!(in alloc;
+            "<section id=\"pool-{number}\">\n<h1>The journal of {article} {title}</h1>\n"
+        )?;
+        rest = rest.split_once(head.as_str()).ok_or("a section")?.1;
+    }
+    let asked = Asked {
+        pool: Some("users"),
+        ..all(Form::Html)
+    };
+    let alone = drawn(alloc, asked, log.as_str())?;
+    assert!(rt; !alone.as_str().contains("<ul class=\"pools\">"));
+    assert_eq!(rt; alone.as_str().matches("<section id=").count(), 1);
     Ok(())
 }
 

@@ -2,7 +2,7 @@
 
 use crate::books::{Driven, limits, ms};
 use crate::stories::one_of_each;
-use pool_pictures::{Finding, Headline, Notes, html, svg, text};
+use pool_pictures::{Finding, Headline, Notes, Page, html, svg, text};
 use pool_reports::from_json;
 use r2d2_core::Report;
 use std::alloc::{AllocError, Global};
@@ -323,6 +323,31 @@ fn says_what_is_wrong(rt: HostRuntime) -> Result<(), Fail> {
     assert_eq!(rt; count(page.as_str(), "<tr class=\"is-wrong\">"), 2);
     let plain = text(rt.alloc(), &report, &notes)?;
     assert!(rt; plain.as_str().contains("wrong |"));
+    Ok(())
+}
+
+// On a page neither a moment of the wall clock nor what stands in parentheses is broken.
+#[test]
+fn moments_are_not_broken(rt: HostRuntime) -> Result<(), Fail> {
+    let report = one_of_each(rt.alloc())?;
+    let line = "lent since 2026-01-31T12:00:07Z: 1 (7 s, <b>)";
+    let lines = vec![in rt.alloc(); String::from_str(rt.alloc(), line)?]?;
+    let notes = Notes {
+        headline: Some(Headline {
+            lines: lines.as_slice(),
+            is_well: false,
+        }),
+        answers: lines.as_slice(),
+        ..Notes::none()
+    };
+    let whole = concat!(
+        ">lent since <span class=\"moment\">2026-01-31T12:00:07Z:</span> 1 ",
+        "<span class=\"moment\">(7 s, &lt;b&gt;)</span><",
+    );
+    let page = Page::new(rt.alloc()).with(&report, &notes)?.with(&report, &notes)?.text()?;
+    assert_eq!(rt; count(page.as_str(), whole), 4);
+    // The list has the same of each.
+    assert_eq!(rt; count(page.as_str(), whole.strip_prefix('>').ok_or("begins")?), 6);
     Ok(())
 }
 

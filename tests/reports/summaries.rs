@@ -199,18 +199,25 @@ fn the_wall_clock_goes_round(rt: HostRuntime) -> Result<(), Fail> {
         (253_402_207_200, "9999-12-30T22:00:00Z"),
     ] {
         let made_at = SystemTime::UNIX_EPOCH.checked_add(Duration::from_secs(seconds));
-        let written = to_json_of_pool(alloc, &report, Origin::by_the_clock(made_at, None))?;
+        let origin = Origin {
+            made_at,
+            ..Origin::unknown()
+        };
+        let written = to_json_of_pool(alloc, &report, origin)?;
         let field = format!(in alloc; "\"made_at\":\"{text}\",")?;
         let (front, back) = written.as_str().split_once(field.as_str()).ok_or("made_at")?;
         assert_eq!(rt; format!(in alloc; "{front}{back}")?.as_str(), plain.as_str());
         let read = from_json_of_pool(alloc, written.as_str())?;
-        assert_eq!(rt; read.origin(), Origin::by_the_clock(made_at, None));
+        assert_eq!(rt; read.origin(), origin);
         assert_eq!(rt; to_json(alloc, &read.report)?.as_str(), plain.as_str());
         let read = from_json(alloc, written.as_str())?;
         assert_eq!(rt; to_json(alloc, &read)?.as_str(), plain.as_str());
     }
     let past = SystemTime::UNIX_EPOCH.checked_add(Duration::from_secs(253_402_300_800));
-    let past = Origin::by_the_clock(past, None);
+    let past = Origin {
+        made_at: past,
+        ..Origin::unknown()
+    };
     assert_eq!(rt; to_json_of_pool(alloc, &report, past)?.as_str(), plain.as_str());
     let read = from_json_of_pool(alloc, plain.as_str())?;
     assert_eq!(rt; read.origin(), Origin::unknown());
@@ -239,17 +246,13 @@ fn the_origin_goes_round(rt: HostRuntime) -> Result<(), Fail> {
 }
 
 #[test]
-fn the_moment_of_a_report_is_by_the_clock(rt: HostRuntime) -> Result<(), Fail> {
-    let at = |seconds| SystemTime::UNIX_EPOCH.checked_add(Duration::from_secs(seconds));
-    let origin = Origin::by_the_clock(at(100), at(103)).named("orders");
+fn an_origin_has_the_moment_of_its_report(rt: HostRuntime) -> Result<(), Fail> {
+    let made_at = SystemTime::UNIX_EPOCH.checked_add(ms(100));
+    let origin = Origin::at(made_at, ms(3)).named("orders");
     assert_eq!(rt;
         (origin.name, origin.made_at, origin.reported_at),
-        (Some("orders"), at(100), Some(ms(3000)))
+        (Some("orders"), made_at, Some(ms(3)))
     );
-    for (made_at, now) in [(at(100), None), (None, at(103)), (at(100), at(99))] {
-        let origin = Origin::by_the_clock(made_at, now);
-        assert_eq!(rt; (origin.made_at, origin.reported_at), (made_at, None));
-    }
     Ok(())
 }
 

@@ -113,6 +113,8 @@ def try_pictures():
     named = first.replace(b'"limits"', b'"name":"orders","limits"', 1)
     (page,), _ = drawn(["--pool", "orders", "--html", "*"], named + first, 0)
     check("the page says which pool", b"<h1>The journal of the pool orders</h1>" in page, page)
+    (page,), _ = drawn(["--html", "*"], named + first + named, 0)
+    check("the page has a section for each pool", re.findall(b"<li class=.*>(.*)</a>:", page) == [b"orders", b"without a name"], page)
     try_files_that_would_be_lost(first)
     answers = read("crates", "pool_audit", "stdout").decode().partition("line 3")[0]
     runs("a picture that has no place", ["--svg", "/nowhere/at.all"], first, 3, answers,

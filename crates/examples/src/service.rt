@@ -4,7 +4,6 @@
 use crate::Numbers;
 use pool_reports::{Origin, audit, from_json, to_json_of_pool};
 use r2d2::{Builder, PlainPool, PoolRuntime};
-use std::time::SystemTime;
 
 pub fn audited<R: PoolRuntime + Print>(rt: R) -> Result<(), anyhow::Error> {
     let log = serve(rt)?;
@@ -49,7 +48,7 @@ fn write_journal<R: PoolRuntime>(
     log: &mut String,
 ) -> Result<(), anyhow::Error> {
     let report = pool.journal()?;
-    let origin = Origin::by_the_clock(pool.made_at(), SystemTime::now(rt).ok()).named("numbers");
+    let origin = Origin::at(pool.made_at(), pool.moment()).named("numbers");
     log.push_str(to_json_of_pool(rt.alloc(), &report, origin)?.as_str())?;
     log.push('\n')?;
     Ok(())

@@ -22,7 +22,7 @@ pub enum Form {
     Text,
     /// As a drawing of the last report alone, as SVG.
     Svg,
-    /// As a page about the last report alone.
+    /// As a page about the last report of each pool.
     Html,
 }
 
@@ -123,7 +123,7 @@ impl<T: Drop> From<AllocFailed<T>> for Fault {
 /// Audits the report on each line of the input, or each one in the lines of a log, and writes what
 /// it found on each: whether all are sound. Lines of white space alone are left out, and counted.
 /// In the end it says if there was no report, and of a log how many lines hold none. A drawing is
-/// of the last report, and written in the end.
+/// of the last report, a page of the last one of each pool; both are written in the end.
 ///
 /// It stops at the first fault, but for what is damaged in a log, which is told there and counted
 /// in the end. What it found on the lines before was written by then: where that failed, the fault
@@ -148,8 +148,28 @@ struct Task<'a> {
     asked: Asked<'a>,
     all_sound: bool,
     tally: Tally,
-    // What is drawn in the end: a report, its line and its verdict.
-    last: Option<(u64, Written, Verdict)>,
+    // What is drawn in the end.
+    drawn: Vec<Drawn>,
+}
+
+/// A report that is drawn.
+#[derive(Drop)]
+pub(crate) struct Drawn {
+    line: u64,
+    written: Written,
+    verdict: Verdict,
+}
+
+impl Drawn {
+    /// What is known of it.
+    pub(crate) fn judged(&self) -> Judged<'_> {
+        Judged {
+            line: self.line,
+            report: &self.written.report,
+            origin: self.written.origin(),
+            verdict: self.verdict,
+        }
+    }
 }
 
 /// How many reports and lines there were.
@@ -176,13 +196,27 @@ impl<'a> Task<'a> {
                 damaged: 0,
                 passed_over: 0,
             },
-            last: None,
+            drawn: Vec::new(alloc),
         }
     }
 
     // Whether the report is of another pool than the one that is asked for.
     fn is_of_another(&self, written: &Written) -> bool {
         self.asked.pool.is_some() && self.asked.pool != written.name.as_deref()
+    }
+
+    // Notes what is to be drawn in place of an earlier one: of the same pool, or for a drawing of
+    // any.
+    fn note(&mut self, drawn: Drawn) -> Result<(), Fault> {
+        let is_page = self.asked.form == Form::Html;
+        let name = drawn.written.name.as_deref();
+        let place = self.drawn.iter().position(|earlier| !is_page
+            || earlier.written.name.as_deref() == name);
+        match place.and_then(|place| self.drawn.get_mut(place)) {
+            Some(earlier) => *earlier = drawn,
+            None => self.drawn.push(drawn)?,
+        }
+        Ok(())
     }
 }
 
@@ -203,12 +237,10 @@ fn audit_lines<R: Read + Drop, W: Write + Drop>(
     Err(Fault::Read)
 }
 
-// Draws the last report, if that is asked for, and writes how many there were. Says whether all are
-// sound.
+// Draws what is to be drawn, and writes how many reports there were. Says whether all are sound.
 fn end<W: Write + Drop>(task: &Task<'_>, output: &mut BufWriter<W>) -> Result<bool, Fault> {
-    if let Some((line, written, verdict)) = &task.last {
-        tell(task, *line, written, *verdict, output)?;
-    }
+    let drawing = report_text::drawing(task.alloc, task.asked.form, task.drawn.as_slice())?;
+    write(output, drawing)?;
     let text = report_text::of_the_rest(task.alloc, task.asked, task.tally)?;
     write(output, text)?;
     match task.tally.damaged {
@@ -307,30 +339,16 @@ fn judge<W: Write + Drop>(
     let verdict = audit(task.alloc, &written.report)?;
     task.tally.reports = task.tally.reports.saturating_add(1);
     task.all_sound &= verdict == Verdict::Sound;
-    if matches!(task.asked.form, Form::Svg | Form::Html) {
-        task.last = Some((line, written, verdict));
-        return Ok(());
-    }
-    tell(task, line, &written, verdict, output)
-}
-
-fn tell<W: Write + Drop>(
-    task: &Task<'_>,
-    line: u64,
-    written: &Written,
-    verdict: Verdict,
-    output: &mut BufWriter<W>,
-) -> Result<(), Fault> {
-    let judged = Judged {
+    let drawn = Drawn {
         line,
-        report: &written.report,
-        origin: written.origin(),
+        written,
         verdict,
     };
-    write(
-        output,
-        report_text::of(task.alloc, task.asked.form, &judged)?,
-    )
+    if matches!(task.asked.form, Form::Svg | Form::Html) {
+        return task.note(drawn);
+    }
+    let text = report_text::of(task.alloc, task.asked.form, &drawn.judged())?;
+    write(output, text)
 }
 
 fn write<W: Write + Drop>(output: &mut BufWriter<W>, text: String) -> Result<(), Fault> {

@@ -3,8 +3,8 @@
 use crate::answers;
 use crate::finding::Damage;
 use crate::headline::Headline;
-use crate::lines::{Asked, Form, Lines, Tally};
-use pool_pictures::{Finding, Notes, html, svg, text};
+use crate::lines::{Asked, Drawn, Form, Lines, Tally};
+use pool_pictures::{Finding, Notes, Page, svg, text};
 use pool_reports::{Origin, Summary, Verdict, summarize};
 use r2d2_core::Report;
 use serde::Serialize;
@@ -21,15 +21,38 @@ pub(crate) struct Judged<'a> {
     pub(crate) verdict: Verdict,
 }
 
-/// What is written of it, in the form that is asked for.
+/// What is written of it at once, in the form that is asked for.
 pub(crate) fn of(alloc: Global, form: Form, judged: &Judged<'_>) -> Result<String, AllocError> {
     match form {
         Form::Words => in_words(alloc, judged),
         Form::Json => in_json(alloc, judged),
         Form::Text => with_timeline(alloc, judged),
-        Form::Svg => svg(alloc, judged.report, &Known::of(alloc, judged)?.notes()),
-        Form::Html => html(alloc, judged.report, &Known::of(alloc, judged)?.notes()),
+        Form::Svg | Form::Html => Ok(String::new(alloc)),
     }
+}
+
+/// What is drawn in the end, in the form that is asked for.
+pub(crate) fn drawing(alloc: Global, form: Form, drawn: &[Drawn]) -> Result<String, AllocError> {
+    let Some(last) = drawn.last() else {
+        return Ok(String::new(alloc));
+    };
+    match form {
+        Form::Words | Form::Json | Form::Text => Ok(String::new(alloc)),
+        Form::Svg => {
+            let judged = last.judged();
+            svg(alloc, judged.report, &Known::of(alloc, &judged)?.notes())
+        }
+        Form::Html => page(alloc, drawn),
+    }
+}
+
+fn page(alloc: Global, drawn: &[Drawn]) -> Result<String, AllocError> {
+    let mut page = Page::new(alloc);
+    for one in drawn {
+        let judged = one.judged();
+        page = page.with(judged.report, &Known::of(alloc, &judged)?.notes())?;
+    }
+    page.text()
 }
 
 /// What is written of what reads like a report on a line, and is none.

@@ -18,5 +18,5 @@ mod words;
 pub use drawing::svg;
 pub use lengths::Length;
 pub use notes::{Finding, Headline, Notes};
-pub use page::html;
+pub use page::{Page, html};
 pub use terminal::text;

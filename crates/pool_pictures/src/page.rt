@@ -1,4 +1,4 @@
-// A drawing in a page of its own.
+// Drawings in a page for a browser.
 
 use crate::drawing::{Width, legend_list, page_style, plot};
 use crate::lengths::{Length, Limit};
@@ -53,6 +53,10 @@ p { margin: 0 0 6px }
 .is-well, .is-sound { color: var(--sound) }
 .is-well { background: var(--sound-paper) }
 .is-wrong { color: var(--fault); background: var(--fault-paper) }
+.pools { list-style: none; padding: 0; margin: 0 0 32px; overflow-wrap: anywhere }
+.pools li { padding: 6px 14px; border-radius: 6px; margin-bottom: 4px }
+.pools a { color: inherit; font-weight: 600 }
+section + section { border-top: 1px solid var(--line); margin-top: 40px; padding-top: 24px }
 .answers { margin: 0 0 12px; padding-left: 20px }
 .summary { color: var(--dim); margin: 14px 0 20px }
 .moment { display: inline-block }
@@ -85,13 +89,101 @@ pub fn html<A: Allocator>(
     report: &Report<A>,
     notes: &Notes,
 ) -> Result<String, AllocError> {
-    let mut page = String::from_str(alloc, HEAD)?;
-    about(alloc, &mut page, report, notes)?;
-    page.push_str(FOOT)?;
-    Ok(page)
+    Page::new(alloc).with(report, notes)?.text()
 }
 
-// What stands between the head of a page and its foot.
+/// A page about the reports of several pools, with a section for each, as `html` writes it of one.
+/// Where there is more than one, a list comes before them: of each pool what to see first, with a
+/// link to its section.
+#[derive(Drop)]
+pub struct Page {
+    alloc: Global,
+    pools: usize,
+    list: String,
+    sections: String,
+}
+
+impl Page {
+    /// A page without a section.
+    pub fn new(alloc: Global) -> Page {
+        Page {
+            alloc,
+            pools: 0,
+            list: String::new(alloc),
+            sections: String::new(alloc),
+        }
+    }
+
+    /// The page with a section more, about this report. The error comes only where memory is
+    /// refused.
+    pub fn with<A: Allocator>(
+        mut self,
+        report: &Report<A>,
+        notes: &Notes,
+    ) -> Result<Page, AllocError> {
+        let number = self.pools;
+        self.pools = number.saturating_add(1);
+        line_of_a_pool(self.alloc, &mut self.list, number, notes)?;
+        writeln!(self.sections, "<section id=\"pool-{number}\">")?;
+        about(self.alloc, &mut self.sections, report, notes)?;
+        self.sections.push_str("</section>\n")?;
+        Ok(self)
+    }
+
+    /// What the browser reads. The error comes only where memory is refused.
+    pub fn text(&self) -> Result<String, AllocError> {
+        let mut page = String::from_str(self.alloc, HEAD)?;
+        if self.pools > 1 {
+            let pools = self.pools;
+            writeln!(
+                page,
+                "<h1>The journals of {pools} pools</h1>\n<ul class=\"pools\">"
+            )?;
+            page.push_str(self.list.as_str())?;
+            page.push_str("</ul>\n")?;
+        }
+        page.push_str(self.sections.as_str())?;
+        page.push_str("<svg class=\"pool style\" width=\"0\" height=\"0\" aria-hidden=\"true\">")?;
+        page.push_str(page_style())?;
+        page.push_str("</svg>\n")?;
+        page.push_str(FOOT)?;
+        Ok(page)
+    }
+}
+
+// A line of the list of pools.
+fn line_of_a_pool(
+    alloc: Global,
+    list: &mut String,
+    number: usize,
+    notes: &Notes,
+) -> Result<(), AllocError> {
+    let name = Escaped(notes.name.unwrap_or("without a name"));
+    let (class, words) = glance(alloc, notes)?;
+    writeln!(
+        list,
+        "<li class=\"{class}\"><a href=\"#pool-{number}\">{name}</a>: {words}</li>"
+    )
+}
+
+// What to see first of a pool: that its report is not sound, or else what somebody has to look at.
+fn glance(alloc: Global, notes: &Notes) -> Result<(&'static str, String), AllocError> {
+    match (notes.headline, notes.finding) {
+        (_, Some(finding)) if !finding.is_sound => {
+            Ok((class_of(finding), verdict(alloc, finding)?))
+        }
+        (Some(headline), _) => {
+            let mut words = String::new(alloc);
+            if let Some(line) = headline.lines.first() {
+                whole_moments(&mut words, line.as_str())?;
+            }
+            Ok((class_of_headline(headline), words))
+        }
+        (None, _) => Ok(("", String::from_str(alloc, "nobody audited it")?)),
+    }
+}
+
+// The section of a page about a report.
 fn about<A: Allocator>(
     alloc: Global,
     page: &mut String,
@@ -140,9 +232,6 @@ fn draw<A: Allocator>(
     notes: &Notes,
 ) -> Result<(), AllocError> {
     let legend = legend_list(alloc)?;
-    page.push_str("<svg class=\"pool style\" width=\"0\" height=\"0\" aria-hidden=\"true\">")?;
-    page.push_str(page_style())?;
-    page.push_str("</svg>\n")?;
     page.push_str(legend.as_str())?;
     for (class, width) in [("wide", Width::Wide), ("narrow", Width::Narrow)] {
         let drawing = plot(alloc, report, story, width, notes)?;
@@ -200,14 +289,11 @@ fn found(
 }
 
 fn headed(page: &mut String, headline: Headline) -> Result<(), AllocError> {
-    let class = if headline.is_well {
-        "is-well"
-    } else {
-        "is-wrong"
-    };
+    let class = class_of_headline(headline);
     for line in headline.lines {
-        let words = Escaped(line.as_str());
-        writeln!(page, "<p class=\"headline {class}\">{words}</p>")?;
+        write!(page, "<p class=\"headline {class}\">")?;
+        whole_moments(page, line.as_str())?;
+        page.push_str("</p>\n")?;
     }
     Ok(())
 }
@@ -225,25 +311,51 @@ fn answers(page: &mut String, notes: &Notes) -> Result<(), AllocError> {
     page.push_str("</ul>\n")
 }
 
-// A text in which what stands in parentheses, as the moments of a clock do, is not broken.
+// A text in which no moment is broken: what stands in parentheses, and those of the wall clock.
 fn whole_moments(page: &mut String, text: &str) -> Result<(), AllocError> {
     let mut rest = text;
     for _ in 0..text.len() {
         let Some((before, (inside, after))) = in_parentheses(rest) else {
             break;
         };
-        let (before, inside) = (Escaped(before), Escaped(inside));
-        write!(page, "{before}<span class=\"moment\">({inside})</span>")?;
+        whole_words(page, before)?;
+        let inside = Escaped(inside);
+        write!(page, "<span class=\"moment\">({inside})</span>")?;
         rest = after;
     }
-    let rest = Escaped(rest);
-    write!(page, "{rest}")
+    whole_words(page, rest)
+}
+
+// A text in which no moment of the wall clock is broken at a hyphen.
+fn whole_words(page: &mut String, text: &str) -> Result<(), AllocError> {
+    for (place, word) in text.split(' ').enumerate() {
+        let (blank, shown) = (if place == 0 { "" } else { " " }, Escaped(word));
+        if is_of_the_clock(word) {
+            write!(page, "{blank}<span class=\"moment\">{shown}</span>")?;
+        } else {
+            write!(page, "{blank}{shown}")?;
+        }
+    }
+    Ok(())
+}
+
+// Whether a word is a moment as `2026-01-31T12:00:00Z`.
+fn is_of_the_clock(word: &str) -> bool {
+    word.starts_with('2') && word.contains('T')
 }
 
 // What stands before the next parentheses of a text, in them and behind them.
 fn in_parentheses(text: &str) -> Option<(&str, (&str, &str))> {
     let (before, rest) = text.split_once('(')?;
     Some((before, rest.split_once(')')?))
+}
+
+fn class_of_headline(headline: Headline) -> &'static str {
+    if headline.is_well {
+        "is-well"
+    } else {
+        "is-wrong"
+    }
 }
 
 fn class_of(finding: Finding) -> &'static str {

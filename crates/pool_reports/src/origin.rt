@@ -1,4 +1,5 @@
 // What a service tells of a report besides what it says.
+ghost use Rattle.std.specs.Prelude.{◌≡◌, None, Some};
 
 use r2d2_core::Report;
 use std::time::{Duration, SystemTime};
@@ -26,13 +27,17 @@ impl<'a> Origin<'a> {
         }
     }
 
-    /// A report of `now`, of a pool that was made at `made_at`, both by the wall clock. Where one
-    /// of them could not be read, or the clock was put back since, the moment is unknown.
-    pub fn by_the_clock(made_at: Option<SystemTime>, now: Option<SystemTime>) -> Origin<'static> {
+    /// A report at this moment since the making, as `Pool::moment` tells it, of a pool that was
+    /// made when the wall clock showed `made_at`.
+    pub fn at(made_at: Option<SystemTime>, moment: Duration) -> Origin<'static>
+        ensures name { result.name ≡ None }
+        ensures made_at { result.made_at ≡ made_at }
+        ensures reported_at { result.reported_at ≡ Some moment }
+    {
         Origin {
             name: None,
             made_at,
-            reported_at: between(made_at, now),
+            reported_at: Some(moment),
         }
     }
 
@@ -43,11 +48,6 @@ impl<'a> Origin<'a> {
             ..self
         }
     }
-}
-
-// How long after one moment of the wall clock another one is.
-fn between(from: Option<SystemTime>, to: Option<SystemTime>) -> Option<Duration> {
-    to?.duration_since(from?).ok()
 }
 
 /// A report that was read, and what its service told of it.
