@@ -138,9 +138,9 @@ def try_reports(logged):
 
 def try_options(place):
     """With all that there is beside the pool."""
-    mine, crates = os.path.join(place, "all"), ["pool_metrics", "pool_reports", "redis", "postgres"]
+    mine, crates = os.path.join(place, "all"), ["r2d2_async", "pool_metrics", "pool_reports", "redis", "postgres"]
     os.mkdir(mine)
-    words = ["--postgres", "--redis", "--reports", mine, "--metrics"]
+    words = ["--postgres", "--async", "--redis", "--reports", mine, "--metrics"]
     answers("with all options", 0, "put there: HANDLES: made; it reads 'Handles allowed: Threads, Wait, Net.'", *words)
     for crate in ["r2d2_core", "r2d2", *crates]:
         arrives(mine, crate)
