@@ -8,7 +8,6 @@ byte in_line;
 byte is[CALLERS];         /* what each of them is; 0: it does not stand in line */
 byte owed;                /* openings that were not ordered, since what was idle was kept for others */
 hidden byte at, before, paid;           /* for use inside one step alone */
-hidden bool stands;
 
 /* For the judge alone: who began to wait before whom. */
 #define PAIR(one, other) ((one) * CALLERS + (other))
@@ -139,7 +138,6 @@ inline pay() {
    on. */
 inline take_in_turn() {
   in_order();
-  stands = (is[_pid] != 0);
   idle--; lent++; top_up(); orders = ordered > 0;
   if
   :: CHECKS && is[_pid] != 0 -> is[_pid] = SERVED
@@ -151,9 +149,7 @@ inline take_in_turn() {
      leave()
 #endif
   fi;
-  /* One that does not stand in line pays nothing: where it leaves nothing idle, nobody waits. */
-  if :: stands -> pay() :: else -> paid = 0 fi;
-  orders = orders || paid > 0;
+  pay(); orders = orders || paid > 0;
   keeps()
 }
 
@@ -175,8 +171,7 @@ inline wait_in_line() {
   keeps()
 }
 
-/* One step of a caller: Shared::lend_until, where it does not stand in line, whose miss changes nothing; or
-   Shared::take_in_line. */
+/* One step of a caller: Shared::lend_in_line. */
 inline look_in_line() {
   look_ahead();
   if

@@ -11,6 +11,8 @@ pub record SeenCallTime : Type 0 where
   pub seen : ℕ
   -- how many more it may take, of a call that does not wait
   pub left : ℕ
+  -- since when it was idle what the call took last, where it asked
+  pub idle_since : Option ℕ
 
 -- of a call that looked at the clock as it began, or did not
 abbrev pub begun_at : Option ℕ → SeenCallTime
@@ -19,6 +21,7 @@ begun_at start = record {
   step = 0;
   seen = unwrap_or start 0;
   left = 2 ^ 32 - 1;
+  idle_since = None;
 }
 
 -- after a reading that shows t: the first one is the start, and no moment falls

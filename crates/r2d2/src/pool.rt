@@ -278,6 +278,9 @@ impl<
         ensures settings { IfOk result (λ lent. lent.settings ≡ self.now) }
         ensures refused { IfErr result IsOfAGet }
     {
+        if self.is_in_line() {
+            return self.lend_in_line(timeout, &mut ());
+        }
         match self.lend_within(Some(timeout), &mut ())? {
             Some(lent) => Ok(lent),
             None => unreachable!(),

@@ -17,6 +17,8 @@ pub struct CallTime {
     seen: Duration,
     /// How many more it may take, of a call that does not wait.
     left: u32,
+    /// Since when it was idle what the call took last, where a setting asks for it.
+    idle_since: Option<Duration>,
 }
 
 // Contracts see it with moments in nanoseconds.
@@ -33,6 +35,7 @@ impl Model for CallTime {
       step = as_nanos c.step;
       seen = as_nanos c.seen;
       left = c.left;
+      idle_since = option_map as_nanos c.idle_since;
     } };
 
     ghost invariant = { λ c. ForSome c.start (λ start. as_nanos start ≤ as_nanos c.seen) };
@@ -52,6 +55,7 @@ impl CallTime {
             step: Duration::ZERO,
             seen: start.unwrap_or(Duration::ZERO),
             left: u32::MAX,
+            idle_since: None,
         }
     }
 
@@ -80,15 +84,29 @@ impl CallTime {
         }
     }
 
-    /// Whether what it took last, and was idle since this moment, is idle for long enough to be
-    /// checked.
-    #[inline(always)]
-    pub(super) fn has_check_due(&self, tuning: &Tuning, idle_since: &Option<Duration>) -> bool
-        ensures due { IsTrue result → IfSome tuning.now.check_after_idle
-            (λ least. IfSome idle_since.now (λ since. as_nanos since ≤ self.now.step
-            → as_nanos least ≤ self.now.step - as_nanos since)) }
+    /// What it takes next is idle since this moment.
+    pub(super) fn find(&mut self, idle_since: Option<Duration>)
+        ensures { self.new
+            ≡ record self.old { idle_since = option_map as_nanos idle_since } }
     {
-        tuning.is_check_due(*idle_since, self.step)
+        self.idle_since = idle_since;
+    }
+
+    /// Since when it was idle what the call took last, where it asked.
+    pub(super) fn idle_since(&self) -> Option<Duration>
+        ensures { option_map as_nanos result ≡ self.now.idle_since }
+    {
+        self.idle_since
+    }
+
+    /// Whether what it took last is idle for long enough to be checked.
+    #[inline(always)]
+    pub(super) fn has_check_due(&self, tuning: &Tuning) -> bool
+        ensures due { IsTrue result → IfSome tuning.now.check_after_idle
+            (λ least. IfSome self.now.idle_since (λ since. since ≤ self.now.step
+            → as_nanos least ≤ self.now.step - since)) }
+    {
+        tuning.is_check_due(self.idle_since, self.step)
     }
 
     /// Whether it looked at the clock.
@@ -96,13 +114,6 @@ impl CallTime {
         ensures { result ≡ is_some self.now.start }
     {
         self.start.is_some()
-    }
-
-    /// When it began, by its first reading; None before that.
-    pub(super) fn begun(&self) -> Option<Duration>
-        ensures { option_map as_nanos result ≡ self.now.start }
-    {
-        self.start
     }
 
     /// When it began.

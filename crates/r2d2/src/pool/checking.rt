@@ -16,14 +16,14 @@ use crate::payload::{Payload, PayloadOf};
 use std::time::Duration;
 
 impl<C: TakeTotal, M: ManageConnection, K: Hooks<M>, R: PoolRuntime> SharedOf<C, M, K, R> {
-    /// Whether what a call took is checked before it is lent, which was idle since this moment.
+    /// Whether what a call took is checked before it is lent.
     #[inline(always)]
-    pub(super) fn is_to_check(&self, time: &CallTime, idle_since: &Option<Duration>) -> bool
+    pub(super) fn is_to_check(&self, time: &CallTime) -> bool
         ensures due { IsTrue result → IfSome self.now.tuning.check_after_idle
-            (λ least. IfSome idle_since.now (λ since. as_nanos since ≤ time.now.step
-            → as_nanos least ≤ time.now.step - as_nanos since)) }
+            (λ least. IfSome time.now.idle_since (λ since. since ≤ time.now.step
+            → as_nanos least ≤ time.now.step - since)) }
     {
-        self.hooks.test_on_check_out() && time.has_check_due(&self.tuning, idle_since)
+        self.hooks.test_on_check_out() && time.has_check_due(&self.tuning)
     }
 
     /// Whether what a call takes may be closed for a check, of it or of another.
@@ -39,7 +39,7 @@ impl<C: TakeTotal, M: ManageConnection, K: Hooks<M>, R: PoolRuntime> SharedOf<C,
         &self,
         mut lent: Lent<PayloadOf<M>>,
         is_checked: bool,
-        idle_since: &Option<Duration>,
+        time: &CallTime,
     ) -> Option<Lent<PayloadOf<M>>>
         ensures unchecked { is_checked ≡ false → self.now.tuning.distrust_idle ≡ false
             → result ≡ Some lent }
@@ -47,7 +47,7 @@ impl<C: TakeTotal, M: ManageConnection, K: Hooks<M>, R: PoolRuntime> SharedOf<C,
         ensures extensions { IfSome result
             (λ sound. sound.payload.extensions ≡ lent.payload.extensions) }
     {
-        if self.tuning.distrust_idle && self.is_distrusted(*idle_since) {
+        if self.tuning.distrust_idle && self.is_distrusted(time.idle_since()) {
             if let Some(closed) = self.give_back(lent, Some(ReleaseReason::Distrusted)) {
                 self.hooks.release(closed);
             }
@@ -55,7 +55,7 @@ impl<C: TakeTotal, M: ManageConnection, K: Hooks<M>, R: PoolRuntime> SharedOf<C,
         }
         if is_checked {
             if let Err(error) = self.manager.is_valid(&mut lent.payload.connection) {
-                self.close_unsound(lent, error, *idle_since);
+                self.close_unsound(lent, error, time.idle_since());
                 return None;
             }
         }

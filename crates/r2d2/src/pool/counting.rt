@@ -53,6 +53,9 @@ impl<
         ensures amount { share.old.amount ≤ share.new.amount }
         ensures lent { IfOk result (λ _. share.old.amount + 1 ≤ share.new.amount) }
     {
+        if self.is_in_line() {
+            return self.lend_in_line(timeout, share);
+        }
         match self.lend_within(Some(timeout), share)? {
             Some(lent) => Ok(lent),
             None => unreachable!(),

@@ -28,7 +28,6 @@ impl<P: Drop, C: TakeCounter, M, K, R: Clock + Wait + AllocGlobal> Shared<
         &self,
         timeout: Duration,
         time: &mut CallTime,
-        idle_since: &mut Option<Duration>,
         place: &mut Option<u32>,
         keeps_place: bool,
         tally: &mut C::Tally,
@@ -48,7 +47,7 @@ impl<P: Drop, C: TakeCounter, M, K, R: Clock + Wait + AllocGlobal> Shared<
                 return Err(self.leave_with(guarded, place, Error::closed()));
             }
             if self.tuning.asks_idle_times() {
-                guarded.note_idle_since(idle_since);
+                time.find(guarded.book.book().next_idle_since());
             }
             let (look, to_wake) = guarded.book.look(now, place, keeps_place, tally);
             let slot = match look {

@@ -98,9 +98,7 @@ impl<P, C: TakeTotal> Guarded<LinedBook<P, C>> {
     ghost use Rattle.std.specs.Prelude.{IsTrue, IsFalse, IsSome, IfSome};
     ghost use Rattle.std.specs.Option.{IsNone};
     ghost use Rattle.std.specs.Duration.{as_nanos};
-    ghost use Rattle.std.specs.Prelude.{option_map};
-    ghost use Rattle.r2d2_core.specs.Connections.{birth_in, since_of};
-    ghost use Rattle.r2d2_core.specs.Lending.{next_to_lend};
+    ghost use Rattle.r2d2_core.specs.Connections.{birth_in};
     ghost use Rattle.r2d2_core.specs.Limits.{wanted_of};
     ghost use Rattle.r2d2.specs.Status.{IsStatus, all_who_wait, is_all_lent, is_full};
 
@@ -154,18 +152,6 @@ impl<P, C: TakeTotal> Guarded<LinedBook<P, C>> {
             }
             None => false,
         }
-    }
-
-    /// Notes since when the connection is idle that is lent next; None where none is. Few pools ask
-    /// for it: so it keeps out of the way of those that do not.
-    #[cold]
-    #[inline(never)]
-    pub(super) fn note_idle_since(&self, idle_since: &mut Option<Duration>)
-        ensures { option_map as_nanos idle_since.new ≡ option_map since_of
-            (next_to_lend self.now.book.book.picture.on_order.limits.order
-            self.now.book.book.picture.idle) }
-    {
-        *idle_since = self.book.book().next_idle_since();
     }
 
     /// Whether nothing is idle, and something is to come back.

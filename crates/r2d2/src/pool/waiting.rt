@@ -32,14 +32,12 @@ impl<P: Drop, C: TakeCounter, M, K, R: Clock + Wait + AllocGlobal> Shared<
 > {
     /// Takes the idle connection that is lent next. Where there is none it orders one and waits,
     /// until the call's timeout has passed, or until the pool is closed: each is an error. With no
-    /// timeout it neither orders nor waits, and answers None. Since when what it took was idle it
-    /// notes, where a setting asks for that.
+    /// timeout it neither orders nor waits, and answers None.
     #[inline(always)]
     pub(super) fn lend_until(
         &self,
         timeout: Option<Duration>,
         time: &mut CallTime,
-        idle_since: &mut Option<Duration>,
         tally: &mut C::Tally,
     ) -> Result<Option<Lent<P>>, Error>
         requires { 0 < C.parts tally.old }
@@ -68,7 +66,7 @@ impl<P: Drop, C: TakeCounter, M, K, R: Clock + Wait + AllocGlobal> Shared<
             let now = self.moment();
             time.look(now);
             if self.tuning.asks_idle_times() {
-                guarded.note_idle_since(idle_since);
+                time.find(guarded.book.book().next_idle_since());
             }
             let (taken, wakes) = guarded.book.lend(now, timeout.is_some(), tally);
             let found = match taken {
