@@ -28,7 +28,7 @@ SECONDS = "400"
 
 
 def names():
-    """The folders of tests, those with the most tests first. (tests/schedules has none: it is a program.)"""
+    """The folders of tests, those with the most tests first. (Those of tests/schedules and tests/task_schedules are programs.)"""
     folders = [name for name in os.listdir(TESTS) if count_of(files_of(name).values())]
     return sorted(folders, key=lambda name: (-count_of(files_of(name).values()), name))
 

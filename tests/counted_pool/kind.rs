@@ -130,6 +130,9 @@ impl<M: ManageConnection, R: PoolRuntime> PlainPool<M, R> {
     }
 }
 
+/// Whether callers stand in line.
+pub(crate) const IN_LINE: bool = false;
+
 /// Makes a pool of this kind.
 pub(crate) trait Makes<M, H, V, Z>
 where

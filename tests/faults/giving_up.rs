@@ -1,6 +1,7 @@
-// What the error of a call that gave up tells: what the pool showed then, and how long the call had
-// lasted.
+// What the error of a call that gave up tells: what the pool showed then, how long the call had
+// lasted, and how many waited before it in line.
 
+use crate::kind::IN_LINE;
 use crate::server::{CHECK, Place, PoolOf};
 use r2d2::{Error, ErrorKind, PoolRuntime, Status};
 use std::test::Fail;
@@ -8,9 +9,12 @@ use std::thread;
 use std::time::Duration;
 
 // A call in a thread: what its error tells.
-fn told<R: PoolRuntime>(pool: PoolOf<R>, timeout: Duration) -> Option<(Status, Duration)> {
+fn told<R: PoolRuntime>(
+    pool: PoolOf<R>,
+    timeout: Duration,
+) -> Option<(Status, Duration, Option<usize>)> {
     let error = pool.get_timeout(timeout).err()?;
-    Some((error.status()?, error.waited()?))
+    Some((error.status()?, error.waited()?, error.ahead()))
 }
 
 // One caller waits before it, and another begins to wait after it. The call begins at 3 s and gives
@@ -30,8 +34,9 @@ fn a_call_that_waited_tells_what_it_saw(rt: HostRuntime) -> Result<(), Fail> {
     let later = thread::spawn(&rt, move || told(later, Duration::from_secs(1000)))?;
     assert!(rt; place.once_waiting(3));
     place.hand.set(10, 0);
-    let (status, waited) = hasty.join(&rt).ok_or("nothing told")?;
+    let (status, waited, ahead) = hasty.join(&rt).ok_or("nothing told")?;
     assert_eq!(rt; waited, Duration::from_secs(7));
+    assert_eq!(rt; ahead, if IN_LINE { Some(1) } else { None });
     assert_eq!(rt; (status.lent, status.idle, status.waiting), (2, 0, 2));
     assert_eq!(rt; (status.max_size, status.connections, status.opening), (2, 2, 0));
     drop(one);
@@ -54,9 +59,9 @@ fn a_call_that_is_late_after_a_check_tells_it_too(rt: HostRuntime) -> Result<(),
     Ok(())
 }
 
-// Whether an error tells neither.
+// Whether an error tells nothing of that.
 fn tells_nothing(error: &Error) -> bool {
-    error.status().is_none() && error.waited().is_none()
+    error.status().is_none() && error.waited().is_none() && error.ahead().is_none()
 }
 
 #[test]

@@ -61,11 +61,12 @@ fn serves<R: AllocGlobal + Abort>(
     output: &str,
     outcome: Result<bool, Fault>,
 ) -> Result<(), Fail> {
-    let mut written = Vec::new(rt.alloc());
+    let (mut written, mut aside) = (Vec::new(rt.alloc()), String::new(rt.alloc()));
     let mut writer = BufWriter::new(rt.alloc(), &mut written)?;
-    let got = serve(rt.alloc(), all(form), input.as_bytes(), &mut writer);
+    let got = serve(rt.alloc(), all(form), input.as_bytes(), &mut writer, &mut aside);
     drop(writer);
     assert_eq!(rt; str::from_utf8(written.as_slice())?, output);
+    assert_eq!(rt; aside.as_str(), "");
     assert_eq!(rt; got, outcome, "after {output}");
     Ok(())
 }
@@ -176,7 +177,7 @@ fn stops_at_a_line_that_is_no_report(rt: HostRuntime) -> Result<(), Fail> {
     ] {
         let mut written = Vec::new(rt.alloc());
         let mut writer = BufWriter::new(rt.alloc(), &mut written)?;
-        let got = serve(rt.alloc(), all(form), input.as_bytes(), &mut writer);
+        let got = serve(rt.alloc(), all(form), input.as_bytes(), &mut writer, &mut String::new(rt.alloc()));
         drop(writer);
         assert_eq!(rt; str::from_utf8(written.as_slice())?, first);
         let told = got.err().ok_or("a fault")?;
@@ -186,7 +187,8 @@ fn stops_at_a_line_that_is_no_report(rt: HostRuntime) -> Result<(), Fail> {
         );
     }
     let mut writer = BufWriter::new(rt.alloc(), Vec::new(rt.alloc()))?;
-    let told = serve(rt.alloc(), all(Form::Words), missing.as_bytes(), &mut writer)
+    let mut aside = String::new(rt.alloc());
+    let told = serve(rt.alloc(), all(Form::Words), missing.as_bytes(), &mut writer, &mut aside)
         .err()
         .ok_or("a fault")?;
     let lost = concat!(
@@ -225,7 +227,7 @@ fn each_fault_has_a_text_and_a_status(rt: HostRuntime) -> Result<(), Fail> {
 fn bytes_that_are_no_text_are_told(rt: HostRuntime) -> Result<(), Fail> {
     let mut writer = BufWriter::new(rt.alloc(), Vec::new(rt.alloc()))?;
     let input: &[u8] = b"\n{\"a\xff\":1}\n";
-    let got = serve(rt.alloc(), all(Form::Words), input, &mut writer);
+    let got = serve(rt.alloc(), all(Form::Words), input, &mut writer, &mut String::new(rt.alloc()));
     assert_eq!(rt; got, Err(Fault::NotUtf8(2)));
     Ok(())
 }
@@ -273,15 +275,15 @@ fn failed_reads_and_writes_are_told(rt: HostRuntime) -> Result<(), Fail> {
     ] {
         let mut written = Vec::new(rt.alloc());
         let mut writer = BufWriter::new(rt.alloc(), &mut written)?;
-        let text = input.as_bytes();
-        let got = serve(rt.alloc(), all(Form::Words), Cut { text, error }, &mut writer);
+        let (cut, mut aside) = (Cut { text: input.as_bytes(), error }, String::new(rt.alloc()));
+        let got = serve(rt.alloc(), all(Form::Words), cut, &mut writer, &mut aside);
         drop(writer);
         let first = format!(in rt.alloc(); "line 1: replays\n{ANSWERS}")?;
         assert_eq!(rt; str::from_utf8(written.as_slice())?, first.as_str());
         assert_eq!(rt; got, Err(fault));
     }
-    let mut writer = BufWriter::new(rt.alloc(), Full)?;
-    let got = serve(rt.alloc(), all(Form::Words), input.as_bytes(), &mut writer);
+    let (mut writer, mut aside) = (BufWriter::new(rt.alloc(), Full)?, String::new(rt.alloc()));
+    let got = serve(rt.alloc(), all(Form::Words), input.as_bytes(), &mut writer, &mut aside);
     assert_eq!(rt; got, Err(Fault::Write));
     Ok(())
 }
@@ -502,7 +504,7 @@ fn finds<R: AllocGlobal + Abort>(
         lines: Lines::Log,
         ..all(form)
     };
-    let got = serve(rt.alloc(), asked, log.as_bytes(), &mut writer);
+    let got = serve(rt.alloc(), asked, log.as_bytes(), &mut writer, &mut String::new(rt.alloc()));
     drop(writer);
     assert_eq!(rt; str::from_utf8(written.as_slice())?, output);
     assert_eq!(rt; got, outcome);
@@ -643,7 +645,7 @@ fn says_which_pool_a_report_is_of(rt: HostRuntime) -> Result<(), Fail> {
         pool: Some("users"),
         ..all(Form::Words)
     };
-    let got = serve(alloc, asked, log.as_bytes(), &mut writer);
+    let got = serve(alloc, asked, log.as_bytes(), &mut writer, &mut String::new(alloc));
     drop(writer);
     assert_eq!(rt; got, Ok(true));
     let words = format!(in alloc;
@@ -652,22 +654,64 @@ fn says_which_pool_a_report_is_of(rt: HostRuntime) -> Result<(), Fail> {
     Ok(())
 }
 
-// What is drawn of the reports of a log.
-fn drawn(alloc: Global, asked: Asked<'_>, log: &str) -> Result<String, Fail> {
-    let mut written = Vec::new(alloc);
+// What is drawn of the reports of a log, and what is told beside it.
+fn drawn(alloc: Global, asked: Asked<'_>, log: &str) -> Result<(String, String), Fail> {
+    let (mut written, mut aside) = (Vec::new(alloc), String::new(alloc));
     let mut writer = BufWriter::new(alloc, &mut written)?;
-    serve(alloc, asked, log.as_bytes(), &mut writer).map_err(|_| "a fault")?;
+    serve(alloc, asked, log.as_bytes(), &mut writer, &mut aside).map_err(|_| "a fault")?;
     drop(writer);
-    Ok(String::from_str(alloc, str::from_utf8(written.as_slice())?)?)
+    Ok((String::from_str(alloc, str::from_utf8(written.as_slice())?)?, aside))
 }
 
-// A drawing is of the last report, whichever pool that is of.
+// A drawing is of the last report, whichever pool that is of. Where there are others, that is told.
 #[test]
 fn draws_the_last_report(rt: HostRuntime) -> Result<(), Fail> {
     let alloc = rt.alloc();
-    let log = format!(in alloc; "{NEW}\n{}\n{LENT}\n", named(alloc, "orders")?.as_str())?;
-    let last = drawn(alloc, all(Form::Svg), LENT)?;
-    assert_eq!(rt; drawn(alloc, all(Form::Svg), log.as_str())?.as_str(), last.as_str());
+    let (orders, users) = (named(alloc, "orders")?, named(alloc, "\\\"users")?);
+    let (orders, users) = (orders.as_str(), users.as_str());
+    let rest = "(--pool NAME draws one of them, --html all)\n";
+    for (earlier, last, told) in [
+        (vec![in alloc; NEW]?, LENT, ""),
+        (
+            vec![in alloc; NEW, orders]?,
+            LENT,
+            "drawn: the pool without a name, whose report is the last; other pools left out: 1 ",
+        ),
+        (
+            vec![in alloc; NEW, users, orders, users, LENT]?,
+            users,
+            "drawn: pool \"\\\"users\", whose report is the last; other pools left out: 2 ",
+        ),
+    ] {
+        let mut log = String::new(alloc);
+        for line in &earlier {
+            writeln!(log, "{line}")?;
+        }
+        log.push_str(last)?;
+        let (drawing, aside) = drawn(alloc, all(Form::Svg), log.as_str())?;
+        assert_eq!(rt; drawing.as_str(), drawn(alloc, all(Form::Svg), last)?.0.as_str());
+        let rest = if told.is_empty() { "" } else { rest };
+        assert_eq!(rt; aside.as_str(), format!(in alloc; "{told}{rest}")?.as_str());
+        assert_eq!(rt; drawn(alloc, all(Form::Html), log.as_str())?.1.as_str(), "");
+    }
+    Ok(())
+}
+
+// A drawing of the pool that is asked for is of its last report, and says which pool it is of.
+#[test]
+fn draws_the_pool_that_is_asked_for(rt: HostRuntime) -> Result<(), Fail> {
+    let alloc = rt.alloc();
+    let (orders, users) = (named(alloc, "orders")?, named(alloc, "a<b")?);
+    let log = format!(in alloc; "{users}\n{orders}\n{LENT}\n")?;
+    let asked = Asked {
+        pool: Some("a<b"),
+        ..all(Form::Svg)
+    };
+    let (drawing, aside) = drawn(alloc, asked, log.as_str())?;
+    assert_eq!(rt; drawing.as_str(), drawn(alloc, all(Form::Svg), users.as_str())?.0.as_str());
+    assert_eq!(rt; aside.as_str(), "");
+    let title = ">The pool a&lt;b, of at most 1 connections, 1 wanted idle<";
+    assert!(rt; drawing.as_str().contains(title), "{drawing}");
     Ok(())
 }
 
@@ -679,7 +723,7 @@ fn a_page_has_a_section_for_each_pool(rt: HostRuntime) -> Result<(), Fail> {
     let (orders, users) = (named(alloc, "a<b")?, named(alloc, "users")?);
     let wrong = users.as_str().replace(alloc, "\"takes\":0", "\"takes\":7")?;
     let log = format!(in alloc; "{users}\n{LENT}\n{orders}\n{NEW}\n{wrong}\n")?;
-    let page = drawn(alloc, all(Form::Html), log.as_str())?;
+    let (page, _) = drawn(alloc, all(Form::Html), log.as_str())?;
     let page = page.as_str();
     assert_eq!(rt; page.matches("<!doctype html>").count(), 1);
     assert_eq!(rt; page.matches("<section id=").count(), 3);
@@ -708,7 +752,7 @@ fn a_page_has_a_section_for_each_pool(rt: HostRuntime) -> Result<(), Fail> {
         pool: Some("users"),
         ..all(Form::Html)
     };
-    let alone = drawn(alloc, asked, log.as_str())?;
+    let (alone, _) = drawn(alloc, asked, log.as_str())?;
     assert!(rt; !alone.as_str().contains("<ul class=\"pools\">"));
     assert_eq!(rt; alone.as_str().matches("<section id=").count(), 1);
     Ok(())

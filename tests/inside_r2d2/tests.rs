@@ -111,19 +111,20 @@ fn both_lent() -> Status {
 #[test]
 fn error_texts(rt: HostRuntime) -> Result<(), Fail> {
     let waited = Duration::from_secs(6);
-    let plain = Error::timeout(rt.alloc(), None, both_lent(), waited);
+    let plain = Error::timeout(rt.alloc(), None, both_lent(), waited, None);
     assert_eq!(rt;
         plain.to_string(rt.alloc())?.as_str(),
         "timed out waiting for connection"
     );
     let text = String::from_str(rt.alloc(), "blammo")?;
-    let told = Error::timeout(rt.alloc(), Some(text), both_lent(), waited);
+    let told = Error::timeout(rt.alloc(), Some(text), both_lent(), waited, Some(2));
     assert_eq!(rt;
         told.to_string(rt.alloc())?.as_str(),
         "timed out waiting for connection: blammo"
     );
     assert_eq!(rt; told.message(), Some("blammo"));
     assert_eq!(rt; (told.status(), told.waited()), (Some(both_lent()), Some(waited)));
+    assert_eq!(rt; (told.ahead(), plain.ahead()), (Some(2), None));
     let memory = Error::memory();
     assert_eq!(rt; (memory.status(), memory.waited()), (None, None));
     assert_eq!(rt;

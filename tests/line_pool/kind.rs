@@ -4,6 +4,9 @@ pub(crate) use r2d2::{PlainPool, Pool, PooledConnection};
 use r2d2::{Builder, CustomizeConnection, HandleError, HandleEvent, ManageConnection, PoolRuntime};
 use std::test::Fail;
 
+/// Whether callers stand in line.
+pub(crate) const IN_LINE: bool = true;
+
 /// More than wait in any test.
 const ROOM: u32 = 100;
 

@@ -5,6 +5,9 @@ pub(crate) use r2d2::{PlainPool, Pool, PooledConnection};
 use r2d2::{Builder, CustomizeConnection, HandleError, HandleEvent, ManageConnection, PoolRuntime};
 use std::test::Fail;
 
+/// Whether callers stand in line.
+pub(crate) const IN_LINE: bool = false;
+
 /// Makes a pool of this kind.
 pub(crate) trait Makes<M, H, V, Z>
 where

@@ -217,6 +217,32 @@ fn the_exhausted_part_is_of_what_is_drawn(rt: HostRuntime) -> Result<(), Fail> {
     Ok(())
 }
 
+// A calm pool, exhausted for as long as its first connection is opened: nothing red is said beside the
+// band before that comes to a thousandth of the time.
+#[test]
+fn a_short_exhaustion_is_no_alarm(rt: HostRuntime) -> Result<(), Fail> {
+    let alloc = rt.alloc();
+    let limits = limits(1, 1, None, None).ok_or("limits")?;
+    let mut driven = Driven::new(alloc, limits, ms(0), 0, 9)?;
+    driven.open(ms(10));
+    for (until, words, is_said) in [
+        (10_000, "exhausted once, for 10 ms in all, 0.1 % of the time", true),
+        (10_001, "exhausted once, for 10 ms in all, less than 0.1 % of the time", false),
+    ] {
+        let notes = Notes {
+            reported_at: Some(ms(until)),
+            ..Notes::none()
+        };
+        let (drawing, page) = (svg(alloc, &driven.report()?, &notes)?, html(alloc, &driven.report()?, &notes)?);
+        for drawn in [drawing.as_str(), page.as_str()] {
+            assert!(rt; drawn.contains(words));
+            assert_eq!(rt; drawn.contains("<text class=\"fault\""), is_said);
+            assert_eq!(rt; drawn.contains(">exhausted 0.1 %</text>"), is_said);
+        }
+    }
+    Ok(())
+}
+
 // The line of a drawing that has this part; the empty one where none has it.
 fn line_with<'t>(drawn: &'t str, part: &str) -> &'t str {
     drawn.lines().find(|line| line.contains(part)).unwrap_or("")

@@ -170,6 +170,22 @@ fn one_whose_time_runs_out(rt: HostRuntime) -> Result<(), Fail> {
 }
 
 #[test]
+fn who_gives_up_tells_how_many_waited_before_it(rt: HostRuntime) -> Result<(), Fail> {
+    let play = Play::new(rt)?;
+    let pool = play.pool(of_one(false))?;
+    let mut first = Hand::of(rt, pool.get()?)?;
+    let mut second = Hand::of(rt, pool.get()?)?;
+    let mut late = Hand::of(rt, pool.get_timeout(Duration::from_millis(70))?)?;
+    let mut later = Hand::of(rt, pool.get()?)?;
+    assert!(rt; first.run().is_none() && second.run().is_none());
+    assert!(rt; late.run().is_none() && later.run().is_none());
+    play.pass(70);
+    let error = late.run().ok_or("pending")?.err().ok_or("a connection")?;
+    assert_eq!(rt; error.ahead(), Some(2));
+    Ok(())
+}
+
+#[test]
 fn one_whose_time_runs_out_as_it_is_told(rt: HostRuntime) -> Result<(), Fail> {
     let play = Play::new(rt)?;
     let pool = play.pool(of_one(true))?;

@@ -52,6 +52,21 @@ fn an_opening_that_failed_is_tried_again_later(rt: HostRuntime) -> Result<(), Fa
 }
 
 #[test]
+fn one_that_is_polled_as_it_sleeps_sleeps_on(rt: HostRuntime) -> Result<(), Fail> {
+    let play = Play::new(rt)?;
+    let pool = play.pool(Builder::new().max_size(1))?;
+    let mut work = Hand::of(rt, pool.work()?)?;
+    assert!(rt; work.run().is_none());
+    assert_eq!(rt; pool.state().connections, 1);
+    // A sleep that is dropped wakes its task, so with a new one at each poll it would never rest.
+    for _ in 0..3 {
+        assert!(rt; work.poll().is_none());
+        assert!(rt; !work.is_woken());
+    }
+    Ok(())
+}
+
+#[test]
 fn a_reap_closes_what_is_idle_for_long(rt: HostRuntime) -> Result<(), Fail> {
     let play = Play::new(rt)?;
     let settings = Builder::new()

@@ -1,5 +1,6 @@
 """The adapters of adapters/, in a repository that `vendor` makes: a service over each is driven against a real server on
-loopback, of Debian's packages redis-server and postgresql. Where one is not installed nobody has tried that adapter."""
+loopback, of Debian's packages redis-server and postgresql. Where one is not installed nobody has tried that adapter. And the first
+program over tokio, which needs no server."""
 import contextlib
 import os
 import re
@@ -15,6 +16,8 @@ from servers import HOST, SECONDS, Forwarder, Postgres, Redis, within
 from tally import TOP, Tally
 
 SERVERS = [Redis, Postgres]
+# The first programs, with what each stands on.
+FIRST = {"first_redis": "r2d2 redis anyhow", "first_postgres": "r2d2 postgres anyhow", "first_tokio": "r2d2_async tokio futures anyhow"}
 CONNECTIONS = 4
 # The service's checks read no memory that has ended; it keeps what its threads have, which is no leak.
 SETTINGS = {"ASAN_OPTIONS": "detect_leaks=0"}
@@ -34,15 +37,15 @@ def put_source(source, crate):
 
 
 def repository(mine):
-    """A repository with the pool, both adapters, their first programs and the service."""
+    """A repository with both pools, both adapters, the first programs and the service."""
     os.makedirs(mine)
     subprocess.run(["git", "init", "-q", mine], check=True)
-    subprocess.run([os.path.join(TOP, "vendor"), "--redis", "--postgres", mine], check=True, stdout=subprocess.DEVNULL)
+    subprocess.run([os.path.join(TOP, "vendor"), "--async", "--redis", "--postgres", mine], check=True, stdout=subprocess.DEVNULL)
     lines = "service: r2d2 redis postgres\n"
     put_source(os.path.join(TESTS, "adapters"), os.path.join(mine, "crates", "service"))
-    for name in ("redis", "postgres"):
-        put_source(os.path.join(TOP, "adapters", f"first_{name}"), os.path.join(mine, "crates", f"first_{name}"))
-        lines += f"first_{name}: r2d2 {name} anyhow\n"
+    for name, libraries in FIRST.items():
+        put_source(os.path.join(TOP, "adapters", name), os.path.join(mine, "crates", name))
+        lines += f"{name}: {libraries}\n"
     with open(os.path.join(mine, "crates.txt"), "a", encoding="utf-8") as it:
         it.write(lines)
 
@@ -311,12 +314,19 @@ def those_there(tally):
     return [kind for kind in SERVERS if kind.is_there()]
 
 
+def try_tokio(mine, tally):
+    """The pool for tasks lends over tokio's runtime."""
+    status, said = Runs().run(["rt", "try"], end_the_look_at_names, cwd=os.path.join(mine, "crates", "first_tokio"))
+    tally.check("the first program over tokio", status == 0 and "7" in said.splitlines(), said[-3000:])
+
+
 def tried():
     tally = Tally("adapters")
     kinds = those_there(tally)
-    if kinds:
-        with tempfile.TemporaryDirectory(prefix="adapters-") as place:
-            mine = os.path.join(place, "mine")
-            repository(mine)
+    with tempfile.TemporaryDirectory(prefix="adapters-") as place:
+        mine = os.path.join(place, "mine")
+        repository(mine)
+        try_tokio(mine, tally)
+        if kinds:
             try_servers(kinds, mine, place, tally)
     return tally

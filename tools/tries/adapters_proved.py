@@ -1,17 +1,19 @@
 """The prover takes the adapters and their first programs, in a repository that `vendor` makes, and their tests pass. It refuses wrong
 bodies of theirs; those that no clause refuses, a real server shows."""
+import contextlib
 import os
 import re
 import shutil
 import tempfile
+import time
 
 import adapters
 from copies import Runs
 from tally import Tally
 
-CRATES = ["redis", "postgres", "first_redis", "first_postgres"]
+CRATES = ["redis", "postgres", "first_redis", "first_postgres", "first_tokio"]
 # What they stand on, whose proofs this repository may have kept.
-BELOW = ["r2d2_core", "r2d2"]
+BELOW = ["r2d2_core", "r2d2", "r2d2_async"]
 # A function, a passage of its file, and what somebody could write in its place. The prover refuses each.
 REFUSED = [
     ("redis::connection::RedisConnection::new", "is_broken: false,", "is_broken: true,"),
@@ -72,6 +74,14 @@ def bring_proofs(mine):
             shutil.copytree(os.path.join(adapters.TOP, kept), os.path.join(mine, kept))
 
 
+@contextlib.contextmanager
+def timed(what):
+    """Says what was tried, and how long that took."""
+    begun = time.monotonic()
+    yield
+    print(f"adapters-proved: {what}: {time.monotonic() - begun:.0f} s", flush=True)
+
+
 def checked(mine, crate):
     """The status of a check, and what it said: how far it was ends in no line feed."""
     status, said = Runs().run(["rt", "check"], cwd=os.path.join(mine, "crates", crate))
@@ -79,10 +89,12 @@ def checked(mine, crate):
 
 
 def try_proofs(mine, tally):
-    for crate in CRATES:
-        status, said = checked(mine, crate)
+    for crate in BELOW + CRATES:
+        with timed(f"the proof of {crate}"):
+            status, said = checked(mine, crate)
         tally.check(f"{crate} is proved", status == 0 and "logic=proved" in said, said[-2000:])
-    status, said = Runs().run(["rt", "test"], cwd=os.path.join(mine, "crates", "postgres"))
+    with timed("the tests of postgres"):
+        status, said = Runs().run(["rt", "test"], cwd=os.path.join(mine, "crates", "postgres"))
     tally.check("the tests of postgres", status == 0 and "test result: ok. 0 passed" not in said, said[-2000:])
 
 
@@ -93,7 +105,8 @@ def try_refused(mine, tally):
         with open(source(mine, f"{crate}/{module}"), encoding="utf-8") as it:
             right = it.read()
         put_body(mine, f"{crate}/{module}", old, new)
-        status, said = checked(mine, crate)
+        with timed(f"a wrong body of {function}"):
+            status, said = checked(mine, crate)
         is_open = re.search(rf"^fn {function}: no proof: .*did not prove", said, re.MULTILINE)
         tally.check(f"a wrong body of {function}", status != 0 and is_open, said[-3000:])
         adapters.write(right, source(mine, f"{crate}/{module}"))
@@ -108,7 +121,8 @@ def try_seen(place, tally):
         for file, old, new, _ in bodies:
             put_body(mine, file, old, new)
         seen = Seen()
-        adapters.try_servers(kinds, mine, inner, seen)
+        with timed(f"{len(bodies)} wrong bodies at servers"):
+            adapters.try_servers(kinds, mine, inner, seen)
         for file, _, _, what in bodies:
             if any(file.startswith(kind.NAME) for kind in kinds):
                 tally.check(f"a wrong body of {file}, which a server shows", what in seen.names, seen.names)

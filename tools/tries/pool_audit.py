@@ -10,6 +10,11 @@ import time
 
 from tally import TOP, Tally
 
+# What is said of a drawing of the last of two pools.
+OF_SEVERAL = (
+    "drawn: the pool without a name, whose report is the last; other pools left out: 1 "
+    "(--pool NAME draws one of them, --html all)\n"
+)
 TALLY = Tally("pool-audit")
 check = TALLY.check
 SCRIPT = os.path.join(TOP, "pool-audit")
@@ -115,10 +120,26 @@ def try_pictures():
     check("the page says which pool", b"<h1>The journal of the pool orders</h1>" in page, page)
     (page,), _ = drawn(["--html", "*"], named + first + named, 0)
     check("the page has a section for each pool", re.findall(b"<li class=.*>(.*)</a>:", page) == [b"orders", b"without a name"], page)
+    try_several_pools(named, first, picture)
     try_files_that_would_be_lost(first)
     answers = read("crates", "pool_audit", "stdout").decode().partition("line 3")[0]
     runs("a picture that has no place", ["--svg", "/nowhere/at.all"], first, 3, answers,
          "pool-audit: write failed: /nowhere/at.all: No such file or directory\n")
+
+
+def try_several_pools(named, unnamed, picture):
+    """A drawing of one pool of several says which it is of, once, also where something in the log is damaged."""
+    with tempfile.TemporaryDirectory() as folder:
+        path = os.path.join(folder, "picture")
+        for words, given, status, told in [
+            (["--svg", path], named + unnamed, 0, OF_SEVERAL),
+            (["--pool", "orders", "--svg", path], unnamed + named, 0, ""),
+            (["--find", "--svg", path], named + unnamed + unnamed[:300], 6, "damaged reports: 1\n" + OF_SEVERAL),
+        ]:
+            done = subprocess.run([SCRIPT] + words, input=given, stdout=subprocess.PIPE, stderr=subprocess.PIPE, timeout=60)
+            check(f"what is told beside {words}", (done.returncode, done.stderr.decode()) == (status, told), done)
+            is_of_orders, is_of_unnamed = b">The pool orders, of at most 2 connections, " in read(path), read(path) == picture
+            check(f"which pool {words} draw", (is_of_orders, is_of_unnamed) == ("orders" in words, "orders" not in words), read(path))
 
 
 def try_files_that_would_be_lost(report):

@@ -181,6 +181,16 @@ def try_refusals(place):
     answers("no such option", 2, "Puts the pool into a repository of your own: vendor [OPTION..] FOLDER", "--mysql", none)
 
 
+def try_nobody_who_reads(mine):
+    """What it says goes into a pipe that nobody reads any more."""
+    os.mkdir(mine)
+    end, begin = os.pipe()
+    os.close(end)
+    done = subprocess.run([os.path.join(TOP, "vendor"), mine], stdout=begin, stderr=subprocess.PIPE)
+    os.close(begin)
+    check("all is there though nobody reads", done.stderr == b"" and os.path.exists(os.path.join(mine, "HANDLES")), done)
+
+
 def tried():
     lines = "".join(re.findall(r"^r2d2(?:_core)?[ :].*\n", read(TOP, "crates.txt"), re.M))
     with tempfile.TemporaryDirectory() as place:
@@ -190,4 +200,5 @@ def tried():
         try_options(place)
         try_an_adapter(place)
         try_refusals(place)
+        try_nobody_who_reads(os.path.join(place, "unread"))
     return TALLY

@@ -123,7 +123,8 @@ impl<T: Drop> From<AllocFailed<T>> for Fault {
 /// Audits the report on each line of the input, or each one in the lines of a log, and writes what
 /// it found on each: whether all are sound. Lines of white space alone are left out, and counted.
 /// In the end it says if there was no report, and of a log how many lines hold none. A drawing is
-/// of the last report, a page of the last one of each pool; both are written in the end.
+/// of the last report, a page of the last one of each pool; both are written in the end. Where a
+/// drawing leaves other pools out, `aside` gets a line that says which pool it is of.
 ///
 /// It stops at the first fault, but for what is damaged in a log, which is told there and counted
 /// in the end. What it found on the lines before was written by then: where that failed, the fault
@@ -133,11 +134,13 @@ pub fn serve<R: Read + Drop, W: Write + Drop>(
     asked: Asked<'_>,
     input: R,
     output: &mut BufWriter<W>,
+    aside: &mut String,
 ) -> Result<bool, Fault> {
     let mut input = BufReader::new(alloc, input).map_err(|_| Fault::Memory)?;
     let mut line = Vec::new(alloc);
     let mut task = Task::new(alloc, asked);
-    let outcome = audit_lines(&mut task, &mut input, &mut line, output);
+    let read = audit_lines(&mut task, &mut input, &mut line, output);
+    let outcome = read.and_then(|()| end(&task, output, aside));
     flush(output).and(outcome)
 }
 
@@ -148,8 +151,10 @@ struct Task<'a> {
     asked: Asked<'a>,
     all_sound: bool,
     tally: Tally,
-    // What is drawn in the end.
+    // The last report of each pool, if one is drawn in the end.
     drawn: Vec<Drawn>,
+    // The place among them of the last of all.
+    latest: usize,
 }
 
 /// A report that is drawn.
@@ -197,6 +202,7 @@ impl<'a> Task<'a> {
                 passed_over: 0,
             },
             drawn: Vec::new(alloc),
+            latest: 0,
         }
     }
 
@@ -205,14 +211,13 @@ impl<'a> Task<'a> {
         self.asked.pool.is_some() && self.asked.pool != written.name.as_deref()
     }
 
-    // Notes what is to be drawn in place of an earlier one: of the same pool, or for a drawing of
-    // any.
+    // Notes the report in place of an earlier one of the same pool.
     fn note(&mut self, drawn: Drawn) -> Result<(), Fault> {
-        let is_page = self.asked.form == Form::Html;
         let name = drawn.written.name.as_deref();
-        let place = self.drawn.iter().position(|earlier| !is_page
-            || earlier.written.name.as_deref() == name);
-        match place.and_then(|place| self.drawn.get_mut(place)) {
+        let mut pools = self.drawn.iter();
+        let place = pools.position(|earlier| earlier.written.name.as_deref() == name);
+        self.latest = place.unwrap_or(self.drawn.len());
+        match self.drawn.get_mut(self.latest) {
             Some(earlier) => *earlier = drawn,
             None => self.drawn.push(drawn)?,
         }
@@ -225,11 +230,11 @@ fn audit_lines<R: Read + Drop, W: Write + Drop>(
     input: &mut BufReader<R>,
     line: &mut Vec<u8>,
     output: &mut BufWriter<W>,
-) -> Result<bool, Fault> {
+) -> Result<(), Fault> {
     for number in 1..u64::MAX {
         send_before_waiting(input, output)?;
         if !next_line(input, line)? {
-            return end(task, output);
+            return Ok(());
         }
         audit_line(task, number, line.as_slice(), output)?;
     }
@@ -238,9 +243,17 @@ fn audit_lines<R: Read + Drop, W: Write + Drop>(
 }
 
 // Draws what is to be drawn, and writes how many reports there were. Says whether all are sound.
-fn end<W: Write + Drop>(task: &Task<'_>, output: &mut BufWriter<W>) -> Result<bool, Fault> {
-    let drawing = report_text::drawing(task.alloc, task.asked.form, task.drawn.as_slice())?;
-    write(output, drawing)?;
+fn end<W: Write + Drop>(
+    task: &Task<'_>,
+    output: &mut BufWriter<W>,
+    aside: &mut String,
+) -> Result<bool, Fault> {
+    let (form, drawn) = (task.asked.form, task.drawn.as_slice());
+    write(
+        output,
+        report_text::drawing(task.alloc, form, drawn, task.latest)?,
+    )?;
+    aside.push_str(report_text::of_the_undrawn(task.alloc, form, drawn, task.latest)?.as_str())?;
     let text = report_text::of_the_rest(task.alloc, task.asked, task.tally)?;
     write(output, text)?;
     match task.tally.damaged {

@@ -85,5 +85,9 @@ fn serve(rt: HostRuntime, words: &Words) -> Result<bool, Fault> {
         lines: words.lines,
         pool: words.pool.as_deref(),
     };
-    lines::serve(rt.alloc(), asked, rt.reader(), &mut output)
+    let mut aside = String::new(rt.alloc());
+    let outcome = lines::serve(rt.alloc(), asked, rt.reader(), &mut output, &mut aside);
+    // Standard error may be closed; the drawing is there all the same.
+    let _ = eprint!(rt; "{aside}");
+    outcome
 }

@@ -31,9 +31,15 @@ pub(crate) fn of(alloc: Global, form: Form, judged: &Judged<'_>) -> Result<Strin
     }
 }
 
-/// What is drawn in the end, in the form that is asked for.
-pub(crate) fn drawing(alloc: Global, form: Form, drawn: &[Drawn]) -> Result<String, AllocError> {
-    let Some(last) = drawn.last() else {
+/// What is drawn in the end, in the form that is asked for, of these pools; the last report of all
+/// has this place among theirs.
+pub(crate) fn drawing(
+    alloc: Global,
+    form: Form,
+    drawn: &[Drawn],
+    latest: usize,
+) -> Result<String, AllocError> {
+    let Some(last) = drawn.get(latest) else {
         return Ok(String::new(alloc));
     };
     match form {
@@ -44,6 +50,31 @@ pub(crate) fn drawing(alloc: Global, form: Form, drawn: &[Drawn]) -> Result<Stri
         }
         Form::Html => page(alloc, drawn),
     }
+}
+
+/// What is told beside a drawing that leaves other pools out: which one it is of.
+pub(crate) fn of_the_undrawn(
+    alloc: Global,
+    form: Form,
+    drawn: &[Drawn],
+    latest: usize,
+) -> Result<String, AllocError> {
+    let (mut text, others) = (String::new(alloc), drawn.len().saturating_sub(1));
+    let Some(last) = drawn.get(latest) else {
+        return Ok(text);
+    };
+    if form == Form::Svg && others > 0 {
+        match last.judged().origin.name {
+            Some(name) => write!(text, "drawn: pool {name:?}")?,
+            None => text.push_str("drawn: the pool without a name")?,
+        }
+        writeln!(
+            text,
+            ", whose report is the last; other pools left out: {others} \
+            (--pool NAME draws one of them, --html all)"
+        )?;
+    }
+    Ok(text)
 }
 
 fn page(alloc: Global, drawn: &[Drawn]) -> Result<String, AllocError> {

@@ -12,13 +12,16 @@ mod contended;
 mod growing;
 mod pools;
 mod scenario;
+mod tasks;
 mod waits;
 
 use contended::{goes_round, is_served};
 use growing::{BATCH, BATCHES};
 use r2d2::PoolRuntime;
 use scenario::{Case, Scenario, is_chosen};
+use std::random::RandomSource;
 use std::{env, thread};
+use tasks::{CALLS_OF_EACH, TASKS};
 use waits::waited;
 
 /// Calls of a scenario of one thread, in one run.
@@ -42,6 +45,7 @@ fn main(rt: HostRuntime) -> Result<(), anyhow::Error> {
     }
     println!(rt; "scenario threads max_size ops least_ns median_ns")?;
     measure_alone(rt, only)?;
+    measure_tasks(rt, only)?;
     if is_chosen("mt", only) {
         contended::measure(rt, |pool, gate, calls| {
             let serves = move || is_served(rt, pool, gate, calls);
@@ -68,7 +72,10 @@ fn one_thread(max_size: u32, operations: u32) -> Case
     }
 }
 
-fn measure_alone<R: PoolRuntime + Print>(rt: R, only: Option<&str>) -> Result<(), anyhow::Error> {
+fn measure_alone<R: PoolRuntime + RandomSource + Print>(
+    rt: R,
+    only: Option<&str>,
+) -> Result<(), anyhow::Error> {
     for &(scenario, max_size) in &[
         (Scenario::Clock, 1),
         (Scenario::Lock, 1),
@@ -84,7 +91,19 @@ fn measure_alone<R: PoolRuntime + Print>(rt: R, only: Option<&str>) -> Result<()
     Ok(())
 }
 
-fn measure_growing<R: PoolRuntime + Print>(rt: R, only: Option<&str>) -> Result<(), anyhow::Error> {
+// Tasks, on one thread.
+fn measure_tasks<R: PoolRuntime + RandomSource + Print>(
+    rt: R,
+    only: Option<&str>,
+) -> Result<(), anyhow::Error> {
+    Scenario::TaskGetDrop.measure(rt, only, one_thread(10, CALLS))?;
+    Scenario::Tasks.measure(rt, only, one_thread(8, TASKS * CALLS_OF_EACH))
+}
+
+fn measure_growing<R: PoolRuntime + RandomSource + Print>(
+    rt: R,
+    only: Option<&str>,
+) -> Result<(), anyhow::Error> {
     for &max_size in &[10, 100, 1000, 10_000] {
         Scenario::Build.measure(rt, only, one_thread(max_size, 1))?;
     }

@@ -2,9 +2,10 @@
 ghost use Rattle.std.specs.Prelude.{◌≡◌, ◌<◌, ◌/◌};
 ghost use Rattle.std.specs.Duration.{as_nanos};
 
-use crate::{alone, growing};
+use crate::{alone, growing, tasks};
 use r2d2::PoolRuntime;
 use std::alloc::{AllocError, Global};
+use std::random::RandomSource;
 use std::time::Duration;
 
 /// How often each scenario is run. The fastest run tells what a call takes: the others were held up
@@ -95,6 +96,8 @@ pub enum Scenario {
     CountedGetDrop,
     TryGetHit,
     TryGetMiss,
+    TaskGetDrop,
+    Tasks,
     Build,
     LentGet,
     LentDrop,
@@ -113,6 +116,8 @@ impl Scenario {
             Scenario::CountedGetDrop => "counted_get_drop",
             Scenario::TryGetHit => "try_get_hit",
             Scenario::TryGetMiss => "try_get_miss",
+            Scenario::TaskGetDrop => "task_get_drop",
+            Scenario::Tasks => "tasks",
             Scenario::Build => "build",
             Scenario::LentGet => "lent_get",
             Scenario::LentDrop => "lent_drop",
@@ -121,7 +126,11 @@ impl Scenario {
     }
 
     // How long the operations of one run took.
-    fn run<R: PoolRuntime>(self, rt: R, case: Case) -> Result<Duration, anyhow::Error> {
+    fn run<R: PoolRuntime + RandomSource>(
+        self,
+        rt: R,
+        case: Case,
+    ) -> Result<Duration, anyhow::Error> {
         match self {
             Scenario::Clock => alone::clock(rt, case),
             Scenario::Lock => alone::lock(rt, case),
@@ -131,6 +140,8 @@ impl Scenario {
             Scenario::CountedGetDrop => alone::counted_get_drop(rt, case),
             Scenario::TryGetHit => alone::try_get_hit(rt, case),
             Scenario::TryGetMiss => alone::try_get_miss(rt, case),
+            Scenario::TaskGetDrop => tasks::get_drop(rt, case),
+            Scenario::Tasks => tasks::tasks(rt, case),
             Scenario::Build => growing::build(rt, case),
             Scenario::LentGet => growing::lent_get(rt, case),
             Scenario::LentDrop => growing::lent_drop(rt, case),
@@ -139,7 +150,7 @@ impl Scenario {
     }
 
     /// Runs it a few times, and prints its line; nothing where `only` names another one.
-    pub fn measure<R: PoolRuntime + Print>(
+    pub fn measure<R: PoolRuntime + RandomSource + Print>(
         self,
         rt: R,
         only: Option<&str>,

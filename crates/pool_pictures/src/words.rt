@@ -69,12 +69,15 @@ impl fmt::Display for Times {
     }
 }
 
-/// A part of the whole in thousandths, written in percent.
+/// A part of the whole in thousandths, written in percent: `7.1 %`, or `less than 0.1 %`.
 #[derive(Clone, Copy)]
 pub(crate) struct Share(pub(crate) u32);
 
 impl fmt::Display for Share {
     fn fmt<W: fmt::Write>(&self, f: &mut fmt::Formatter<W>) -> fmt::Result {
+        if self.0 == 0 {
+            return f.write_str("less than 0.1 %");
+        }
         let (whole, tenth) = (self.0 / 10, self.0 % 10);
         write!(f, "{whole}.{tenth} %")
     }

@@ -6,13 +6,14 @@ use Rattle.r2d2.specs.declared.pool.state.Status.{Status}
 use Rattle.r2d2.specs.declared.error.ErrorKind.TheVariants.{Timeout, Memory, Threads, Closed, Full}
 
 -- what a contract sees of an error: why the call failed, and the bytes of the latest error of an
--- opening or a check, where one is known; of a call that gave up, what the pool showed then, and how
--- long it had waited
+-- opening or a check, where one is known; of a call that gave up, what the pool showed then, how long
+-- it had waited, and how many waited before it in line
 pub record Failure : Type 0 where
   pub kind : ErrorKind
   pub message : Option (List ℕ)
   pub status : Option Status
   pub waited : Option Duration
+  pub ahead : Option ℕ
 
 -- the text of a failure: a timeout's has the latest error after it, where one is known
 abbrev pub text_of : ErrorKind → Option (List ℕ) → List ℕ

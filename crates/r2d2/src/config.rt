@@ -314,9 +314,9 @@ impl<
     /// How long a connection may be idle before it is closed; None for as long as it likes. The
     /// default is 10 minutes.
     ///
-    /// It is enforced at the next look for expired ones. A look is due every 30 seconds, and is made
-    /// when a worker is free. Until then the connection can still be lent, and its idle time starts
-    /// anew when it comes back.
+    /// It is enforced at the next look for expired ones. A look is due every 30 seconds, and is
+    /// made when a worker is free. Until then the connection can still be lent, and its idle time
+    /// starts anew when it comes back.
     ///
     /// It may not be a length of zero. The test for one from outside: None, or `!length.is_zero()`.
     pub fn idle_timeout(mut self, idle_timeout: Option<Duration>) -> Self

@@ -1,5 +1,6 @@
 // Why a call of the pool failed.
-ghost use Rattle.std.specs.Prelude.{◌≡◌, ◌↔◌, None, IsSome, IfSome, option_map, string_bytes};
+ghost use Rattle.std.specs.Prelude.{◌≡◌, ◌↔◌, None, IsSome, IfSome, option_map, option_and_then};
+ghost use Rattle.std.specs.Prelude.{string_bytes};
 ghost use Rattle.r2d2.specs.declared.error.ErrorKind.TheVariants.{Timeout};
 ghost use Rattle.r2d2.specs.Failures.{Failure};
 ghost use Rattle.r2d2.specs.Status.{IsStatus};
@@ -27,8 +28,8 @@ pub enum ErrorKind {
 
 /// Why a call failed, and for a timeout the latest error of an opening or a check, where one is
 /// known. It displays as `timed out waiting for connection`, then `: ` and that text; as `out of
-/// memory`; as `a worker could not be started`; as `the pool is closed`; or as `too many callers are
-/// waiting`.
+/// memory`; as `a worker could not be started`; as `the pool is closed`; or as `too many callers
+/// are waiting`.
 #[derive(Drop)]
 pub struct Error {
     kind: ErrorKind,
@@ -44,6 +45,8 @@ struct GaveUp {
     status: Status,
     /// How long the call had lasted.
     waited: Duration,
+    /// How many waited before it, where it stood in line.
+    ahead: Option<usize>,
 }
 
 // Contracts see an error as why the call failed, the bytes of the text, and what a call that gave
@@ -56,6 +59,7 @@ impl Model for Error {
       message = option_map string_bytes e.message;
       status = option_map (λ g. g.value.status) e.gave_up;
       waited = option_map (λ g. g.value.waited) e.gave_up;
+      ahead = option_and_then (λ g. g.value.ahead) e.gave_up;
     } };
 
     ghost invariant = { λ e. (IsSome e.message → e.kind ≡ Timeout)
@@ -64,24 +68,31 @@ impl Model for Error {
 
 impl Error {
     /// No connection came in time; the text is the latest error's, if one is known. The call gave
-    /// up after so long, while the pool showed this; both are left out where memory is refused.
+    /// up after so long, while the pool showed this, and so many waited before it, if it stood in
+    /// line; all three are left out where memory is refused.
     pub fn timeout(
         alloc: Global,
         message: Option<String>,
         status: Status,
         waited: Duration,
+        ahead: Option<usize>,
     ) -> Error
         requires { IsStatus status }
         ensures kind { result.kind ≡ ErrorKind.Timeout }
         ensures message { result.message ≡ option_map string_bytes message }
         ensures status { IfSome result.status (λ shown. shown ≡ status) }
         ensures waited { IfSome result.waited (λ length. length ≡ waited) }
+        ensures ahead { IsSome result.status → result.ahead ≡ ahead }
     {
-        let gave_up = Box::new(alloc, GaveUp { status, waited });
+        let gave_up = GaveUp {
+            status,
+            waited,
+            ahead,
+        };
         Error {
             kind: ErrorKind::Timeout,
             message,
-            gave_up: gave_up.ok(),
+            gave_up: Box::new(alloc, gave_up).ok(),
         }
     }
 
@@ -91,6 +102,7 @@ impl Error {
         ensures message { result.message ≡ None }
         ensures status { result.status ≡ None }
         ensures waited { result.waited ≡ None }
+        ensures ahead { result.ahead ≡ None }
     {
         Error {
             kind,
@@ -165,6 +177,18 @@ impl Error {
     {
         match &self.gave_up {
             Some(gave_up) => Some(gave_up.waited),
+            None => None,
+        }
+    }
+
+    /// How many callers waited before the call as its time ran out in line. None where callers do
+    /// not wait in line, where a check took the rest of its time, and where there is no status.
+    pub fn ahead(&self) -> Option<usize>
+        ensures ahead { result ≡ self.now.ahead }
+        ensures with_status { IsSome result → IsSome self.now.status }
+    {
+        match &self.gave_up {
+            Some(gave_up) => gave_up.ahead,
             None => None,
         }
     }

@@ -271,15 +271,16 @@ impl<
     /// no other check.
     ///
     /// The error is a timeout, with the text of the latest error of an opening or a check if there
-    /// was one; or `ErrorKind::Closed`, at once, where the pool was closed; or `ErrorKind::Full`, at
-    /// once, where it would have to wait and as many wait as `max_waiting` allows; or lack of memory
-    /// for a shared pointer, and then nothing has changed.
+    /// was one; or `ErrorKind::Closed`, at once, where the pool was closed; or `ErrorKind::Full`,
+    /// at once, where it would have to wait and as many wait as `max_waiting` allows; or lack of
+    /// memory for a shared pointer, and then nothing has changed.
     pub fn get_timeout(&self, timeout: Duration) -> Result<PooledConnection<M, H, V, Z, R>, Error>
         ensures settings { IfOk result (λ lent. lent.settings ≡ self.now) }
         ensures refused { IfErr result IsOfAGet }
     {
         if self.is_in_line() {
-            return self.lend_in_line(timeout, &mut ());
+            // (Wrapped anew, since an answer handed on as it is makes each answer go by memory.)
+            return Ok(self.lend_in_line(timeout, &mut ())?);
         }
         match self.lend_within(Some(timeout), &mut ())? {
             Some(lent) => Ok(lent),

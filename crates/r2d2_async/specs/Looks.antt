@@ -1,5 +1,5 @@
 -- What a caller comes to.
-use Rattle.std.specs.Prelude.{◌≡◌, Bool, true, false}
+use Rattle.std.specs.Prelude.{◌≡◌, ℕ, Bool, true, false, Option, Some, None}
 use Rattle.futures.specs.declared.task.Poll.{Poll}
 use Rattle.futures.specs.declared.task.Poll.TheVariants.{Ready, Pending}
 use Rattle.r2d2_async.specs.declared.task_book.Looked.{Looked}
@@ -11,6 +11,12 @@ module _ {T : Type 0} where
   is_found (look.Found id payload idle_since) = true
   is_found look.Closed = false
   is_found look.Full = false
+
+  -- what it is lent, with its id
+  abbrev pub pair_found : Looked T → Option (ℕ × T)
+  pair_found (look.Found id payload idle_since) = Some (id, payload)
+  pair_found look.Closed = None
+  pair_found look.Full = None
 
   -- it is sent off exactly where the pool is closed
   abbrev pub IsClosedLook : Bool → Looked T → Type 0

@@ -95,8 +95,10 @@ impl<M: ManageConnection, T: Timer, K: Hooks<M>, R: AsyncRuntime> Get<M, T, K, R
         }
         let checking = self.checking.take();
         let closer = self.closer.take().unwrap();
-        abandon::<M, T, K, R>(&closer.shared, &mut self.place, checking);
-        Poll::Ready(Err(give_up::<M, T, K, R>(&closer.shared, self.timeout, self.start)))
+        let shared = &closer.shared;
+        let ahead = shared.ahead_of(self.place);
+        abandon::<M, T, K, R>(shared, &mut self.place, checking);
+        Poll::Ready(Err(give_up::<M, T, K, R>(shared, self.timeout, self.start, ahead)))
     }
 
     // One poll of a check, if there is one: what to lend. None where it has to look.
@@ -312,11 +314,12 @@ fn abandon<M: ManageConnection, T: Timer, K: Hooks<M>, R: AsyncRuntime>(
     shared.leave_line(place);
 }
 
-// Tells of a call whose time ran out, and answers its error.
+// Tells of a call whose time ran out, before which so many waited in line, and answers its error.
 fn give_up<M: ManageConnection, T: Timer, K: Hooks<M>, R: AsyncRuntime>(
     shared: &SharedOf<M, T, K, R>,
     timeout: Duration,
     start: Option<Duration>,
+    ahead: Option<usize>,
 ) -> Error
     ensures { IsOfAGet result }
 {
@@ -325,7 +328,7 @@ fn give_up<M: ManageConnection, T: Timer, K: Hooks<M>, R: AsyncRuntime>(
     let status = shared.status();
     let message = shared.take_error();
     shared.hooks.timeout(timeout);
-    Error::timeout(shared.rt.alloc(), message, status, waited)
+    Error::timeout(shared.rt.alloc(), message, status, waited, ahead)
 }
 
 // Closes a connection whose check failed, and that was idle since this moment.

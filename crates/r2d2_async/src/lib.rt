@@ -5,8 +5,8 @@
 //! settings, events, handlers, extensions and errors are those of `r2d2`.
 //!
 //! A `Builder` makes a pool over a manager and a timer of the user's. `Pool::work` gives a worker
-//! to be spawned, and `Pool::get` the future of a connection, which goes back to the pool when it is
-//! dropped.
+//! to be spawned, and `Pool::get` the future of a connection, which goes back to the pool when it
+//! is dropped.
 //!
 //! Callers stand in one line, and are served in the order in which they came. The memory for the
 //! line is taken when the pool is built: the setting `max_waiting` says how many may stand in it.

@@ -65,9 +65,13 @@ pub struct Closed<P> {
 impl<P: Drop, M, T, K, R: Clock> Shared<P, M, T, K, R> {
     /// The time since the pool was made; zero where the clock can't be read.
     pub(crate) fn moment(&self) -> Duration {
-        match &self.made {
-            Some(made) => made.elapsed(&self.rt).unwrap_or(Duration::ZERO),
-            None => Duration::ZERO,
+        let Some(made) = &self.made else {
+            return Duration::ZERO;
+        };
+        // (What `elapsed` does; where that is not inlined, it answers through memory.)
+        match Instant::now(&self.rt) {
+            Ok(now) => now.duration_since(*made),
+            Err(_) => Duration::ZERO,
         }
     }
 
@@ -151,6 +155,11 @@ impl<P: Drop, M, T, K, R: Clock> Shared<P, M, T, K, R> {
         if let Some(mut tasks) = lock(&self.tasks) {
             tasks.leave(place);
         }
+    }
+
+    /// How many wait before this caller.
+    pub(crate) fn ahead_of(&self, place: Option<u32>) -> Option<usize> {
+        Some(lock(&self.tasks)?.ahead_of(place))
     }
 
     /// Whether a check of a connection failed that was idle for less long than one that is idle

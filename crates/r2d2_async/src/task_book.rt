@@ -52,7 +52,7 @@ pub struct TaskBook<P> {
 
 impl<P: Drop> TaskBook<P> {
     ghost use Rattle.std.specs.Duration.{as_nanos};
-    ghost use Rattle.std.specs.Prelude.{map};
+    ghost use Rattle.std.specs.Prelude.{map, option_map};
     ghost use Rattle.r2d2_core.specs.Seen.{seen_released, seen_returned, map_ok};
     ghost use Rattle.r2d2_core.specs.Reports.{IsSoundReport};
     ghost use Rattle.r2d2_core.specs.BookSteps.{IsBegin, IsNumbering, IsReturn, IsReap, IsTelling};
@@ -63,7 +63,9 @@ impl<P: Drop> TaskBook<P> {
     ghost use Rattle.r2d2.specs.Status.{IsStatus};
     ghost use Rattle.r2d2.specs.Evicted.{is_to_close, evicted_of, after_eviction};
     ghost use Rattle.r2d2.specs.Waiting.{before, left_by, told_if, is_kept};
-    ghost use Rattle.r2d2_async.specs.Looks.{is_found, IsClosedLook, IsServed};
+    ghost use Rattle.r2d2_core.specs.Connections.{pair_of};
+    ghost use Rattle.r2d2_core.specs.Table.{next_of};
+    ghost use Rattle.r2d2_async.specs.Looks.{is_found, pair_found, IsClosedLook, IsServed};
 
     /// A book for which nobody waits yet, with room for so many in line. The error is lack of
     /// memory: all that the line needs is taken here.
@@ -123,6 +125,9 @@ impl<P: Drop> TaskBook<P> {
     pub fn try_take(&mut self, now: Duration) -> Option<(u64, P)>
         ensures kept { IsTrue (is_kept self.old.guarded.book.book.picture
             self.old.guarded.book.places) → result ≡ None }
+        ensures takes { is_kept self.old.guarded.book.book.picture
+            self.old.guarded.book.places ≡ false
+            → result ≡ option_map pair_of (next_of self.old.guarded.book.book.picture) }
         ensures line { self.new.guarded.book.places ≡ self.old.guarded.book.places }
     {
         let (taken, wakes) = self.guarded.book.lend(now, false, &mut ());
@@ -152,6 +157,9 @@ impl<P: Drop> TaskBook<P> {
         ensures turn { IfReady result (λ look. IsTrue (is_found look)
             → before place.old self.old.guarded.book.places
             < length self.old.guarded.book.book.picture.idle) }
+        // It is lent the connection that is lent next.
+        ensures next { IfReady result (λ look. IsTrue (is_found look)
+            → pair_found look ≡ option_map pair_of (next_of self.old.guarded.book.book.picture)) }
         // And who is awake in an open pool and has its turn is served.
         ensures served { IfSome place.old (λ slot. waker_at self.old.wakers slot ≡ None)
             → self.old.guarded.book.book.picture.on_order.closed ≡ false
@@ -199,6 +207,13 @@ impl<P: Drop> TaskBook<P> {
         clear_at(&mut self.wakers, *place);
         let to_wake = self.guarded.book.leave(place);
         wake(&mut self.wakers, &mut self.workers, to_wake);
+    }
+
+    /// How many wait before this caller: all who wait, if it does not stand in line.
+    pub fn ahead_of(&self, place: Option<u32>) -> usize
+        ensures { result ≡ before place self.now.guarded.book.places }
+    {
+        self.guarded.book.ahead_of(place)
     }
 
     /// Puts a lent connection back. One that is unfit, has outlived its own lifetime, or was opened

@@ -25,10 +25,19 @@ struct Opening<K> {
     connect: K,
 }
 
+// A sleep until this moment.
+#[derive(Drop)]
+struct Sleeping<S> {
+    due: Duration,
+    sleep: S,
+}
+
 // What the book said.
+#[derive(Clone, Copy)]
 enum Next {
     Again,
-    Sleep(Duration),
+    /// Until this moment, which is so far away.
+    Sleep { due: Duration, length: Duration },
     Idle,
     Open(u32),
     Reap,
@@ -44,7 +53,8 @@ pub struct Work<M: ManageConnection, T: Timer, K: Hooks<M>, R: AsyncRuntime> {
     shared: Arc<SharedOf<M, T, K, R>>,
     ticket: Ticket,
     opening: Option<Opening<M::Connect>>,
-    sleep: Option<T::Sleep>,
+    // It is kept from poll to poll: a timer may wake whose sleep it drops.
+    sleep: Option<Sleeping<T::Sleep>>,
     expired: Vec<Released<PayloadOf<M>>>,
 }
 
@@ -74,12 +84,11 @@ impl<M: ManageConnection, T: Timer, K: Hooks<M>, R: AsyncRuntime> Work<M, T, K, 
     // Asks the book, and lies down under the same lock where there is nothing to do now.
     fn ask(&mut self, cx: &mut Context<'_>) -> Next
         requires opening { self.old.opening ≡ None }
-        requires sleep { self.old.sleep ≡ None }
         ensures shared { self.new.shared ≡ self.old.shared }
         ensures opening { self.new.opening ≡ None }
-        ensures sleep { self.new.sleep ≡ None }
+        ensures sleep { self.new.sleep ≡ self.old.sleep }
         ensures idle { result ≡ Next.Idle → Covers cx.new (λ s. s ≡ orders_of self.new.shared) }
-        ensures sleeps { (d : _) → result ≡ Next.Sleep d
+        ensures sleeps { (d : _) (l : _) → result ≡ Next.Sleep d l
             → Covers cx.new (λ s. s ≡ orders_of self.new.shared) }
         ensures kept { Keeps cx.old cx.new }
     {
@@ -99,7 +108,10 @@ impl<M: ManageConnection, T: Timer, K: Hooks<M>, R: AsyncRuntime> Work<M, T, K, 
             Job::Wait(due) => {
                 let key = self.ticket.key();
                 let _pending: Poll<()> = tasks.park_worker(cx, &shared.ordered, key);
-                Next::Sleep(due.saturating_sub(now))
+                Next::Sleep {
+                    due,
+                    length: due.saturating_sub(now),
+                }
             }
             Job::Nothing => {
                 let key = self.ticket.key();
@@ -153,6 +165,7 @@ impl<M: ManageConnection, T: Timer, K: Hooks<M>, R: AsyncRuntime> Work<M, T, K, 
     fn release_expired(&mut self)
         ensures shared { self.new.shared ≡ self.old.shared }
         ensures opening { self.new.opening ≡ self.old.opening }
+        ensures sleep { self.new.sleep ≡ self.old.sleep }
     {
         let shared = &self.shared;
         let limits = match lock(&shared.tasks) {
@@ -172,6 +185,7 @@ impl<M: ManageConnection, T: Timer, K: Hooks<M>, R: AsyncRuntime> Work<M, T, K, 
         ensures opening { OnPending result (IsArmed cx.new × IsSomeAnd self.new.opening
             (λ o. (s : ℕ) → M.Connect.needs o.connect s → Hears cx.new s)) }
         ensures ready { IfReady result (λ _. self.new.opening ≡ None) }
+        ensures sleep { self.new.sleep ≡ self.old.sleep }
         ensures kept { Keeps cx.old cx.new }
     {
         let Some(Opening { tries, mut connect }) = self.opening.take() else {
@@ -189,27 +203,31 @@ impl<M: ManageConnection, T: Timer, K: Hooks<M>, R: AsyncRuntime> Work<M, T, K, 
         }
     }
 
-    // One poll of a sleep of this length, from now on.
-    fn poll_sleep(&mut self, cx: &mut Context<'_>, length: Duration) -> Poll<()>
+    // One poll of a sleep until this moment, which is so far away: of the one that it sleeps, if
+    // that is until the same moment.
+    fn poll_sleep(&mut self, cx: &mut Context<'_>, due: Duration, length: Duration) -> Poll<()>
         requires opening { self.old.opening ≡ None }
+        requires sleeps { IfSome self.old.sleep (λ s. T.Sleep.can_poll s.sleep) }
         requires parked { Covers cx.old (λ s. s ≡ orders_of self.old.shared) }
         ensures opening { self.new.opening ≡ None }
         ensures shared { self.new.shared ≡ self.old.shared }
         ensures pending { result ≡ Poll.Pending }
         ensures armed { IsArmed cx.new }
-        ensures heard { (s : ℕ) → IsSomeAnd self.new.sleep (λ sleep. T.Sleep.needs sleep s)
+        ensures sleeps { IfSome self.new.sleep (λ s. T.Sleep.can_poll s.sleep) }
+        ensures heard { (s : ℕ) → IsSomeAnd self.new.sleep (λ it. T.Sleep.needs it.sleep s)
             → Hears cx.new s }
         ensures kept { Keeps cx.old cx.new }
     {
-        let mut sleep = self.shared.timer.sleep(length);
-        let polled = sleep.poll(cx);
-        self.sleep = Some(sleep);
-        match polled {
-            Poll::Pending => Poll::Pending,
-            Poll::Ready(()) => {
-                self.sleep = None;
-                cx.yield_now()
+        let mut sleep = match self.sleep.take() {
+            Some(sleeping) if sleeping.due == due => sleeping.sleep,
+            _ => self.shared.timer.sleep(length),
+        };
+        match sleep.poll(cx) {
+            Poll::Pending => {
+                self.sleep = Some(Sleeping { due, sleep });
+                Poll::Pending
             }
+            Poll::Ready(()) => cx.yield_now(),
         }
     }
 }
@@ -217,22 +235,26 @@ impl<M: ManageConnection, T: Timer, K: Hooks<M>, R: AsyncRuntime> Work<M, T, K, 
 impl<M: ManageConnection, T: Timer, K: Hooks<M>, R: AsyncRuntime> Future for Work<M, T, K, R> {
     type Output = ();
 
-    ghost can_poll = { λ w. IfSome w.opening (λ o. M.Connect.can_poll o.connect) };
+    ghost can_poll = { λ w. IfSome w.opening (λ o. M.Connect.can_poll o.connect)
+        × IfSome w.sleep (λ s. T.Sleep.can_poll s.sleep) };
 
     // What an opening waits for; else that something is ordered, and that something is due.
     ghost needs = { λ w s. IsSomeAnd w.opening (λ o. M.Connect.needs o.connect s)
         ⊎ ((w.opening ≡ None)
-        × ((s ≡ orders_of w.shared) ⊎ IsSomeAnd w.sleep (λ sleep. T.Sleep.needs sleep s))) };
+        × ((s ≡ orders_of w.shared) ⊎ IsSomeAnd w.sleep (λ it. T.Sleep.needs it.sleep s))) };
 
     fn poll(&mut self, cx: &mut Context<'_>) -> Poll<()> {
         if self.poll_opening(cx).is_pending() {
             return Poll::Pending;
         }
+        let next = self.ask(cx);
+        if let Next::Sleep { due, length } = next {
+            return self.poll_sleep(cx, due, length);
+        }
         self.sleep = None;
-        match self.ask(cx) {
-            Next::Again => cx.yield_now(),
+        match next {
+            Next::Again | Next::Sleep { .. } => cx.yield_now(),
             Next::Idle => Poll::Pending,
-            Next::Sleep(length) => self.poll_sleep(cx, length),
             Next::Open(tries) => {
                 let connect = self.shared.manager.connect();
                 self.opening = Some(Opening { tries, connect });

@@ -117,15 +117,16 @@ impl Canvas {
         Ok(())
     }
 
-    // For what part of the time the pool was exhausted.
+    // For what part of the time the pool was exhausted, if that is a thousandth or more: a calm pool
+    // may be so while its first connections are opened, which is no alarm.
     fn part(&mut self, story: &Story) -> Result<(), AllocError> {
-        let exhaustion = story.exhaustion();
-        if exhaustion.times == 0 {
+        let thousandths = story.exhaustion().thousandths();
+        if thousandths == 0 {
             return Ok(());
         }
         let x = Tenths(self.layout.right.saturating_add(80));
         let y = Tenths(self.layout.band_top().saturating_sub(140));
-        let share = Share(exhaustion.thousandths());
+        let share = Share(thousandths);
         writeln!(
             self.out,
             "<text class=\"fault\" x=\"{x}\" y=\"{y}\">exhausted {share}</text>"

@@ -62,7 +62,7 @@ impl Head {
             lines: Vec::new(alloc),
         };
         head.known(alloc, notes)?;
-        head.limits(alloc, &story.limits)?;
+        head.limits(alloc, &story.limits, notes)?;
         head.summary(alloc, story, notes)?;
         Ok(head)
     }
@@ -109,10 +109,19 @@ impl Head {
         Ok(())
     }
 
-    fn limits(&mut self, alloc: Global, limits: &Limits) -> Result<(), AllocError> {
+    // Which pool it is, and its limits.
+    fn limits(&mut self, alloc: Global, limits: &Limits, notes: &Notes) -> Result<(), AllocError> {
         let (size, wanted) = (limits.max_size(), limits.wanted());
-        let title = format!(in alloc;
-            "A pool of at most {size} connections, {wanted} wanted idle"
+        let mut title = match notes.name {
+            Some(name) => {
+                let name = Escaped(name);
+                format!(in alloc; "The pool {name},")?
+            }
+            None => String::from_str(alloc, "A pool")?,
+        };
+        write!(
+            title,
+            " of at most {size} connections, {wanted} wanted idle"
         )?;
         self.add(Look::Title, title)?;
         let (settings, order) = (settings(alloc, limits)?, order(limits));

@@ -1,8 +1,12 @@
 // A line of at most so many, whose memory is taken at its making.
-ghost use Rattle.std.specs.Prelude.{◌≡◌, ℕ, ◌+◌, ◌<◌, ◌≤◌, ◌++◌, ◌∷◌, ◌↔◌, [], length, IfOk, IfSome, IfNone, IsSome, IsTrue, vec_capacity, vec_len};
+ghost use Rattle.std.specs.Prelude.{◌≡◌, ℕ, ◌+◌, ◌<◌, ◌≤◌, ◌++◌, ◌∷◌, ◌↔◌, [], length, IfOk, IfSome};
+ghost use Rattle.std.specs.Prelude.{IfNone, IsSome, IsTrue, vec_capacity, vec_len};
 ghost use Rattle.std.specs.Prelude.{List};
 ghost use Rattle.r2d2.specs.declared.line.place.Standing.TheVariants.{Quiet, Served};
-ghost use Rattle.r2d2.specs.Waiting.{weight as weight_of, is_told, place, waiting_in, told_ahead, ahead, index_of, told_at, weight_at, without, with_standing, quiet_index, first_quiet, told_first, told_if, slot_if, copies_in, copies_of};
+ghost use Rattle.r2d2.specs.Waiting.{weight as weight_of, is_told, place, waiting_in, told_ahead};
+ghost use Rattle.r2d2.specs.Waiting.{ahead, index_of, told_at, weight_at, without, with_standing};
+ghost use Rattle.r2d2.specs.Waiting.{quiet_index, first_quiet, told_first, told_if, slot_if};
+ghost use Rattle.r2d2.specs.Waiting.{copies_in, copies_of};
 ghost use Rattle.r2d2.specs.Order.{Event, Came, WaitsOn, Took, Left, IsUntold, StandsIn};
 ghost use Rattle.r2d2.specs.Order.{IsHistoryOf, with_told};
 

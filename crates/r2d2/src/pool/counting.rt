@@ -54,7 +54,7 @@ impl<
         ensures lent { IfOk result (λ _. share.old.amount + 1 ≤ share.new.amount) }
     {
         if self.is_in_line() {
-            return self.lend_in_line(timeout, share);
+            return Ok(self.lend_in_line(timeout, share)?);
         }
         match self.lend_within(Some(timeout), share)? {
             Some(lent) => Ok(lent),

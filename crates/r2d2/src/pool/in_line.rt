@@ -1,5 +1,6 @@
 // Those who wait in line: who has its turn is served.
-ghost use Rattle.std.specs.Prelude.{◌≡◌, ◌<◌, ◌+◌, IsSome, IfSome, IfOk, IfErr, OnErr, MatchOption, None};
+ghost use Rattle.std.specs.Prelude.{◌≡◌, ◌<◌, ◌+◌, IsSome, IfSome, IfOk, IfErr, OnErr, MatchOption};
+ghost use Rattle.std.specs.Prelude.{None};
 ghost use Rattle.std.specs.Option.{IsNone};
 ghost use Rattle.std.specs.Result.{IsOk};
 ghost use Rattle.r2d2.specs.Failures.{IsOfAGet};
@@ -104,12 +105,13 @@ impl<P: Drop, C: TakeTotal, M, K, R: Clock + Wait + AllocGlobal> Shared<LinedBoo
         ensures { result.kind ≡ ErrorKind.Timeout }
     {
         // Modelled in model/waiting.pml: keep both alike.
+        let ahead = guarded.book.ahead_of(*place);
         let to_wake = guarded.book.leave(place);
         let status = guarded.status();
         let error = guarded.book.take_error();
         drop(guarded);
         self.wake(to_wake);
-        Error::timeout(self.rt.alloc(), error, status, time.waited())
+        Error::timeout(self.rt.alloc(), error, status, time.waited(), Some(ahead))
     }
 
     /// A call whose check is over leaves the line, where it stands in it.

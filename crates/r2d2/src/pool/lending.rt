@@ -19,6 +19,7 @@ impl<C: TakeCounter, M: ManageConnection, K: Hooks<M>, R: PoolRuntime> AnyPool<C
 
     /// Lends a connection that passed its check, and waits for one at most so long. With no timeout
     /// it does not wait, and orders none: it answers None where none is idle.
+    #[inline(always)]
     pub(super) fn lend_within(
         &self,
         timeout: Option<Duration>,

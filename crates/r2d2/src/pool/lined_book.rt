@@ -1,5 +1,6 @@
 // The book beside the line of those who wait for it: what is idle is kept for the first of them.
-ghost use Rattle.std.specs.Prelude.{◌≡◌, ℕ, ◌+◌, ◌*◌, ◌<◌, ◌≤◌, ◌↔◌, [], length, map, vec_len, vec_capacity};
+ghost use Rattle.std.specs.Prelude.{◌≡◌, ℕ, ◌+◌, ◌*◌, ◌<◌, ◌≤◌, ◌↔◌, [], length, map, vec_len};
+ghost use Rattle.std.specs.Prelude.{vec_capacity};
 ghost use Rattle.std.specs.Prelude.{IsTrue, IfOk, IfSome, None, false, true, List, ◌∷◌, option_map};
 ghost use Rattle.std.specs.Duration.{as_nanos};
 ghost use Rattle.r2d2_core.specs.Seen.{seen_take, Empty, seen_returned, seen_released, map_ok};
@@ -237,15 +238,22 @@ impl<P, C: TakeTotal> LinedBook<P, C> {
         self.book.report()
     }
 
-    /// Whether more are idle than callers wait before this one.
-    pub(super) fn has_turn(&self, place: Option<u32>) -> bool
-        ensures { IsTrue result ↔ (before place self.now.places < length self.now.book.picture.idle) }
+    /// How many wait before this caller: all who wait, if it does not stand in line.
+    pub fn ahead_of(&self, place: Option<u32>) -> usize
+        ensures { result ≡ before place self.now.places }
     {
-        let before = match place {
+        match place {
             Some(slot) => self.line.ahead(slot),
             None => self.line.waiting(),
-        };
-        before < self.book.book().idle() as usize
+        }
+    }
+
+    // Whether more are idle than callers wait before this one.
+    fn has_turn(&self, place: Option<u32>) -> bool
+        ensures { IsTrue result
+            ↔ (before place self.now.places < length self.now.book.picture.idle) }
+    {
+        self.ahead_of(place) < self.book.book().idle() as usize
     }
 
     // Whether all that is idle is kept for those in line.

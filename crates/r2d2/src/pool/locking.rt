@@ -334,9 +334,13 @@ impl<B, M, K, R> Shared<B, M, K, R> {
         R: Clock,
         ensures { IsNone self.now.made → as_nanos result ≡ 0 }
     {
-        match &self.made {
-            Some(made) => made.elapsed(&self.rt).unwrap_or(Duration::ZERO),
-            None => Duration::ZERO,
+        let Some(made) = &self.made else {
+            return Duration::ZERO;
+        };
+        // (What `elapsed` does; where that is not inlined, it answers through memory.)
+        match Instant::now(&self.rt) {
+            Ok(now) => now.duration_since(*made),
+            Err(_) => Duration::ZERO,
         }
     }
 

@@ -167,7 +167,7 @@ impl<P: Drop, C: TakeTotal, M, K, R: Clock + Wait + AllocGlobal> Shared<LinedBoo
         let wakes = guarded.needed_wakes(ToWake::these(Wakes::a_caller()));
         drop(guarded);
         self.wake(wakes);
-        Error::timeout(self.rt.alloc(), error, status, waited)
+        Error::timeout(self.rt.alloc(), error, status, waited, None)
     }
 
     /// Gives up for a call whose time is over; None where some is left, or where it brought no
@@ -215,7 +215,7 @@ impl<P: Drop, C: TakeTotal, M, K, R: Clock + Wait + AllocGlobal> Shared<LinedBoo
             time.look(self.moment());
             let status = guarded.status();
             let error = guarded.book.take_error();
-            return Err(Error::timeout(self.rt.alloc(), error, status, time.waited()));
+            return Err(Error::timeout(self.rt.alloc(), error, status, time.waited(), None));
         }
         Ok(())
     }

@@ -105,7 +105,8 @@ impl<C: TakeTotal, M: ManageConnection, K: Hooks<M>, R: PoolRuntime> SharedOf<C,
 
 /// Why a reap closed a connection of this age.
 pub fn reason_of_reap(limits: &Limits, age: Duration) -> ReleaseReason
-    ensures { result ≡ reason_of_reap (has_reached (seen_limits limits.now).max_lifetime (as_nanos age)) }
+    ensures { result
+        ≡ reason_of_reap (has_reached (seen_limits limits.now).max_lifetime (as_nanos age)) }
 {
     if limits.is_too_old(age) {
         ReleaseReason::Lifetime

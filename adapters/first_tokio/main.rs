@@ -1,0 +1,96 @@
+//! A first program with a pool for tasks, on tokio's runtime.
+#![tactic(auto)]
+
+use futures::future::{Pending, Ready, pending};
+use futures::task::{Context, Poll};
+use futures::{Future, FutureExt, future, ready};
+use r2d2_async::{Builder, ManageConnection, Timer};
+use std::alloc::AllocError;
+use std::io;
+use std::time::{Clock, Duration};
+use tokio::runtime::LocalRuntime;
+use tokio::time;
+
+/// The timer of tokio's runtime.
+#[derive(Drop)]
+struct TokioTimer<R> {
+    time: time::Handle,
+    rt: R,
+}
+
+impl<R: Clock + Drop> Timer for TokioTimer<R> {
+    type Sleep = TokioSleep;
+
+    fn sleep(&self, length: Duration) -> TokioSleep {
+        TokioSleep {
+            sleep: self.time.sleep(&self.rt, length).ok(),
+            never: pending(),
+        }
+    }
+}
+
+/// A sleep, which never ends without memory, without a clock, or once the runtime is gone.
+#[derive(Drop)]
+struct TokioSleep {
+    sleep: Option<time::Sleep>,
+    never: Pending<()>,
+}
+
+impl Future for TokioSleep {
+    type Output = ();
+
+    fn poll(&mut self, cx: &mut Context<'_>) -> Poll<()> {
+        if let Some(sleep) = &mut self.sleep {
+            if ready!(sleep.poll(cx)).is_ok() {
+                return Poll::Ready(());
+            }
+        }
+        self.never.poll(cx)
+    }
+}
+
+/// Opens connections that are numbers.
+#[derive(Drop)]
+struct Numbers;
+
+impl ManageConnection for Numbers {
+    type Connection = u32;
+
+    type Error = AllocError;
+
+    type Extension = ();
+
+    type Connect = Ready<Result<u32, AllocError>>;
+
+    type Check = Ready<(u32, Result<(), AllocError>)>;
+
+    fn connect(&self) -> Ready<Result<u32, AllocError>> {
+        future::ready(Ok(7))
+    }
+
+    fn check(&self, connection: u32) -> Ready<(u32, Result<(), AllocError>)> {
+        future::ready((connection, Ok(())))
+    }
+
+    fn has_broken(&self, _connection: &mut u32) -> bool {
+        false
+    }
+}
+
+fn main(rt: HostRuntime) -> Result<(), anyhow::Error> {
+    let mut runtime = LocalRuntime::new(&rt)?;
+    let timer = TokioTimer {
+        time: runtime.handle().time().clone()?,
+        rt,
+    };
+    let pool = Builder::new().max_size(4).build(rt, Numbers, timer)?;
+    let workers = runtime.task_set(&rt)?;
+    workers.spawn(pool.work()?).map_err(io::Error::from)?;
+    let get = pool.get()?;
+    // From here on the `get` keeps the pool open, and then what it lends: the worker ends with it.
+    drop(pool);
+    let found = get.map(|lent| lent.map(|connection| *connection));
+    let found = runtime.block_on_with(&rt, &workers, found)??;
+    println!(rt; "{found}")?;
+    Ok(())
+}
