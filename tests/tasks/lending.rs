@@ -24,6 +24,8 @@ fn it_shows_its_number_and_the_moment(rt: HostRuntime) -> Result<(), Fail> {
     assert_eq!(rt; lent.number, 1);
     let begun = SystemTime::UNIX_EPOCH.checked_add(Duration::from_secs(1));
     assert_eq!(rt; pool.made_at(), begun);
+    play.pass(5);
+    assert_eq!(rt; pool.moment(), Duration::from_millis(22));
     let state = pool.state();
     assert_eq!(rt; (state.connections, state.idle_connections), (2, 1));
     Ok(())

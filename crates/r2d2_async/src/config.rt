@@ -149,8 +149,8 @@ impl<H, V, Z> Builder<H, V, Z> {
         self
     }
 
-    /// Whether a connection is checked by `ManageConnection::check` each time before it is lent.
-    /// The default is true.
+    /// Whether a connection is checked by `ManageConnection::check` each time before a `Get` lends
+    /// it. The default is true. `try_get`, which waits for nothing, checks none.
     pub fn test_on_check_out(mut self, test_on_check_out: bool) -> Self
         ensures { result ≡ record self { test_on_check_out = test_on_check_out } }
     {

@@ -160,6 +160,12 @@ impl<M: ManageConnection, T: Timer, K: Hooks<M>, R: AsyncRuntime> Pool<M, T, K, 
         self.shared().made_at
     }
 
+    /// The moment of a step that is made now: the time since the pool was made, as a journal's
+    /// records have it. Zero where the clock can't be read.
+    pub fn moment(&self) -> Duration {
+        self.shared().moment()
+    }
+
     /// What happened last, as far back as the setting `journal_room` reaches, what stood before
     /// that, and what there is now. The error is lack of memory; then nothing has changed.
     pub fn journal(&self) -> Result<Report, Error>
