@@ -202,6 +202,8 @@ fn one_whose_time_runs_out_as_it_is_told(rt: HostRuntime) -> Result<(), Fail> {
     play.pass(10);
     let error = checks.run().ok_or("pending")?.err().ok_or("a connection")?;
     assert_eq!(rt; error.kind(), ErrorKind::Timeout);
+    // Its check took the rest of its time, and not who came before it.
+    assert_eq!(rt; error.ahead(), None);
     assert_eq!(rt; (play.opened(), play.dropped()), (1, 1));
     play.checks.hang(false);
     assert!(rt; next.is_woken() && next.run().is_none());

@@ -96,7 +96,10 @@ impl<M: ManageConnection, T: Timer, K: Hooks<M>, R: AsyncRuntime> Get<M, T, K, R
         let checking = self.checking.take();
         let closer = self.closer.take().unwrap();
         let shared = &closer.shared;
-        let ahead = shared.ahead_of(self.place);
+        let ahead = match &checking {
+            Some(_) => None,
+            None => shared.ahead_of(self.place),
+        };
         abandon::<M, T, K, R>(shared, &mut self.place, checking);
         Poll::Ready(Err(give_up::<M, T, K, R>(shared, self.timeout, self.start, ahead)))
     }

@@ -1,5 +1,5 @@
 // What a call that wants a connection saw of the clock.
-ghost use Rattle.std.specs.Prelude.{◌≡◌, ◌≤◌, ◌-◌, nat_lt, is_some, option_map};
+ghost use Rattle.std.specs.Prelude.{◌≡◌, ◌<◌, ◌≤◌, ◌↔◌, ◌-◌, nat_lt, is_some, option_map};
 ghost use Rattle.std.specs.Duration.{as_nanos};
 
 use crate::tuning::Tuning;
@@ -43,6 +43,7 @@ impl Model for CallTime {
 
 impl CallTime {
     ghost use Rattle.std.specs.Prelude.{IsTrue, IfSome};
+    ghost use Rattle.std.specs.Option.{IsNone};
     ghost use Rattle.r2d2.specs.CallTime.{begun_at, looked_at, start_of, waited_of, left_of};
     ghost use Rattle.r2d2.specs.CallTime.{may_still_take, with_one_less};
 
@@ -102,9 +103,13 @@ impl CallTime {
     /// Whether what it took last is idle for long enough to be checked.
     #[inline(always)]
     pub(super) fn has_check_due(&self, tuning: &Tuning) -> bool
-        ensures due { IsTrue result → IfSome tuning.now.check_after_idle
-            (λ least. IfSome self.now.idle_since (λ since. since ≤ self.now.step
-            → as_nanos least ≤ self.now.step - since)) }
+        ensures always { IsNone tuning.now.check_after_idle → IsTrue result }
+        ensures unknown { IsNone self.now.idle_since → IsTrue result }
+        ensures went_back { IfSome self.now.idle_since
+            (λ since. self.now.step < since → IsTrue result) }
+        ensures due { IfSome self.now.idle_since (λ since. since ≤ self.now.step
+            → IfSome tuning.now.check_after_idle
+            (λ least. IsTrue result ↔ (as_nanos least ≤ self.now.step - since))) }
     {
         tuning.is_check_due(self.idle_since, self.step)
     }

@@ -28,7 +28,9 @@ impl<C: TakeTotal, M: ManageConnection, K: Hooks<M>, R: PoolRuntime> SharedOf<C,
 
     /// Whether what a call takes may be closed for a check, of it or of another.
     #[inline(always)]
-    pub(super) fn may_fail_check(&self) -> bool {
+    pub(super) fn may_fail_check(&self) -> bool
+        ensures { IsTrue self.now.tuning.distrust_idle → IsTrue result }
+    {
         self.hooks.test_on_check_out() || self.tuning.distrust_idle
     }
 

@@ -87,7 +87,8 @@ impl<P: Drop, C: TakeTotal, M, K, R: Clock + Wait + AllocGlobal> Shared<LinedBoo
         place: &mut Option<u32>,
         error: Error,
     ) -> Error
-        ensures { result ≡ error }
+        ensures error { result ≡ error }
+        ensures gone { place.new ≡ None }
     {
         let to_wake = guarded.book.leave(place);
         drop(guarded);
@@ -102,7 +103,8 @@ impl<P: Drop, C: TakeTotal, M, K, R: Clock + Wait + AllocGlobal> Shared<LinedBoo
         place: &mut Option<u32>,
         time: &CallTime,
     ) -> Error
-        ensures { result.kind ≡ ErrorKind.Timeout }
+        ensures kind { result.kind ≡ ErrorKind.Timeout }
+        ensures gone { place.new ≡ None }
     {
         // Modelled in model/waiting.pml: keep both alike.
         let ahead = guarded.book.ahead_of(*place);
@@ -115,7 +117,9 @@ impl<P: Drop, C: TakeTotal, M, K, R: Clock + Wait + AllocGlobal> Shared<LinedBoo
     }
 
     /// A call whose check is over leaves the line, where it stands in it.
-    pub(super) fn leave_line(&self, place: &mut Option<u32>) {
+    pub(super) fn leave_line(&self, place: &mut Option<u32>)
+        ensures gone { place.new ≡ None }
+    {
         // Modelled in model/waiting.pml: keep both alike.
         if place.is_none() {
             return;
