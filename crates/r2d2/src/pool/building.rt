@@ -196,7 +196,11 @@ fn shared_state<P: Drop, C: TakeTotal, M: Drop, K: Drop, R: PoolRuntime>(
     tuning: Tuning,
     manager: M,
 ) -> Result<Arc<Closer<P, C, M, K, R>>, AllocError>
-    ensures { IfOk result (λ closer. (arc_value (arc_value closer).shared).hooks ≡ hooks) }
+    ensures hooks { IfOk result (λ closer. (arc_value (arc_value closer).shared).hooks ≡ hooks) }
+    ensures listens { IfOk result
+        (λ closer. (arc_value (arc_value closer).shared).listens ≡ listens) }
+    ensures tuning { IfOk result
+        (λ closer. (arc_value (arc_value closer).shared).tuning ≡ tuning) }
 {
     let made = Instant::now(&rt).ok();
     let made_at = SystemTime::now(&rt).ok();
