@@ -78,7 +78,7 @@ class Program:
     def build(self):
         """Proves and builds the program. `rt run` ends in a run of it, which gets the sample, and not what the script was given."""
         log = os.path.relpath(self.log)
-        self.say(f"proving and building, a few minutes from nothing; {log} tells how far it is")
+        self.say(f"proving and building; {log} tells how far it is")
         begun = time.time_ns()
         try:
             os.makedirs(os.path.dirname(self.log), exist_ok=True)

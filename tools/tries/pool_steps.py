@@ -170,7 +170,7 @@ def try_a_build(folder):
         check(what, seen == (status, output, told), seen)
 
     log = "crates/pool_steps/out/build.log"
-    progress = f"proving and building, a few minutes from nothing; {log} tells how far it is"
+    progress = f"proving and building; {log} tells how far it is"
     tried = ("not proved: this compiles the program for each answer, in a minute or two, and answers once all input is there; "
              "pool-steps --build proves and builds it, once")
     holds("no rt", ["--build"], 4, "", progress, "not built: rt is missing")
