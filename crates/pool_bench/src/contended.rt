@@ -1,5 +1,6 @@
 // Several threads at one pool. They begin all at once, so that they meet from the first call on.
 use crate::alone::floor_round;
+use crate::gate;
 use crate::pools::{Nothings, open_pool};
 use crate::scenario::{Case, RUNS, Times};
 use anyhow::ensure;
@@ -21,8 +22,10 @@ where
         + Drop,
     requires { S.IsAlwaysCallable start }
 {
-    for &threads in &[1, 2, 4, 8] {
-        for &max_size in &[1, 10] {
+    for &max_size in &[1, 4, 10] {
+        // What one thread takes.
+        let mut alone = 0;
+        for &threads in &[1, 2, 4, 8] {
             let case = Case {
                 threads,
                 max_size,
@@ -32,7 +35,11 @@ where
             for _ in 0..RUNS {
                 times.add(case, get_drop(rt, case, &start)?)?;
             }
-            case.print(rt, "mt", times)?;
+            let figures = times.figures();
+            if threads == 1 {
+                alone = figures.least;
+            }
+            case.print(rt, "mt", figures.unless_below(alone))?;
         }
     }
     Ok(())
@@ -46,23 +53,16 @@ where
     requires { S.IsAlwaysCallable start.now }
 {
     let pool = open_pool(rt, case.max_size, false)?;
-    let gate = gate(rt, case)?;
+    let gate = gate::for_callers(rt, case.threads)?;
     let calls = case.operations / case.threads;
     let mut callers = Vec::new(rt.alloc());
     for _ in 0..case.threads {
         let theirs = pool.try_clone()?;
         callers.push(start(theirs, Arc::try_clone(&gate)?, calls)?)?;
     }
-    gate.wait(&rt);
-    let begun = Instant::now(&rt)?;
+    let begun = gate::open(rt, &gate)?;
     ensure!(join_all(rt, callers), "a call was not served");
     Ok(begun.elapsed(&rt)?)
-}
-
-// It opens when all threads are there, and the one that starts them.
-fn gate<R: PoolRuntime>(rt: R, case: Case) -> Result<Arc<Barrier>, anyhow::Error> {
-    let all = case.threads.saturating_add(1);
-    Ok(Arc::new(rt.alloc(), Barrier::new(all as usize))?)
 }
 
 // Waits for all threads to end, and says whether each succeeded.
@@ -81,7 +81,7 @@ pub fn is_served<R: PoolRuntime>(
     gate: Arc<Barrier>,
     calls: u32,
 ) -> bool {
-    gate.wait(&rt);
+    gate::pass(rt, &gate);
     for _ in 0..calls {
         if pool.get().is_err() {
             return false;
@@ -99,6 +99,8 @@ where
         + Drop,
     requires { S.IsAlwaysCallable start }
 {
+    // What one thread takes.
+    let mut alone = 0;
     for &threads in &[1, 2, 4, 8] {
         let case = Case {
             threads,
@@ -109,7 +111,11 @@ where
         for _ in 0..RUNS {
             times.add(case, floor(rt, case, &start)?)?;
         }
-        case.print(rt, "mt_floor", times)?;
+        let figures = times.figures();
+        if threads == 1 {
+            alone = figures.least;
+        }
+        case.print(rt, "mt_floor", figures.unless_below(alone))?;
     }
     Ok(())
 }
@@ -122,15 +128,14 @@ where
     requires { S.IsAlwaysCallable start.now }
 {
     let latest = Arc::new(rt.alloc(), Mutex::new(Duration::ZERO))?;
-    let gate = gate(rt, case)?;
+    let gate = gate::for_callers(rt, case.threads)?;
     let rounds = case.operations / case.threads;
     let mut callers = Vec::new(rt.alloc());
     for _ in 0..case.threads {
         let (theirs, gate) = (Arc::try_clone(&latest)?, Arc::try_clone(&gate)?);
         callers.push(start(theirs, gate, rounds)?)?;
     }
-    gate.wait(&rt);
-    let begun = Instant::now(&rt)?;
+    let begun = gate::open(rt, &gate)?;
     ensure!(join_all(rt, callers), "a round failed");
     Ok(begun.elapsed(&rt)?)
 }
@@ -142,7 +147,7 @@ pub fn goes_round<R: PoolRuntime>(
     gate: Arc<Barrier>,
     rounds: u32,
 ) -> bool {
-    gate.wait(&rt);
+    gate::pass(rt, &gate);
     let Ok(start) = Instant::now(&rt) else {
         return false;
     };

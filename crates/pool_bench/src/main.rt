@@ -1,14 +1,15 @@
 //! Times the calls of a pool. Given `bench`, it prints a line for each scenario: its name, the
 //! threads, `max_size`, how many operations were timed, and the nanoseconds for each, the least and
-//! the median of twenty-five runs. Given a scenario's name too, it runs that one alone, as for a
-//! profile. Given `waits`, it prints how long callers wait for a connection, without a line and in
-//! one. Else it says how to run it.
+//! the median of twenty-five runs; `-` for both where several threads hardly met. Given a scenario's
+//! name too, it runs that one alone, as for a profile. Given `waits`, it prints how long callers wait
+//! for a connection, without a line and in one. Else it says how to run it.
 #![tactic(auto)]
 
 ghost use Rattle.std.specs.Prelude.{◌<◌};
 
 mod alone;
 mod contended;
+mod gate;
 mod growing;
 mod pools;
 mod scenario;

@@ -1,5 +1,6 @@
 // What is timed, and its line.
-ghost use Rattle.std.specs.Prelude.{◌≡◌, ◌<◌, ◌/◌};
+ghost use Rattle.std.specs.Prelude.{◌≡◌, ◌<◌, ◌/◌, ◌↔◌, IfSome};
+ghost use Rattle.std.specs.Option.{IsNone};
 ghost use Rattle.std.specs.Duration.{as_nanos};
 
 use crate::{alone, growing, tasks};
@@ -40,8 +41,13 @@ impl Case {
         time.as_nanos() / u128::from(self.operations)
     }
 
-    /// Prints the line of a scenario, whose runs took so long.
-    pub fn print<R: Print>(&self, rt: R, name: &str, times: Times) -> Result<(), anyhow::Error>
+    /// Prints the line of a scenario, with `-` for both figures where there are none.
+    pub fn print<R: Print>(
+        &self,
+        rt: R,
+        name: &str,
+        figures: Option<Figures>,
+    ) -> Result<(), anyhow::Error>
     where
         R: Drop,
     {
@@ -50,9 +56,34 @@ impl Case {
             max_size,
             operations,
         } = *self;
-        let (least, median) = times.least_and_median();
-        println!(rt; "{name} {threads} {max_size} {operations} {least} {median}")?;
+        match figures {
+            Some(Figures { least, median }) => {
+                println!(rt; "{name} {threads} {max_size} {operations} {least} {median}")
+            }
+            None => println!(rt; "{name} {threads} {max_size} {operations} - -"),
+        }?;
         Ok(())
+    }
+}
+
+/// What an operation took, in nanoseconds: the least of all runs, and their median.
+#[derive(Clone, Copy)]
+pub struct Figures {
+    pub least: u128,
+    pub median: u128,
+}
+
+impl Figures {
+    /// None where several threads took less than one alone, which took so long: they hardly met, so
+    /// the figures tell nothing of threads that do.
+    pub fn unless_below(self, alone: u128) -> Option<Figures>
+        ensures below { IsNone result ↔ (self.least < alone) }
+        ensures kept { IfSome result (λ figures. figures ≡ self) }
+    {
+        if self.least < alone {
+            return None;
+        }
+        Some(self)
     }
 }
 
@@ -76,12 +107,13 @@ impl Times {
         Ok(())
     }
 
-    // Zeros where there was no run.
-    fn least_and_median(mut self) -> (u128, u128) {
+    /// Zeros where there was no run.
+    pub fn figures(mut self) -> Figures {
         self.runs.sort_unstable();
-        let least = self.runs.first().copied().unwrap_or(0);
-        let median = self.runs.get(self.runs.len() / 2).copied().unwrap_or(0);
-        (least, median)
+        Figures {
+            least: self.runs.first().copied().unwrap_or(0),
+            median: self.runs.get(self.runs.len() / 2).copied().unwrap_or(0),
+        }
     }
 }
 
@@ -164,6 +196,6 @@ impl Scenario {
             let time = self.run(rt, case)?;
             times.add(case, time)?;
         }
-        case.print(rt, self.name(), times)
+        case.print(rt, self.name(), Some(times.figures()))
     }
 }

@@ -2,6 +2,7 @@
 // and in line.
 ghost use Rattle.std.specs.Prelude.{◌<◌};
 
+use crate::gate;
 use crate::pools::Nothings;
 use anyhow::ensure;
 use r2d2::{Builder, PlainPool, PoolRuntime};
@@ -68,13 +69,12 @@ where
     S: Fn(PlainPool<Nothings, R>, Arc<Barrier>, Load) -> Result<JoinHandle<Waits>, anyhow::Error>,
     requires { S.IsAlwaysCallable start.now }
 {
-    let gate = Arc::new(rt.alloc(), Barrier::new(CALLERS as usize + 1))?;
+    let gate = gate::for_callers(rt, CALLERS)?;
     let mut callers = Vec::new(rt.alloc());
     for _ in 0..CALLERS {
         callers.push(start(pool.try_clone()?, Arc::try_clone(&gate)?, load)?)?;
     }
-    gate.wait(&rt);
-    let begun = Instant::now(&rt)?;
+    let begun = gate::open(rt, &gate)?;
     let mut waits = joined(rt, callers)?;
     let took = begun.elapsed(&rt)?.as_nanos();
     waits.sort_unstable();
@@ -126,7 +126,7 @@ pub fn waited<R: PoolRuntime>(
 ) -> Waits {
     let mut waits = Vec::with_capacity(rt.alloc(), load.calls as usize).ok()?;
     let held = Duration::from_micros(u64::from(load.held_us));
-    gate.wait(&rt);
+    gate::pass(rt, &gate);
     for _ in 0..load.calls {
         let start = Instant::now(&rt).ok()?;
         let lent = pool.get().ok()?;

@@ -1,10 +1,11 @@
 // Several threads at one pool. They begin all at once.
 use crate::alone::floor_round;
+use crate::gate;
 use crate::pools::{open_pool, Nothings};
-use crate::scenario::{measure, Case};
+use crate::scenario::{figures, Case};
 use parking_lot::Mutex;
 use r2d2::Pool;
-use std::sync::{Arc, Barrier};
+use std::sync::Arc;
 use std::thread;
 use std::time::{Duration, Instant};
 
@@ -13,27 +14,31 @@ const CALLS: u32 = 80_000;
 
 /// Times each number of threads at each size of pool.
 pub fn measure_pools() {
-    for threads in [1, 2, 4, 8] {
-        for max_size in [1, 10] {
-            let case = Case {
-                threads,
-                max_size,
-                operations: CALLS,
-            };
-            measure("mt", case, get_drop);
-        }
+    for max_size in [1, 4, 10] {
+        measure("mt", max_size, get_drop);
     }
 }
 
 /// Times the round of `floor` by each number of threads at one lock.
 pub fn measure_floor() {
+    measure("mt_floor", 1, floor);
+}
+
+// Runs a scenario a few times with each number of threads, and prints the lines.
+fn measure(name: &str, max_size: u32, run: impl Fn(Case) -> Duration) {
+    // What one thread takes.
+    let mut alone = 0;
     for threads in [1, 2, 4, 8] {
         let case = Case {
             threads,
-            max_size: 1,
+            max_size,
             operations: CALLS,
         };
-        measure("mt_floor", case, floor);
+        let figures = figures(case, &run);
+        if threads == 1 {
+            alone = figures.least;
+        }
+        case.print(name, figures.unless_below(alone));
     }
 }
 
@@ -58,17 +63,16 @@ fn floor(case: Case) -> Duration {
 // The time of threads that share the calls, from when all are there until all have ended.
 fn in_threads<C: FnOnce(u32) + Send + 'static>(case: Case, caller: impl Fn() -> C) -> Duration {
     let calls = case.operations / case.threads;
-    let gate = Arc::new(Barrier::new(case.threads as usize + 1));
+    let gate = gate::for_callers(case.threads);
     let mut callers = Vec::new();
     for _ in 0..case.threads {
         let (call, gate) = (caller(), Arc::clone(&gate));
         callers.push(thread::spawn(move || {
-            gate.wait();
+            gate::pass(&gate);
             call(calls)
         }));
     }
-    gate.wait();
-    let begun = Instant::now();
+    let begun = gate::open(&gate);
     for caller in callers {
         caller.join().expect("a call was not served");
     }

@@ -1,7 +1,8 @@
 //! How long callers wait where there are more of them than connections.
+use crate::gate;
 use crate::pools::{open_pool, Nothings};
 use r2d2::Pool;
-use std::sync::{Arc, Barrier};
+use std::sync::Arc;
 use std::thread;
 use std::time::{Duration, Instant};
 
@@ -21,18 +22,17 @@ pub fn measure() {
 
 fn measure_load(max_size: u32, held_us: u64, calls: u32) {
     let pool = open_pool(max_size, false);
-    let gate = Arc::new(Barrier::new(CALLERS as usize + 1));
+    let gate = gate::for_callers(CALLERS);
     let callers: Vec<_> = (0..CALLERS)
         .map(|_| {
             let (theirs, gate) = (pool.clone(), Arc::clone(&gate));
             thread::spawn(move || {
-                gate.wait();
+                gate::pass(&gate);
                 waited(theirs, Duration::from_micros(held_us), calls)
             })
         })
         .collect();
-    gate.wait();
-    let begun = Instant::now();
+    let begun = gate::open(&gate);
     let mut waits: Vec<u64> = Vec::new();
     for caller in callers {
         waits.extend(caller.join().expect("a call was not served"));
