@@ -1,5 +1,5 @@
 -- What a core shows. A contract sees a core as its picture.
-use Rattle.std.specs.Prelude.{◌≡◌, ℕ, ◌+◌, ◌≤◌, true, List, [], ◌++◌, length, map, Option}
+use Rattle.std.specs.Prelude.{◌≡◌, ℕ, ◌+◌, ◌≤◌, true, List, [], ◌++◌, length, map, replicate, Option}
 use Rattle.std.specs.List.{All}
 use Rattle.std.specs.List.Sorted.{IsNonDecreasingBy}
 use Rattle.r2d2_core.specs.Limits.{wanted_of}
@@ -51,3 +51,11 @@ module _ {T : Type 0} where
     -- unless closed, what is idle and pending reaches what is wanted, or there is no more room
     pub replenished : IsReplenished (wanted_of p.on_order.limits) p.on_order.limits.max_size
         (length p.idle) p.connections p.on_order.pending p.on_order.closed
+
+  -- once closed: nothing is idle, and no opening is pending, scheduled, in work or numbered
+  pub record HoldsNothing (p : Picture T) : Type 0 where
+    pub idle : p.idle ≡ []
+    pub pending : p.on_order.pending ≡ 0
+    pub scheduled : p.on_order.scheduled ≡ []
+    pub in_work : p.on_order.in_work ≡ replicate 100 0
+    pub numbered : p.on_order.numbered ≡ []

@@ -49,6 +49,8 @@ impl<T, A: Allocator> Model for Book<T, A> {
 }
 
 impl<T, A: Allocator> Book<T, A> {
+    ghost use Rattle.std.specs.Prelude.{IsTrue};
+    ghost use Rattle.r2d2_core.specs.Picture.{HoldsNothing};
     ghost use Rattle.r2d2_core.specs.Limits.{seen_limits};
     ghost use Rattle.r2d2_core.specs.Connections.{since_of, birth_in};
     ghost use Rattle.r2d2_core.specs.Lending.{next_to_lend};
@@ -125,8 +127,10 @@ impl<T, A: Allocator> Book<T, A> {
         self.machine.pending()
     }
 
+    /// As `Core::is_closed`.
     pub fn is_closed(&self) -> bool
         ensures value { result ≡ self.now.picture.on_order.closed }
+        ensures empty { IsTrue result → HoldsNothing self.now.picture }
         ensures facts { HasFacts self.now }
     {
         self.machine.is_closed()

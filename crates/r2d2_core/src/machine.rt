@@ -55,7 +55,8 @@ impl<T, A: Allocator> Core<T, A> {
     ghost use Rattle.r2d2_core.specs.Limits.{seen_limits};
     ghost use Rattle.r2d2_core.specs.Connections.{id_of_idle, id_of_lent, since_of, birth_in};
     ghost use Rattle.r2d2_core.specs.Lending.{next_to_lend};
-    ghost use Rattle.r2d2_core.specs.Picture.{IsSound};
+    ghost use Rattle.std.specs.Prelude.{IsTrue};
+    ghost use Rattle.r2d2_core.specs.Picture.{IsSound, HoldsNothing};
     ghost use Rattle.r2d2_core.specs.Table.{first_picture};
 
     /// A core whose ids are counted from 0, made at the moment `now`, with nothing but the openings
@@ -121,9 +122,10 @@ impl<T, A: Allocator> Core<T, A> {
         self.on_order.pending()
     }
 
-    /// Whether `close` was called.
+    /// Whether `close` was called: then nothing is idle, and nothing on order.
     pub fn is_closed(&self) -> bool
         ensures value { result ≡ self.now.on_order.closed }
+        ensures empty { IsTrue result → HoldsNothing self.now }
         ensures sound { IsSound self.now }
     {
         self.on_order.is_closed()

@@ -15,13 +15,26 @@ use Rattle.r2d2_core.specs.Openings.{SeenOpening}
 use Rattle.r2d2_core.specs.Connections.{SeenIdleConnection, SeenLentConnection, idle_connection, lent_connection, id_of_idle, id_of_lent, since_of, is_expired}
 use Rattle.r2d2_core.specs.Connections.{is_kept}
 use Rattle.r2d2_core.specs.OnOrder.{IsAccounted, admitted_one, numbered_one}
-use Rattle.r2d2_core.specs.Picture.{Picture, IsSteady, IsSound, ids_in}
+use Rattle.r2d2_core.specs.Picture.{Picture, IsSteady, IsSound, HoldsNothing, ids_in}
 use Rattle.r2d2_core.specs.Table.{raised_to, with_on_order, ordered, top_up_of, topped_up, miss_order_of, lent_out, admitted_at, kept_one, gone_one, swept}
 use Rattle.r2d2_core.proofs.Lists.Filters.{copies_of-filter}
 use Rattle.r2d2_core.proofs.Lists.Ids.{copies_of-append, copies_of-append3, copies_of-one, copies_of-other, copies_of-push, copies_of-without, length-without}
 use Rattle.r2d2_core.proofs.Lists.Ids.{All-without, All-found, All-push, All-weaker}
 use Rattle.r2d2_core.proofs.Lists.Lending.{none_next, length-still_idle, copies_of-next, All-next, All-still_idle, IsNonDecreasingBy-still_idle}
-use Rattle.r2d2_core.proofs.Facts.Accounted.{is_not, accounted_orders}
+use Rattle.r2d2_core.proofs.Facts.Accounted.{is_not, accounted_orders, IsEmpty, empty_once_closed}
+
+-- ONCE CLOSED
+
+pub holds_nothing : {T : Type 0} {p : Picture T} → IsSteady p → p.on_order.closed ≡ true → HoldsNothing p
+holds_nothing {p = p} s closed =
+    let none : IsEmpty p.on_order = empty_once_closed p.on_order s.accounted closed in
+    record {
+      idle = s.none_once_closed closed;
+      pending = none.pending;
+      scheduled = none.scheduled;
+      in_work = none.in_work;
+      numbered = none.numbered;
+    }
 
 -- HOW MANY ARE ORDERED
 
