@@ -1,4 +1,6 @@
 // Why a record may not follow what stood before it.
+ghost use Rattle.std.specs.Prelude.{◌≡◌};
+ghost use Rattle.r2d2_core.specs.Limits.{seen_limits, top_up};
 
 use r2d2_core::{Base, LendingOrder, Limits, Record};
 use std::alloc::Allocator;
@@ -229,6 +231,9 @@ fn is_expired(limits: &Limits, at: Duration, birth: Duration, since: Duration) -
 }
 
 // What is to be ordered where so many are idle, and so many connected.
-fn due<A: Allocator>(limits: &Limits, before: &Base<A>, idle: usize, connections: u32) -> u32 {
+fn due<A: Allocator>(limits: &Limits, before: &Base<A>, idle: usize, connections: u32) -> u32
+    ensures { result ≡ top_up (seen_limits limits.now) before.now.closed idle connections
+        before.now.pending }
+{
     limits.top_up(before.closed, idle, connections as usize, before.pending)
 }
