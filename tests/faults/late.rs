@@ -1,5 +1,5 @@
 // A call ends in time also where checks fail: after a failed check it looks whether its time is
-// over. By a clock that the checks move.
+// over; and also where others run as it looks again. By a clock that the checks and the tests move.
 
 use crate::hand::Hand;
 use crate::kind::{Makes, Pool};
@@ -273,6 +273,88 @@ fn gives_up<R: PoolRuntime>(pool: PoolOf<NopEventHandler, R>, seconds: u64) -> b
         Ok(_) => false,
         Err(error) => error.kind() == ErrorKind::Timeout,
     }
+}
+
+// A call with fifty seconds: how long it tells that it waited, where its time ran out.
+fn waited<R: PoolRuntime>(
+    pool: PoolOf<NopEventHandler, R>,
+    ended: Arc<AtomicU64>,
+) -> Option<Duration> {
+    let error = pool.get_timeout(Duration::from_secs(50)).err();
+    ended.store(1, Ordering::SeqCst);
+    error?.waited()
+}
+
+// The one connection is lent, and nobody listens. After the first reading of the clock others run
+// for a hundred seconds: a caller who looks again before it waits has none left then.
+#[test]
+fn a_caller_has_begun_before_it_looks_again(rt: HostRuntime) -> Result<(), Fail> {
+    let (hand, server) = (Hand::new(rt)?, server(rt, 1, 0)?);
+    let manager = Dead {
+        hand,
+        server: Arc::try_clone(&server)?,
+    };
+    let pool: PoolOf<NopEventHandler, HostRuntime> = Builder::new()
+        .max_size(1)
+        .thread_pool(1)
+        .test_on_check_out(false)
+        .max_lifetime(None)
+        .idle_timeout(None)
+        .make(hand, manager)?;
+    let _lent = pool.get()?;
+    // Time for the worker to rest.
+    thread::sleep(&rt, Duration::from_millis(200));
+    let before = hand.readings().load(Ordering::SeqCst);
+    hand.let_read(false);
+    let ended = Arc::new(rt.alloc(), AtomicU64::new(0))?;
+    let (theirs, count) = (pool.try_clone()?, Arc::try_clone(&ended)?);
+    let caller = thread::spawn(&rt, move || waited(theirs, count))?;
+    assert!(rt; watched(&rt, hand.readings(), before + 1, 500) > before);
+    hand.set(100, 0);
+    hand.let_read(true);
+    assert!(rt; watched(&rt, &ended, 1, 500) == 1, "it waits on");
+    assert_eq!(rt; caller.join(&rt), Some(Duration::from_secs(100)));
+    Ok(())
+}
+
+// How often a call that has no time to wait reads the clock.
+fn readings_of<R: PoolRuntime>(
+    hand: &Hand<R>,
+    pool: &PoolOf<NopEventHandler, R>,
+) -> Result<u64, Fail> {
+    let before = hand.readings().load(Ordering::SeqCst);
+    match pool.get_timeout(Duration::ZERO) {
+        Err(error) if error.kind() == ErrorKind::Timeout => {}
+        _ => return Err(Fail::from("no timeout")),
+    }
+    Ok(hand.readings().load(Ordering::SeqCst).saturating_sub(before))
+}
+
+// It reads the clock as it begins, after one look in four, at its step and at its end; its wait, of no
+// time, reads it twice. By a clock that moves a second on at each reading the first look is too long,
+// and no other call looks again until a second later.
+#[test]
+fn looks_that_take_too_long_are_the_last_for_a_second(rt: HostRuntime) -> Result<(), Fail> {
+    let (hand, server) = (Hand::new(rt)?, server(rt, 1, 0)?);
+    let pool: PoolOf<NopEventHandler, HostRuntime> = Builder::new()
+        .max_size(1)
+        .thread_pool(1)
+        .test_on_check_out(false)
+        .max_lifetime(None)
+        .idle_timeout(None)
+        .make(hand, Dead { hand, server })?;
+    let _lent = pool.get()?;
+    // Time for the worker to rest.
+    thread::sleep(&rt, Duration::from_millis(200));
+    hand.set(10, 0);
+    assert_eq!(rt; readings_of(&hand, &pool)?, 10);
+    hand.set(20, 1);
+    assert_eq!(rt; readings_of(&hand, &pool)?, 6);
+    hand.set(21, 0);
+    assert_eq!(rt; readings_of(&hand, &pool)?, 5);
+    hand.set(22, 0);
+    assert_eq!(rt; readings_of(&hand, &pool)?, 10);
+    Ok(())
 }
 
 // A call that does not wait: whether it found none.

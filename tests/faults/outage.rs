@@ -10,19 +10,25 @@ use std::test::Fail;
 use std::thread;
 use std::time::Duration;
 
-// How many of four connections a `try_get` checks that were given back at these seconds, where each
-// check fails: it finds none.
+const ORDERS: [LendingOrder; 2] = [LendingOrder::NewestFirst, LendingOrder::OldestFirst];
+
+// How many of four connections a `try_get` checks at a second, that were given back at these
+// seconds, where each check fails: it finds none. The pool asks since when each was idle, whether it
+// distrusts or not.
 fn checked<R: r2d2::PoolRuntime>(
     rt: R,
     distrusts: bool,
     order: LendingOrder,
     returns: [u64; 4],
+    at: u64,
 ) -> Result<u64, Fail> {
     let place = Place::new(rt, 4, |settings| {
+        let settings = settings.check_after_idle(Some(Duration::ZERO));
         settings.distrust_idle(distrusts).lending_order(order)
     })?;
     place.server.answers.store(0, Ordering::SeqCst);
     place.return_at(&returns)?;
+    place.hand.set(at, 0);
     let before = place.checks();
     place.dies();
     if place.pool.try_get()?.is_some() {
@@ -37,23 +43,40 @@ fn checked<R: r2d2::PoolRuntime>(
 
 #[test]
 fn a_failed_check_tells_of_those_that_came_back_before(rt: HostRuntime) -> Result<(), Fail> {
-    assert_eq!(rt; checked(rt, true, LendingOrder::NewestFirst, [1, 2, 3, 4])?, 1);
-    assert_eq!(rt; checked(rt, false, LendingOrder::NewestFirst, [1, 2, 3, 4])?, 4);
+    for order in ORDERS {
+        assert_eq!(rt; checked(rt, false, order, [1, 2, 3, 4], 5)?, 4, "{order:?}");
+        assert_eq!(rt; checked(rt, true, order, [1, 2, 3, 4], 5)?, 1, "{order:?}");
+        // They may have come back at the same moment as the one that fails.
+        assert_eq!(rt; checked(rt, true, order, [3, 3, 3, 3], 4)?, 1, "{order:?}");
+    }
     Ok(())
 }
 
+// A check takes five seconds. What came back at the moment at which it begins is checked next.
 #[test]
 fn it_tells_nothing_of_those_that_came_back_later(rt: HostRuntime) -> Result<(), Fail> {
-    assert_eq!(rt; checked(rt, true, LendingOrder::OldestFirst, [1, 2, 3, 4])?, 4);
-    // Nor of one that came back at the same moment.
-    assert_eq!(rt; checked(rt, true, LendingOrder::NewestFirst, [1, 1, 2, 2])?, 2);
-    assert_eq!(rt; checked(rt, true, LendingOrder::NewestFirst, [3, 3, 3, 3])?, 4);
+    assert_eq!(rt;
+        checked(rt, true, LendingOrder::OldestFirst, [1, 2, 3, 4], 4)?,
+        2
+    );
+    assert_eq!(rt;
+        checked(rt, true, LendingOrder::NewestFirst, [1, 2, 3, 4], 4)?,
+        1
+    );
+    for order in ORDERS {
+        assert_eq!(rt; checked(rt, true, order, [1, 1, 2, 2], 2)?, 2, "{order:?}");
+        assert_eq!(rt; checked(rt, true, order, [3, 3, 3, 3], 3)?, 2, "{order:?}");
+    }
     Ok(())
 }
 
-// How many of two connections a `try_get` checks: one came back at 0, the newer one was opened at
-// 1 s, in the place of one that came back broken.
-fn checked_of_a_new_one<R: r2d2::PoolRuntime>(rt: R, order: LendingOrder) -> Result<u64, Fail> {
+// How many of two connections a `try_get` checks at a second: one came back at 0, the newer one was
+// opened at 1 s, in the place of one that came back broken.
+fn checked_of_a_new_one<R: r2d2::PoolRuntime>(
+    rt: R,
+    order: LendingOrder,
+    at: u64,
+) -> Result<u64, Fail> {
     let place = Place::new(rt, 2, |settings| {
         settings.distrust_idle(true).lending_order(order)
     })?;
@@ -66,6 +89,7 @@ fn checked_of_a_new_one<R: r2d2::PoolRuntime>(rt: R, order: LendingOrder) -> Res
     if !place.once_idle(2) {
         return Err(Fail::from("none was opened"));
     }
+    place.hand.set(at, 0);
     place.server.answers.store(0, Ordering::SeqCst);
     let before = place.checks();
     place.dies();
@@ -77,8 +101,9 @@ fn checked_of_a_new_one<R: r2d2::PoolRuntime>(rt: R, order: LendingOrder) -> Res
 
 #[test]
 fn one_that_was_not_lent_yet_is_idle_since_its_opening(rt: HostRuntime) -> Result<(), Fail> {
-    assert_eq!(rt; checked_of_a_new_one(rt, LendingOrder::OldestFirst)?, 2);
-    assert_eq!(rt; checked_of_a_new_one(rt, LendingOrder::NewestFirst)?, 1);
+    assert_eq!(rt; checked_of_a_new_one(rt, LendingOrder::OldestFirst, 1)?, 2);
+    assert_eq!(rt; checked_of_a_new_one(rt, LendingOrder::OldestFirst, 2)?, 1);
+    assert_eq!(rt; checked_of_a_new_one(rt, LendingOrder::NewestFirst, 1)?, 1);
     Ok(())
 }
 

@@ -67,6 +67,7 @@ fn who_is_refused_orders_none_and_asks_for_no_memory(rt: HostRuntime) -> Result<
     let error = pool.get_timeout(long()).err().ok_or("a connection")?;
     assert_eq!(rt; hand.memory_asked().load(Ordering::SeqCst), asked);
     assert_eq!(rt; error.kind(), ErrorKind::Full);
+    assert_eq!(rt; pool.status().refused, 1);
     let after = pool.journal()?;
     assert_eq!(rt; (before.pending, after.pending), (1, 1));
     assert_eq!(rt; after.records.len(), before.records.len());
@@ -187,6 +188,7 @@ fn who_would_wait_after_a_failed_check_is_refused(rt: HostRuntime) -> Result<(),
     play.checks_let_go.store(u64::MAX, Ordering::SeqCst);
     assert_eq!(rt; watched(&rt, &ended, 1, 500), 1);
     assert_eq!(rt; taker.join(&rt), Some(ErrorKind::Full));
+    assert_eq!(rt; pool.status().refused, 1);
     // (The newest is lent first.)
     assert!(rt; play.told(&rt, "acquire 0; acquire 1; checkout 1; release 0; "));
     assert_eq!(rt; pool.status().waiting, 1);

@@ -104,6 +104,7 @@ fn both_lent() -> Status {
         waiting: 3,
         failed_openings: 4,
         failed_checks: 5,
+        refused: 6,
         closed: false,
     }
 }

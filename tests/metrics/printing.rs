@@ -19,6 +19,7 @@ fn status() -> Status {
         waiting: 7,
         failed_openings: 48,
         failed_checks: 6,
+        refused: 9,
         closed: false,
     }
 }
@@ -86,6 +87,9 @@ db_client_connection_failed_openings_total{db_client_connection_pool_name="order
 # HELP db_client_connection_failed_checks_total Checks of connections that failed.
 # TYPE db_client_connection_failed_checks_total counter
 db_client_connection_failed_checks_total{db_client_connection_pool_name="orders"} 6
+# HELP db_client_connection_rejected_total Callers that were refused, since as many waited as may.
+# TYPE db_client_connection_rejected_total counter
+db_client_connection_rejected_total{db_client_connection_pool_name="orders"} 9
 # HELP db_client_connection_opened_total Connections that were opened.
 # TYPE db_client_connection_opened_total counter
 db_client_connection_opened_total{db_client_connection_pool_name="orders"} 12
@@ -202,7 +206,7 @@ fn each_metric_stands_once_for_all_pools(rt: HostRuntime) -> Result<(), Fail> {
     ];
     let text = text(rt.alloc(), &readings)?;
     let heads = text.as_str().lines().filter(|line| line.starts_with("# TYPE"));
-    assert_eq!(rt; heads.count(), 16);
+    assert_eq!(rt; heads.count(), 17);
     let max = "db_client_connection_max{db_client_connection_pool_name=\"orders\"} 5\ndb_client_connection_max{db_client_connection_pool_name=\"users\"} 5\n";
     assert!(rt; text.as_str().contains(max));
     // Only one of the two has a manager that is timed.

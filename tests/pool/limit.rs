@@ -58,6 +58,43 @@ fn one_more_than_may_wait_is_refused_at_once(rt: HostRuntime) -> Result<(), Fail
     Ok(())
 }
 
+// So many calls that are refused while one caller waits, and how many are told to be.
+fn refused_in<R: PoolRuntime>(
+    rt: R,
+    pool: PlainPool<Sevens, R>,
+    calls: u64,
+) -> Result<(u64, u64), Fail> {
+    let served = Arc::new(rt.alloc(), AtomicU64::new(0))?;
+    let lent = pool.get()?;
+    let (one, count) = (pool.try_clone()?, Arc::try_clone(&served)?);
+    let caller = thread::spawn(&rt, move || be_served(one, count))?;
+    if !will_wait(&rt, &pool, 1) {
+        return Err(Fail::from("nobody waits"));
+    }
+    let before = pool.status().refused;
+    for _ in 0..calls {
+        match pool.get() {
+            Err(error) if error.kind() == ErrorKind::Full => {}
+            _ => return Err(Fail::from("one is not refused")),
+        }
+    }
+    let _none = pool.try_get()?;
+    let after = pool.status().refused;
+    drop(lent);
+    caller.join(&rt);
+    Ok((before, after))
+}
+
+#[test]
+fn all_who_are_refused_are_counted(rt: HostRuntime) -> Result<(), Fail> {
+    let settings = || Builder::new().max_size(1).connection_timeout(Duration::from_secs(20));
+    let pool = settings().max_waiting(1).make(rt, Sevens)?;
+    assert_eq!(rt; refused_in(rt, pool, 1_000)?, (0, 1_000));
+    let pool = settings().waiting_line(1).make(rt, Sevens)?;
+    assert_eq!(rt; refused_in(rt, pool, 1_000)?, (0, 1_000));
+    Ok(())
+}
+
 #[test]
 fn a_closed_pool_says_so_though_it_is_full(rt: HostRuntime) -> Result<(), Fail> {
     let pool = Builder::new()

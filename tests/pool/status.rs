@@ -79,6 +79,7 @@ fn a_status_tells_what_there_is(rt: HostRuntime) -> Result<(), Fail> {
         waiting: 0,
         failed_openings: 0,
         failed_checks: 0,
+        refused: 0,
         closed: false,
     };
     assert_eq!(rt; pool.status(), all_lent);

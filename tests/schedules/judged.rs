@@ -18,7 +18,7 @@ impl<R: PoolRuntime + Print + Eprint> Host for R {}
 /// What was seen. A fault is told at once, and counted.
 #[derive(Drop)]
 pub(crate) struct Seen<R: Drop> {
-    rt: R,
+    pub(crate) rt: R,
     faults: AtomicU64,
     pub(crate) opened: AtomicU64,
     pub(crate) dropped: AtomicU64,

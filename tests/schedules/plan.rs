@@ -2,6 +2,9 @@
 
 use crate::callbacks::{CALLBACKS, Callback};
 
+/// How often a thread yields at most, one time after the other, that finds the lock taken.
+const TURNS: u64 = 10;
+
 #[derive(Clone, Copy)]
 pub(crate) struct Plan {
     pub(crate) size: u64,
@@ -34,6 +37,8 @@ pub(crate) struct Plan {
     pub(crate) slow_releases: bool,
     pub(crate) error_stays: bool,
     pub(crate) release_stays: bool,
+    /// Whether a yield takes a second.
+    pub(crate) busy: bool,
     /// The callback that calls into the pool.
     pub(crate) within: Option<Callback>,
     pub(crate) endless: bool,
@@ -70,6 +75,7 @@ impl Plan {
             slow_releases: false,
             error_stays: false,
             release_stays: false,
+            busy: false,
             within: None,
             endless: false,
         }
@@ -104,6 +110,7 @@ impl Plan {
             "slow_releases" => self.slow_releases = true,
             "error_stays" => self.error_stays = true,
             "release_stays" => self.release_stays = true,
+            "busy" => self.busy = true,
             "endless" => self.endless = true,
             _ => return false,
         }
@@ -164,6 +171,21 @@ impl Plan {
         } else {
             0
         })
+    }
+
+    /// How many seconds a call yields at most that takes the lock.
+    pub(crate) fn seconds_of_turns(&self) -> u64 {
+        if self.busy { TURNS } else { 0 }
+    }
+
+    /// By how many seconds a call outlasts its time at most that looks again: its time may end as it
+    /// yields for one more look, and it takes the lock for that.
+    pub(crate) fn seconds_of_a_look(&self) -> u64 {
+        if self.busy {
+            self.seconds_of_turns().saturating_add(1)
+        } else {
+            0
+        }
     }
 
     /// Whether a return and an eviction take no time.

@@ -199,10 +199,11 @@ fn gets<R: Host>(rt: R, plan: &Plan, who: u64, seen: &Seen<R>, pool: &Watched<R>
         seen.fault("a caller is served before one that waits for longer");
     }
     seen.queue.ends(who);
-    // It may be at its check as its time ends, and makes no other one then.
+    // It may be at its check as its time ends, or look again, and does so no other time then.
+    let own = plan.seconds_of_a_look();
     let most = plan
         .seconds_of_checks(1)
-        .map(|own| wait.saturating_add(own));
+        .map(|checks| wait.saturating_add(checks).saturating_add(own));
     watch.check(seen, "a get ends later than its timeout", 0, most);
     if plan.may_wait() > 0 {
         crowds(plan, seen, &pool.status());
@@ -213,6 +214,9 @@ fn gets<R: Host>(rt: R, plan: &Plan, who: u64, seen: &Seen<R>, pool: &Watched<R>
             ErrorKind::Timeout => {
                 seen.tell("is told of a timeout");
                 watch.check(seen, "a get is told of a timeout before it", wait, None);
+                if plan.busy {
+                    is_told_how_long(seen, &watch, error.waited());
+                }
                 if (wait == PATIENT || was_closed) && !has_stayed(&rt, plan, &watch) {
                     seen.fault("a caller with all the time in the world is told of a timeout");
                 }
@@ -226,7 +230,7 @@ fn gets<R: Host>(rt: R, plan: &Plan, who: u64, seen: &Seen<R>, pool: &Watched<R>
             ErrorKind::Full => {
                 seen.tell("is told that as many wait as may");
                 // One that waited, and whose check failed then, may be one too many.
-                let most = if plan.checks { None } else { Some(0) };
+                let most = if plan.checks { None } else { Some(own) };
                 watch.check(seen, "a get takes time to be refused", 0, most);
                 if plan.may_wait() == 0 {
                     seen.fault("a get is refused where as many may wait as come");
@@ -234,6 +238,17 @@ fn gets<R: Host>(rt: R, plan: &Plan, who: u64, seen: &Seen<R>, pool: &Watched<R>
             }
             _ => seen.fault("a get is told of what cannot be"),
         },
+    }
+}
+
+// Its timeout tells of all that passed, where it takes no lock after its last reading.
+fn is_told_how_long<R: Host>(seen: &Seen<R>, watch: &Stopwatch, waited: Option<Duration>) {
+    let (Some(took), Some(waited)) = (watch.seconds(&seen.rt), waited) else {
+        return;
+    };
+    if waited.as_secs() < took {
+        seen.tell_of("it is told of seconds:", waited.as_secs());
+        seen.fault("a timeout tells of less time than passed");
     }
 }
 
@@ -278,7 +293,7 @@ fn holds<R: Host>(rt: R, plan: &Plan, seen: &Seen<R>, lent: Lent<R>, was_closed:
     match choose(&rt, 4) {
         0 => thread::yield_now(),
         1 => thread::sleep(&rt, Duration::from_secs(1)),
-        2 => thread::sleep(&rt, Duration::from_secs(5)),
+        2 => thread::sleep(&rt, Duration::from_secs(if plan.busy { 30 } else { 5 })),
         _ => {}
     }
     take_off(&seen.lent);
@@ -293,7 +308,11 @@ fn holds<R: Host>(rt: R, plan: &Plan, seen: &Seen<R>, lent: Lent<R>, was_closed:
         seen.tell_of("gives back connection", id);
         drop(lent);
     }
-    let most = if plan.slow_returns { 3 } else { 0 };
+    let most = if plan.slow_returns {
+        3
+    } else {
+        plan.seconds_of_turns()
+    };
     let most = if plan.releases_at_once() {
         Some(most)
     } else {

@@ -46,7 +46,7 @@ pub(crate) struct Caller<R: Host> {
     // When the call was made, and the number among those who came to stand in line.
     begun: u64,
     place: Option<u64>,
-    // Whether what it took is under check.
+    // Whether what it took is under check, or was closed since it is distrusted.
     is_checking: bool,
     lent: Option<LentOf<R>>,
 }
@@ -92,6 +92,11 @@ impl<R: Host> Caller<R> {
         self.seconds == PATIENT
     }
 
+    /// Whether the time of its call is over.
+    pub(crate) fn is_late(&self, now: u64) -> bool {
+        now.saturating_sub(self.begun) >= self.seconds.saturating_mul(1_000)
+    }
+
     /// It drops the call that it is in.
     pub(crate) fn give_up(&mut self) {
         if self.get.is_none() {
@@ -127,7 +132,8 @@ impl<R: Host> Caller<R> {
             return true;
         };
         let polled = get.poll(cx);
-        self.is_checking = self.world.has_begun_check();
+        let closes = polled.is_pending() && self.world.has_closed_unchecked();
+        self.is_checking = self.world.has_begun_check() || closes;
         if self.is_checking && view.is_known {
             self.judge(view);
         }
@@ -234,6 +240,9 @@ impl<R: Host> Caller<R> {
                 if view.is_known && view.ahead >= view.idle {
                     self.world
                         .fault("a try_get takes what is kept for one in line");
+                }
+                if self.world.is_distrusted(lent.since) {
+                    self.world.fault("a try_get lends what is distrusted");
                 }
                 self.take(lent, view);
                 true

@@ -70,6 +70,9 @@ pub(crate) struct Line<R: Host> {
     world: &'static World<R>,
     pub(crate) users: u64,
     pub(crate) is_detached: bool,
+    /// Since when it is idle, or was before it was lent.
+    pub(crate) since: u64,
+    is_unsound: bool,
 }
 
 impl<R: Host> Drop for Line<R> {
@@ -78,7 +81,12 @@ impl<R: Host> Drop for Line<R> {
             world,
             users: _,
             is_detached,
+            since: _,
+            is_unsound,
         } = self;
+        if !is_unsound {
+            world.close_unchecked();
+        }
         world.add(if is_detached {
             Count::Detached
         } else {
@@ -124,6 +132,8 @@ impl<R: Host> Future for Opening<R> {
             world,
             users: 0,
             is_detached: false,
+            since: world.now(),
+            is_unsound: false,
         }))
     }
 }
@@ -135,11 +145,12 @@ impl<R: Host> Drop for Opening<R> {
     }
 }
 
-/// A check, which takes two polls.
+/// A check, which takes two polls; one, where a failed one tells of others.
 #[derive(Drop)]
 pub(crate) struct Checking<R: Host> {
     line: Option<Line<R>>,
     is_begun: bool,
+    began: u64,
 }
 
 impl<R: Host> Future for Checking<R> {
@@ -150,12 +161,14 @@ impl<R: Host> Future for Checking<R> {
             self.is_begun = true;
             return cx.yield_now();
         }
-        let Some(line) = self.line.take() else {
+        let Some(mut line) = self.line.take() else {
             return cx.yield_now();
         };
         let world = line.world;
         if world.goes_wrong(world.plan.checks) {
             world.tell("finds a connection unsound");
+            world.fails_check(self.began);
+            line.is_unsound = true;
             return Poll::Ready((line, Err(Blammo)));
         }
         Poll::Ready((line, Ok(())))
@@ -186,13 +199,18 @@ impl<R: Host> ManageConnection for Lines<R> {
     fn check(&self, line: Line<R>) -> Checking<R> {
         self.world.tell("checks a connection");
         self.world.begin_check();
+        if self.world.is_distrusted(line.since) {
+            self.world.fault("what is distrusted is checked");
+        }
         Checking {
             line: Some(line),
-            is_begun: false,
+            is_begun: self.world.plan.distrusts,
+            began: self.world.now(),
         }
     }
 
-    fn has_broken(&self, _line: &mut Line<R>) -> bool {
+    fn has_broken(&self, line: &mut Line<R>) -> bool {
+        line.since = self.world.now();
         let is_broken = self.world.goes_wrong(self.world.plan.breaks);
         if is_broken {
             self.world.tell("finds a connection broken");

@@ -14,6 +14,8 @@ pub(crate) struct Plan {
     pub(crate) drops: u64,
     pub(crate) needless: u64,
     pub(crate) early: u64,
+    /// How many callers in line may be left alone, of those with little time.
+    pub(crate) leaves: u64,
     pub(crate) closers: u64,
     pub(crate) drainers: u64,
     pub(crate) evictors: u64,
@@ -28,6 +30,9 @@ pub(crate) struct Plan {
     pub(crate) detaches: bool,
     pub(crate) tries: bool,
     pub(crate) last_drop: bool,
+    /// Whether a failed check tells of others. Then each step takes a millisecond.
+    pub(crate) distrusts: bool,
+    pub(crate) oldest: bool,
 }
 
 impl Plan {
@@ -44,6 +49,7 @@ impl Plan {
             drops: 0,
             needless: 0,
             early: 0,
+            leaves: 0,
             closers: 0,
             drainers: 0,
             evictors: 0,
@@ -56,6 +62,8 @@ impl Plan {
             detaches: false,
             tries: false,
             last_drop: false,
+            distrusts: false,
+            oldest: false,
         }
     }
 
@@ -75,6 +83,8 @@ impl Plan {
             "detaches" => self.detaches = true,
             "tries" => self.tries = true,
             "last_drop" => self.last_drop = true,
+            "distrusts" => self.distrusts = true,
+            "oldest" => self.oldest = true,
             _ => return false,
         }
         true
@@ -93,6 +103,7 @@ impl Plan {
             "drops" => self.drops = number,
             "needless" => self.needless = number,
             "early" => self.early = number,
+            "leaves" => self.leaves = number,
             "closers" => self.closers = number,
             "drainers" => self.drainers = number,
             "evictors" => self.evictors = number,

@@ -20,21 +20,31 @@ pub(crate) fn sums<R: Host>(world: &World<R>, status: &Status) {
     }
 }
 
+/// How many are told to wait: callers in line, except for those under check, and drains. Whose time is
+/// over may be passed, and waits no more then.
+pub(crate) fn counts<R: Host>(world: &World<R>, seats: &Vec<Seat<R>>, status: &Status) {
+    let waits = |seat: &&Seat<R>| seat.waits_at().is_some() || seat.is_draining();
+    let most = seats.iter().filter(waits).count() as u64;
+    let late = seats.iter().filter(|seat| seat.is_late(world)).count() as u64;
+    if status.waiting > most || status.waiting.saturating_add(late) < most {
+        world.fault("as many are told to wait as do not");
+    }
+}
+
 /// Nobody is woken: so nobody may wait for what is there.
 pub(crate) fn judge<R: Host>(world: &World<R>, seats: &Vec<Seat<R>>, status: &Status) {
     let waiting = seats.iter().filter(|seat| seat.place().is_some()).count();
     if waiting > 0 && status.closed {
         world.fault("somebody waits at a closed pool");
     }
-    if waiting > 0 && !status.closed && status.idle > 0 {
+    // What is idle may be kept for who is left alone.
+    let left = seats.iter().filter(|seat| seat.is_left()).count();
+    if waiting > 0 && !status.closed && status.idle as usize > left {
         world.fault("somebody waits beside an idle connection");
     }
     let is_full = status.connections >= status.max_size;
     if waiting > 0 && !status.closed && status.opening == 0 && !is_full {
         world.fault("somebody waits, and nothing is ordered though there is room");
-    }
-    if u64::from(status.waiting) != waiting as u64 {
-        world.fault("as many are told to wait as do not");
     }
     for seat in seats.iter() {
         if seat.is_draining() && status.lent == 0 {

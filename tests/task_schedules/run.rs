@@ -5,7 +5,7 @@ use crate::lines::{Lines, Naps, PoolOf};
 use crate::rest;
 use crate::seats::{Seat, seats_of};
 use crate::world::{Count, Host, LONG, PATIENT, Place, World};
-use r2d2::Status;
+use r2d2::{LendingOrder, Status};
 use r2d2_async::Builder;
 use std::test::Fail;
 use std::time::Duration;
@@ -18,6 +18,8 @@ const MOST: u64 = 1_000;
 enum Move {
     Poll(usize),
     GiveUp(usize),
+    /// It is neither polled nor dropped from now on.
+    Leave(usize),
     /// Time goes on to the next moment at which a sleep ends.
     Pass,
 }
@@ -28,6 +30,7 @@ struct Left {
     drops: u64,
     needless: u64,
     early: u64,
+    leaves: u64,
 }
 
 #[derive(Drop)]
@@ -49,6 +52,12 @@ pub(crate) fn pool_of<R: Host>(world: &'static World<R>) -> Result<PoolOf<R>, Fa
         .test_on_check_out(plan.checks)
         .max_lifetime(None)
         .idle_timeout(None)
+        .distrust_idle(plan.distrusts)
+        .lending_order(if plan.oldest {
+            LendingOrder::OldestFirst
+        } else {
+            LendingOrder::NewestFirst
+        })
         .connection_timeout(Duration::from_secs(PATIENT))
         .retry_at_most(Duration::from_secs(1));
     if builder.limits().is_none() {
@@ -72,6 +81,7 @@ impl<R: Host> Run<R> {
                 drops: plan.drops,
                 needless: plan.needless,
                 early: plan.early,
+                leaves: plan.leaves,
             },
         })
     }
@@ -92,10 +102,13 @@ impl<R: Host> Run<R> {
         Ok(())
     }
 
-    // Whether only workers are left.
+    // Whether all but the workers have ended, or are left alone.
     fn is_over(&self) -> bool {
         let others = self.seats.iter().skip(self.world.plan.workers as usize);
-        others.fold(true, |is_over, seat| is_over && seat.task.is_none())
+        others.fold(
+            true,
+            |is_over, seat| is_over && (seat.task.is_none() || seat.is_left()),
+        )
     }
 
     // One step; false where nothing can come any more.
@@ -103,6 +116,7 @@ impl<R: Host> Run<R> {
         let rests = self.find_moves()?;
         if let Some(status) = self.status() {
             rest::sums(self.world, &status);
+            rest::counts(self.world, &self.seats, &status);
             if rests {
                 rest::judge(self.world, &self.seats, &status);
             }
@@ -112,9 +126,11 @@ impl<R: Host> Run<R> {
         }
         let count = self.moves.len() as u64;
         let chosen = self.world.choices.choose(count) as usize;
+        self.world.tick();
         match self.moves.get(chosen).copied() {
             Some(Move::Poll(place)) => self.poll(place),
             Some(Move::GiveUp(place)) => self.give_up(place),
+            Some(Move::Leave(place)) => self.leave(place),
             Some(Move::Pass) => self.pass(rests),
             None => return Ok(false),
         }
@@ -137,6 +153,9 @@ impl<R: Host> Run<R> {
             }
             if self.left.drops > 0 && seat.can_give_up() {
                 self.moves.push(Move::GiveUp(place))?;
+            }
+            if self.left.leaves > 0 && seat.can_be_left() {
+                self.moves.push(Move::Leave(place))?;
             }
         }
         if self.may_pass(rests) {
@@ -192,6 +211,13 @@ impl<R: Host> Run<R> {
         }
     }
 
+    fn leave(&mut self, place: usize) {
+        self.left.leaves = self.left.leaves.saturating_sub(1);
+        if let Some(seat) = self.seats.get_mut(place) {
+            seat.leave(self.world);
+        }
+    }
+
     // What there is now, as long as somebody has a pool.
     fn status(&self) -> Option<Status> {
         if let Some(pool) = &self.pool {
@@ -215,7 +241,7 @@ impl<R: Host> Run<R> {
             if seat.place().is_some() {
                 view.waiting = view.waiting.saturating_add(1);
             }
-            if seat.waits_at().unwrap_or(u64::MAX) < own {
+            if !seat.is_late(self.world) && seat.waits_at().unwrap_or(u64::MAX) < own {
                 view.ahead = view.ahead.saturating_add(1);
             }
         }
@@ -232,6 +258,9 @@ impl<R: Host> Run<R> {
             left: _,
         } = self;
         world.end();
+        for seat in seats.iter_mut() {
+            seat.drop_left();
+        }
         drop(pool);
         for _ in 0..4 {
             for seat in seats.iter_mut() {

@@ -23,6 +23,8 @@ pub(crate) struct Seat<R: Host> {
     // None once it ended, or was dropped.
     pub(crate) task: Option<Task<R>>,
     has_begun: bool,
+    // Whether it is neither polled nor dropped any more.
+    is_left: bool,
     mock: MockTask,
 }
 
@@ -51,13 +53,52 @@ impl<R: Host> Seat<R> {
             who,
             task: Some(task),
             has_begun: false,
+            is_left: false,
             mock: MockTask::new(rt)?,
         })
     }
 
     /// Whether its executor would poll it now.
     pub(crate) fn is_woken(&self, world: &World<R>) -> bool {
-        self.task.is_some() && (!self.has_begun || self.mock.is_woken() || self.is_due(world))
+        self.task.is_some()
+            && !self.is_left
+            && (!self.has_begun || self.mock.is_woken() || self.is_due(world))
+    }
+
+    /// Whether it may be left alone: a caller in line who has little time.
+    pub(crate) fn can_be_left(&self) -> bool {
+        match &self.task {
+            Some(Task::Caller(caller)) => {
+                !self.is_left && !caller.is_patient() && self.waits_at().is_some()
+            }
+            _ => false,
+        }
+    }
+
+    /// From now on it is neither polled nor dropped.
+    pub(crate) fn leave(&mut self, world: &World<R>) {
+        world.tell_of(self.who, "is left alone");
+        world.set_sleep(self.who, u64::MAX);
+        self.is_left = true;
+    }
+
+    pub(crate) fn is_left(&self) -> bool {
+        self.is_left
+    }
+
+    /// Whether its call's time is over: who looks passes it then, if it was told.
+    pub(crate) fn is_late(&self, world: &World<R>) -> bool {
+        match &self.task {
+            Some(Task::Caller(caller)) => caller.is_late(world.now()),
+            _ => false,
+        }
+    }
+
+    /// It is dropped, if it is left alone.
+    pub(crate) fn drop_left(&mut self) {
+        if self.is_left {
+            self.task = None;
+        }
     }
 
     fn is_due(&self, world: &World<R>) -> bool {
@@ -137,6 +178,7 @@ impl<R: Host> Seat<R> {
             return;
         };
         self.has_begun = true;
+        self.is_left = false;
         world.poll(self.who);
         let mut step = Step {
             task: &mut task,
@@ -165,6 +207,7 @@ impl<R: Host> Seat<R> {
     pub(crate) fn give_up(&mut self, world: &World<R>) {
         world.poll(self.who);
         world.tell("gives up");
+        self.is_left = false;
         let Some(mut task) = self.task.take() else {
             return;
         };

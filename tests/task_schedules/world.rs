@@ -72,8 +72,12 @@ pub(crate) struct World<R: Drop> {
     // By task: when the sleep ends that its latest poll left.
     sleeps: Vec<AtomicU64>,
     counts: [AtomicU64; KINDS],
+    // What has been idle since before this moment is distrusted, in milliseconds.
+    distrusted_before: AtomicU64,
     // Whether the task that is polled began a check in that poll.
     checks: AtomicBool,
+    // Whether one was closed unchecked in that poll.
+    closes: AtomicBool,
     // Whether nothing goes wrong any more.
     is_ending: AtomicBool,
     fault: Mutex<Option<&'static str>>,
@@ -111,7 +115,9 @@ impl<R: Host> World<R> {
                 none(),
                 none(),
             ],
+            distrusted_before: none(),
             checks: AtomicBool::new(false),
+            closes: AtomicBool::new(false),
             is_ending: AtomicBool::new(false),
             fault: Mutex::new(None),
         })
@@ -121,6 +127,7 @@ impl<R: Host> World<R> {
     pub(crate) fn begin(&self) {
         self.now.store(1_000, Ordering::SeqCst);
         self.is_ending.store(false, Ordering::SeqCst);
+        self.distrusted_before.store(0, Ordering::SeqCst);
         for sleep in self.sleeps.iter() {
             sleep.store(NEVER, Ordering::SeqCst);
         }
@@ -160,6 +167,23 @@ impl<R: Host> World<R> {
         }
         self.add(Count::Bad);
         true
+    }
+
+    /// A check failed that began then.
+    pub(crate) fn fails_check(&self, began: u64) {
+        self.distrusted_before.fetch_max(began, Ordering::SeqCst);
+    }
+
+    /// Whether a failed check tells of what has been idle since then.
+    pub(crate) fn is_distrusted(&self, since: u64) -> bool {
+        self.plan.distrusts && since < self.distrusted_before.load(Ordering::SeqCst)
+    }
+
+    /// A step takes no time, where nothing depends on that.
+    pub(crate) fn tick(&self) {
+        if self.plan.distrusts {
+            self.now.fetch_add(1, Ordering::SeqCst);
+        }
     }
 
     /// Whether a scheduler draws the run, which threads play.
@@ -231,6 +255,7 @@ impl<R: Host> World<R> {
         }
         self.polled.store(who, Ordering::SeqCst);
         self.checks.store(false, Ordering::SeqCst);
+        self.closes.store(false, Ordering::SeqCst);
         self.set_sleep(who, NEVER);
     }
 
@@ -241,6 +266,15 @@ impl<R: Host> World<R> {
     /// Whether the task that is polled began a check in that poll.
     pub(crate) fn has_begun_check(&self) -> bool {
         self.checks.load(Ordering::SeqCst)
+    }
+
+    pub(crate) fn close_unchecked(&self) {
+        self.closes.store(true, Ordering::SeqCst);
+    }
+
+    /// Whether a connection was closed unchecked in that poll: one that is distrusted.
+    pub(crate) fn has_closed_unchecked(&self) -> bool {
+        self.closes.load(Ordering::SeqCst)
     }
 
     pub(crate) fn set_sleep(&self, who: u64, end: u64) {

@@ -6,11 +6,17 @@ mod cancelling;
 #[cfg(test)]
 mod clock;
 #[cfg(test)]
+mod draining;
+#[cfg(test)]
 mod executors;
 #[cfg(test)]
 mod hand;
 #[cfg(test)]
 mod lending;
+#[cfg(test)]
+mod outage;
+#[cfg(test)]
+mod passing;
 #[cfg(test)]
 mod play;
 #[cfg(test)]

@@ -14,11 +14,11 @@ use r2d2_async::{
     Builder, Drain, Get, Handlers, ManageConnection, Pool, PooledConnection, Timer, Work,
 };
 use std::alloc::AllocError;
-use std::fmt;
 use std::sync::atomic::{AtomicBool, AtomicU64, Ordering};
 use std::sync::{Arc, Mutex};
 use std::test::Fail;
 use std::time::Duration;
+use std::{fmt, thread};
 
 /// What a handler or the customizer saw. Connections go by their ids, and at their end by how many
 /// were opened before.
@@ -33,7 +33,7 @@ pub(crate) enum Told {
     Ended(u64),
 }
 
-/// What becomes of the openings, or of the checks, from now on.
+/// What becomes of the openings, of the checks, or of `on_release`, from now on.
 #[derive(Drop)]
 pub(crate) struct Course {
     hangs: AtomicBool,
@@ -71,12 +71,18 @@ pub(crate) struct Play {
     pub(crate) rt: HostRuntime,
     // The milliseconds of the clock.
     clock: AtomicU64,
+    is_unread: AtomicBool,
     pub(crate) openings: Course,
     pub(crate) checks: Course,
+    pub(crate) releases: Course,
     pub(crate) breaks: AtomicBool,
     opened: AtomicU64,
     dropped: AtomicU64,
     given_up: AtomicU64,
+    checked: AtomicU64,
+    released: AtomicU64,
+    // The milliseconds of the sleep that was begun last.
+    slept: AtomicU64,
     told: Notes,
 }
 
@@ -86,12 +92,17 @@ impl Play {
         let play = Play {
             rt,
             clock: AtomicU64::new(1_000),
+            is_unread: AtomicBool::new(false),
             openings: Course::good(),
             checks: Course::good(),
+            releases: Course::good(),
             breaks: AtomicBool::new(false),
             opened: AtomicU64::new(0),
             dropped: AtomicU64::new(0),
             given_up: AtomicU64::new(0),
+            checked: AtomicU64::new(0),
+            released: AtomicU64::new(0),
+            slept: AtomicU64::new(0),
             told: Arc::new(rt.alloc(), Mutex::new(Vec::new(rt.alloc())))?,
         };
         Ok(Box::leak(Box::new(rt.alloc(), play)?))
@@ -106,6 +117,7 @@ impl Play {
     pub(crate) fn built(&'static self, settings: Builder) -> Result<PoolOf, Error> {
         let place = Turned {
             milliseconds: &self.clock,
+            is_unread: Some(&self.is_unread),
             rt: self.rt,
         };
         let Ok([errors, events, ends]) = self.ears() else {
@@ -123,6 +135,11 @@ impl Play {
         self.clock.fetch_add(milliseconds, Ordering::SeqCst);
     }
 
+    /// Whether the clock can be read.
+    pub(crate) fn let_read(&self, is_read: bool) {
+        self.is_unread.store(!is_read, Ordering::SeqCst);
+    }
+
     /// How many connections were opened.
     pub(crate) fn opened(&self) -> u64 {
         self.opened.load(Ordering::SeqCst)
@@ -138,6 +155,21 @@ impl Play {
         self.given_up.load(Ordering::SeqCst)
     }
 
+    /// How many checks were begun.
+    pub(crate) fn checked(&self) -> u64 {
+        self.checked.load(Ordering::SeqCst)
+    }
+
+    /// How often `on_release` was called.
+    pub(crate) fn released(&self) -> u64 {
+        self.released.load(Ordering::SeqCst)
+    }
+
+    /// The milliseconds of the sleep that was begun last.
+    pub(crate) fn slept(&self) -> u64 {
+        self.slept.load(Ordering::SeqCst)
+    }
+
     /// Whether this is what was told since the last such question.
     pub(crate) fn went(&self, wanted: &[Told]) -> bool {
         let Some(mut told) = lock(&self.told) else {
@@ -151,16 +183,24 @@ impl Play {
         is_so
     }
 
+    /// What was told so far is asked for no more.
+    pub(crate) fn forget(&self) {
+        if let Some(mut told) = lock(&self.told) {
+            told.clear();
+        }
+    }
+
     fn now(&self) -> u64 {
         self.clock.load(Ordering::SeqCst)
     }
 
-    fn ears(&self) -> Result<[Ear; 3], AllocError> {
+    fn ears(&'static self) -> Result<[Ear; 3], AllocError> {
         Ok([self.ear()?, self.ear()?, self.ear()?])
     }
 
-    fn ear(&self) -> Result<Ear, AllocError> {
+    fn ear(&'static self) -> Result<Ear, AllocError> {
         Ok(Ear {
+            play: self,
             told: Arc::try_clone(&self.told)?,
         })
     }
@@ -211,9 +251,11 @@ impl Timer for Hours {
     type Sleep = Hour;
 
     fn sleep(&self, length: Duration) -> Hour {
+        let milliseconds = u64::try_from(length.as_millis()).unwrap_or(u64::MAX);
+        self.play.slept.store(milliseconds, Ordering::SeqCst);
         Hour {
             play: self.play,
-            end: self.play.now().saturating_add(length.as_millis() as u64),
+            end: self.play.now().saturating_add(milliseconds),
             never: pending(),
         }
     }
@@ -334,6 +376,7 @@ impl ManageConnection for Manager {
     }
 
     fn check(&self, line: Line) -> Checking {
+        self.play.checked.fetch_add(1, Ordering::SeqCst);
         Checking {
             play: self.play,
             line: Some(line),
@@ -349,6 +392,7 @@ impl ManageConnection for Manager {
 /// Writes down what it is told.
 #[derive(Drop)]
 pub(crate) struct Ear {
+    play: &'static Play,
     told: Notes,
 }
 
@@ -396,7 +440,15 @@ impl HandleError<Sorry> for Ear {
 }
 
 impl CustomizeConnection<Line, Sorry> for Ear {
+    // It waits for ten seconds at most.
     fn on_release(&self, line: Line) {
         self.note(Told::Ended(line.number));
+        self.play.released.fetch_add(1, Ordering::SeqCst);
+        for _ in 0..1_000 {
+            if !self.play.releases.do_hang() {
+                break;
+            }
+            thread::sleep(&self.play.rt, Duration::from_millis(10));
+        }
     }
 }

@@ -108,9 +108,13 @@ fn one_too_many_is_refused_at_once(rt: HostRuntime) -> Result<(), Fail> {
     let mut first = Hand::of(rt, pool.get()?)?;
     let mut second = Hand::of(rt, pool.get()?)?;
     assert!(rt; first.run().is_none() && second.run().is_none());
-    let mut third = Hand::of(rt, pool.get()?)?;
-    let error = third.run().ok_or("pending")?.err().ok_or("a connection")?;
-    assert_eq!(rt; error.kind(), ErrorKind::Full);
+    for refused in 0..1_000u64 {
+        assert_eq!(rt; pool.status().refused, refused);
+        let mut third = Hand::of(rt, pool.get()?)?;
+        let error = third.run().ok_or("pending")?.err().ok_or("a connection")?;
+        assert_eq!(rt; error.kind(), ErrorKind::Full);
+    }
+    assert_eq!(rt; pool.status().refused, 1_000);
     assert!(rt; play.went(&[]));
     // A place that was left is free again.
     drop(second);
@@ -134,6 +138,27 @@ fn one_that_was_checked_leaves_its_place(rt: HostRuntime) -> Result<(), Fail> {
     assert!(rt; waits.run().is_none());
     drop(lent);
     assert!(rt; waits.run().ok_or("pending")?.is_ok());
+    Ok(())
+}
+
+// During its check it does not wait, and yet it takes up the only place.
+#[test]
+fn one_under_check_keeps_its_place(rt: HostRuntime) -> Result<(), Fail> {
+    let play = Play::new(rt)?;
+    let pool = play.pool(of_one(true).max_waiting(1))?;
+    let mut work = Hand::of(rt, pool.work()?)?;
+    let mut checks = Hand::of(rt, pool.get()?)?;
+    play.checks.hang(true);
+    assert!(rt; checks.run().is_none() && work.run().is_none() && checks.run().is_none());
+    assert_eq!(rt; (pool.status().lent, pool.status().waiting), (1, 0));
+    let mut next = Hand::of(rt, pool.get()?)?;
+    let error = next.run().ok_or("pending")?.err().ok_or("a connection")?;
+    assert_eq!(rt; error.kind(), ErrorKind::Full);
+    play.checks.hang(false);
+    let _lent = checks.run().ok_or("pending")??;
+    let mut next = Hand::of(rt, pool.get()?)?;
+    assert!(rt; next.run().is_none());
+    assert_eq!(rt; pool.status().waiting, 1);
     Ok(())
 }
 

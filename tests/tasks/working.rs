@@ -147,3 +147,48 @@ fn an_opening_that_ends_after_the_close_is_dropped(rt: HostRuntime) -> Result<()
     assert!(rt; play.went(&[]));
     Ok(())
 }
+
+// The clock cannot be read for the poll in which its opening fails, ten days after the pool was
+// made.
+#[test]
+fn it_tries_again_in_time_though_a_reading_fails(rt: HostRuntime) -> Result<(), Fail> {
+    let play = Play::new(rt)?;
+    let settings = Builder::new()
+        .max_size(1)
+        .min_idle(Some(0))
+        .max_lifetime(None)
+        .idle_timeout(None);
+    let pool = play.pool(settings)?;
+    let mut work = Hand::of(rt, pool.work()?)?;
+    assert!(rt; work.run().is_none());
+    play.pass(864_000_000);
+    let mut get = Hand::of(rt, pool.get_timeout(Duration::from_secs(1_000_000))?)?;
+    assert!(rt; get.run().is_none());
+    play.openings.fail(true);
+    // It begins the opening, which fails in its next poll.
+    assert!(rt; work.poll().is_none());
+    play.let_read(false);
+    assert!(rt; work.poll().is_none());
+    play.let_read(true);
+    assert_eq!(rt; pool.status().failed_openings, 1);
+    assert_eq!(rt; play.slept(), 400);
+    Ok(())
+}
+
+#[test]
+fn it_tries_again_as_soon_as_the_settings_say(rt: HostRuntime) -> Result<(), Fail> {
+    let play = Play::new(rt)?;
+    let pool = play.pool(
+        Builder::new()
+            .max_size(1)
+            .retry_at_most(Duration::from_millis(50)),
+    )?;
+    let mut work = Hand::of(rt, pool.work()?)?;
+    play.openings.fail(true);
+    for failed in 1..4u64 {
+        assert!(rt; work.run().is_none());
+        assert_eq!(rt; (pool.status().failed_openings, play.slept()), (failed, 50));
+        play.pass(50);
+    }
+    Ok(())
+}

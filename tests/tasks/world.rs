@@ -93,6 +93,7 @@ impl World {
     fn pool(&'static self, settings: Builder) -> Result<PoolOf, Fail> {
         let place = Turned {
             milliseconds: &self.ticks,
+            is_unread: None,
             rt: self.rt,
         };
         let settings = settings

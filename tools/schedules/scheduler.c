@@ -28,6 +28,9 @@
      looks at what there is, and is not cut short.
    - What it writes to the standard output is shown only where the steps are told, beside them.
 
+   With YIELD_TAKES=SECONDS, as on a busy machine, a thread that yields goes on after so long. Nobody
+   who watches is woken meanwhile.
+
    SCHEDULES=FIRST:COUNT names the seeds. Each is played in a child, forked before `main`, until one
    has a fault: a status other than 0, or
    - 99: nobody can go on, and nobody waits for a moment;
@@ -74,8 +77,8 @@ typedef int64_t nanoseconds;
 #define LEFT 95
 #define BROKEN 94 /* the scheduler, or what it rests on */
 
-enum state { READY, PARKED, SLEEPING, WATCHING, JOINING, ENDED };
-static const char *const state_names[] = {"can go on", "waits",         "sleeps",
+enum state { READY, PARKED, SLEEPING, YIELDING, WATCHING, JOINING, ENDED };
+static const char *const state_names[] = {"can go on", "waits",         "sleeps",   "yields",
                                           "watches",   "joins another", "has ended"};
 
 struct thread {
@@ -99,7 +102,7 @@ static struct thread threads[MOST_THREADS];
 static int thread_count;
 static __thread int me = -1;
 static bool is_on, is_told, is_main_over, is_watched;
-static nanoseconds now = BEGIN;
+static nanoseconds now = BEGIN, yield_takes;
 static long points, body;
 
 /* Of this schedule. */
@@ -208,7 +211,7 @@ static int one_of(int count) {
 /* -- Time -- */
 
 static bool has_deadline(const struct thread *it) {
-    return it->state == PARKED || it->state == SLEEPING;
+    return it->state == PARKED || it->state == SLEEPING || it->state == YIELDING;
 }
 
 /* The next deadline of all, where nobody can go on. */
@@ -229,6 +232,8 @@ static nanoseconds next_early_deadline(void) {
         nanoseconds deadline = has_deadline(it)                         ? it->until
                                : it->state == READY && it->unread > now ? it->unread
                                                                         : NEVER;
+        if (it->state == YIELDING)
+            continue;
         if (has_deadline(it) && it->is_long)
             first_long = deadline < first_long ? deadline : first_long;
         else
@@ -272,6 +277,9 @@ static int find_ready(int *ready) {
 
 static bool wake_watchers(void) {
     bool is_any = false;
+    for (int i = 0; i < thread_count; i++)
+        if (threads[i].state == YIELDING)
+            return false;
     for (int i = 0; i < thread_count; i++)
         if (threads[i].state == WATCHING) {
             threads[i].state = READY;
@@ -439,7 +447,11 @@ int pthread_detach(pthread_t real) {
 int sched_yield(void) {
     if (is_on && me >= 0) {
         step_down();
-        point(true);
+        if (yield_takes > 0) {
+            threads[me].state = YIELDING;
+            threads[me].until = now + yield_takes;
+        }
+        point(yield_takes == 0);
     }
     return 0;
 }
@@ -778,6 +790,7 @@ __attribute__((constructor)) static void begin(void) {
         return;
     is_told = getenv("TOLD") != NULL;
     body = wrong ? atol(wrong) : 0;
+    yield_takes = getenv("YIELD_TAKES") ? atol(getenv("YIELD_TAKES")) * SECOND : 0;
     shared = mmap(NULL, sizeof *shared, PROT_READ | PROT_WRITE, MAP_SHARED | MAP_ANONYMOUS, -1, 0);
     atexit(await_all);
     if (getenv("POINTS"))

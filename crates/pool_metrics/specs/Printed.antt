@@ -25,6 +25,7 @@ figure_of number.LongestLoan status snapshot = Some (length_of snapshot.longest_
 figure_of number.Timeouts status snapshot = Some (Count snapshot.timeouts)
 figure_of number.FailedOpenings status snapshot = Some (Count status.failed_openings)
 figure_of number.FailedChecks status snapshot = Some (Count status.failed_checks)
+figure_of number.Rejected status snapshot = Some (Count status.refused)
 figure_of number.Errors status snapshot = option_map (λ count. Count count) snapshot.errors
 figure_of number.LatestError status snapshot = option_map length_of snapshot.latest_error
 figure_of number.Opened status snapshot = Some (Count snapshot.opened)

@@ -141,12 +141,13 @@ pub(crate) enum Number {
     Timeouts,
     FailedOpenings,
     FailedChecks,
+    Rejected,
     Errors,
     LatestError,
     Opened,
 }
 
-const NUMBERS: [Number; 11] = [
+const NUMBERS: [Number; 12] = [
     Number::Max,
     Number::IdleMin,
     Number::PendingRequests,
@@ -155,6 +156,7 @@ const NUMBERS: [Number; 11] = [
     Number::Timeouts,
     Number::FailedOpenings,
     Number::FailedChecks,
+    Number::Rejected,
     Number::Errors,
     Number::LatestError,
     Number::Opened,
@@ -171,6 +173,7 @@ impl Number {
             Number::Timeouts => "db_client_connection_timeouts_total",
             Number::FailedOpenings => "db_client_connection_failed_openings_total",
             Number::FailedChecks => "db_client_connection_failed_checks_total",
+            Number::Rejected => "db_client_connection_rejected_total",
             Number::Errors => "db_client_connection_errors_total",
             Number::LatestError => "db_client_connection_latest_error_age_seconds",
             Number::Opened => "db_client_connection_opened_total",
@@ -191,6 +194,7 @@ impl Number {
             Number::Timeouts => "Callers that waited for a connection in vain.",
             Number::FailedOpenings => "Openings that failed, or whose connection was refused.",
             Number::FailedChecks => "Checks of connections that failed.",
+            Number::Rejected => "Callers that were refused, since as many waited as may.",
             Number::Errors => "Errors of the manager and of the customizer.",
             Number::LatestError => "How long ago the latest of these errors came.",
             Number::Opened => "Connections that were opened.",
@@ -208,6 +212,7 @@ impl Number {
             Number::Timeouts
             | Number::FailedOpenings
             | Number::FailedChecks
+            | Number::Rejected
             | Number::Errors
             | Number::Opened => "counter",
         }
@@ -226,6 +231,7 @@ impl Number {
             Number::Timeouts => Some(Figure::Count(snapshot.timeouts)),
             Number::FailedOpenings => Some(Figure::Count(status.failed_openings)),
             Number::FailedChecks => Some(Figure::Count(status.failed_checks)),
+            Number::Rejected => Some(Figure::Count(status.refused)),
             Number::Errors => snapshot.errors.map(|count| Figure::Count(count)),
             Number::LatestError => {
                 let latest = snapshot.latest_error;

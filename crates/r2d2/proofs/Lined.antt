@@ -26,7 +26,7 @@ use Rattle.r2d2.specs.declared.line.place.Place.{Place}
 use Rattle.r2d2.specs.Counted.{found_by}
 use Rattle.r2d2.specs.Wakes.{wakes_of_return}
 use Rattle.r2d2.specs.Settled.{seen_settled, settle_answer, after_settle, wakes_of_settled, settled_admission}
-use Rattle.r2d2.specs.declared.line.place.Standing.TheVariants.{Served}
+use Rattle.r2d2.specs.declared.line.place.Standing.TheVariants.{Aside}
 use Rattle.r2d2.specs.Waiting.{AreTold, told_if, told_at, without, with_standing}
 use Rattle.r2d2.proofs.Waiting.{told_ahead-tell, waiting_in-tell, kept_served, kept_left_told, kept_left}
 
@@ -38,7 +38,7 @@ one_told false before after ps told more = omega (arith, told, more)
 pub still_told : (before after : ℕ) (ps : List Place) → AreTold before ps → after ≤ before → AreTold after ps
 still_told before after ps told less = omega (arith, told, less)
 
-pub one_less_served : (before after s : ℕ) (ps : List Place) → AreTold before ps → before ≡ after + 1 → AreTold after (with_standing s Served ps)
+pub one_less_served : (before after s : ℕ) (ps : List Place) → AreTold before ps → before ≡ after + 1 → AreTold after (with_standing s Aside ps)
 one_less_served before after s ps told one = omega (arith, one, kept_served before s ps told)
 
 left_by : (was_told : Bool) (idle s : ℕ) (ps : List Place) → told_at s ps ≡ was_told → AreTold idle ps → AreTold idle (told_if was_told (without s ps))

@@ -8,9 +8,11 @@ use Rattle.std.proofs.lemmas.Grind.{common_steps}
 use Rattle.r2d2_core.specs.Picture.{Picture}
 use Rattle.r2d2.specs.declared.line.place.Place.{Place}
 use Rattle.r2d2.specs.declared.line.place.Standing.{Standing}
-use Rattle.r2d2.specs.declared.line.place.Standing.TheVariants.{Quiet, Told, Served}
-use Rattle.r2d2.specs.Waiting.{AreTold, told_ahead, is_kept, place, is_quiet, weight, waiting_in, ahead, weight_at, without, with_standing, first_quiet, told_first, copies_in, copies_of}
-use Rattle.r2d2.specs.Order.{Event, Came, WasTold, WaitsOn, Took, Left, TookAtOnce, standing_in, came_in, IsUntold, is_waiting, Waits, IsFirstUntold, AreFewer, IsInTurn, IsInOrder, comings, services, IsOneByOne, standing_at, slots_of, waiting_slots, StandAsTheyCame, IsHistoryOf}
+use Rattle.r2d2.specs.declared.line.place.Standing.TheVariants.{Quiet, Told, Aside}
+use Rattle.r2d2.specs.Waiting.{AreTold, told_ahead, is_kept, place, is_quiet, weight, waiting_in, ahead, weight_at, without, with_standing, first_quiet, told_first, copies_in, copies_of, is_told, is_over, first_late}
+use Rattle.std.specs.declared.time.Duration.{Duration}
+use Rattle.std.specs.Prelude.{◌&&◌, slice_get}
+use Rattle.r2d2.specs.Order.{Event, Came, WasTold, WaitsOn, Took, Passed, Left, TookAtOnce, standing_in, came_in, IsUntold, is_waiting, Waits, IsFirstUntold, AreFewer, IsInTurn, IsInOrder, comings, services, IsOneByOne, standing_at, slots_of, waiting_slots, StandAsTheyCame, IsHistoryOf}
 
 -- the slots after each change
 slots-standing : (s : ℕ) (t : Standing) (ps : List Place) → slots_of (with_standing s t ps) ≡ slots_of ps
@@ -116,7 +118,7 @@ first_untold came s t (p ∷ ps) order e quiet =
 quiet_is : (standing : Standing) → is_quiet standing ≡ true → standing ≡ Quiet
 quiet_is Quiet e = refl
 quiet_is Told e = absurd cc
-quiet_is Served e = absurd cc
+quiet_is Aside e = absurd cc
 
 untold_first : (came : ℕ → ℕ) (s : ℕ) (ps : List Place) → StandAsTheyCame came (slots_of ps) → first_quiet ps ≡ Some s → standing_at s ps ≡ Some Quiet
 untold_first came s [] order e = absurd cc
@@ -129,6 +131,37 @@ untold_first came s (p ∷ ps) order e =
       | false ↦ λ v w.
           let behind : came p.slot < came s = first_behind (λ x. came p.slot < came x) s ps order.0 w in
           grind (arith, nat_tests, untold_first came s ps order.1 w)
+    ] refl e
+
+-- who is late was told
+late_behind : (P : ℕ → Type 0) (t s : ℕ) (ends : List Duration) (ps : List Place) → AllByRecursion P (slots_of ps) → first_late t ends ps ≡ Some s → P s
+late_behind P t s ends [] h e = absurd cc
+late_behind P t s ends (p ∷ ps) h e =
+    elim p.standing as (λ standing. cond (is_quiet standing) None (cond (is_told standing && is_over t (slice_get ends p.slot)) (Some p.slot) (first_late t ends ps)) ≡ Some s → P s) [
+      | Quiet ↦ λ w. absurd cc
+      | Told ↦ λ w.
+          elim (is_over t (slice_get ends p.slot)) as (λ b. cond b (Some p.slot) (first_late t ends ps) ≡ Some s → P s) [
+            | true ↦ λ v. let same : p.slot ≡ s = cc in subst P same h.0
+            | false ↦ λ v. late_behind P t s ends ps h.1 v
+          ] w
+      | Aside ↦ λ w. late_behind P t s ends ps h.1 w
+    ] e
+
+late_told : (came : ℕ → ℕ) (t s : ℕ) (ends : List Duration) (ps : List Place) → StandAsTheyCame came (slots_of ps) → first_late t ends ps ≡ Some s → standing_at s ps ≡ Some Told
+late_told came t s ends [] order e = absurd cc
+late_told came t s ends (p ∷ ps) order e =
+    let P : Type 0 = standing_at s (p ∷ ps) ≡ Some Told in
+    let rest : first_late t ends ps ≡ Some s → P = λ w.
+    let behind : came p.slot < came s = late_behind (λ x. came p.slot < came x) t s ends ps order.0 w in
+    grind (arith, nat_tests, late_told came t s ends ps order.1 w) in
+    elim p.standing as (λ standing. p.standing ≡ standing → cond (is_quiet standing) None (cond (is_told standing && is_over t (slice_get ends p.slot)) (Some p.slot) (first_late t ends ps)) ≡ Some s → P) [
+      | Quiet ↦ λ v w. absurd cc
+      | Told ↦ λ v w.
+          elim (is_over t (slice_get ends p.slot)) as (λ b. cond b (Some p.slot) (first_late t ends ps) ≡ Some s → P) [
+            | true ↦ λ x. let same : p.slot ≡ s = cc in grind (arith, nat_tests)
+            | false ↦ rest
+          ] w
+      | Aside ↦ λ v w. rest w
     ] refl e
 
 pub none_untold : (t : ℕ) (ps : List Place) → first_quiet ps ≡ None → standing_at t ps ≡ Some Quiet → ⊥
@@ -171,7 +204,7 @@ same_slot : (s : ℕ) → (s == s) ≡ true
 same_slot s = grind (arith, nat_tests)
 
 -- one that is served does not wait
-served_waits : (p : Place) (ps : List Place) → p.standing ≡ Served → Waits (standing_at p.slot (p ∷ ps)) → ⊥
+served_waits : (p : Place) (ps : List Place) → p.standing ≡ Aside → Waits (standing_at p.slot (p ∷ ps)) → ⊥
 served_waits p ps e waits =
     let W : Bool → Type 0 = λ b. Waits (cond b (Some p.standing) (standing_at p.slot ps)) in
     let some : is_waiting p.standing ≡ true = subst W (same_slot p.slot) waits in
@@ -183,7 +216,7 @@ few_copies p ps xs apart h =
     elim p.standing as (λ standing. p.standing ≡ standing → copies_of p.slot xs ≤ weight standing) [
       | Quiet ↦ λ w. apart
       | Told ↦ λ w. apart
-      | Served ↦ λ w.
+      | Aside ↦ λ w.
           let P : ℕ → Type 0 = λ t. Waits (standing_at t (p ∷ ps)) in
           omega (arith, no_copies P p.slot xs (λ waits. served_waits p ps w waits) h)
     ] refl
@@ -263,6 +296,7 @@ came_le (Came slot ∷ h) s = grind (arith, came_le h s)
 came_le (WasTold slot ∷ h) s = omega (arith, came_le h s)
 came_le (WaitsOn slot ∷ h) s = omega (arith, came_le h s)
 came_le (Took slot idle ∷ h) s = omega (arith, came_le h s)
+came_le (Passed slot ∷ h) s = omega (arith, came_le h s)
 came_le (Left slot ∷ h) s = omega (arith, came_le h s)
 came_le (TookAtOnce idle ∷ h) s = omega (arith, came_le h s)
 
@@ -289,7 +323,7 @@ order-joined came s n (x ∷ xs) lt new h = (all-joined came s n x xs new.0 (lt 
 not_waiting : (standing : Standing) → weight standing ≡ 0 → is_waiting standing ≡ false
 not_waiting Quiet e = absurd (omega (arith, e))
 not_waiting Told e = absurd (omega (arith, e))
-not_waiting Served e = refl
+not_waiting Aside e = refl
 
 is_false : (b : Bool) → ((b ≡ true) → ⊥) → b ≡ false
 is_false true h = absurd (h refl)
@@ -310,7 +344,7 @@ waiting-told (p ∷ ps) =
     elim p.standing as (λ standing. waiting_slots (cond (is_quiet standing) (place p.slot Told ∷ ps) (place p.slot standing ∷ told_first ps)) ≡ cond (is_waiting standing) (p.slot ∷ waiting_slots ps) (waiting_slots ps)) [
       | Quiet ↦ refl
       | Told ↦ ap (λ xs. p.slot ∷ xs) (waiting-told ps)
-      | Served ↦ waiting-told ps
+      | Aside ↦ waiting-told ps
     ]
 
 waiting-marked : (s : ℕ) (ps : List Place) → Waits (standing_at s ps) → waiting_slots (with_standing s Quiet ps) ≡ waiting_slots ps
@@ -321,16 +355,16 @@ waiting-marked s (p ∷ ps) waits =
       | false ↦ λ w. ap (λ xs. cond (is_waiting p.standing) (p.slot ∷ xs) xs) (waiting-marked s ps w)
     ] waits
 
-waiting-served : (s : ℕ) (ps : List Place) → Waits (standing_at s ps) → ahead s ps ≡ 0 → waiting_slots ps ≡ s ∷ waiting_slots (with_standing s Served ps)
+waiting-served : (s : ℕ) (ps : List Place) → Waits (standing_at s ps) → ahead s ps ≡ 0 → waiting_slots ps ≡ s ∷ waiting_slots (with_standing s Aside ps)
 waiting-served s [] waits first = absurd waits
 waiting-served s (p ∷ ps) waits first =
-    elim (p.slot == s) as (λ b. (p.slot == s) ≡ b → Waits (cond b (Some p.standing) (standing_at s ps)) → cond b 0 (weight p.standing + ahead s ps) ≡ 0 → waiting_slots (p ∷ ps) ≡ s ∷ waiting_slots (cond b (place p.slot Served ∷ ps) (p ∷ with_standing s Served ps))) [
+    elim (p.slot == s) as (λ b. (p.slot == s) ≡ b → Waits (cond b (Some p.standing) (standing_at s ps)) → cond b 0 (weight p.standing + ahead s ps) ≡ 0 → waiting_slots (p ∷ ps) ≡ s ∷ waiting_slots (cond b (place p.slot Aside ∷ ps) (p ∷ with_standing s Aside ps))) [
       | true ↦ λ v w z. let same : p.slot ≡ s = grind (arith, nat_tests) in ap (λ b. cond b (p.slot ∷ waiting_slots ps) (waiting_slots ps)) w ∙ ap (λ t. t ∷ waiting_slots ps) same
       | false ↦ λ v w z.
           let light : weight p.standing ≡ 0 = omega (arith, z) in
           let no_wait = not_waiting p.standing light in
           let ih = waiting-served s ps w (omega (arith, z)) in
-          ap (λ b. cond b (p.slot ∷ waiting_slots ps) (waiting_slots ps)) no_wait ∙ ih ∙ ap (λ b. s ∷ cond b (p.slot ∷ waiting_slots (with_standing s Served ps)) (waiting_slots (with_standing s Served ps))) (sym no_wait)
+          ap (λ b. cond b (p.slot ∷ waiting_slots ps) (waiting_slots ps)) no_wait ∙ ih ∙ ap (λ b. s ∷ cond b (p.slot ∷ waiting_slots (with_standing s Aside ps)) (waiting_slots (with_standing s Aside ps))) (sym no_wait)
     ] refl waits first
 
 waiting-left : (s : ℕ) (ps : List Place) → (Waits (standing_at s ps) → ⊥) → waiting_slots (without s ps) ≡ waiting_slots ps
@@ -374,16 +408,28 @@ waits_on h s ps some is = record {
   one_by_one = λ one. is.one_by_one one.1 ∙ ap (λ xs. services h ++ xs) (sym (waiting-marked s ps (subst Waits (sym (is.stand s)) one.0)));
 }
 
-pub took : (h : List Event) (s idle : ℕ) (ps : List Place) → IsSome (standing_in h s) → (IsUntold h s → ⊥) → ahead s ps < idle → IsHistoryOf h ps → IsHistoryOf (Took s idle ∷ h) (with_standing s Served ps)
+pub took : (h : List Event) (s idle : ℕ) (ps : List Place) → IsSome (standing_in h s) → (IsUntold h s → ⊥) → ahead s ps < idle → IsHistoryOf h ps → IsHistoryOf (Took s idle ∷ h) (with_standing s Aside ps)
 took h s idle ps some told lt is = record {
-  stand = λ t. stand-marked s t Served ps (subst IsSome (sym (is.stand s)) some) ∙ ap (cond (s == t) (Some Served)) (is.stand t);
-  as_they_came = subst (StandAsTheyCame (came_in h)) (sym (slots-standing s Served ps)) is.as_they_came;
+  stand = λ t. stand-marked s t Aside ps (subst IsSome (sym (is.stand s)) some) ∙ ap (cond (s == t) (Some Aside)) (is.stand t);
+  as_they_came = subst (StandAsTheyCame (came_in h)) (sym (slots-standing s Aside ps)) is.as_they_came;
   in_order = (in_its_turn h s idle ps lt is, told, is.in_order);
   one_by_one = λ one.
       let first : ahead s ps ≡ 0 = omega (arith, lt, one.0) in
       is.one_by_one one.2 ∙ ap (λ xs. services h ++ xs) (waiting-served s ps (subst Waits (sym (is.stand s)) one.1) first)
-      ∙ sym (append_assoc (services h) (s ∷ []) (waiting_slots (with_standing s Served ps)));
+      ∙ sym (append_assoc (services h) (s ∷ []) (waiting_slots (with_standing s Aside ps)));
 }
+
+pub passed : (h : List Event) (s : ℕ) (ps : List Place) → standing_in h s ≡ Some Told → IsHistoryOf h ps → IsHistoryOf (Passed s ∷ h) (with_standing s Aside ps)
+passed h s ps told is = record {
+  stand = λ t. stand-marked s t Aside ps (subst IsSome (sym (is.stand s ∙ told)) refl) ∙ ap (cond (s == t) (Some Aside)) (is.stand t);
+  as_they_came = subst (StandAsTheyCame (came_in h)) (sym (slots-standing s Aside ps)) is.as_they_came;
+  in_order = (told, is.in_order);
+  one_by_one = λ one. absurd one;
+}
+
+-- who is late was told, by the history too
+pub late_in : (h : List Event) (t s : ℕ) (ends : List Duration) (ps : List Place) → first_late t ends ps ≡ Some s → IsHistoryOf h ps → standing_in h s ≡ Some Told
+late_in h t s ends ps e is = sym (is.stand s) ∙ late_told (came_in h) t s ends ps is.as_they_came e
 
 pub left : (h : List Event) (s : ℕ) (ps : List Place) → IsHistoryOf h ps → IsHistoryOf (Left s ∷ h) (without s ps)
 left h s ps is = record {
@@ -409,7 +455,7 @@ more_than_wait p ps free some = grind (arith, nat_tests)
 quiet_if : (standing : Standing) → ◌≡◌ {A = Option Standing} (Some standing) (Some Quiet) → is_quiet standing ≡ true
 quiet_if Quiet e = refl
 quiet_if Told e = absurd cc
-quiet_if Served e = absurd cc
+quiet_if Aside e = absurd cc
 
 told_before : (s : ℕ) (ps : List Place) → standing_at s ps ≡ Some Quiet → told_ahead ps ≤ ahead s ps
 told_before s [] e = absurd cc
@@ -422,7 +468,7 @@ told_before s (p ∷ ps) e =
 weighs : (standing : Standing) → ◌≡◌ {A = Option Standing} (Some standing) (Some Quiet) → 0 < weight standing
 weighs Quiet e = omega arith
 weighs Told e = omega arith
-weighs Served e = absurd cc
+weighs Aside e = absurd cc
 
 quiet_waits : (s : ℕ) (ps : List Place) → standing_at s ps ≡ Some Quiet → ahead s ps < waiting_in ps
 quiet_waits s [] e = absurd cc

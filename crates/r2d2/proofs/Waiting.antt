@@ -5,7 +5,7 @@ use Rattle.std.specs.Prelude.{min, IfSome, IfNone}
 use Rattle.std.proofs.lemmas.Bool.Decides.{nat_tests}
 use Rattle.r2d2.specs.declared.line.place.Place.{Place}
 use Rattle.r2d2.specs.declared.line.place.Standing.{Standing}
-use Rattle.r2d2.specs.declared.line.place.Standing.TheVariants.{Quiet, Told, Served}
+use Rattle.r2d2.specs.declared.line.place.Standing.TheVariants.{Quiet, Told, Aside}
 use Rattle.r2d2.specs.Waiting.{place, is_told, weight, waiting_in, told_ahead, ahead, index_of, told_at, weight_at, without, with_standing, quiet_index, first_quiet, told_first, copies_in, copies_of}
 
 -- a join: who is told nothing at the end changes nothing for those before it
@@ -59,11 +59,11 @@ weight_at-le s [] = omega arith
 weight_at-le s (p ∷ ps) = grind (arith, weight_at-le s ps)
 
 -- one is served
-pub waiting_in-served : (s : ℕ) (ps : List Place) → waiting_in (with_standing s Served ps) + weight_at s ps ≡ waiting_in ps
+pub waiting_in-served : (s : ℕ) (ps : List Place) → waiting_in (with_standing s Aside ps) + weight_at s ps ≡ waiting_in ps
 waiting_in-served s [] = refl
 waiting_in-served s (p ∷ ps) = grind (arith, waiting_in-served s ps)
 
-pub told_ahead-served : (s : ℕ) (ps : List Place) → told_ahead ps ≤ told_ahead (with_standing s Served ps) + 1
+pub told_ahead-served : (s : ℕ) (ps : List Place) → told_ahead ps ≤ told_ahead (with_standing s Aside ps) + 1
 told_ahead-served s [] = omega arith
 told_ahead-served s (p ∷ ps) = grind (arith, told_ahead-served s ps)
 
@@ -172,7 +172,7 @@ weight_at-one s [] = omega arith
 weight_at-one s (p ∷ ps) = grind (arith, weight_at-one s ps)
 
 -- what one who waits no more takes from those who were told
-pub told_ahead-served_by : (s : ℕ) (ps : List Place) → told_ahead ps ≤ told_ahead (with_standing s Served ps) + weight_at s ps
+pub told_ahead-served_by : (s : ℕ) (ps : List Place) → told_ahead ps ≤ told_ahead (with_standing s Aside ps) + weight_at s ps
 told_ahead-served_by s [] = omega arith
 told_ahead-served_by s (p ∷ ps) = grind (arith, told_ahead-served_by s ps)
 
@@ -201,8 +201,13 @@ kept_told idle ps h = omega (arith, told_ahead-tell ps, waiting_in-tell ps)
 pub kept_join : (idle : ℕ) (ps : List Place) (s : ℕ) → idle ≤ waiting_in ps → min idle (waiting_in ps) ≤ told_ahead ps → min idle (waiting_in (ps ++ place s Quiet ∷ [])) ≤ told_ahead (ps ++ place s Quiet ∷ [])
 kept_join idle ps s le h = omega (arith, told_ahead-join ps s, waiting_in-join ps s)
 
-pub kept_served : (idle : ℕ) (s : ℕ) (ps : List Place) → min idle (waiting_in ps) ≤ told_ahead ps → min (idle - 1) (waiting_in (with_standing s Served ps)) ≤ told_ahead (with_standing s Served ps)
+pub kept_served : (idle : ℕ) (s : ℕ) (ps : List Place) → min idle (waiting_in ps) ≤ told_ahead ps → min (idle - 1) (waiting_in (with_standing s Aside ps)) ≤ told_ahead (with_standing s Aside ps)
 kept_served idle s ps h = omega (arith, told_ahead-served_by s ps, waiting_in-served s ps, told_ahead-served s ps, weight_at-one s ps)
+
+pub kept_passed : (idle : ℕ) (s : ℕ) (ps : List Place) → min idle (waiting_in ps) ≤ told_ahead ps → min idle (waiting_in (told_first (with_standing s Aside ps))) ≤ told_ahead (told_first (with_standing s Aside ps))
+kept_passed idle s ps h =
+    let ws = with_standing s Aside ps in
+    omega (arith, told_ahead-tell ws, waiting_in-tell ws, told_ahead-served s ps, waiting_in-served s ps)
 
 pub kept_quiet : (idle : ℕ) (s : ℕ) (ps : List Place) → idle ≤ ahead s ps → min idle (waiting_in ps) ≤ told_ahead ps → min idle (waiting_in (with_standing s Quiet ps)) ≤ told_ahead (with_standing s Quiet ps)
 kept_quiet idle s ps le h = omega (arith, told_ahead-quiet s ps, ahead-le s ps, waiting_in-quiet_le s ps)

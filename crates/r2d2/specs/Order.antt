@@ -5,7 +5,7 @@ use Rattle.std.specs.Prelude.{List, [], ◌∷◌, ◌++◌, length, map, Option
 use Rattle.std.specs.List.{AllByRecursion}
 use Rattle.r2d2.specs.declared.line.place.Place.{Place}
 use Rattle.r2d2.specs.declared.line.place.Standing.{Standing}
-use Rattle.r2d2.specs.declared.line.place.Standing.TheVariants.{Quiet, Told, Served}
+use Rattle.r2d2.specs.declared.line.place.Standing.TheVariants.{Quiet, Told, Aside}
 use Rattle.r2d2.specs.Waiting.{copies_of}
 
 -- what happens to the caller at a slot
@@ -18,6 +18,8 @@ pub data Event : Type 0 where
   WaitsOn : (slot : ℕ) → Event
   -- it takes, where so many connections are idle
   Took : (slot idle : ℕ) → Event
+  -- it was told, and is passed: its time is over
+  Passed : (slot : ℕ) → Event
   -- it leaves the line
   Left : (slot : ℕ) → Event
   -- one that does not stand in line takes, where so many are idle
@@ -31,7 +33,8 @@ standing_in [] s = None
 standing_in (Came slot ∷ h) s = if slot == s then Some Quiet else standing_in h s
 standing_in (WasTold slot ∷ h) s = if slot == s then Some Told else standing_in h s
 standing_in (WaitsOn slot ∷ h) s = if slot == s then Some Quiet else standing_in h s
-standing_in (Took slot idle ∷ h) s = if slot == s then Some Served else standing_in h s
+standing_in (Took slot idle ∷ h) s = if slot == s then Some Aside else standing_in h s
+standing_in (Passed slot ∷ h) s = if slot == s then Some Aside else standing_in h s
 standing_in (Left slot ∷ h) s = if slot == s then None else standing_in h s
 standing_in (TookAtOnce idle ∷ h) s = standing_in h s
 
@@ -53,7 +56,7 @@ IsUntold h s = standing_in h s ≡ Some Quiet
 abbrev pub is_waiting : Standing → Bool
 is_waiting Quiet = true
 is_waiting Told = true
-is_waiting Served = false
+is_waiting Aside = false
 
 abbrev pub Waits : Option Standing → Type 0
 Waits None = ⊥
@@ -74,13 +77,14 @@ AreFewer n P = (slots : List ℕ) → ((s : ℕ) → copies_of s slots ≤ 1) �
 abbrev pub IsInTurn : List Event → ℕ → ℕ → Type 0
 IsInTurn h s idle = AreFewer idle (λ t. Waits (standing_in h t) × (came_in h t < came_in h s))
 
--- Who was told was the first of those who were not; who took had its turn, and was told; and who
--- took without standing in line left enough for all who waited.
+-- Who was told was the first of those who were not; who took had its turn, and was told; who took
+-- without standing in line left enough for all who waited; and who was passed was told before.
 abbrev pub IsInOrder : List Event → Type 0
 IsInOrder [] = Unit {0}
 IsInOrder (WasTold slot ∷ h) = IsFirstUntold h slot × IsInOrder h
 IsInOrder (Took slot idle ∷ h) = IsInTurn h slot idle × ¬ IsUntold h slot × IsInOrder h
 IsInOrder (TookAtOnce idle ∷ h) = AreFewer idle (λ t. Waits (standing_in h t)) × IsInOrder h
+IsInOrder (Passed slot ∷ h) = (standing_in h slot ≡ Some Told) × IsInOrder h
 IsInOrder (_ ∷ h) = IsInOrder h
 
 -- ONE BY ONE
@@ -103,6 +107,7 @@ abbrev pub IsOneByOne : List Event → Type 0
 IsOneByOne [] = Unit {0}
 IsOneByOne (Took slot idle ∷ h) = (idle ≡ 1) × Waits (standing_in h slot) × IsOneByOne h
 IsOneByOne (WaitsOn slot ∷ h) = Waits (standing_in h slot) × IsOneByOne h
+IsOneByOne (Passed slot ∷ h) = ⊥
 IsOneByOne (Left slot ∷ h) = ¬ Waits (standing_in h slot) × IsOneByOne h
 IsOneByOne (_ ∷ h) = IsOneByOne h
 
@@ -158,6 +163,11 @@ abbrev pub with_wait : Option ℕ → Option ℕ → List Event → List Event
 with_wait (Some s) new h = WaitsOn s ∷ h
 with_wait None (Some s) h = Came s ∷ h
 with_wait None None h = h
+
+-- it is passed, if one is
+abbrev pub with_pass : Option ℕ → List Event → List Event
+with_pass None h = h
+with_pass (Some s) h = Passed s ∷ h
 
 -- it leaves, where it stands in line
 abbrev pub with_leave : Option ℕ → List Event → List Event

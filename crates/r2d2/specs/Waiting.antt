@@ -1,9 +1,11 @@
 -- Who stands in line, in order.
-use Rattle.std.specs.Prelude.{◌≤◌, ℕ, suc, ◌+◌, ◌==◌, if◌then◌else◌, Bool, true, false, List, [], ◌∷◌, ◌++◌, length, Option, Some, None, min, nat_lt, ◌&&◌, not}
+use Rattle.std.specs.Prelude.{◌≤◌, ℕ, zero, suc, ◌+◌, ◌==◌, if◌then◌else◌, Bool, true, false, List, [], ◌∷◌, ◌++◌, length, Option, Some, None, min, nat_lt, ◌&&◌, not, slice_get}
+use Rattle.std.specs.declared.time.Duration.{Duration}
+use Rattle.std.specs.Duration.{as_nanos}
 use Rattle.r2d2_core.specs.Picture.{Picture}
 use Rattle.r2d2.specs.declared.line.place.Place.{Place}
 use Rattle.r2d2.specs.declared.line.place.Standing.{Standing}
-use Rattle.r2d2.specs.declared.line.place.Standing.TheVariants.{Quiet, Told, Served}
+use Rattle.r2d2.specs.declared.line.place.Standing.TheVariants.{Quiet, Told, Aside}
 
 abbrev pub place : ℕ → Standing → Place
 place s standing = record { slot = s; standing = standing }
@@ -11,18 +13,18 @@ place s standing = record { slot = s; standing = standing }
 abbrev pub is_quiet : Standing → Bool
 is_quiet Quiet = true
 is_quiet Told = false
-is_quiet Served = false
+is_quiet Aside = false
 
 abbrev pub is_told : Standing → Bool
 is_told Quiet = false
 is_told Told = true
-is_told Served = false
+is_told Aside = false
 
 -- 1 for one who waits
 abbrev pub weight : Standing → ℕ
 weight Quiet = 1
 weight Told = 1
-weight Served = 0
+weight Aside = 0
 
 -- how many wait
 abbrev pub waiting_in : List Place → ℕ
@@ -113,7 +115,7 @@ stood_by None (Some s) ps = ps ++ place s Quiet ∷ []
 -- the same, where the one with this slot has a connection
 abbrev pub served : Option ℕ → List Place → List Place
 served None ps = ps
-served (Some s) ps = with_standing s Served ps
+served (Some s) ps = with_standing s Aside ps
 
 -- the same, where the one with this slot is gone, and passed on what it was told
 abbrev pub left_by : Option ℕ → List Place → List Place
@@ -132,3 +134,38 @@ is_kept p ps = nat_lt 0 (length p.idle) && not (nat_lt (waiting_in ps) (length p
 -- of those who wait the first ones, as many as connections are idle, were told to look
 abbrev pub AreTold : ℕ → List Place → Type 0
 AreTold idle ps = min idle (waiting_in ps) ≤ told_ahead ps
+
+-- WHOSE TIME IS OVER
+
+-- the time of a call is over at the moment t, of which this is the end, if any is known
+abbrev pub is_over : ℕ → Option Duration → Bool
+is_over t None = false
+is_over t (Some end) = not (nat_lt t (as_nanos end))
+
+-- one was told to look, and its time is over; each one's end stands at its slot
+abbrev pub is_late : ℕ → List Duration → Place → Bool
+is_late t ends p = is_told p.standing && is_over t (slice_get ends p.slot)
+
+-- the first late one, before all that were told nothing
+abbrev pub first_late : ℕ → List Duration → List Place → Option ℕ
+first_late t ends [] = None
+first_late t ends (p ∷ ps) =
+    if is_quiet p.standing then None else (if is_late t ends p then Some p.slot else first_late t ends ps)
+
+-- the line once this one is passed: it waits no more, and the first that was told nothing is told
+abbrev pub passed_by : Option ℕ → List Place → List Place
+passed_by None ps = ps
+passed_by (Some s) ps = told_first (with_standing s Aside ps)
+
+-- and the slot of the one who is told then
+abbrev pub told_instead : Option ℕ → List Place → Option ℕ
+told_instead None ps = None
+told_instead (Some s) ps = first_quiet (with_standing s Aside ps)
+
+-- the line once the first late one is passed, if one is; and once that was done so many times
+abbrev pub pass_first : ℕ → List Duration → List Place → List Place
+pass_first t ends ps = passed_by (first_late t ends ps) ps
+
+abbrev pub passed_late : ℕ → ℕ → List Duration → List Place → List Place
+passed_late zero t ends ps = ps
+passed_late (suc n) t ends ps = pass_first t ends (passed_late n t ends ps)

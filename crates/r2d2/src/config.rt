@@ -402,10 +402,10 @@ impl<
         self
     }
 
-    /// Whether a failed check tells of others: those that came back, or were opened, before the
-    /// connection that failed it did are then closed too, each as a caller comes to it, and not
-    /// checked. So where a server went away, a caller waits for one check, and not for one for each
-    /// idle connection. The default is false, as r2d2.
+    /// Whether a failed check tells of others: those that have been idle since before that check
+    /// began are then closed too, each as a caller comes to it, and not checked. So where a server
+    /// went away, a caller waits for one check, and not for one for each idle connection, whichever
+    /// is lent first. The default is false, as r2d2.
     pub fn distrust_idle(mut self, distrust_idle: bool) -> Self
         ensures { result ≡ self }
     {
@@ -462,8 +462,8 @@ impl<
     /// Callers wait in line, at most so many, and are served in the order in which they began to
     /// wait: what comes back is kept for the first of them, and no newcomer, nor `try_get`, takes
     /// it. One more than that gets `ErrorKind::Full`, as by `max_waiting`, which sets the same
-    /// number. A caller keeps its place until its connection passed its check. The default is no
-    /// line, as r2d2: who comes first to an idle connection has it.
+    /// number. A caller keeps its place until its connection passed its check, and is one of so many
+    /// until then. The default is no line, as r2d2: who comes first to an idle connection has it.
     ///
     /// The memory for the line is taken when the pool is built. It costs time where connections are
     /// held for a few microseconds only, and spares some callers very long waits where many wait.

@@ -69,7 +69,7 @@ pub enum ReleaseReason {
     Broken,
     /// Its check failed.
     CheckFailed,
-    /// It was idle for longer than one whose check failed: see `Builder::distrust_idle`.
+    /// It was idle as a check began that failed: see `Builder::distrust_idle`.
     Distrusted,
     /// It reached its lifetime.
     Lifetime,

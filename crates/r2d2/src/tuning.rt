@@ -1,7 +1,7 @@
 // The settings that r2d2 has not, each off by default: what a pool does in an outage, how the
 // lifetimes of its connections differ, and how many callers wait.
 ghost use Rattle.std.specs.Prelude.{◌≡◌, ◌≤◌, ◌<◌, ◌-◌, ◌*◌, ◌↔◌, ◌||◌, min, is_some};
-ghost use Rattle.std.specs.Prelude.{MatchOption};
+ghost use Rattle.std.specs.Prelude.{MatchOption, if◌then◌else◌};
 ghost use Rattle.std.specs.Option.{ForSome};
 ghost use Rattle.std.specs.Duration.{as_nanos, max_nanos};
 
@@ -77,6 +77,18 @@ impl Tuning {
         ensures { result ≡ (self.now.distrust_idle || is_some self.now.check_after_idle) }
     {
         self.distrust_idle || self.check_after_idle.is_some()
+    }
+
+    /// Since before which moment a connection has to be idle to be distrusted for a failed check
+    /// that began at this one: before the check's beginning, or, where that is off, before all.
+    pub fn distrusts_before(&self, began: Duration) -> Duration
+        ensures { as_nanos result ≡ (if self.now.distrust_idle then as_nanos began else 0) }
+    {
+        if self.distrust_idle {
+            began
+        } else {
+            Duration::ZERO
+        }
     }
 
     /// Whether what is idle since this moment is idle for long enough to be checked. A clock that

@@ -1,13 +1,13 @@
 -- Who was told to look is awake, after each change of the line.
 use Rattle.std.proofs.Common.{◌≡◌, ◌≢◌, ℕ, Bool, true, false, List, [], ◌∷◌, ◌++◌, Option, Some, None, ◌⊎◌, inl, inr, refl, sym, ◌∙◌, ap, subst, arith}
-use Rattle.std.specs.Prelude.{zero, suc, IfSome, IsSome, Vec, slice_index_or}
+use Rattle.std.specs.Prelude.{zero, suc, IfSome, IsSome, Vec, slice_index_or, is_some}
 use Rattle.std.proofs.lemmas.Option.{none-some}
 use Rattle.std.proofs.lemmas.Bool.{cases_eq}
 use Rattle.futures.specs.declared.task.waker.Waker.{Waker}
 use Rattle.r2d2.specs.declared.line.place.Place.{Place}
 use Rattle.r2d2.specs.declared.line.place.Standing.{Standing}
-use Rattle.r2d2.specs.declared.line.place.Standing.TheVariants.{Quiet, Told, Served}
-use Rattle.r2d2.specs.Waiting.{place, told_at, told_first, first_quiet, told_if, slot_if, without, with_standing, left_by, told_by}
+use Rattle.r2d2.specs.declared.line.place.Standing.TheVariants.{Quiet, Told, Aside}
+use Rattle.r2d2.specs.Waiting.{place, told_at, told_first, first_quiet, told_if, slot_if, without, with_standing, left_by, told_by, passed_by, told_instead}
 use Rattle.r2d2.specs.Lined.{looked_by}
 use Rattle.r2d2_async.specs.Wakers.{waker_at, AreAwake}
 
@@ -28,13 +28,13 @@ told_at-standing : (s x : ℕ) (t : Standing) (ps : List Place) → t ≢ Told �
 told_at-standing s x t [] other told = told
 told_at-standing s x Quiet (p ∷ ps) other told = grind (arith, told_at-standing s x Quiet ps)
 told_at-standing s x Told (p ∷ ps) other told = absurd (other refl)
-told_at-standing s x Served (p ∷ ps) other told = grind (arith, told_at-standing s x Served ps)
+told_at-standing s x Aside (p ∷ ps) other told = grind (arith, told_at-standing s x Aside ps)
 
 told_at-joined : (s x : ℕ) (ps : List Place) → told_at s (ps ++ place x Quiet ∷ []) ≡ true → told_at s ps ≡ true
 told_at-joined s x [] told = grind arith
 told_at-joined s x (p ∷ ps) told = grind (arith, told_at-joined s x ps)
 
-told_at-served : (x : ℕ) (ps : List Place) → told_at x (with_standing x Served ps) ≡ false
+told_at-served : (x : ℕ) (ps : List Place) → told_at x (with_standing x Aside ps) ≡ false
 told_at-served x [] = refl
 told_at-served x (p ∷ ps) = grind (arith, told_at-served x ps)
 
@@ -87,16 +87,35 @@ module _ {A : Type 0} where
   pub awake_looked : (found keeps : Bool) (o q : Option ℕ) (ps : List Place) (old : Vec (Option Waker) A) → AreAwake ps old
       → IfSome o (λ x. waker_at old x ≡ None) → AreAwake (looked_by found keeps o q ps) old
   awake_looked true true None q ps old awake none s told = awake s told
-  awake_looked true true (Some x) q ps old awake none s told = awake s (told_at-standing s x Served ps (λ e. absurd cc) told)
+  awake_looked true true (Some x) q ps old awake none s told = awake s (told_at-standing s x Aside ps (λ e. absurd cc) told)
   awake_looked true false None q ps old awake none s told = awake s told
   awake_looked true false (Some x) q ps old awake none s told =
-      let kept : AreAwake (with_standing x Served ps) old = λ i was. awake i (told_at-standing i x Served ps (λ e. absurd cc) was) in
-      let nobody : told_by (Some x) (with_standing x Served ps) ≡ None = ap (λ b. slot_if b (without x (with_standing x Served ps))) (told_at-served x ps) in
-      awake_left (Some x) (with_standing x Served ps) old old kept none
+      let kept : AreAwake (with_standing x Aside ps) old = λ i was. awake i (told_at-standing i x Aside ps (λ e. absurd cc) was) in
+      let nobody : told_by (Some x) (with_standing x Aside ps) ≡ None = ap (λ b. slot_if b (without x (with_standing x Aside ps))) (told_at-served x ps) in
+      awake_left (Some x) (with_standing x Aside ps) old old kept none
       (subst (λ t. IfSome t (λ i. waker_at old i ≡ None)) (sym nobody) tt) (λ i e. e) s told
   awake_looked false keeps (Some x) q ps old awake none s told = awake s (told_at-standing s x Quiet ps (λ e. absurd cc) told)
   awake_looked false keeps None None ps old awake none s told = awake s told
   awake_looked false keeps None (Some x) ps old awake none s told = awake s (told_at-joined s x ps told)
+
+  -- one is passed, and the next one told
+  awake_passed_by : (o : Option ℕ) (ps : List Place) (old new : Vec (Option Waker) A) → AreAwake ps old
+      → IfSome (told_instead o ps) (λ s. waker_at new s ≡ None) → ((s : ℕ) → waker_at old s ≡ None → waker_at new s ≡ None)
+      → AreAwake (passed_by o ps) new
+  awake_passed_by None ps old new awake woken stay s told = stay s (awake s told)
+  awake_passed_by (Some x) ps old new awake woken stay s told =
+      let kept : AreAwake (with_standing x Aside ps) old = λ i was. awake i (told_at-standing i x Aside ps (λ e. absurd cc) was) in
+      awake_told true (with_standing x Aside ps) old new kept woken stay s told
+
+  pub awake_none_passed : (o : Option ℕ) (ps qs : List Place) (old : Vec (Option Waker) A) → false ≡ is_some o → qs ≡ passed_by o ps → AreAwake ps old → AreAwake qs old
+  awake_none_passed None ps qs old none line awake = subst (λ rs. AreAwake rs old) (sym line) awake
+  awake_none_passed (Some x) ps qs old none line awake = absurd cc
+
+  pub awake_passed : (o : Option ℕ) (ps qs : List Place) (t : Option ℕ) (old new : Vec (Option Waker) A) → qs ≡ passed_by o ps → t ≡ told_instead o ps
+      → AreAwake ps old → IfSome t (λ s. waker_at new s ≡ None) → ((s : ℕ) → waker_at old s ≡ None → waker_at new s ≡ None) → AreAwake qs new
+  awake_passed o ps qs t old new line told awake woken stay =
+      subst (λ rs. AreAwake rs new) (sym line)
+      (awake_passed_by o ps old new awake (subst (λ v. IfSome v (λ s. waker_at new s ≡ None)) told woken) stay)
 
   pub awake_kept : (ps : List Place) (old new : Vec (Option Waker) A) → AreAwake ps old
       → ((s : ℕ) → waker_at old s ≡ None → waker_at new s ≡ None) → AreAwake ps new

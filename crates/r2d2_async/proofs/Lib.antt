@@ -1,2 +1,3 @@
 pub mod Awake
+pub mod Passing
 pub mod Needs

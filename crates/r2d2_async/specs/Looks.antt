@@ -12,6 +12,12 @@ module _ {T : Type 0} where
   is_found look.Closed = false
   is_found look.Full = false
 
+  -- there is no room in line
+  abbrev pub is_refused : Looked T → Bool
+  is_refused (look.Found id payload idle_since) = false
+  is_refused look.Closed = false
+  is_refused look.Full = true
+
   -- what it is lent, with its id
   abbrev pub pair_found : Looked T → Option (ℕ × T)
   pair_found (look.Found id payload idle_since) = Some (id, payload)

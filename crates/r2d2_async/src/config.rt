@@ -138,7 +138,7 @@ impl<H, V, Z> Builder<H, V, Z> {
 
     /// How many callers stand in line at most, waiting or with a connection under check. One more
     /// gets `ErrorKind::Full` at once, orders none, and no event tells of it. The default is 1,000.
-    /// The memory for the line is taken when the pool is built, some 30 bytes for each.
+    /// The memory for the line is taken when the pool is built, some 45 bytes for each.
     ///
     /// It may not be 0. The test for a number from outside: `callers > 0`.
     pub fn max_waiting(mut self, callers: u32) -> Self
@@ -235,8 +235,9 @@ impl<H, V, Z> Builder<H, V, Z> {
         self
     }
 
-    /// Whether a failed check tells of the connections that were idle for longer: they are then
-    /// closed too, each as a caller comes to it. The default is false.
+    /// Whether a failed check tells of the connections that were idle as it began: they are then
+    /// closed too, each as a caller comes to it. A check that was given up with its caller's time
+    /// has failed; one whose `Get` was dropped tells nothing. The default is false.
     pub fn distrust_idle(mut self, distrust_idle: bool) -> Self
         ensures { result ≡ self }
     {

@@ -25,6 +25,8 @@ pub struct Drain<M: ManageConnection, T: Timer, K: Hooks<M>, R: AsyncRuntime> {
     ticket: Ticket,
     // None once its time was over.
     sleep: Option<T::Sleep>,
+    // Whether it is counted among those who wait.
+    is_counted: bool,
 }
 
 impl<M: ManageConnection, T: Timer, K: Hooks<M>, R: AsyncRuntime> Drain<M, T, K, R> {
@@ -47,6 +49,7 @@ impl<M: ManageConnection, T: Timer, K: Hooks<M>, R: AsyncRuntime> Drain<M, T, K,
             shared,
             ticket,
             sleep,
+            is_counted: false,
         })
     }
 
@@ -88,14 +91,16 @@ impl<M: ManageConnection, T: Timer, K: Hooks<M>, R: AsyncRuntime> Future for Dra
         let Some(mut tasks) = lock(&shared.tasks) else {
             return cx.yield_now();
         };
-        let status = tasks.status();
-        if status.lent == 0 {
-            return Poll::Ready(Ok(()));
+        if tasks.lent() > 0 && !is_over {
+            tasks.count_drain(&mut self.is_counted);
+            return tasks.park_drain(cx, &shared.returned, self.ticket.key());
         }
-        if is_over {
+        tasks.uncount_drain(&mut self.is_counted);
+        let status = tasks.status();
+        if status.lent > 0 {
             return Poll::Ready(Err(status));
         }
-        tasks.park_drain(cx, &shared.returned, self.ticket.key())
+        Poll::Ready(Ok(()))
     }
 }
 
@@ -105,9 +110,13 @@ impl<M: ManageConnection, T: Timer, K: Hooks<M>, R: AsyncRuntime> Drop for Drain
             shared,
             ticket,
             sleep: _,
+            mut is_counted,
         } = self;
         match lock_or_give_up(&shared.tasks) {
-            Ok(mut tasks) => tasks.remove_drain(ticket),
+            Ok(mut tasks) => {
+                tasks.uncount_drain(&mut is_counted);
+                tasks.remove_drain(ticket)
+            }
             Err(gave_up) => ticket.abandon(gave_up),
         }
     }

@@ -26,7 +26,8 @@ use std::time::Duration;
 struct Checking<X: Extension, K> {
     id: u64,
     extensions: Extensions<X>,
-    idle_since: Option<Duration>,
+    // When it began.
+    began: Duration,
     check: K,
 }
 
@@ -47,6 +48,8 @@ type Output<M, T, K, R> = Result<PooledConnection<M, T, K, R>, Error>;
 ///
 /// It may be dropped at any time, and nothing is lost: it leaves the line, and where it was told to
 /// look the next caller is; a connection under check is closed, and told as one whose check failed.
+/// One that is neither polled nor dropped keeps its place in line, and what it was told of, until its
+/// timeout has passed; and a connection under check for as long as it is kept.
 pub struct Get<M: ManageConnection, T: Timer, K: Hooks<M>, R: AsyncRuntime> {
     // Moves to what is lent; None once it was ready.
     closer: Option<Arc<CloserOf<M, T, K, R>>>,
@@ -100,7 +103,7 @@ impl<M: ManageConnection, T: Timer, K: Hooks<M>, R: AsyncRuntime> Get<M, T, K, R
             Some(_) => None,
             None => shared.ahead_of(self.place),
         };
-        abandon::<M, T, K, R>(shared, &mut self.place, checking);
+        abandon::<M, T, K, R>(shared, &mut self.place, checking, true);
         Poll::Ready(Err(give_up::<M, T, K, R>(shared, self.timeout, self.start, ahead)))
     }
 
@@ -120,7 +123,7 @@ impl<M: ManageConnection, T: Timer, K: Hooks<M>, R: AsyncRuntime> Get<M, T, K, R
             Checking {
                 id,
                 extensions,
-                idle_since,
+                began,
                 mut check,
             },
         ) = self.checking.take()
@@ -133,7 +136,7 @@ impl<M: ManageConnection, T: Timer, K: Hooks<M>, R: AsyncRuntime> Get<M, T, K, R
                 self.checking = Some(Checking {
                     id,
                     extensions,
-                    idle_since,
+                    began,
                     check,
                 });
                 return Poll::Pending;
@@ -149,7 +152,7 @@ impl<M: ManageConnection, T: Timer, K: Hooks<M>, R: AsyncRuntime> Get<M, T, K, R
                 taken_at: None,
             })),
             (Err(error), Some(closer)) => {
-                close_unsound::<M, T, K, R>(&closer.shared, id, connection, error, idle_since);
+                close_unsound::<M, T, K, R>(&closer.shared, id, connection, error, began);
                 Poll::Ready(None)
             }
             (Err(_), None) => Poll::Ready(None),
@@ -179,14 +182,16 @@ impl<M: ManageConnection, T: Timer, K: Hooks<M>, R: AsyncRuntime> Get<M, T, K, R
         let (polled, now) = match lock(&shared.tasks) {
             Some(mut tasks) => {
                 let now = shared.moment();
-                let polled = tasks.poll_look(now, cx, &shared.told, &mut self.place, keeps_place);
+                let start = self.start.unwrap_or(now);
+                self.start = Some(start);
+                let end = start.saturating_add(self.timeout);
+                tasks.pass_late(now);
+                let place = &mut self.place;
+                let polled = tasks.poll_look(now, end, cx, &shared.told, place, keeps_place);
                 (polled, now)
             }
             None => return cx.yield_now(),
         };
-        if self.start.is_none() {
-            self.start = Some(now);
-        }
         let (id, payload, idle_since) = match ready!(polled) {
             Looked::Closed => return Poll::Ready(Err(Error::closed())),
             Looked::Full => return Poll::Ready(Err(Error::full())),
@@ -234,7 +239,7 @@ impl<M: ManageConnection, T: Timer, K: Hooks<M>, R: AsyncRuntime> Get<M, T, K, R
         self.checking = Some(Checking {
             id,
             extensions,
-            idle_since,
+            began: now,
             check,
         });
         None
@@ -301,16 +306,28 @@ impl<M: ManageConnection, T: Timer, K: Hooks<M>, R: AsyncRuntime> Get<M, T, K, R
     }
 }
 
-// Leaves the line, and gives up a check: its connection goes with it.
+// Leaves the line, and gives up a check: its connection goes with it. If its caller's time is over,
+// it tells of others as a failed one does.
 fn abandon<M: ManageConnection, T: Timer, K: Hooks<M>, R: AsyncRuntime>(
     shared: &SharedOf<M, T, K, R>,
     place: &mut Option<u32>,
     checking: Option<CheckingOf<M>>,
+    is_over: bool,
 ) {
     if let Some(checking) = checking {
-        let Checking { id, check, .. } = checking;
+        let Checking {
+            id,
+            began,
+            check,
+            ..
+        } = checking;
         drop(check);
-        if let Some(gone) = shared.fail_check(id, None, Duration::ZERO) {
+        let distrusted_before = if is_over {
+            shared.tuning.distrusts_before(began)
+        } else {
+            Duration::ZERO
+        };
+        if let Some(gone) = shared.fail_check(id, None, distrusted_before) {
             shared.hooks.gone(id, gone.age, ReleaseReason::CheckFailed);
         }
     }
@@ -334,20 +351,17 @@ fn give_up<M: ManageConnection, T: Timer, K: Hooks<M>, R: AsyncRuntime>(
     Error::timeout(shared.rt.alloc(), message, status, waited, ahead)
 }
 
-// Closes a connection whose check failed, and that was idle since this moment.
+// Closes a connection whose check failed, which began at this moment.
 fn close_unsound<M: ManageConnection, T: Timer, K: Hooks<M>, R: AsyncRuntime>(
     shared: &SharedOf<M, T, K, R>,
     id: u64,
     connection: M::Connection,
     error: M::Error,
-    idle_since: Option<Duration>,
+    began: Duration,
 ) {
     let text = text_of(shared.rt.alloc(), &error);
     shared.hooks.error(error);
-    let distrusted_before = match idle_since {
-        Some(since) if shared.tuning.distrust_idle => since,
-        _ => Duration::ZERO,
-    };
+    let distrusted_before = shared.tuning.distrusts_before(began);
     if let Some(gone) = shared.fail_check(id, text, distrusted_before) {
         let reason = ReleaseReason::CheckFailed;
         shared.hooks.release(id, gone.age, reason, connection);
@@ -393,7 +407,7 @@ impl<M: ManageConnection, T: Timer, K: Hooks<M>, R: AsyncRuntime> Drop for Get<M
             start: _,
         } = self;
         if let Some(closer) = closer {
-            abandon::<M, T, K, R>(&closer.shared, &mut place, checking);
+            abandon::<M, T, K, R>(&closer.shared, &mut place, checking, false);
         }
     }
 }

@@ -9,7 +9,7 @@ use crate::drain::Drain;
 use crate::get::Get;
 use crate::hooks::Hooks;
 use crate::lent::PooledConnection;
-use crate::shared::{CloserOf, PayloadOf, SharedOf};
+use crate::shared::{CloserOf, PayloadOf, SharedOf, Taken};
 use crate::work::Work;
 use crate::{AsyncRuntime, ManageConnection, Timer};
 use futures::spin::lock;
@@ -96,7 +96,8 @@ impl<M: ManageConnection, T: Timer, K: Hooks<M>, R: AsyncRuntime> Pool<M, T, K, 
     }
 
     /// Lends an idle connection that is not kept for those in line; None if there is none. It does
-    /// not wait, orders none, and makes no check. The error is lack of memory for a shared pointer,
+    /// not wait, orders none, and makes no check; one that a failed check distrusts is closed, and
+    /// the next one lent. The error is lack of memory for a shared pointer,
     /// and then nothing has changed.
     pub fn try_get(&self) -> Result<Option<PooledConnection<M, T, K, R>>, Error>
         ensures settings { IfOk result
@@ -105,23 +106,24 @@ impl<M: ManageConnection, T: Timer, K: Hooks<M>, R: AsyncRuntime> Pool<M, T, K, 
     {
         let closer = Arc::try_clone(&self.closer).map_err(|_| Error::memory())?;
         let shared = &closer.shared;
-        let (taken, now) = match lock(&shared.tasks) {
-            Some(mut tasks) => {
-                let now = shared.moment();
-                (tasks.try_take(now), now)
-            }
-            None => return Ok(None),
-        };
-        let Some((id, payload)) = taken else {
+        let Some(
+            Taken {
+                id,
+                payload,
+                at,
+                ..
+            },
+        ) = shared.take_trusted()
+        else {
             return Ok(None);
         };
         if shared.listens {
-            shared.hooks.check_out(id, now, now);
+            shared.hooks.check_out(id, at, at);
         }
         Ok(Some(PooledConnection {
             closer,
             id,
-            lent_at: now,
+            lent_at: at,
             payload,
         }))
     }

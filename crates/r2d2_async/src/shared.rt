@@ -53,6 +53,16 @@ pub struct Shared<P, M, T, K, R> {
 /// What a pool shares, whose payload is its manager's.
 pub type SharedOf<M, T, K, R> = Shared<PayloadOf<M>, M, T, K, R>;
 
+/// A connection that was taken without a wait.
+#[derive(Drop)]
+pub struct Taken<P> {
+    pub(crate) id: u64,
+    pub(crate) payload: P,
+    /// The moment of the take.
+    pub(crate) at: Duration,
+    pub(crate) idle_since: Option<Duration>,
+}
+
 /// A connection that came back and is closed.
 #[derive(Drop)]
 pub struct Closed<P> {
@@ -162,13 +172,28 @@ impl<P: Drop, M, T, K, R: Clock> Shared<P, M, T, K, R> {
         Some(lock(&self.tasks)?.ahead_of(place))
     }
 
-    /// Whether a check of a connection failed that was idle for less long than one that is idle
-    /// since this moment.
+    /// Whether a check failed that began after this moment, since when a connection is idle.
     pub(crate) fn is_distrusted(&self, idle_since: Option<Duration>) -> bool {
         match (idle_since, lock(&self.tasks)) {
             (Some(since), Some(tasks)) => tasks.is_distrusted(since),
             _ => false,
         }
+    }
+
+    /// Takes an idle connection for a caller who does not wait, where one is not kept for those in
+    /// line.
+    pub(crate) fn take_now(&self) -> Option<Taken<P>> {
+        let mut tasks = lock(&self.tasks)?;
+        let at = self.moment();
+        tasks.pass_late(at);
+        let idle_since = tasks.book().next_idle_since();
+        let (id, payload) = tasks.try_take(at)?;
+        Some(Taken {
+            id,
+            payload,
+            at,
+            idle_since,
+        })
     }
 
     /// Closes the book, wakes all who wait, and hands over what was idle.
@@ -191,11 +216,29 @@ fn no_status(max_size: u32) -> Status
         waiting: 0,
         failed_openings: 0,
         failed_checks: 0,
+        refused: 0,
         closed: true,
     }
 }
 
 impl<M: ManageConnection, T, K: Hooks<M>, R: AsyncRuntime> SharedOf<M, T, K, R> {
+    /// As `take_now`. One that is distrusted is closed, and it looks on: so it takes no more than
+    /// were idle when it began.
+    pub(crate) fn take_trusted(&self) -> Option<Taken<PayloadOf<M>>> {
+        if !self.tuning.distrust_idle {
+            return self.take_now();
+        }
+        for _ in 0..self.status().idle {
+            let taken = self.take_now()?;
+            if !self.is_distrusted(taken.idle_since) {
+                return Some(taken);
+            }
+            let Taken { id, payload, .. } = taken;
+            self.put_back(id, payload, Some(ReleaseReason::Distrusted));
+        }
+        None
+    }
+
     /// Puts a lent connection back, and releases it where it is closed.
     pub(crate) fn put_back(&self, id: u64, payload: PayloadOf<M>, unfit: Option<ReleaseReason>) {
         if let Some(

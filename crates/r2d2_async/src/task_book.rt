@@ -2,7 +2,7 @@
 // each of them.
 ghost use Rattle.std.specs.Prelude.{◌≡◌, ◌≢◌, ◌≤◌, ◌<◌, ◌↔◌, ℕ, [], length, true, false, None};
 ghost use Rattle.std.specs.Prelude.{IsSome, IsSomeAnd, IfSome, IfNone, IfOk, IsTrue, Some, vec_len};
-ghost use Rattle.std.specs.Prelude.{vec_capacity};
+ghost use Rattle.std.specs.Prelude.{vec_capacity, slice_get, is_some, if◌then◌else◌, min, ◌+◌, ◌-◌, ◌^◌};
 ghost use Rattle.futures.specs.Task.{Covers, Keeps};
 ghost use Rattle.futures.specs.Poll.{IfReady, OnPending};
 ghost use Rattle.r2d2.specs.Waiting.{told_at};
@@ -43,6 +43,8 @@ pub struct TaskBook<P> {
     guarded: Guarded<LinedBook<P, Uncounted>>,
     // By the slot of a caller in line: what wakes it. A waker wakes its task when it is dropped.
     wakers: Vec<Option<Waker>>,
+    // By the slot: when its time is over.
+    ends: Vec<Duration>,
     // Who waits for something to be ordered.
     workers: WaitList<()>,
     // Who waits until nothing is lent.
@@ -60,12 +62,14 @@ impl<P: Drop> TaskBook<P> {
     ghost use Rattle.r2d2.specs.declared.engine.Outcome.TheVariants as outcome;
     ghost use Rattle.r2d2.specs.Settled.{IsSettling, seen_settled, wakes_of_settled};
     ghost use Rattle.r2d2.specs.Wakes.{wakes_of_return};
-    ghost use Rattle.r2d2.specs.Status.{IsStatus};
+    ghost use Rattle.r2d2.specs.Status.{IsStatus, all_who_wait};
     ghost use Rattle.r2d2.specs.Evicted.{is_to_close, evicted_of, after_eviction};
-    ghost use Rattle.r2d2.specs.Waiting.{before, left_by, told_if, is_kept};
+    ghost use Rattle.r2d2.specs.Waiting.{before, left_by, told_if, is_kept, waiting_in};
+    ghost use Rattle.r2d2.specs.Waiting.{first_late, pass_first, passed_late};
     ghost use Rattle.r2d2_core.specs.Connections.{pair_of};
     ghost use Rattle.r2d2_core.specs.Table.{next_of};
-    ghost use Rattle.r2d2_async.specs.Looks.{is_found, pair_found, IsClosedLook, IsServed};
+    ghost use Rattle.r2d2_async.specs.Looks.{is_found, is_refused, pair_found, IsClosedLook, IsServed};
+    ghost use Rattle.r2d2.specs.Failed.{IsOneRefusalMore};
 
     /// A book for which nobody waits yet, with room for so many in line. The error is lack of
     /// memory: all that the line needs is taken here.
@@ -77,6 +81,7 @@ impl<P: Drop> TaskBook<P> {
         Ok(TaskBook {
             guarded,
             wakers: no_wakers(alloc, room)?,
+            ends: no_ends(alloc, room)?,
             workers: WaitList::new(alloc)?,
             drains: WaitList::new(alloc)?,
         })
@@ -95,6 +100,9 @@ impl<P: Drop> TaskBook<P> {
         ensures idle { result.idle ≡ length self.now.guarded.book.book.picture.idle }
         ensures lent { result.lent ≡ length self.now.guarded.book.book.picture.lent }
         ensures opening { result.opening ≡ self.now.guarded.book.book.picture.on_order.pending }
+        ensures waiting { result.waiting
+            ≡ all_who_wait self.now.guarded.waiting self.now.guarded.book.places }
+        ensures refused { result.refused ≡ self.now.guarded.failures.refused }
         ensures closed { result.closed ≡ self.now.guarded.book.book.picture.on_order.closed }
     {
         self.guarded.status()
@@ -115,7 +123,7 @@ impl<P: Drop> TaskBook<P> {
         book.connections() - book.idle()
     }
 
-    /// Whether a failed check tells of a connection that is idle since this moment.
+    /// Whether a check failed that began after this moment, since when a connection is idle.
     pub fn is_distrusted(&self, idle_since: Duration) -> bool {
         self.guarded.failures.tell_of(idle_since)
     }
@@ -140,14 +148,49 @@ impl<P: Drop> TaskBook<P> {
         }
     }
 
-    /// One poll of a caller who waits, at its place in line or nowhere yet. It takes where more are
-    /// idle than callers wait before it; else it sleeps in line, at the end or where it was.
+    /// Passes those in line who were told to look, and whose time was over before they did. So one
+    /// that is neither polled nor dropped keeps nothing any longer from those who came after it.
+    pub fn pass_late(&mut self, now: Duration)
+        ensures line { self.new.guarded.book.places
+            ≡ passed_late (waiting_in self.old.guarded.book.places) (as_nanos now)
+            self.old.ends.items self.old.guarded.book.places }
+        ensures book { self.new.guarded.book.book ≡ self.old.guarded.book.book }
+    {
+        for _ in 0..self.guarded.book.in_line() {
+            if !self.pass_one(now) {
+                break;
+            }
+        }
+    }
+
+    // Passes the first of them, and wakes the one who is told instead. Whether there was one.
+    fn pass_one(&mut self, now: Duration) -> bool
+        ensures whether { result ≡ is_some
+            (first_late (as_nanos now) self.old.ends.items self.old.guarded.book.places) }
+        ensures line { self.new.guarded.book.places ≡ pass_first (as_nanos now)
+            self.old.ends.items self.old.guarded.book.places }
+        ensures book { self.new.guarded.book.book ≡ self.old.guarded.book.book }
+        ensures ends { self.new.ends ≡ self.old.ends }
+    {
+        match self.guarded.book.pass_late(now, &self.ends) {
+            Some(to_wake) => {
+                wake(&mut self.wakers, &mut self.workers, to_wake);
+                true
+            }
+            None => false,
+        }
+    }
+
+    /// One poll of a caller who waits, at its place in line or nowhere yet, and whose time ends
+    /// then. It takes where more are idle than callers wait before it; else it sleeps in line, at
+    /// the end or where it was.
     ///
     /// Where it `keeps_place`, one that takes stays in line until it leaves, and is the first again
     /// if its connection is found unsound.
     pub fn poll_look(
         &mut self,
         now: Duration,
+        end: Duration,
         cx: &mut Context<'_>,
         source: &Source,
         place: &mut Option<u32>,
@@ -165,6 +208,8 @@ impl<P: Drop> TaskBook<P> {
             → self.old.guarded.book.book.picture.on_order.closed ≡ false
             → before place.old self.old.guarded.book.places
             < length self.old.guarded.book.book.picture.idle → IsServed result }
+        ensures refused { IfReady result (λ look. IsTrue (is_refused look)
+            → IsOneRefusalMore self.old.guarded.failures self.new.guarded.failures) }
         ensures closed { IfReady result
             (IsClosedLook self.old.guarded.book.book.picture.on_order.closed) }
         // Who sleeps stands in an open pool's line, and was told nothing; it left its waker there.
@@ -192,8 +237,14 @@ impl<P: Drop> TaskBook<P> {
                 payload: value,
                 idle_since,
             }),
-            Look::Full => Poll::Ready(Looked::Full),
-            Look::Stands(slot) => register(&mut self.wakers, cx, source, slot),
+            Look::Full => {
+                self.guarded.refuse();
+                Poll::Ready(Looked::Full)
+            }
+            Look::Stands(slot) => {
+                note(&mut self.ends, slot, end);
+                register(&mut self.wakers, cx, source, slot)
+            }
         }
     }
 
@@ -406,6 +457,36 @@ impl<P: Drop> TaskBook<P> {
         self.drains.insert(())
     }
 
+    /// A drain is counted among those who wait, from its first sleep on.
+    pub fn count_drain(&mut self, is_counted: &mut bool)
+        ensures counted { is_counted.new ≡ true }
+        ensures waiting { self.new.guarded.waiting ≡ (if is_counted.old
+            then self.old.guarded.waiting
+            else min (self.old.guarded.waiting + 1) (2 ^ 64 - 1)) }
+        ensures book { self.new.guarded.book ≡ self.old.guarded.book }
+        ensures wakers { self.new.wakers ≡ self.old.wakers }
+    {
+        if !*is_counted {
+            *is_counted = true;
+            self.guarded.begin_wait();
+        }
+    }
+
+    /// It waits no more.
+    pub fn uncount_drain(&mut self, is_counted: &mut bool)
+        ensures counted { is_counted.new ≡ false }
+        ensures waiting { self.new.guarded.waiting ≡ (if is_counted.old
+            then self.old.guarded.waiting - 1
+            else self.old.guarded.waiting) }
+        ensures book { self.new.guarded.book ≡ self.old.guarded.book }
+        ensures wakers { self.new.wakers ≡ self.old.wakers }
+    {
+        if *is_counted {
+            *is_counted = false;
+            self.guarded.end_wait();
+        }
+    }
+
     /// A drain sleeps until nothing is lent.
     pub fn park_drain<U>(&mut self, cx: &mut Context<'_>, source: &Source, key: usize) -> Poll<U>
         ensures pending { result ≡ Poll.Pending }
@@ -431,6 +512,27 @@ fn no_wakers(alloc: Global, room: u32) -> Result<Vec<Option<Waker>>, AllocError>
         wakers.push(None)?;
     }
     Ok(wakers)
+}
+
+// So many ends, none of which comes.
+fn no_ends(alloc: Global, room: u32) -> Result<Vec<Duration>, AllocError> {
+    let mut ends = Vec::with_capacity(alloc, room as usize)?;
+    for _ in 0..room {
+        ends.push(Duration::MAX)?;
+    }
+    Ok(ends)
+}
+
+// The time of the caller at this slot is over then.
+fn note(ends: &mut Vec<Duration>, slot: u32, end: Duration)
+    ensures noted { slot < length ends.old.items → slice_get ends.new.items slot ≡ Some end }
+    ensures others { (other : ℕ) → other ≢ slot
+        → slice_get ends.new.items other ≡ slice_get ends.old.items other }
+{
+    let index = slot as usize;
+    if index < ends.len() {
+        ends[index] = end;
+    }
 }
 
 // The slot of a caller in line, where it sleeps there.

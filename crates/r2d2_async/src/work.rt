@@ -55,6 +55,8 @@ pub struct Work<M: ManageConnection, T: Timer, K: Hooks<M>, R: AsyncRuntime> {
     opening: Option<Opening<M::Connect>>,
     // It is kept from poll to poll: a timer may wake whose sleep it drops.
     sleep: Option<Sleeping<T::Sleep>>,
+    // The latest moment that it saw: the clock may fail for one reading.
+    seen: Duration,
     expired: Vec<Released<PayloadOf<M>>>,
 }
 
@@ -77,6 +79,7 @@ impl<M: ManageConnection, T: Timer, K: Hooks<M>, R: AsyncRuntime> Work<M, T, K, 
             ticket,
             opening: None,
             sleep: None,
+            seen: Duration::ZERO,
             expired,
         })
     }
@@ -97,6 +100,7 @@ impl<M: ManageConnection, T: Timer, K: Hooks<M>, R: AsyncRuntime> Work<M, T, K, 
             return Next::Again;
         };
         let now = shared.moment();
+        self.seen = self.seen.max(now);
         match tasks.begin(now) {
             Job::Open { tries } => Next::Open(tries),
             Job::Reap => {
@@ -110,7 +114,7 @@ impl<M: ManageConnection, T: Timer, K: Hooks<M>, R: AsyncRuntime> Work<M, T, K, 
                 let _pending: Poll<()> = tasks.park_worker(cx, &shared.ordered, key);
                 Next::Sleep {
                     due,
-                    length: due.saturating_sub(now),
+                    length: due.saturating_sub(self.seen),
                 }
             }
             Job::Nothing => {
@@ -277,6 +281,7 @@ impl<M: ManageConnection, T: Timer, K: Hooks<M>, R: AsyncRuntime> Drop for Work<
             ticket,
             opening,
             sleep: _,
+            seen: _,
             expired: _,
         } = self;
         if let Some(Opening { tries, connect }) = opening {

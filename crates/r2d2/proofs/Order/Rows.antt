@@ -1,10 +1,11 @@
 -- Worked rows: what the definitions say of histories. A row's name says what it shows.
 use Rattle.std.proofs.Common.{◌≡◌, ℕ, ◌<◌, ◌≤◌, List, [], ◌∷◌, Some, None, refl, arith}
+use Rattle.std.specs.declared.time.Duration.{Duration}
 use Rattle.r2d2.specs.declared.line.place.Place.{Place}
-use Rattle.r2d2.specs.declared.line.place.Standing.TheVariants.{Quiet, Told, Served}
-use Rattle.r2d2.specs.Waiting.{place, copies_of}
-use Rattle.r2d2.specs.Order.{Event, Came, WasTold, WaitsOn, Took, Left, TookAtOnce, standing_in, came_in, IsInOrder, comings, services, IsHistoryOf}
-use Rattle.r2d2.proofs.Order.{began, came, was_told, took}
+use Rattle.r2d2.specs.declared.line.place.Standing.TheVariants.{Quiet, Told, Aside}
+use Rattle.r2d2.specs.Waiting.{place, copies_of, first_late}
+use Rattle.r2d2.specs.Order.{Event, Came, WasTold, WaitsOn, Took, Passed, Left, TookAtOnce, standing_in, came_in, IsInOrder, comings, services, IsHistoryOf}
+use Rattle.r2d2.proofs.Order.{began, came, was_told, passed, took}
 
 -- callers come at the slots 4, 2 and 7; the first is told, and takes
 abbrev three : List Event
@@ -23,7 +24,7 @@ who_came = refl
 who_was_served : services again_at_4 ≡ 4 ∷ 2 ∷ 7 ∷ []
 who_was_served = refl
 
-who_is_served_keeps_its_place : standing_in first_served 4 ≡ Some Served
+who_is_served_keeps_its_place : standing_in first_served 4 ≡ Some Aside
 who_is_served_keeps_its_place = refl
 
 who_left_is_gone : standing_in (Left 4 ∷ first_served) 4 ≡ None
@@ -31,6 +32,12 @@ who_left_is_gone = refl
 
 who_is_told_and_looks_in_vain_waits_to_be_told : standing_in (WaitsOn 4 ∷ WasTold 4 ∷ three) 4 ≡ Some Quiet
 who_is_told_and_looks_in_vain_waits_to_be_told = refl
+
+who_is_passed_keeps_its_place : standing_in (Passed 4 ∷ WasTold 4 ∷ three) 4 ≡ Some Aside
+who_is_passed_keeps_its_place = refl
+
+who_is_passed_and_looks_waits_to_be_told : standing_in (WaitsOn 4 ∷ Passed 4 ∷ WasTold 4 ∷ three) 4 ≡ Some Quiet
+who_is_passed_and_looks_waits_to_be_told = refl
 
 a_place_is_as_old_as_the_coming : came_in first_served 4 ≡ 1
 a_place_is_as_old_as_the_coming = refl
@@ -60,6 +67,25 @@ a_newcomer_takes_what_is_kept h =
 one_takes_that_was_not_told : IsInOrder (Took 4 1 ∷ Came 4 ∷ []) → ⊥
 one_takes_that_was_not_told h = h.1 refl
 
+one_is_passed_that_was_not_told : IsInOrder (Passed 4 ∷ Came 4 ∷ []) → ⊥
+one_is_passed_that_was_not_told h = let wrong : Some Quiet ≡ Some Told = h.0 in cc
+
+-- the time of the first is over at 7, of the second at 9; the third was told nothing
+abbrev seconds : ℕ → Duration
+seconds n = record { secs = n; nanos = 0 }
+
+abbrev ends : List Duration
+ends = seconds 9 ∷ seconds 7 ∷ seconds 0 ∷ []
+
+nobody_is_late_before_its_time : first_late 6_999_999_999 ends (place 1 Told ∷ place 0 Told ∷ []) ≡ None
+nobody_is_late_before_its_time = refl
+
+one_is_late_at_its_time : first_late 7_000_000_000 ends (place 0 Told ∷ place 1 Told ∷ []) ≡ Some 1
+one_is_late_at_its_time = refl
+
+who_was_told_nothing_is_not_late : first_late 9_000_000_000 ends (place 2 Quiet ∷ place 1 Told ∷ []) ≡ None
+who_was_told_nothing_is_not_late = refl
+
 -- WHAT CAN BE
 
 abbrev two_wait : List Place
@@ -72,7 +98,15 @@ the_second_is_told_after_the_first : IsHistoryOf (WasTold 2 ∷ WasTold 4 ∷ Ca
 the_second_is_told_after_the_first =
     was_told (WasTold 4 ∷ Came 2 ∷ Came 4 ∷ []) 2 (place 4 Told ∷ place 2 Quiet ∷ []) refl (was_told (Came 2 ∷ Came 4 ∷ []) 4 two_wait refl two_came)
 
-the_second_takes_where_two_are_idle : IsHistoryOf (Took 2 2 ∷ WasTold 2 ∷ WasTold 4 ∷ Came 2 ∷ Came 4 ∷ []) (place 4 Told ∷ place 2 Served ∷ [])
+the_second_takes_where_two_are_idle : IsHistoryOf (Took 2 2 ∷ WasTold 2 ∷ WasTold 4 ∷ Came 2 ∷ Came 4 ∷ []) (place 4 Told ∷ place 2 Aside ∷ [])
 the_second_takes_where_two_are_idle =
     let told : Some Told ≡ Some Quiet → ⊥ = λ w. cc in
     took (WasTold 2 ∷ WasTold 4 ∷ Came 2 ∷ Came 4 ∷ []) 2 2 (place 4 Told ∷ place 2 Told ∷ []) refl told (omega arith) the_second_is_told_after_the_first
+
+the_second_takes_where_the_first_is_passed : IsHistoryOf (Took 2 1 ∷ WasTold 2 ∷ Passed 4 ∷ WasTold 4 ∷ Came 2 ∷ Came 4 ∷ []) (place 4 Aside ∷ place 2 Aside ∷ [])
+the_second_takes_where_the_first_is_passed =
+    let one_told = was_told (Came 2 ∷ Came 4 ∷ []) 4 two_wait refl two_came in
+    let one_passed = passed (WasTold 4 ∷ Came 2 ∷ Came 4 ∷ []) 4 (place 4 Told ∷ place 2 Quiet ∷ []) refl one_told in
+    let two_told = was_told (Passed 4 ∷ WasTold 4 ∷ Came 2 ∷ Came 4 ∷ []) 2 (place 4 Aside ∷ place 2 Quiet ∷ []) refl one_passed in
+    let told : Some Told ≡ Some Quiet → ⊥ = λ w. cc in
+    took (WasTold 2 ∷ Passed 4 ∷ WasTold 4 ∷ Came 2 ∷ Came 4 ∷ []) 2 1 (place 4 Aside ∷ place 2 Told ∷ []) refl told (omega arith) two_told

@@ -1,17 +1,20 @@
 // A line of at most so many, whose memory is taken at its making.
 ghost use Rattle.std.specs.Prelude.{◌≡◌, ℕ, ◌+◌, ◌<◌, ◌≤◌, ◌++◌, ◌∷◌, ◌↔◌, [], length, IfOk, IfSome};
 ghost use Rattle.std.specs.Prelude.{IfNone, IsSome, IsTrue, vec_capacity, vec_len};
-ghost use Rattle.std.specs.Prelude.{List};
-ghost use Rattle.r2d2.specs.declared.line.place.Standing.TheVariants.{Quiet, Served};
+ghost use Rattle.std.specs.Prelude.{List, Some};
+ghost use Rattle.std.specs.Duration.{as_nanos};
+ghost use Rattle.r2d2.specs.declared.line.place.Standing.TheVariants.{Quiet, Told, Aside};
 ghost use Rattle.r2d2.specs.Waiting.{weight as weight_of, is_told, place, waiting_in, told_ahead};
 ghost use Rattle.r2d2.specs.Waiting.{ahead, index_of, told_at, weight_at, without, with_standing};
 ghost use Rattle.r2d2.specs.Waiting.{quiet_index, first_quiet, told_first, told_if, slot_if};
-ghost use Rattle.r2d2.specs.Waiting.{copies_in, copies_of};
-ghost use Rattle.r2d2.specs.Order.{Event, Came, WaitsOn, Took, Left, IsUntold, StandsIn};
+ghost use Rattle.r2d2.specs.Waiting.{copies_in, copies_of, is_over, is_late, first_late};
+ghost use Rattle.r2d2.specs.Order.{Event, Came, WaitsOn, Took, Left, Passed, IsUntold, StandsIn};
+ghost use Rattle.r2d2.specs.Order.{standing_in};
 ghost use Rattle.r2d2.specs.Order.{IsHistoryOf, with_told};
 
 use super::place::{Place, Standing};
 use std::alloc::{AllocError, Allocator, Global};
+use std::time::Duration;
 
 /// Who stands in line, in the order in which they came. It never grows past the room that it was
 /// made with.
@@ -106,13 +109,34 @@ impl<A: Allocator> Line<A> {
     /// leaves.
     pub fn serve(&mut self, slot: u32)
         ensures places { self.new.places.items
-            ≡ with_standing slot Served self.old.places.items }
+            ≡ with_standing slot Aside self.old.places.items }
         ensures history { (h : List Event) (idle : ℕ) → IsHistoryOf h self.old.places.items
             → StandsIn h slot → ¬ IsUntold h slot → ahead slot self.old.places.items < idle
             → IsHistoryOf (Took slot idle ∷ h) self.new.places.items }
         ensures free { self.new.free.items ≡ self.old.free.items }
     {
-        self.mark(slot, Standing::Served);
+        self.mark(slot, Standing::Aside);
+    }
+
+    /// The one with this slot, which was told to look, is passed: it waits no more, and keeps its
+    /// place until it looks or leaves.
+    pub fn pass(&mut self, slot: u32)
+        ensures places { self.new.places.items
+            ≡ with_standing slot Aside self.old.places.items }
+        ensures history { (h : List Event) → IsHistoryOf h self.old.places.items
+            → standing_in h slot ≡ Some Told
+            → IsHistoryOf (Passed slot ∷ h) self.new.places.items }
+        ensures free { self.new.free.items ≡ self.old.free.items }
+    {
+        self.mark(slot, Standing::Aside);
+    }
+
+    /// The first one that was told to look and whose time is over, before all that were told
+    /// nothing. Each one's end stands at its slot.
+    pub fn first_late(&self, now: Duration, ends: &[Duration]) -> Option<u32>
+        ensures { result ≡ first_late (as_nanos now) ends.now self.now.places.items }
+    {
+        first_late(&self.places, now, ends)
     }
 
     /// The one with this slot waits on, and waits to be told.
@@ -200,7 +224,7 @@ fn weight(standing: Standing) -> usize
 {
     match standing {
         Standing::Quiet | Standing::Told => 1,
-        Standing::Served => 0,
+        Standing::Aside => 0,
     }
 }
 
@@ -210,7 +234,7 @@ fn was_told(standing: Standing) -> bool
 {
     match standing {
         Standing::Told => true,
-        Standing::Quiet | Standing::Served => false,
+        Standing::Quiet | Standing::Aside => false,
     }
 }
 
@@ -250,4 +274,36 @@ fn ahead(places: &[Place], slot: u32) -> usize
         count += weight(place.standing);
     }
     count
+}
+
+// The first one that was told to look and whose time is over, before all that were told nothing.
+fn first_late(places: &[Place], now: Duration, ends: &[Duration]) -> Option<u32>
+    ensures { result ≡ first_late (as_nanos now) ends.now places.now }
+{
+    for place in places {
+        if place.standing == Standing::Quiet {
+            return None;
+        }
+        if is_late(*place, now, ends) {
+            return Some(place.slot);
+        }
+    }
+    None
+}
+
+// Whether one was told to look, and its time is over.
+fn is_late(place: Place, now: Duration, ends: &[Duration]) -> bool
+    ensures { result ≡ is_late (as_nanos now) ends.now place }
+{
+    was_told(place.standing) && is_over(now, ends.get(place.slot as usize).copied())
+}
+
+// Whether the time of a call is over, of which this is the end, if any is known.
+fn is_over(now: Duration, end: Option<Duration>) -> bool
+    ensures { result ≡ is_over (as_nanos now) end }
+{
+    match end {
+        Some(end) => now.checked_sub(end).is_some(),
+        None => false,
+    }
 }

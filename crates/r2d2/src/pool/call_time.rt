@@ -135,6 +135,13 @@ impl CallTime {
         self.step
     }
 
+    /// The latest moment that it saw.
+    pub(super) fn seen(&self) -> Duration
+        ensures { as_nanos result ≡ self.now.seen }
+    {
+        self.seen
+    }
+
     /// How long it has lasted.
     pub(super) fn waited(&self) -> Duration
         ensures { as_nanos result ≡ waited_of self.now }

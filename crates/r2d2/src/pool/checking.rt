@@ -57,29 +57,21 @@ impl<C: TakeTotal, M: ManageConnection, K: Hooks<M>, R: PoolRuntime> SharedOf<C,
         }
         if is_checked {
             if let Err(error) = self.manager.is_valid(&mut lent.payload.connection) {
-                self.close_unsound(lent, error, time.idle_since());
+                self.close_unsound(lent, error, time.step());
                 return None;
             }
         }
         Some(lent)
     }
 
-    // Closes a connection whose check failed, and that was idle since this moment.
-    fn close_unsound(
-        &self,
-        lent: Lent<PayloadOf<M>>,
-        error: M::Error,
-        idle_since: Option<Duration>,
-    ) {
+    // Closes a connection whose check failed, which began at this moment.
+    fn close_unsound(&self, lent: Lent<PayloadOf<M>>, error: M::Error, began: Duration) {
         // Modelled in model/waiting.pml: keep both alike.
         let text = text_of(self.rt.alloc(), &error);
         self.hooks.error(error);
         let Lent { id, payload } = lent;
         let Payload { connection, .. } = payload;
-        let distrusted_before = match idle_since {
-            Some(since) if self.tuning.distrust_idle => since,
-            _ => Duration::ZERO,
-        };
+        let distrusted_before = self.tuning.distrusts_before(began);
         let settled = self.step(|guarded, now| guarded.fail_check(
             now,
             id,
@@ -96,8 +88,7 @@ impl<C: TakeTotal, M: ManageConnection, K: Hooks<M>, R: PoolRuntime> SharedOf<C,
         }
     }
 
-    // Whether a check of a connection failed that was idle for less long than one that is idle
-    // since this moment.
+    // Whether a check failed that began after this moment, since when a connection is idle.
     fn is_distrusted(&self, idle_since: Option<Duration>) -> bool
         ensures unknown { IsNone idle_since → IsFalse result }
     {

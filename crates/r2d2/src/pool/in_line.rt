@@ -59,6 +59,7 @@ impl<P: Drop, C: TakeCounter, M, K, R: Clock + Wait + AllocGlobal> Shared<
                 }
                 Look::Stands(slot) => slot,
                 Look::Full => {
+                    guarded.refuse();
                     drop(guarded);
                     self.wake(to_wake);
                     return Err(Error::full());

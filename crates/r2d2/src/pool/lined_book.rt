@@ -2,6 +2,7 @@
 ghost use Rattle.std.specs.Prelude.{◌≡◌, ℕ, ◌+◌, ◌*◌, ◌<◌, ◌≤◌, ◌↔◌, [], length, map, vec_len};
 ghost use Rattle.std.specs.Prelude.{vec_capacity};
 ghost use Rattle.std.specs.Prelude.{IsTrue, IfOk, IfSome, None, false, true, List, ◌∷◌, option_map};
+ghost use Rattle.std.specs.Prelude.{is_some};
 ghost use Rattle.std.specs.Duration.{as_nanos};
 ghost use Rattle.r2d2_core.specs.Seen.{seen_take, Empty, seen_returned, seen_released, map_ok};
 ghost use Rattle.r2d2_core.specs.BookSteps.{IsTake, IsBegin, IsNumbering, IsReturn, IsReap};
@@ -11,9 +12,10 @@ ghost use Rattle.r2d2.specs.Wakes.{nobody, wakes_of_take, wakes_of_return, wakes
 ghost use Rattle.r2d2.specs.Settled.{seen_settled, wakes_of_settled, IsSettling};
 ghost use Rattle.r2d2.specs.Evicted.{evicted_of, after_eviction, IsEvicted};
 ghost use Rattle.r2d2.specs.Waiting.{waiting_in, before, stood_by, served, left_by, told_by};
-ghost use Rattle.r2d2.specs.Waiting.{told_if, slot_if, is_kept, told_at};
+ghost use Rattle.r2d2.specs.Waiting.{told_if, slot_if, is_kept, told_at, first_late, pass_first};
+ghost use Rattle.r2d2.specs.Waiting.{told_instead};
 ghost use Rattle.r2d2.specs.Order.{Event, TookAtOnce, IsHistoryOf, IsPlaceIn, with_told, with_take};
-ghost use Rattle.r2d2.specs.Order.{with_wait, with_leave};
+ghost use Rattle.r2d2.specs.Order.{with_wait, with_leave, with_pass};
 
 use crate::engine::{
     CountingBook, LedgerCounter, Outcome, Settled, TakeCounter, TakeTotal, Uncounted, Wakes,
@@ -286,6 +288,33 @@ impl<P, C: TakeTotal> LinedBook<P, C> {
         };
         self.line.wait_on(slot);
         Some(slot)
+    }
+
+    /// Passes the first in line that was told to look and whose time is over: it waits no more, and
+    /// the first that was told nothing is told. It keeps its place until it looks or leaves. Each
+    /// one's end stands at its slot. The answer is whom to wake; None where nobody is late.
+    pub fn pass_late(&mut self, now: Duration, ends: &[Duration]) -> Option<ToWake>
+        ensures whether { is_some result
+            ≡ is_some (first_late (as_nanos now) ends.now self.old.places) }
+        ensures line { self.new.places ≡ pass_first (as_nanos now) ends.now self.old.places }
+        ensures told { IfSome result (λ to_wake. to_wake.told
+            ≡ told_instead (first_late (as_nanos now) ends.now self.old.places) self.old.places) }
+        ensures wakes { IfSome result (λ to_wake. to_wake.wakes ≡ nobody) }
+        ensures history { (h : List Event) → IsHistoryOf h self.old.places
+            → IsHistoryOf (with_told
+            (told_instead (first_late (as_nanos now) ends.now self.old.places) self.old.places)
+            (with_pass (first_late (as_nanos now) ends.now self.old.places) h)) self.new.places }
+        ensures book { self.new.book ≡ self.old.book }
+        ensures total { self.new.total ≡ self.old.total }
+        ensures owed { self.new.owed ≡ self.old.owed }
+    {
+        let slot = self.line.first_late(now, ends)?;
+        self.line.pass(slot);
+        let told = self.line.tell_next();
+        Some(ToWake {
+            wakes: Wakes::nobody(),
+            told,
+        })
     }
 
     // The caller leaves the line. The answer is the slot of the one who is told in its stead.

@@ -1,6 +1,7 @@
 // The lock of a pool, and each step that is made under it.
 ghost use Rattle.std.specs.Prelude.{◌≡◌, ◌≤◌, ◌<◌, ◌+◌, ◌-◌, ◌*◌, ◌^◌, min, map, length, vec_len};
-ghost use Rattle.std.specs.Prelude.{vec_capacity, IfOk};
+ghost use Rattle.std.specs.Prelude.{vec_capacity, IfOk, IsTrue, false, ◌↔◌};
+ghost use Rattle.std.specs.Duration.{as_nanos, max_nanos};
 ghost use Rattle.r2d2_core.specs.Reports.{IsSoundReport};
 
 use super::failures::Failures;
@@ -25,6 +26,10 @@ const TURNS: u32 = 10;
 /// How many turns of a loop it lets the lock alone between two tries.
 const PAUSES: u32 = 40;
 
+/// How many nanoseconds a caller looks again at most. Where others want the processor, to let them
+/// run takes many times as long as a sleep and a wake.
+const PATIENCE: u128 = 200_000;
+
 /// What the lock guards: the book, with those who wait in line, how many others wait, which
 /// connections stay, and what failed.
 #[derive(Drop)]
@@ -35,13 +40,15 @@ pub struct Guarded<B> {
     waiting: u64,
     /// The least id that no eviction has reached: those below it are closed as they come back.
     evicted_below: u64,
+    /// Until this moment nobody looks again before it waits, since letting others run took long.
+    hurried_until: Duration,
     pub book: B,
     pub failures: Failures,
 }
 
 impl<B> Guarded<B> {
     ghost use Rattle.r2d2.specs.Wakes.{needed_wakes};
-    ghost use Rattle.r2d2.specs.Failed.{HaveNone};
+    ghost use Rattle.r2d2.specs.Failed.{HaveNone, IsOneRefusalMore};
     ghost use Rattle.r2d2.specs.Evicted.{is_evicted};
 
     /// A book for which nobody waits yet, and of which nothing was evicted.
@@ -49,28 +56,61 @@ impl<B> Guarded<B> {
         ensures book { result.book ≡ book }
         ensures waiting { result.waiting ≡ 0 }
         ensures evicted { result.evicted_below ≡ 0 }
+        ensures hurried { as_nanos result.hurried_until ≡ 0 }
         ensures failures { HaveNone result.failures }
     {
         Guarded {
             book,
             waiting: 0,
             evicted_below: 0,
+            hurried_until: Duration::ZERO,
             failures: Failures::none(),
         }
     }
 
     /// One caller more waits.
-    pub(super) fn begin_wait(&mut self)
+    pub fn begin_wait(&mut self)
         ensures { self.new ≡ record self.old { waiting = min (self.old.waiting + 1) (2 ^ 64 - 1) } }
     {
         self.waiting = self.waiting.saturating_add(1);
     }
 
     /// One caller less waits.
-    pub(super) fn end_wait(&mut self)
+    pub fn end_wait(&mut self)
         ensures { self.new ≡ record self.old { waiting = self.old.waiting - 1 } }
     {
         self.waiting = self.waiting.saturating_sub(1);
+    }
+
+    /// Whether a caller that finds all lent is to wait at once, rather than to look again.
+    pub(super) fn is_hurried(&self, now: Duration) -> bool
+        ensures { IsTrue result ↔ (as_nanos now < as_nanos self.now.hurried_until) }
+    {
+        now.as_nanos() < self.hurried_until.as_nanos()
+    }
+
+    /// Whether looks that began at the first moment have taken too long at the second. If so,
+    /// nobody looks again for a second.
+    pub(super) fn hurry_if_long(&mut self, begun: Duration, now: Duration) -> bool
+        ensures value { IsTrue result ↔ (PATIENCE ≤ as_nanos now - as_nanos begun) }
+        ensures hurried { IsTrue result
+            → as_nanos self.new.hurried_until ≡ min (as_nanos now + 1_000_000_000) max_nanos }
+        ensures calm { result ≡ false → self.new ≡ self.old }
+        ensures kept { self.new ≡ record self.old { hurried_until = self.new.hurried_until } }
+    {
+        let is_long = now.saturating_sub(begun).as_nanos() >= PATIENCE;
+        if is_long {
+            self.hurried_until = now.saturating_add(Duration::from_secs(1));
+        }
+        is_long
+    }
+
+    /// Another caller is refused, since as many wait as may.
+    pub fn refuse(&mut self)
+        ensures failures { IsOneRefusalMore self.old.failures self.new.failures }
+        ensures rest { self.new ≡ record self.old { failures = self.new.failures } }
+    {
+        self.failures.add_refusal();
     }
 
     // Whether an eviction reached the connection with this id.
@@ -95,11 +135,11 @@ impl<B> Guarded<B> {
 }
 
 impl<P, C: TakeTotal> Guarded<LinedBook<P, C>> {
-    ghost use Rattle.std.specs.Prelude.{IsTrue, IsFalse, IsSome, IfSome};
+    ghost use Rattle.std.specs.Prelude.{IsFalse, IsSome, IfSome};
     ghost use Rattle.std.specs.Option.{IsNone};
-    ghost use Rattle.std.specs.Duration.{as_nanos};
     ghost use Rattle.r2d2_core.specs.Connections.{birth_in};
     ghost use Rattle.r2d2_core.specs.Limits.{wanted_of};
+    ghost use Rattle.r2d2.specs.Failed.{IsOneRefusalMore};
     ghost use Rattle.r2d2.specs.Status.{IsStatus, all_who_wait, is_all_lent, is_full};
 
     /// The counts, with those of the callers who wait.
@@ -113,6 +153,7 @@ impl<P, C: TakeTotal> Guarded<LinedBook<P, C>> {
         ensures waiting { result.waiting ≡ all_who_wait self.now.waiting self.now.book.places }
         ensures openings { result.failed_openings ≡ self.now.failures.openings }
         ensures checks { result.failed_checks ≡ self.now.failures.checks }
+        ensures refused { result.refused ≡ self.now.failures.refused }
         ensures closed { result.closed ≡ self.now.book.book.picture.on_order.closed }
     {
         let waiting = self.waiting.saturating_add(self.book.in_line() as u64);
@@ -162,6 +203,21 @@ impl<P, C: TakeTotal> Guarded<LinedBook<P, C>> {
         book.idle() == 0 && book.connections() > 0 && !book.is_closed()
     }
 
+    /// Whether a caller would have to wait, where as many wait as may: then it counts as refused.
+    pub(super) fn is_refused(&mut self, max_waiting: Option<u32>) -> bool
+        ensures value { result ≡ is_full max_waiting self.old.waiting self.old.book.book.picture }
+        ensures counted { IsTrue result
+            → IsOneRefusalMore self.old.failures self.new.failures }
+        ensures passed { result ≡ false → self.new ≡ self.old }
+        ensures rest { self.new ≡ record self.old { failures = self.new.failures } }
+    {
+        let is_full = self.is_full(max_waiting);
+        if is_full {
+            self.refuse();
+        }
+        is_full
+    }
+
     /// Whether a caller would have to wait, where as many wait as may. Nobody else waits while the
     /// pool is open.
     pub(super) fn is_full(&self, max_waiting: Option<u32>) -> bool
@@ -176,7 +232,6 @@ impl<P, C: TakeTotal> Guarded<LinedBook<P, C>> {
 }
 
 impl<P, C: TakeTotal> Guarded<LinedBook<P, C>> {
-    ghost use Rattle.std.specs.Duration.{as_nanos};
     ghost use Rattle.r2d2_core.specs.Seen.{seen_returned, map_ok};
     ghost use Rattle.r2d2_core.specs.BookSteps.{IsReturn};
     ghost use Rattle.r2d2.specs.declared.engine.Outcome.TheVariants as outcome;
@@ -268,7 +323,6 @@ impl<P, C: TakeTotal> Guarded<LinedBook<P, C>> {
 }
 
 impl<P: Drop, C: TakeCounter> Guarded<LinedBook<P, C>> {
-    ghost use Rattle.std.specs.Duration.{as_nanos};
     ghost use Rattle.r2d2_core.specs.Seen.{seen_released};
     ghost use Rattle.r2d2.specs.Evicted.{evicted_of, after_eviction, IsEvicted};
 
@@ -326,7 +380,6 @@ pub type SharedOf<C, M, K, R> = Shared<LinedBook<PayloadOf<M>, C>, M, K, R>;
 
 impl<B, M, K, R> Shared<B, M, K, R> {
     ghost use Rattle.std.specs.Option.{IsNone};
-    ghost use Rattle.std.specs.Duration.{as_nanos};
 
     /// The time since the pool was made; zero where the clock can't be read.
     pub(super) fn moment(&self) -> Duration

@@ -54,6 +54,9 @@ pub struct Status {
     pub failed_openings: u64,
     /// How many checks failed so far.
     pub failed_checks: u64,
+    /// How many callers were refused so far, since as many waited as may: those that were told
+    /// `ErrorKind::Full`.
+    pub refused: u64,
     /// Whether it is closed: then nothing is idle, and nothing is opened.
     pub closed: bool,
 }
@@ -72,6 +75,7 @@ impl Status {
         ensures waiting { result.waiting ≡ waiting }
         ensures openings { result.failed_openings ≡ failures.now.openings }
         ensures checks { result.failed_checks ≡ failures.now.checks }
+        ensures refused { result.refused ≡ failures.now.refused }
         ensures closed { result.closed ≡ book.now.picture.on_order.closed }
     {
         let limits = book.limits();
@@ -86,6 +90,7 @@ impl Status {
             waiting,
             failed_openings: failures.openings,
             failed_checks: failures.checks,
+            refused: failures.refused,
             closed: book.is_closed(),
         }
     }

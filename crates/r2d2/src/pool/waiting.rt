@@ -57,7 +57,7 @@ impl<P: Drop, C: TakeCounter, M, K, R: Clock + Wait + AllocGlobal> Shared<
             return Ok(None);
         }
         if timeout.is_some() && guarded.book.book().idle() == 0 {
-            guarded = match self.look_before_wait(guarded) {
+            guarded = match self.look_before_wait(guarded, time) {
                 Some(guarded) => guarded,
                 None => return Err(Error::full()),
             };
@@ -94,7 +94,7 @@ impl<P: Drop, C: TakeCounter, M, K, R: Clock + Wait + AllocGlobal> Shared<
                 return Err(self.give_up(guarded, time.waited()));
             }
             // It is counted meanwhile, so that nobody else takes its place.
-            guarded = self.look_again(guarded);
+            guarded = self.look_again(guarded, self.moment());
             guarded.end_wait();
         }
         unreachable!()
@@ -111,41 +111,62 @@ impl<P: Drop, C: TakeTotal, M, K, R: Clock + Wait + AllocGlobal> Shared<LinedBoo
         if let Some(guarded) = self.guarded.try_lock() {
             return guarded;
         }
-        if !time.has_begun() {
-            time.look(self.moment());
-        }
+        self.begin(time);
         self.lock_in_turn()
     }
 
-    // Before a call waits for the first time, where none is idle: it looks again. None where as
-    // many wait as may.
+    // A call's time begins now, where it did not look at the clock before.
+    fn begin(&self, time: &mut CallTime)
+        ensures begun { IsSome time.new.start }
+        ensures once { IsSome time.old.start → time.new ≡ time.old }
+    {
+        if !time.has_begun() {
+            time.look(self.moment());
+        }
+    }
+
+    // Before a call waits for the first time, where none is idle: its time begins, and it looks
+    // again. None where as many wait as may.
     fn look_before_wait<'a>(
         &'a self,
         mut guarded: MutexGuard<'a, Guarded<LinedBook<P, C>>>,
-    ) -> Option<MutexGuard<'a, Guarded<LinedBook<P, C>>>> {
-        if guarded.is_full(self.tuning.max_waiting) {
+        time: &mut CallTime,
+    ) -> Option<MutexGuard<'a, Guarded<LinedBook<P, C>>>>
+        ensures begun { IsSome result → IsSome time.new.start }
+        ensures once { IsSome time.old.start → time.new ≡ time.old }
+    {
+        if guarded.is_refused(self.tuning.max_waiting) {
             return None;
         }
-        guarded = self.look_again(guarded);
-        if guarded.is_full(self.tuning.max_waiting) {
+        self.begin(time);
+        guarded = self.look_again(guarded, time.seen());
+        if guarded.is_refused(self.tuning.max_waiting) {
             return None;
         }
         Some(guarded)
     }
 
     // Where all are lent, lets the lock alone and looks again, a few times, for about as long as a
-    // sleep and a wake take. So who has a connection for no longer makes nobody sleep.
+    // sleep and a wake take. So who has a connection for no longer makes nobody sleep. The clock is
+    // read again after one look in four.
     fn look_again<'a>(
         &'a self,
         mut guarded: MutexGuard<'a, Guarded<LinedBook<P, C>>>,
+        begun: Duration,
     ) -> MutexGuard<'a, Guarded<LinedBook<P, C>>> {
-        for _ in 0..LOOKS {
+        if guarded.is_hurried(begun) {
+            return guarded;
+        }
+        for looks in 0..LOOKS {
             if !guarded.is_all_lent() {
                 break;
             }
             drop(guarded);
             pause();
             guarded = self.lock();
+            if looks % 4 == 0 && guarded.hurry_if_long(begun, self.moment()) {
+                break;
+            }
         }
         guarded
     }

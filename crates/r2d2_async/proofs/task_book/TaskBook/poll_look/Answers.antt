@@ -1,6 +1,8 @@
+use Rattle.std.proofs.Common.{ap}
+use Rattle.r2d2.specs.declared.pool.locking.Guarded.{Guarded}
 use Rattle.r2d2.specs.Lined.{is_found}
 use Rattle.r2d2_async.specs.Wakers.{AreAwake}
-use Rattle.r2d2_async.proofs.Awake.{awake_look, awake_registered}
+use Rattle.r2d2_async.proofs.Awake.{awake_look, awake_registered, awake_same}
 use Rattle.r2d2_async.proofs.task_book.TaskBook.poll_look.Goals as goal
 
 pub invariant_of-self-in-Found-1 : goal.invariant_of-self-in-Found-1
@@ -16,9 +18,12 @@ pub invariant_of-self-in-Full : goal.invariant_of-self-in-Full
 invariant_of-self-in-Full g c =
     let old = c.args.self.now in
     let look = c.look-look in
+    let awake : AreAwake look.new.self.places c.wake.new.wakers =
+    awake_look (is_found look.result.0) c.args.keeps_place c.args.place.now look.new.place old.guarded.book.places look.new.self.places
+    old.wakers c.wake.new.wakers look.ensures.line old.awake c.in_default.ensures.awake c.wake.ensures.others in
     record {
-      awake = awake_look (is_found look.result.0) c.args.keeps_place c.args.place.now look.new.place old.guarded.book.places look.new.self.places
-          old.wakers c.wake.new.wakers look.ensures.line old.awake c.in_default.ensures.awake c.wake.ensures.others;
+      awake = awake_same look.new.self.places c.refuse.new.self.book.places c.wake.new.wakers
+          (ap (λ (guarded : Guarded _). guarded.book.places) c.refuse.ensures.rest) awake;
     }
 
 pub invariant_of-self-in-Stands : goal.invariant_of-self-in-Stands

@@ -1,0 +1,35 @@
+use Rattle.std.proofs.Common.{◌≡◌, List, ◌∷◌, ℕ, Option, Some, length, sym, ◌∙◌, ap, subst}
+use Rattle.std.specs.Duration.{as_nanos}
+use Rattle.r2d2.specs.declared.line.place.Place.{Place}
+use Rattle.r2d2.specs.declared.line.place.Standing.TheVariants.{Aside}
+use Rattle.r2d2.specs.Waiting.{AreTold, told_first, with_standing, first_quiet, first_late, told_instead}
+use Rattle.r2d2.specs.Order.{Event, Passed, IsHistoryOf, with_told, with_pass}
+use Rattle.r2d2.proofs.Order.{late_in}
+use Rattle.r2d2.proofs.Waiting.{kept_passed}
+use Rattle.r2d2.proofs.pool.lined_book.LinedBook.pass_late.Goals as goal
+
+pub invariant_of-self : goal.invariant_of-self
+invariant_of-self g c =
+    let ps = c.self.inside.line.places.items in
+    let idle = length c.self.inside.book.book.picture.idle in
+    let s = c.in_ok-slot.slot in
+    let P : List Place → Type 0 = λ qs. AreTold idle qs in
+    let now : c.tell_next-told.new.self.places.items ≡ told_first (with_standing s Aside ps) = c.tell_next-told.ensures.places ∙ ap told_first c.pass.ensures.places in
+    subst P (sym now) (kept_passed idle s ps c.self.invariant)
+
+pub returns-clause-history : goal.returns-clause-history
+returns-clause-history g c =
+    let t = as_nanos c.args.now in
+    let ends = c.args.ends.now in
+    let ps = c.self.inside.line.places.items in
+    let s = c.in_ok-slot.slot in
+    let after = c.tell_next-told.new.self.places.items in
+    let late : first_late t ends ps ≡ Some s = sym c.in_ok-slot.ensures in
+    let who : c.tell_next-told.result ≡ first_quiet (with_standing s Aside ps) = c.tell_next-told.ensures.who ∙ ap first_quiet c.pass.ensures.places in
+    let passed : (h : List Event) → IsHistoryOf h ps → IsHistoryOf (with_told (told_instead (Some s) ps) (with_pass (Some s) h)) after =
+    λ h is. subst (λ o. IsHistoryOf (with_told o (Passed s ∷ h)) after) who
+    (c.tell_next-told.ensures.history (Passed s ∷ h) (c.pass.ensures.history h is (late_in h t s ends ps late is))) in
+    let here : (h : List Event) → IsHistoryOf h ps → IsHistoryOf (with_told (told_instead (first_late t ends ps) ps) (with_pass (first_late t ends ps) h)) after =
+    subst (λ (o : Option ℕ). (h : List Event) → IsHistoryOf h ps → IsHistoryOf (with_told (told_instead o ps) (with_pass o h)) after) (sym late) passed in
+    subst (λ v. (h : List Event) → IsHistoryOf h v.places
+    → IsHistoryOf (with_told (told_instead (first_late t ends v.places) v.places) (with_pass (first_late t ends v.places) h)) after) c.self.view_is here

@@ -1,0 +1,24 @@
+use Rattle.std.specs.Duration.{as_nanos}
+use Rattle.r2d2.specs.Waiting.{first_late}
+use Rattle.r2d2_async.proofs.Awake.{awake_passed, awake_none_passed}
+use Rattle.r2d2_async.proofs.task_book.TaskBook.pass_one.Goals as goal
+
+pub invariant_of-self : goal.invariant_of-self
+invariant_of-self g c =
+    let old = c.args.self.now in
+    let ps = old.guarded.book.places in
+    let step = c.pass_late in
+    record {
+      awake = awake_passed (first_late (as_nanos c.args.now) c.deref.result.now ps) ps step.new.self.places c.in-Some.to_wake.told old.wakers c.wake.new.wakers
+          step.ensures.line (c.in-Some.ensures.told) old.awake c.wake.ensures.told c.wake.ensures.others;
+    }
+
+pub invariant_of-self-in-None : goal.invariant_of-self-in-None
+invariant_of-self-in-None g c =
+    let old = c.args.self.now in
+    let ps = old.guarded.book.places in
+    let step = c.pass_late in
+    record {
+      awake = awake_none_passed (first_late (as_nanos c.args.now) c.deref.result.now ps) ps step.new.self.places old.wakers
+          c.in-None.ensures.whether step.ensures.line old.awake;
+    }
