@@ -4,9 +4,11 @@
 mod connection;
 mod error;
 mod manager;
+mod session;
 mod wire;
 
 pub use connection::RedisConnection;
 pub use error::RedisError;
 pub use manager::RedisConnectionManager;
+pub use session::Session;
 pub use wire::Reply;

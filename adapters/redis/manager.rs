@@ -1,10 +1,11 @@
 //! Opens connections to Redis, and checks them.
 
-ghost use Rattle.std.specs.Prelude.{◌<◌};
+ghost use Rattle.std.specs.Prelude.{◌≡◌, ◌≢◌, ◌<◌, ◌⊎◌, IsTrue};
 ghost use Rattle.std.specs.Duration.{as_nanos};
 
 use crate::connection::RedisConnection;
 use crate::error::RedisError;
+use crate::session::Session;
 use r2d2::ManageConnection;
 use std::alloc::AllocError;
 use std::io;
@@ -79,7 +80,15 @@ impl ManageConnection for RedisConnectionManager {
         connection.ping()
     }
 
-    fn has_broken(&self, connection: &mut RedisConnection) -> bool {
-        connection.is_broken()
+    /// A connection is closed, and not lent on, whose caller left a transaction, watched keys, a
+    /// subscription or a MONITOR. What else a session keeps, as SELECT does, stays.
+    fn has_broken(&self, connection: &mut RedisConnection) -> bool
+        ensures broken { IsTrue connection.old.is_broken → IsTrue result }
+        ensures changed { connection.old.session ≢ Session.Fresh → IsTrue result }
+        ensures kept { IsTrue result →
+            IsTrue connection.old.is_broken ⊎ (connection.old.session ≢ Session.Fresh) }
+        ensures same { connection.new ≡ connection.old }
+    {
+        connection.is_broken() || connection.session() != Session::Fresh
     }
 }

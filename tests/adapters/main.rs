@@ -1,12 +1,12 @@
 //! A service over a pool of connections to a real server, which lines on standard input drive
 //! (tools/try adapters). The words are `redis ADDRESS [PASSWORD]`, where `redis-unchecked` lends
-//! without a check, or `postgres ADDRESS USER [PASSWORD]`; with one word it writes itself to that
-//! place.
+//! without a check and `redis-unchecked-for-an-hour` without one of what came back within it, or
+//! `postgres ADDRESS USER [PASSWORD]`; with one word it writes itself to that place.
 #![tactic(auto)]
 
 mod service;
 
-use self::service::App;
+use self::service::{App, Checks};
 use postgres::PostgresConnectionManager;
 use r2d2::{ManageConnection, PoolRuntime};
 use redis::RedisConnectionManager;
@@ -30,19 +30,27 @@ fn main(rt: HostRuntime) -> Result<(), Fail> {
             Ok(())
         }
         [kind, address, rest @ ..] if kind.as_str().starts_with("redis") => {
-            let is_checked = kind.as_str() == "redis";
+            let checks = match kind.as_str() {
+                "redis-unchecked" => Checks::Never,
+                "redis-unchecked-for-an-hour" => Checks::AfterAnHour,
+                _ => Checks::Always,
+            };
             let manager = RedisConnectionManager::new(rt, address.as_str(), timeout)?;
             match rest {
-                [] => serve(rt, manager, is_checked),
-                [password, ..] => serve(rt, manager.with_password(password.as_str())?, is_checked),
+                [] => serve(rt, manager, checks),
+                [password, ..] => serve(rt, manager.with_password(password.as_str())?, checks),
             }
         }
         [_, address, user, rest @ ..] => {
             let (address, user) = (address.as_str(), user.as_str());
             let manager = PostgresConnectionManager::new(rt, address, user, "postgres", timeout)?;
             match rest {
-                [] => serve(rt, manager, true),
-                [password, ..] => serve(rt, manager.with_password(password.as_str())?, true),
+                [] => serve(rt, manager, Checks::Always),
+                [password, ..] => serve(
+                    rt,
+                    manager.with_password(password.as_str())?,
+                    Checks::Always,
+                ),
             }
         }
         _ => Ok(()),
@@ -52,12 +60,12 @@ fn main(rt: HostRuntime) -> Result<(), Fail> {
 fn serve<R: PoolRuntime + Print + Input, M: ManageConnection>(
     rt: R,
     manager: M,
-    is_checked: bool,
+    checks: Checks,
 ) -> Result<(), Fail>
 where
     M::Connection: service::Counting,
 {
-    let app = App::new(rt, manager, is_checked)?;
+    let app = App::new(rt, manager, checks)?;
     let mut threads = Vec::new(rt.alloc());
     for number in 0..THREADS {
         let app = app.try_clone()?;

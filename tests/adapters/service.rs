@@ -18,8 +18,12 @@ pub trait Counting {
     /// Sends it, and tells the count; None where that failed.
     fn add_one(&mut self, request: &str) -> Option<u64>;
 
-    /// Goes back to the pool in the middle of what another caller must not see.
-    fn leave_open(&mut self) -> bool;
+    /// Goes back to the pool in the middle of what another caller must not see: of a transaction,
+    /// or of what else is named.
+    fn leave_open(&mut self, what: &str) -> bool;
+
+    /// Counts in a transaction what no thread counts. Whether that was taken in.
+    fn transact(&mut self) -> bool;
 
     /// Whether a request that the server refuses is an error, and the next one is not.
     fn is_refused(&mut self) -> bool;
@@ -37,8 +41,21 @@ impl Counting for RedisConnection {
         }
     }
 
-    fn leave_open(&mut self) -> bool {
-        self.command(&["MULTI"]).is_ok() && self.command(&["INCR", "0"]).is_ok()
+    fn leave_open(&mut self, what: &str) -> bool {
+        match what {
+            "watch" => self.command(&["WATCH", "watched"]).is_ok(),
+            // The reply is a list, which is not understood.
+            "subscribe" => self.command(&["SUBSCRIBE", "news"]).is_err(),
+            "monitor" => self.command(&["MONITOR"]).is_ok(),
+            // The server takes words in capitals or not.
+            _ => self.command(&["Multi"]).is_ok() && self.command(&["INCR", "0"]).is_ok(),
+        }
+    }
+
+    fn transact(&mut self) -> bool {
+        let is_begun = self.command(&["MULTI"]).is_ok();
+        // The reply to EXEC is a list, which is not understood.
+        is_begun && self.command(&["INCR", "more"]).is_ok() && self.command(&["EXEC"]).is_err()
     }
 
     fn is_refused(&mut self) -> bool {
@@ -57,9 +74,13 @@ impl Counting for PostgresConnection {
         rows.as_slice().first()?.get(0)?.parse::<u64>().ok()
     }
 
-    fn leave_open(&mut self) -> bool {
+    fn leave_open(&mut self, _what: &str) -> bool {
         self.query("BEGIN; UPDATE counts SET n = n + 1 WHERE thread = 0")
             .is_ok()
+    }
+
+    fn transact(&mut self) -> bool {
+        self.query("BEGIN; SELECT 1; COMMIT").is_ok()
     }
 
     fn is_refused(&mut self) -> bool {
@@ -85,6 +106,15 @@ fn add_one(count: &AtomicU64) {
     count.fetch_add(1, Ordering::SeqCst);
 }
 
+/// When a connection is checked before it is lent.
+#[derive(Clone, Copy)]
+pub enum Checks {
+    Always,
+    /// Where it was idle for an hour.
+    AfterAnHour,
+    Never,
+}
+
 #[derive(Drop)]
 pub struct App<M: ManageConnection, R: PoolRuntime> {
     pool: PlainPool<M, R>,
@@ -96,10 +126,12 @@ impl<M: ManageConnection, R: PoolRuntime + Print> App<M, R>
 where
     M::Connection: Counting,
 {
-    pub fn new(rt: R, manager: M, is_checked: bool) -> Result<App<M, R>, Fail> {
+    pub fn new(rt: R, manager: M, checks: Checks) -> Result<App<M, R>, Fail> {
+        let hour = Duration::from_secs(3600);
         let pool = Builder::new()
             .max_size(4)
-            .test_on_check_out(is_checked)
+            .test_on_check_out(!matches!(checks, Checks::Never))
+            .check_after_idle(matches!(checks, Checks::AfterAnHour).then_some(hour))
             .connection_timeout(Duration::from_secs(10))
             .retry_at_most(Duration::from_millis(200))
             .build_unchecked(rt, manager)?;
@@ -203,7 +235,11 @@ where
             }
             "evict" => println!(self.rt; "= {}", self.pool.evict()?)?,
             "open" => match self.pool.get() {
-                Ok(mut connection) => println!(self.rt; "= {}", connection.leave_open())?,
+                Ok(mut connection) => println!(self.rt; "= {}", connection.leave_open(rest))?,
+                Err(error) => println!(self.rt; "= {error}")?,
+            },
+            "transact" => match self.pool.get() {
+                Ok(mut connection) => println!(self.rt; "= {}", connection.transact())?,
                 Err(error) => println!(self.rt; "= {error}")?,
             },
             "refuse" => match self.pool.get() {

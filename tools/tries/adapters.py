@@ -19,6 +19,8 @@ SERVERS = [Redis, Postgres]
 # The first programs, with what each stands on.
 FIRST = {"first_redis": "r2d2 redis anyhow", "first_postgres": "r2d2 postgres anyhow", "first_tokio": "r2d2_async tokio futures anyhow"}
 CONNECTIONS = 4
+# What a caller of Redis may leave to the next one.
+LEFT = ["multi", "watch", "subscribe", "monitor"]
 # The service's checks read no memory that has ended; it keeps what its threads have, which is no leak.
 SETTINGS = {"ASAN_OPTIONS": "detect_leaks=0"}
 
@@ -145,6 +147,8 @@ class Trial:
             if self.kind is Postgres:
                 self.try_logins()
             else:
+                for what in LEFT:
+                    self.try_left_unchecked(what)
                 self.try_silence()
                 self.try_password()
         finally:
@@ -171,7 +175,10 @@ class Trial:
         self.check("all is counted", (counts["done"], counts["failed"]) == (400, 0), counts)
         self.is_told_exactly("what is acknowledged is what the server counts", counts, self.server)
         self.has_what_the_pool_has(service, self.server)
+        names = self.server.names()
         self.check("a refusal is an error, and no more", service.ask("refuse") == "true")
+        service.goes(40)
+        self.check("ordinary answers close nothing", len(names & self.server.names()) == CONNECTIONS, names)
 
     def try_left_open(self, service):
         """A transaction that a caller left open reaches nobody."""
@@ -180,6 +187,23 @@ class Trial:
         counts = service.goes(40)
         self.check("nobody meets what was left open", counts["failed"] == 0 and counts["wrong"] == 0, counts)
         self.check("what was left open is not counted", self.server.total() == before + 40, (before, self.server.total()))
+
+    def try_left_unchecked(self, what):
+        """What a caller left reaches nobody, though no check comes before the next lending: the connection is closed as it comes
+        back."""
+        service = Service(self.program, "redis-unchecked-for-an-hour", self.server.port)
+        self.running.append(service)
+        service.goes(40)
+        self.check(f"{what} is left", service.ask(f"open {what}") == "true")
+        # So a transaction fails that begins where this is watched.
+        self.server.ask("SET", "watched", what)
+        self.server.ask("SET", "more", "0")
+        is_taken, more = service.ask("transact") == "true", self.server.ask("GET", "more")
+        self.check(f"a transaction after {what}", is_taken and more == b"1", (is_taken, more))
+        self.check(f"{what} is left again", service.ask(f"open {what}") == "true")
+        counts = service.goes(400)
+        self.check(f"answers after {what}", (counts["done"], counts["failed"], counts["wrong"]) == (440, 0, 0), counts)
+        self.check(f"the service after {what} ends", service.end() == 0)
 
     def try_killed_connections(self, service):
         service.begins(2000)

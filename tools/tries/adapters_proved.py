@@ -14,11 +14,18 @@ from tally import Tally
 CRATES = ["redis", "postgres", "first_redis", "first_postgres", "first_tokio"]
 # What they stand on, whose proofs this repository may have kept.
 BELOW = ["r2d2_core", "r2d2", "r2d2_async"]
+# What the redis manager asks at a return.
+HAS_BROKEN = "connection.is_broken() || connection.session() != Session::Fresh"
 # A function, a passage of its file, and what somebody could write in its place. The prover refuses each.
 REFUSED = [
     ("redis::connection::RedisConnection::new", "is_broken: false,", "is_broken: true,"),
     ("redis::connection::RedisConnection::is_broken", "{\n        self.is_broken\n", "{\n        let _ = self;\n        false\n"),
     ("redis::connection::RedisConnection::exchange", "self.is_broken = true;\n        self.wire", "self.wire"),
+    ("redis::connection::RedisConnection::command", "words.first()", "words.last()"),
+    ("redis::session::Session::after", "(_, Command::Exec, Said::Aborted | Said::Other)\n            | (_, Command::Discard", "(_, Command::Discard"),
+    ("redis::session::Said::of_refusal", 'b"EXECABORT "', 'b"E"'),
+    ("redis::session::is", "word.eq_ignore_ascii_case(name)", "word == name"),
+    ("redis::manager::RedisConnectionManagerManageConnection::has_broken", HAS_BROKEN, "{\n            let _ = connection;\n            false\n        }"),
     ("postgres::answer::Session::of", "Ok(Session::InFailedTransaction)", "Ok(Session::Broken)"),
     ("postgres::connection::PostgresConnection::session", "{\n        self.session\n", "{\n        let _ = self;\n        Session::Idle\n"),
     ("postgres::connection::PostgresConnection::exchange", "self.session = Session::Broken;\n", ""),
@@ -27,11 +34,12 @@ REFUSED = [
 # A file, such a passage, and the check that is to fail: the bodies of a list are made together.
 SEEN = [
     [
-        ("redis/manager", "connection.is_broken()", "{\n            let _ = connection;\n            false\n        }", "redis: each that did is closed"),
+        ("redis/manager", HAS_BROKEN, "connection.session() != Session::Fresh", "redis: each that did is closed"),
         ("postgres/manager", "!connection.end_transaction()", "connection.session() == crate::answer::Session::Broken", "postgres: nobody meets what was left open"),
         ("postgres/login", "!= proof.reply.as_str()", "== \"\"", "postgres: a server that does not know the password"),
     ],
     [
+        ("redis/manager", HAS_BROKEN, "connection.is_broken()", "redis: answers after multi"),
         ("redis/wire", "Ok(Answer::Refusal(String::from_str(self.alloc, rest)?))", "Ok(Answer::Reply(Reply::Nothing))", "redis: a refusal is an error, and no more"),
         ("postgres/answer", "refused = Some(PostgresError::Refused(wire.refusal()?))", "{}", "postgres: a refusal is an error, and no more"),
         ("postgres/connection", "self.session = answer.session;", "self.session = Session::Idle;", "postgres: what was left open is not counted"),
@@ -93,9 +101,10 @@ def try_proofs(mine, tally):
         with timed(f"the proof of {crate}"):
             status, said = checked(mine, crate)
         tally.check(f"{crate} is proved", status == 0 and "logic=proved" in said, said[-2000:])
-    with timed("the tests of postgres"):
-        status, said = Runs().run(["rt", "test"], cwd=os.path.join(mine, "crates", "postgres"))
-    tally.check("the tests of postgres", status == 0 and "test result: ok. 0 passed" not in said, said[-2000:])
+    for crate in ["redis", "postgres"]:
+        with timed(f"the tests of {crate}"):
+            status, said = Runs().run(["rt", "test"], cwd=os.path.join(mine, "crates", crate))
+        tally.check(f"the tests of {crate}", status == 0 and "test result: ok. 0 passed" not in said, said[-2000:])
 
 
 def try_refused(mine, tally):

@@ -3,6 +3,7 @@ import contextlib
 import glob
 import os
 import pwd
+import re
 import shutil
 import signal
 import socket
@@ -31,7 +32,8 @@ def within(seconds, holds):
 
 
 class Server:
-    """A server that counts. `total` is what it has counted, and `connections` how many others than this script's are at it."""
+    """A server that counts. `total` is what it has counted, `connections` how many others than this script's are at it, and `names`
+    its own names of all."""
 
     def __init__(self, folder):
         self.folder, self.port, self.process = folder, free_port(), None
@@ -90,6 +92,9 @@ class Redis(Server):
 
     def connections(self):
         return self.ask("CLIENT", "LIST", "TYPE", "normal").count(b"id=") - 1
+
+    def names(self):
+        return set(re.findall(rb"\bid=(\d+)", self.ask("CLIENT", "LIST", "TYPE", "normal")))
 
     def kill_connections(self):
         return int(self.ask("CLIENT", "KILL", "TYPE", "normal"))
@@ -174,6 +179,9 @@ class Postgres(Server):
 
     def connections(self):
         return int(self.ask("SELECT count(*) " + self.OTHERS))
+
+    def names(self):
+        return set(self.ask("SELECT pid " + self.OTHERS).split())
 
     def kill_connections(self):
         return int(self.ask("SELECT count(pg_terminate_backend(pid)) " + self.OTHERS))
