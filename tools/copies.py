@@ -16,6 +16,8 @@ import tempfile
 import threading
 import time
 
+import needed
+
 TOP = os.path.dirname(os.path.dirname(os.path.realpath(__file__)))
 TESTS = os.path.join(TOP, "tests")
 RT = os.environ.get("RT", "rt")
@@ -276,6 +278,9 @@ def raise_exit(number, _):
 @contextlib.contextmanager
 def copied():
     """A copy that is gone at the end, with all that was started in it, also where the script is stopped."""
+    lacking = needed.lacking(TOP, RT)
+    if lacking:
+        sys.exit(lacking)
     for number in (signal.SIGTERM, signal.SIGHUP):
         signal.signal(number, raise_exit)
     with tempfile.TemporaryDirectory(prefix="tests-") as folder:

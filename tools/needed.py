@@ -31,6 +31,19 @@ def missing(programs):
     return [it for it in programs if not is_there(it)]
 
 
+def lacking(top, rt="rt"):
+    """What keeps every tool from running in this folder, and what to do; None where nothing does."""
+    if not is_there(rt):
+        return "rt is missing: put the folder bin/ of the toolchain on the PATH"
+    if not is_there("git"):
+        return "git is missing. On Debian, as root: apt-get install git"
+    asked = subprocess.run(["git", "-C", top, "ls-files", "--error-unmatch", "crates.txt"], capture_output=True, text=True)
+    if asked.returncode != 0:
+        why = asked.stderr.strip().splitlines()[0]
+        return f"git, which tells the tools what belongs to the repository, does not read it as a clone of yours: {why}"
+    return None
+
+
 def packages(programs):
     return [package for program in programs for package in PACKAGES[program]]
 

@@ -3,6 +3,8 @@ import contextlib
 import importlib.machinery
 import importlib.util
 import os
+import shlex
+import shutil
 import subprocess
 import sys
 import tempfile
@@ -34,7 +36,7 @@ def machine(place, has_apt_get=True, is_root=True):
     """A machine with these programs alone, and packages of its own."""
     os.makedirs(os.path.join(place, "bin"))
     if has_apt_get:
-        put_program(APT_GET.format(place=place), os.path.join(place, "bin", "apt-get"))
+        put_program(APT_GET.format(place=shlex.quote(place)), os.path.join(place, "bin", "apt-get"))
     before, path = vars(needed).copy(), os.environ["PATH"]
     os.environ["PATH"] = os.path.join(place, "bin")
     needed.PACKAGES = {name: [name] for name in ("first", "second", "rare")}
@@ -86,6 +88,30 @@ def try_naming(top):
         check(f"with {what} it is named alone", len(said) == 1 and named(said, "first") and told == "", (said, told))
 
 
+@contextlib.contextmanager
+def path_of(folder):
+    before, os.environ["PATH"] = os.environ["PATH"], folder
+    try:
+        yield
+    finally:
+        os.environ["PATH"] = before
+
+
+def try_what_is_lacking(top):
+    """A path with no program, one without git, and a folder that is no clone."""
+    programs, git = os.path.join(top, "programs"), shutil.which("git")
+    os.makedirs(programs)
+    with path_of(programs):
+        check("without rt it says so", "rt is missing" in (needed.lacking(TOP) or ""))
+        done = subprocess.run([sys.executable, os.path.join(TOP, "prove")], capture_output=True, text=True)
+        check("and prove ends with that line", done.returncode == 1 and done.stderr == f"prove: {needed.lacking(TOP)}\n", done.stderr)
+        put_program("#!/bin/sh\n", os.path.join(programs, "rt"))
+        check("without git it says so", "git is missing" in (needed.lacking(TOP) or ""))
+        os.symlink(git, os.path.join(programs, "git"))
+        check("where nothing is lacking it says nothing", needed.lacking(TOP) is None, needed.lacking(TOP))
+        check("a folder that is no clone is told as such", "does not read it as a clone" in (needed.lacking(top) or ""), needed.lacking(top))
+
+
 def prove():
     """The script as a module."""
     loader = importlib.machinery.SourceFileLoader("prove", os.path.join(TOP, "prove"))
@@ -123,4 +149,5 @@ def tried():
         try_a_policy(top)
         try_naming(top)
         try_what_was_not_checked(top)
+        try_what_is_lacking(top)
     return TALLY
