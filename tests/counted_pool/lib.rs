@@ -69,6 +69,8 @@ mod scripts;
 #[cfg(test)]
 mod server;
 #[cfg(test)]
+mod since;
+#[cfg(test)]
 mod status;
 #[cfg(test)]
 mod stress;

@@ -56,6 +56,7 @@ fn a_call_that_is_late_after_a_check_tells_it_too(rt: HostRuntime) -> Result<(),
     assert_eq!(rt; error.waited(), Some(Duration::from_secs(CHECK)));
     let status = error.status().ok_or("no status")?;
     assert_eq!(rt; (status.idle, status.lent, status.failed_checks), (2, 0, 1));
+    assert_eq!(rt; (status.timeouts, place.pool.status().timeouts), (1, 1));
     Ok(())
 }
 

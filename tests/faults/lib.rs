@@ -43,4 +43,6 @@ mod scripts;
 #[cfg(test)]
 mod server;
 #[cfg(test)]
+mod since;
+#[cfg(test)]
 mod too_many;

@@ -3,7 +3,7 @@
 
 use crate::play::watched;
 use crate::server::{CHECK, Place};
-use r2d2::LendingOrder;
+use r2d2::{LendingOrder, PoolRuntime};
 use r2d2::event::ReleaseReason::{CheckFailed, Distrusted};
 use std::sync::atomic::Ordering;
 use std::test::Fail;
@@ -15,7 +15,7 @@ const ORDERS: [LendingOrder; 2] = [LendingOrder::NewestFirst, LendingOrder::Olde
 // How many of four connections a `try_get` checks at a second, that were given back at these
 // seconds, where each check fails: it finds none. The pool asks since when each was idle, whether it
 // distrusts or not.
-fn checked<R: r2d2::PoolRuntime>(
+fn checked<R: PoolRuntime>(
     rt: R,
     distrusts: bool,
     order: LendingOrder,
@@ -72,7 +72,7 @@ fn it_tells_nothing_of_those_that_came_back_later(rt: HostRuntime) -> Result<(),
 
 // How many of two connections a `try_get` checks at a second: one came back at 0, the newer one was
 // opened at 1 s, in the place of one that came back broken.
-fn checked_of_a_new_one<R: r2d2::PoolRuntime>(
+fn checked_of_a_new_one<R: PoolRuntime>(
     rt: R,
     order: LendingOrder,
     at: u64,
@@ -285,5 +285,61 @@ fn what_failed_is_counted(rt: HostRuntime) -> Result<(), Fail> {
     place.server.answers.store(0, Ordering::SeqCst);
     assert!(rt; place.pool.try_get()?.is_none());
     assert!(rt; place.pool.status().failed_checks >= 1);
+    Ok(())
+}
+
+// The moment of the latest failure, once so many openings and checks failed.
+fn latest_of<R: PoolRuntime>(place: &Place<R>, failed: u64) -> Option<Duration> {
+    for _ in 0..500 {
+        let status = place.pool.status();
+        if status.failed_openings + status.failed_checks >= failed {
+            break;
+        }
+        thread::sleep(&place.hand, Duration::from_millis(10));
+    }
+    place.pool.status().latest_failure
+}
+
+// A check begins at 20 s, and fails once it took its five seconds.
+#[test]
+fn a_status_tells_when_a_check_failed(rt: HostRuntime) -> Result<(), Fail> {
+    let place = Place::new(rt, 1, |settings| settings)?;
+    place.return_at(&[1])?;
+    assert_eq!(rt; latest_of(&place, 0), None);
+    place.hand.set(20, 0);
+    place.dies();
+    place.ends();
+    let lent = place.pool.get()?;
+    let failed = Some(Duration::from_secs(20 + CHECK));
+    assert_eq!(rt; latest_of(&place, 1), failed);
+    // Later steps do not fail.
+    place.hand.set(100, 0);
+    drop(lent);
+    drop(place.pool.get()?);
+    assert_eq!(rt; latest_of(&place, 1), failed);
+    Ok(())
+}
+
+// What comes back at 20 s is broken, and what is opened in its place is not answered.
+#[test]
+fn a_status_tells_when_an_opening_failed(rt: HostRuntime) -> Result<(), Fail> {
+    let place = Place::new(rt, 1, |settings| settings)?;
+    for (number, seconds) in [(0, 20), (2, 200)] {
+        assert!(rt; place.once_idle(1));
+        let lent = place.pool.get()?;
+        let before = place.pool.status();
+        place.hand.set(seconds, 0);
+        place.server.broken.store(number + 1, Ordering::SeqCst);
+        place.server.answers.store(0, Ordering::SeqCst);
+        drop(lent);
+        let failed = Some(Duration::from_secs(seconds));
+        assert_eq!(rt; latest_of(&place, before.failed_openings + 1), failed);
+        assert!(rt; before.latest_failure < failed);
+        // The clock moves past the delay of the next one, which does not fail.
+        place.ends();
+        place.hand.set(seconds + 100, 0);
+        assert!(rt; place.once_idle(1));
+        assert_eq!(rt; latest_of(&place, 0), failed);
+    }
     Ok(())
 }

@@ -173,3 +173,44 @@ fn who_had_to_wait_is_lent_one_after_its_take(rt: HostRuntime) -> Result<(), Fai
     }
     Ok(())
 }
+
+// Since when somebody waits, where a caller comes at 10 s by a clock that moves on by a second at
+// each reading. The only worker is at a second opening until the end.
+fn since<V: HandleEvent + 'static, R: PoolRuntime>(
+    rt: R,
+    settings: Settings<V, R>,
+) -> Result<Option<Duration>, Fail> {
+    let rows = Rows { unheld: 1, ..GOOD };
+    let (play, hand) = (Play::new(rt.alloc(), rows)?, Hand::new(rt)?);
+    let pool: Pool<_, _, _, _, Hand<R>> = settings
+        .max_size(2)
+        .thread_pool(1)
+        .make_unchecked(hand, Manager::new(rt, &play)?)?;
+    watched(&rt, play.connects(), 2, 1000);
+    let lent = pool.get()?;
+    let theirs = pool.try_clone()?;
+    hand.set(10, 1);
+    let caller = thread::spawn(&rt, move || waits(theirs))?;
+    for _ in 0..500 {
+        if pool.status().waiting == 1 {
+            break;
+        }
+        thread::sleep(&rt, Duration::from_millis(10));
+    }
+    let since = pool.status().waiting_since;
+    drop(lent);
+    let lent_at = caller.join(&rt);
+    play.let_go.store(1, Ordering::SeqCst);
+    match lent_at {
+        Some(_) => Ok(since),
+        None => Err(Fail::from("nothing was lent")),
+    }
+}
+
+#[test]
+fn who_waits_does_so_since_its_first_reading(rt: HostRuntime) -> Result<(), Fail> {
+    let began = Some(Duration::from_secs(10));
+    assert_eq!(rt; since(rt, silent())?, began);
+    assert_eq!(rt; since(rt, silent().event_handler(Deaf))?, began);
+    Ok(())
+}

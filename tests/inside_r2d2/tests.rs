@@ -102,9 +102,12 @@ fn both_lent() -> Status {
         lent: 2,
         opening: 0,
         waiting: 3,
+        waiting_since: Some(Duration::from_millis(2)),
         failed_openings: 4,
         failed_checks: 5,
         refused: 6,
+        timeouts: 7,
+        latest_failure: Some(Duration::from_millis(8)),
         closed: false,
     }
 }

@@ -97,6 +97,7 @@ fn a_build_that_gives_up_tells_what_there_is(rt: HostRuntime) -> Result<(), Fail
     assert_eq!(rt; (status.max_size, status.wanted), (5, 3));
     assert_eq!(rt; (status.connections, status.idle, status.waiting), (2, 2, 0));
     assert!(rt; status.failed_openings > 0 && !status.closed);
+    assert_eq!(rt; status.timeouts, 0);
     Ok(())
 }
 

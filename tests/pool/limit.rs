@@ -4,7 +4,7 @@ use crate::callers::watched;
 use crate::kind::{Makes, PlainPool};
 use crate::listening::Listener;
 use crate::managers::Sevens;
-use r2d2::{Builder, ErrorKind, PoolRuntime};
+use r2d2::{Builder, ErrorKind, PoolRuntime, Status};
 use std::sync::atomic::{AtomicU64, Ordering};
 use std::sync::{Arc, Mutex};
 use std::test::Fail;
@@ -79,7 +79,10 @@ fn refused_in<R: PoolRuntime>(
         }
     }
     let _none = pool.try_get()?;
-    let after = pool.status().refused;
+    let Status { refused: after, timeouts, .. } = pool.status();
+    if timeouts != 0 {
+        return Err(Fail::from("one gave up"));
+    }
     drop(lent);
     caller.join(&rt);
     Ok((before, after))

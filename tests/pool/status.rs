@@ -3,7 +3,7 @@
 use crate::callers::watched;
 use crate::kind::{Makes, PlainPool, PooledConnection};
 use crate::managers::Sevens;
-use r2d2::{Builder, PoolRuntime, Status};
+use r2d2::{Builder, ErrorKind, PoolRuntime, Status};
 use std::sync::Arc;
 use std::sync::atomic::{AtomicU64, Ordering};
 use std::test::Fail;
@@ -77,9 +77,12 @@ fn a_status_tells_what_there_is(rt: HostRuntime) -> Result<(), Fail> {
         lent: 3,
         opening: 0,
         waiting: 0,
+        waiting_since: None,
         failed_openings: 0,
         failed_checks: 0,
         refused: 0,
+        timeouts: 0,
+        latest_failure: None,
         closed: false,
     };
     assert_eq!(rt; pool.status(), all_lent);
@@ -122,6 +125,56 @@ fn who_gave_up_is_not_counted(rt: HostRuntime) -> Result<(), Fail> {
         assert!(rt; found.is_err());
         assert_eq!(rt; pool.status().waiting, 0);
     }
+    Ok(())
+}
+
+// Whether its time is over before it is served.
+fn gives_up<R: PoolRuntime>(pool: PlainPool<Sevens, R>) -> bool {
+    let found = pool.get_timeout(Duration::from_millis(50));
+    found.err().map(|error| error.kind()) == Some(ErrorKind::Timeout)
+}
+
+#[test]
+fn all_who_give_up_are_counted(rt: HostRuntime) -> Result<(), Fail> {
+    let pool = Builder::new().max_size(1).make(rt, Sevens)?;
+    let lent = pool.get()?;
+    let mut callers = Vec::new(rt.alloc());
+    for _ in 0..7 {
+        let one = pool.try_clone()?;
+        callers.push(thread::spawn(&rt, move || gives_up(one))?)?;
+    }
+    for caller in callers {
+        assert!(rt; caller.join(&rt));
+    }
+    let status = pool.status();
+    assert_eq!(rt; (status.timeouts, status.refused, status.waiting), (7, 0, 0));
+    // Neither one that does not wait, nor one that is served.
+    assert!(rt; pool.try_get()?.is_none());
+    drop(lent);
+    drop(pool.get()?);
+    assert_eq!(rt; pool.status().timeouts, 7);
+    Ok(())
+}
+
+#[test]
+fn who_gives_up_tells_of_itself_as_one_of_them(rt: HostRuntime) -> Result<(), Fail> {
+    let pool = Builder::new().max_size(1).make(rt, Sevens)?;
+    let _lent = pool.get()?;
+    for before in 0..3u64 {
+        assert_eq!(rt; pool.status().timeouts, before);
+        let error = pool.get_timeout(Duration::from_millis(5)).err();
+        let status = error.ok_or("a connection")?.status().ok_or("no status")?;
+        assert_eq!(rt; status.timeouts, before + 1);
+    }
+    Ok(())
+}
+
+#[test]
+fn a_drain_whose_time_is_over_counts_nobody(rt: HostRuntime) -> Result<(), Fail> {
+    let pool = Builder::new().max_size(1).make(rt, Sevens)?;
+    let _lent = pool.get()?;
+    let status = pool.drain(Duration::from_millis(5)).err().ok_or("drained")?;
+    assert_eq!(rt; (status.lent, status.timeouts, pool.status().timeouts), (1, 0, 0));
     Ok(())
 }
 

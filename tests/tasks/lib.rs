@@ -20,6 +20,8 @@ mod passing;
 #[cfg(test)]
 mod play;
 #[cfg(test)]
+mod since;
+#[cfg(test)]
 mod waiting;
 #[cfg(test)]
 mod working;

@@ -6,6 +6,7 @@ use crate::play::{Play, PoolOf, Told};
 use r2d2::event::ReleaseReason::{CheckFailed, Distrusted};
 use r2d2::{ErrorKind, LendingOrder};
 use r2d2_async::Builder;
+use std::sync::atomic::Ordering;
 use std::test::Fail;
 use std::thread;
 use std::time::Duration;
@@ -251,6 +252,41 @@ fn a_check_that_is_dropped_tells_of_nothing(rt: HostRuntime) -> Result<(), Fail>
     let lent = get.run().ok_or("pending")??;
     assert_eq!(rt; (lent.number, play.checked()), (1, 2));
     assert_eq!(rt; pool.status().failed_checks, 1);
+    Ok(())
+}
+
+// A check fails 5 ms after it began, and later an opening does, at the first poll of it.
+#[test]
+fn a_status_tells_when_something_failed_last(rt: HostRuntime) -> Result<(), Fail> {
+    let play = Play::new(rt)?;
+    let pool = all_idle(play, 1, of_size(1))?;
+    let mut work = Hand::of(rt, pool.work()?)?;
+    assert_eq!(rt; pool.status().latest_failure, None);
+    play.checks.hang(true);
+    let mut get = Hand::of(rt, pool.get()?)?;
+    assert!(rt; get.poll().is_none());
+    play.pass(5);
+    play.checks.hang(false);
+    play.checks.fail(true);
+    assert!(rt; get.run().is_none());
+    let failed = Some(pool.moment());
+    assert_eq!(rt; (pool.status().latest_failure, pool.status().failed_checks), (failed, 1));
+    play.checks.fail(false);
+    play.pass(100);
+    assert!(rt; work.run().is_none());
+    let lent = get.run().ok_or("pending")??;
+    assert_eq!(rt; pool.status().latest_failure, failed);
+    play.openings.fail(true);
+    play.breaks.store(true, Ordering::SeqCst);
+    drop(lent);
+    play.pass(10);
+    assert!(rt; work.run().is_none());
+    let failed = Some(pool.moment());
+    assert_eq!(rt; (pool.status().latest_failure, pool.status().failed_openings), (failed, 1));
+    play.openings.fail(false);
+    play.pass(1_000);
+    assert!(rt; work.run().is_none());
+    assert_eq!(rt; (pool.status().idle, pool.status().latest_failure), (1, failed));
     Ok(())
 }
 

@@ -8,16 +8,16 @@ use r2d2_async::Builder;
 use std::test::Fail;
 use std::time::Duration;
 
-// A pool of one connection, which is checked at each lending if so wanted.
-fn of_one(is_checked: bool) -> Builder {
+/// A pool of one connection, which is checked at each lending if so wanted.
+pub(crate) fn of_one(is_checked: bool) -> Builder {
     Builder::new()
         .max_size(1)
         .min_idle(Some(0))
         .test_on_check_out(is_checked)
 }
 
-// The worker opens a connection, and the test has it.
-fn first_lent(
+/// The worker opens a connection, and the test has it.
+pub(crate) fn first_lent(
     pool: &PoolOf,
     work: &mut Hand<WorkOf>,
     get: &mut Hand<GetOf>,
@@ -114,7 +114,7 @@ fn one_too_many_is_refused_at_once(rt: HostRuntime) -> Result<(), Fail> {
         let error = third.run().ok_or("pending")?.err().ok_or("a connection")?;
         assert_eq!(rt; error.kind(), ErrorKind::Full);
     }
-    assert_eq!(rt; pool.status().refused, 1_000);
+    assert_eq!(rt; (pool.status().refused, pool.status().timeouts), (1_000, 0));
     assert!(rt; play.went(&[]));
     // A place that was left is free again.
     drop(second);
@@ -194,6 +194,31 @@ fn one_whose_time_runs_out(rt: HostRuntime) -> Result<(), Fail> {
     Ok(())
 }
 
+// Seven callers give up, one after the other, and one is dropped.
+#[test]
+fn all_who_give_up_are_counted(rt: HostRuntime) -> Result<(), Fail> {
+    let play = Play::new(rt)?;
+    let pool = play.pool(of_one(false))?;
+    let mut line = Vec::new(rt.alloc());
+    for _ in 0..8 {
+        let mut get = Hand::of(rt, pool.get_timeout(Duration::from_millis(70))?)?;
+        assert!(rt; get.run().is_none());
+        line.push(get)?;
+    }
+    play.pass(70);
+    drop(line.pop());
+    for (late, before) in line.into_iter().zip(0..7u64) {
+        let mut late = late;
+        assert_eq!(rt; pool.status().timeouts, before);
+        let error = late.run().ok_or("pending")?.err().ok_or("a connection")?;
+        assert_eq!(rt; error.kind(), ErrorKind::Timeout);
+        assert_eq!(rt; error.status().ok_or("no status")?.timeouts, before + 1);
+    }
+    let status = pool.status();
+    assert_eq!(rt; (status.timeouts, status.refused, status.waiting), (7, 0, 0));
+    Ok(())
+}
+
 #[test]
 fn who_gives_up_tells_how_many_waited_before_it(rt: HostRuntime) -> Result<(), Fail> {
     let play = Play::new(rt)?;
@@ -229,6 +254,7 @@ fn one_whose_time_runs_out_as_it_is_told(rt: HostRuntime) -> Result<(), Fail> {
     assert_eq!(rt; error.kind(), ErrorKind::Timeout);
     // Its check took the rest of its time, and not who came before it.
     assert_eq!(rt; error.ahead(), None);
+    assert_eq!(rt; error.status().ok_or("no status")?.timeouts, 1);
     assert_eq!(rt; (play.opened(), play.dropped()), (1, 1));
     play.checks.hang(false);
     assert!(rt; next.is_woken() && next.run().is_none());
@@ -306,6 +332,7 @@ fn a_drain_whose_time_is_over(rt: HostRuntime) -> Result<(), Fail> {
     play.pass(50);
     let status = drain.run().ok_or("pending")?.err().ok_or("drained")?;
     assert_eq!(rt; (status.lent, status.closed), (1, true));
+    assert_eq!(rt; (status.timeouts, pool.status().timeouts), (0, 0));
     drop(lent);
     let mut drain = Hand::of(rt, pool.drain(Duration::ZERO)?)?;
     assert!(rt; drain.run().ok_or("pending")?.is_ok());

@@ -16,3 +16,4 @@ pub mod Waiting
 pub mod Lined
 pub mod Order
 pub mod Standing
+pub mod Since

@@ -1,5 +1,5 @@
 -- What a pool promises of each status that it shows.
-use Rattle.std.specs.Prelude.{◌≡◌, ℕ, ◌+◌, ◌-◌, ◌^◌, min, List, length, not, ◌&&◌, Bool, false, nat_eq, nat_lt, Option, Some, None}
+use Rattle.std.specs.Prelude.{◌≡◌, ◌↔◌, ◌<◌, ℕ, ◌+◌, ◌-◌, ◌^◌, min, List, length, not, ◌&&◌, Bool, false, nat_eq, nat_lt, Option, Some, None, IsSome}
 use Rattle.r2d2_core.specs.Sums.{FitsIn, IsReplenished}
 use Rattle.r2d2_core.specs.Picture.{Picture}
 use Rattle.r2d2.specs.declared.pool.state.Status.{Status}
@@ -13,6 +13,8 @@ pub record IsStatus (s : Status) : Type 0 where
   pub fits : FitsIn s.max_size s.connections s.opening
   -- unless closed, what is idle and being opened reaches what is wanted, or there is no more room
   pub replenished : IsReplenished s.wanted s.max_size s.idle s.connections s.opening s.closed
+  -- it is known since when somebody waits, exactly where somebody does
+  pub since : IsSome s.waiting_since ↔ (0 < s.waiting)
 
 -- nothing is idle, and something is to come back
 abbrev pub is_all_lent : {T : Type 0} → Picture T → Bool

@@ -37,6 +37,7 @@ mod hooks;
 #[doc(hidden)]
 pub mod internals;
 mod line;
+mod observe;
 mod payload;
 mod pool;
 mod tuning;
@@ -45,6 +46,7 @@ pub use config::{Builder, Config};
 pub use error::{Error, ErrorKind};
 pub use event::{HandleEvent, NopEventHandler};
 pub use extensions::{Extension, Extensions};
+pub use observe::Observe;
 pub use pool::{
     CountedConnection, CountedPool, PlainPool, Pool, PoolRuntime, PooledConnection, State, Status,
 };

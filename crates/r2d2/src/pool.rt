@@ -42,8 +42,10 @@ mod lending;
 mod lent;
 mod lined_book;
 mod locking;
+mod observing;
 mod returning;
 mod state;
+mod waiters;
 mod waiting;
 mod worker;
 

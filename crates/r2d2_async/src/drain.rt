@@ -25,6 +25,8 @@ pub struct Drain<M: ManageConnection, T: Timer, K: Hooks<M>, R: AsyncRuntime> {
     ticket: Ticket,
     // None once its time was over.
     sleep: Option<T::Sleep>,
+    // When it was made: it waits since then.
+    start: Duration,
     // Whether it is counted among those who wait.
     is_counted: bool,
 }
@@ -37,6 +39,7 @@ impl<M: ManageConnection, T: Timer, K: Hooks<M>, R: AsyncRuntime> Drain<M, T, K,
     ) -> Result<Drain<M, T, K, R>, Error>
         ensures { IfOk result (λ drain. IfSome drain.sleep T.Sleep.can_poll) }
     {
+        let start = shared.moment();
         let added = match lock(&shared.tasks) {
             Some(mut tasks) => tasks.add_drain(),
             None => return Err(Error::memory()),
@@ -49,6 +52,7 @@ impl<M: ManageConnection, T: Timer, K: Hooks<M>, R: AsyncRuntime> Drain<M, T, K,
             shared,
             ticket,
             sleep,
+            start,
             is_counted: false,
         })
     }
@@ -92,7 +96,7 @@ impl<M: ManageConnection, T: Timer, K: Hooks<M>, R: AsyncRuntime> Future for Dra
             return cx.yield_now();
         };
         if tasks.lent() > 0 && !is_over {
-            tasks.count_drain(&mut self.is_counted);
+            tasks.count_drain(self.start, &mut self.is_counted);
             return tasks.park_drain(cx, &shared.returned, self.ticket.key());
         }
         tasks.uncount_drain(&mut self.is_counted);
@@ -110,6 +114,7 @@ impl<M: ManageConnection, T: Timer, K: Hooks<M>, R: AsyncRuntime> Drop for Drain
             shared,
             ticket,
             sleep: _,
+            start: _,
             mut is_counted,
         } = self;
         match lock_or_give_up(&shared.tasks) {

@@ -9,7 +9,7 @@ ghost use Rattle.r2d2_async.specs.Sources.{told_of, settings_of};
 use crate::hooks::Hooks;
 use crate::lent::PooledConnection;
 use crate::shared::{CloserOf, PayloadOf, SharedOf};
-use crate::task_book::Looked;
+use crate::task_book::{CallSpan, Looked};
 use crate::{AsyncRuntime, ManageConnection, Timer};
 use futures::spin::lock;
 use futures::task::{Context, Poll};
@@ -187,7 +187,8 @@ impl<M: ManageConnection, T: Timer, K: Hooks<M>, R: AsyncRuntime> Get<M, T, K, R
                 let end = start.saturating_add(self.timeout);
                 tasks.pass_late(now);
                 let place = &mut self.place;
-                let polled = tasks.poll_look(now, end, cx, &shared.told, place, keeps_place);
+                let call = CallSpan { start, end };
+                let polled = tasks.poll_look(now, call, cx, &shared.told, place, keeps_place);
                 (polled, now)
             }
             None => return cx.yield_now(),
@@ -345,7 +346,7 @@ fn give_up<M: ManageConnection, T: Timer, K: Hooks<M>, R: AsyncRuntime>(
 {
     let now = shared.moment();
     let waited = now.saturating_sub(start.unwrap_or(now));
-    let status = shared.status();
+    let status = shared.give_up();
     let message = shared.take_error();
     shared.hooks.timeout(timeout);
     Error::timeout(shared.rt.alloc(), message, status, waited, ahead)

@@ -15,7 +15,7 @@ use crate::{AsyncRuntime, ManageConnection, Timer};
 use futures::spin::lock;
 use r2d2::event::ReleaseReason;
 use r2d2::internals::has_room;
-use r2d2::{Error, Status};
+use r2d2::{Error, Observe, Status};
 use r2d2_core::{Released, Report};
 use std::marker::Model;
 use std::sync::Arc;
@@ -71,7 +71,7 @@ impl<M: ManageConnection, T: Timer, K: Hooks<M>, R: AsyncRuntime> Pool<M, T, K, 
         ensures sleeps { IfOk result (λ get. T.Sleep.can_poll get.sleep) }
         ensures refused { IfErr result IsOfMemory }
     {
-        self.get_timeout(self.shared().config.connection_timeout)
+        self.get_timeout(self.connection_timeout())
     }
 
     /// Lends an idle connection, the newest unless the setting `lending_order` says the oldest; the
@@ -168,6 +168,13 @@ impl<M: ManageConnection, T: Timer, K: Hooks<M>, R: AsyncRuntime> Pool<M, T, K, 
         self.shared().moment()
     }
 
+    /// How long `get` waits for a connection.
+    pub fn connection_timeout(&self) -> Duration
+        ensures { result ≡ self.now.connection_timeout }
+    {
+        self.shared().config.connection_timeout
+    }
+
     /// What happened last, as far back as the setting `journal_room` reaches, what stood before
     /// that, and what there is now. The error is lack of memory; then nothing has changed.
     pub fn journal(&self) -> Result<Report, Error>
@@ -234,5 +241,29 @@ impl<M: ManageConnection, T: Timer, K: Hooks<M>, R: AsyncRuntime> Pool<M, T, K, 
     {
         let closer = Arc::try_clone(&self.closer).map_err(|_| Error::memory())?;
         Ok(Pool { closer })
+    }
+}
+
+impl<M: ManageConnection, T: Timer, K: Hooks<M>, R: AsyncRuntime> Observe for Pool<M, T, K, R> {
+    ghost timeout_of = { λ config. config.connection_timeout };
+
+    fn status(&self) -> Status {
+        Pool::status(self)
+    }
+
+    fn journal(&self) -> Result<Report, Error> {
+        Pool::journal(self)
+    }
+
+    fn moment(&self) -> Duration {
+        Pool::moment(self)
+    }
+
+    fn made_at(&self) -> Option<SystemTime> {
+        Pool::made_at(self)
+    }
+
+    fn connection_timeout(&self) -> Duration {
+        Pool::connection_timeout(self)
     }
 }

@@ -95,6 +95,16 @@ impl<P: Drop, M, T, K, R: Clock> Shared<P, M, T, K, R> {
         }
     }
 
+    /// Another caller gives up, since its time is over: the counts, with it among them.
+    pub(crate) fn give_up(&self) -> Status
+        ensures { IsStatus result }
+    {
+        match lock(&self.tasks) {
+            Some(mut tasks) => tasks.give_up(),
+            None => no_status(self.config.max_size),
+        }
+    }
+
     /// The latest error, which is then none.
     pub(crate) fn take_error(&self) -> Option<String> {
         lock(&self.tasks)?.take_error()
@@ -214,9 +224,12 @@ fn no_status(max_size: u32) -> Status
         lent: 0,
         opening: 0,
         waiting: 0,
+        waiting_since: None,
         failed_openings: 0,
         failed_checks: 0,
         refused: 0,
+        timeouts: 0,
+        latest_failure: None,
         closed: true,
     }
 }

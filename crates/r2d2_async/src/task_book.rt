@@ -2,7 +2,7 @@
 // each of them.
 ghost use Rattle.std.specs.Prelude.{◌≡◌, ◌≢◌, ◌≤◌, ◌<◌, ◌↔◌, ℕ, [], length, true, false, None};
 ghost use Rattle.std.specs.Prelude.{IsSome, IsSomeAnd, IfSome, IfNone, IfOk, IsTrue, Some, vec_len};
-ghost use Rattle.std.specs.Prelude.{vec_capacity, slice_get, is_some, if◌then◌else◌, min, ◌+◌, ◌-◌, ◌^◌};
+ghost use Rattle.std.specs.Prelude.{vec_capacity, slice_get, is_some, if◌then◌else◌, ◌-◌};
 ghost use Rattle.futures.specs.Task.{Covers, Keeps};
 ghost use Rattle.futures.specs.Poll.{IfReady, OnPending};
 ghost use Rattle.r2d2.specs.Waiting.{told_at};
@@ -34,6 +34,13 @@ pub enum Looked<P> {
     Full,
 }
 
+/// When a call began, and when its time is over.
+#[derive(Clone, Copy)]
+pub struct CallSpan {
+    pub start: Duration,
+    pub end: Duration,
+}
+
 /// A book, the callers in line for what it lends, oldest first, and what wakes each of them.
 ///
 /// Of those who wait the first ones, as many as connections are idle, were told to look: that is
@@ -62,6 +69,7 @@ impl<P: Drop> TaskBook<P> {
     ghost use Rattle.r2d2.specs.declared.engine.Outcome.TheVariants as outcome;
     ghost use Rattle.r2d2.specs.Settled.{IsSettling, seen_settled, wakes_of_settled};
     ghost use Rattle.r2d2.specs.Wakes.{wakes_of_return};
+    ghost use Rattle.r2d2.specs.Since.{since_with, since_if};
     ghost use Rattle.r2d2.specs.Status.{IsStatus, all_who_wait};
     ghost use Rattle.r2d2.specs.Evicted.{is_to_close, evicted_of, after_eviction};
     ghost use Rattle.r2d2.specs.Waiting.{before, left_by, told_if, is_kept, waiting_in};
@@ -69,7 +77,8 @@ impl<P: Drop> TaskBook<P> {
     ghost use Rattle.r2d2_core.specs.Connections.{pair_of};
     ghost use Rattle.r2d2_core.specs.Table.{next_of};
     ghost use Rattle.r2d2_async.specs.Looks.{is_found, is_refused, pair_found, IsClosedLook, IsServed};
-    ghost use Rattle.r2d2.specs.Failed.{IsOneRefusalMore};
+    ghost use Rattle.r2d2.specs.Failed.{IsOneRefusalMore, IsOneTimeoutMore, IsOneOpeningMore};
+    ghost use Rattle.r2d2.specs.Failed.{IsOneCheckMore};
 
     /// A book for which nobody waits yet, with room for so many in line. The error is lack of
     /// memory: all that the line needs is taken here.
@@ -101,10 +110,30 @@ impl<P: Drop> TaskBook<P> {
         ensures lent { result.lent ≡ length self.now.guarded.book.book.picture.lent }
         ensures opening { result.opening ≡ self.now.guarded.book.book.picture.on_order.pending }
         ensures waiting { result.waiting
-            ≡ all_who_wait self.now.guarded.waiting self.now.guarded.book.places }
+            ≡ all_who_wait self.now.guarded.waiting.count self.now.guarded.book.places }
+        ensures since { result.waiting_since
+            ≡ since_if (all_who_wait self.now.guarded.waiting.count self.now.guarded.book.places)
+            self.now.guarded.waiting.since }
         ensures refused { result.refused ≡ self.now.guarded.failures.refused }
+        ensures timeouts { result.timeouts ≡ self.now.guarded.failures.timeouts }
+        ensures latest { result.latest_failure ≡ self.now.guarded.failures.latest }
         ensures closed { result.closed ≡ self.now.guarded.book.book.picture.on_order.closed }
     {
+        self.guarded.status()
+    }
+
+    /// Another caller gives up, since its time is over: the counts, with it among them.
+    pub fn give_up(&mut self) -> Status
+        ensures sums { IsStatus result }
+        ensures failures { IsOneTimeoutMore self.old.guarded.failures self.new.guarded.failures }
+        ensures timeouts { result.timeouts ≡ self.new.guarded.failures.timeouts }
+        ensures waiting { result.waiting
+            ≡ all_who_wait self.old.guarded.waiting.count self.old.guarded.book.places }
+        ensures kept { self.new.guarded.waiting ≡ self.old.guarded.waiting }
+        ensures book { self.new.guarded.book ≡ self.old.guarded.book }
+        ensures wakers { self.new.wakers ≡ self.old.wakers }
+    {
+        self.guarded.give_up();
         self.guarded.status()
     }
 
@@ -137,6 +166,7 @@ impl<P: Drop> TaskBook<P> {
             self.old.guarded.book.places ≡ false
             → result ≡ option_map pair_of (next_of self.old.guarded.book.book.picture) }
         ensures line { self.new.guarded.book.places ≡ self.old.guarded.book.places }
+        ensures waiting { self.new.guarded.waiting ≡ self.old.guarded.waiting }
     {
         let (taken, wakes) = self.guarded.book.lend(now, false, &mut ());
         if wakes.workers {
@@ -155,6 +185,7 @@ impl<P: Drop> TaskBook<P> {
             ≡ passed_late (waiting_in self.old.guarded.book.places) (as_nanos now)
             self.old.ends.items self.old.guarded.book.places }
         ensures book { self.new.guarded.book.book ≡ self.old.guarded.book.book }
+        ensures waiting { self.new.guarded.waiting ≡ self.old.guarded.waiting }
     {
         for _ in 0..self.guarded.book.in_line() {
             if !self.pass_one(now) {
@@ -171,6 +202,7 @@ impl<P: Drop> TaskBook<P> {
             self.old.ends.items self.old.guarded.book.places }
         ensures book { self.new.guarded.book.book ≡ self.old.guarded.book.book }
         ensures ends { self.new.ends ≡ self.old.ends }
+        ensures waiting { self.new.guarded.waiting ≡ self.old.guarded.waiting }
     {
         match self.guarded.book.pass_late(now, &self.ends) {
             Some(to_wake) => {
@@ -181,16 +213,16 @@ impl<P: Drop> TaskBook<P> {
         }
     }
 
-    /// One poll of a caller who waits, at its place in line or nowhere yet, and whose time ends
-    /// then. It takes where more are idle than callers wait before it; else it sleeps in line, at
-    /// the end or where it was.
+    /// One poll of a caller who waits, at its place in line or nowhere yet. It takes where more are
+    /// idle than callers wait before it; else it sleeps in line, at the end or where it was, and
+    /// waits since its call began.
     ///
     /// Where it `keeps_place`, one that takes stays in line until it leaves, and is the first again
     /// if its connection is found unsound.
     pub fn poll_look(
         &mut self,
         now: Duration,
-        end: Duration,
+        call: CallSpan,
         cx: &mut Context<'_>,
         source: &Source,
         place: &mut Option<u32>,
@@ -218,6 +250,18 @@ impl<P: Drop> TaskBook<P> {
         ensures open { OnPending result
             (self.old.guarded.book.book.picture.on_order.closed ≡ false) }
         ensures registered { OnPending result (Covers cx.new (λ s. s ≡ source.now.id)) }
+        // Who comes to wait, or looked in vain, waits since its call began. All else leaves the moment
+        // as it was.
+        ensures since { IfSome place.old (λ slot. waker_at self.old.wakers slot ≡ None)
+            → OnPending result (as_nanos self.new.guarded.waiting.since
+            ≡ since_with (all_who_wait self.old.guarded.waiting.count
+            self.old.guarded.book.places) (as_nanos call.start)
+            (as_nanos self.old.guarded.waiting.since)) }
+        ensures asleep { IsSomeAnd place.old (λ slot. IsSome (waker_at self.old.wakers slot))
+            → self.new.guarded.waiting ≡ self.old.guarded.waiting }
+        ensures ready { IfReady result
+            (λ _. self.new.guarded.waiting ≡ self.old.guarded.waiting) }
+        ensures count { self.new.guarded.waiting.count ≡ self.old.guarded.waiting.count }
         ensures kept { Keeps cx.old cx.new }
     {
         if self.guarded.book.book().is_closed() {
@@ -229,6 +273,7 @@ impl<P: Drop> TaskBook<P> {
             return register(&mut self.wakers, cx, source, slot);
         }
         let idle_since = self.guarded.book.book().next_idle_since();
+        let since = self.guarded.since_with(call.start);
         let (look, to_wake) = self.guarded.book.look(now, place, keeps_place, &mut ());
         wake(&mut self.wakers, &mut self.workers, to_wake);
         match look {
@@ -242,7 +287,8 @@ impl<P: Drop> TaskBook<P> {
                 Poll::Ready(Looked::Full)
             }
             Look::Stands(slot) => {
-                note(&mut self.ends, slot, end);
+                self.guarded.wait_in_line(since);
+                note(&mut self.ends, slot, call.end);
                 register(&mut self.wakers, cx, source, slot)
             }
         }
@@ -254,6 +300,7 @@ impl<P: Drop> TaskBook<P> {
         ensures line { self.new.guarded.book.places
             ≡ left_by place.old self.old.guarded.book.places }
         ensures book { self.new.guarded.book.book ≡ self.old.guarded.book.book }
+        ensures waiting { self.new.guarded.waiting ≡ self.old.guarded.waiting }
     {
         clear_at(&mut self.wakers, *place);
         let to_wake = self.guarded.book.leave(place);
@@ -283,6 +330,7 @@ impl<P: Drop> TaskBook<P> {
         ensures told { self.new.guarded.book.places
             ≡ told_if (wakes_of_return (map_ok seen_returned result)).caller
             self.old.guarded.book.places }
+        ensures waiting { self.new.guarded.waiting ≡ self.old.guarded.waiting }
     {
         let (returned, to_wake) = self.guarded.give_back(now, id, payload, unfit, outlived);
         wake(&mut self.wakers, &mut self.workers, to_wake);
@@ -315,6 +363,7 @@ impl<P: Drop> TaskBook<P> {
         ensures told { self.new.guarded.book.places
             ≡ told_if (wakes_of_settled (seen_settled result)).caller
             self.old.guarded.book.places }
+        ensures waiting { self.new.guarded.waiting ≡ self.old.guarded.waiting }
     {
         let (settled, to_wake) = self.guarded.book.settle(now, outcome);
         wake(&mut self.wakers, &mut self.workers, to_wake);
@@ -326,9 +375,12 @@ impl<P: Drop> TaskBook<P> {
     pub fn fail(&mut self, now: Duration, tries: u32, text: Option<String>) -> Settled<P>
         ensures step { IsSettling now (outcome.Failed tries text) result
             self.old.guarded.book.book self.new.guarded.book.book }
+        ensures failures { IsOneOpeningMore now
+            self.old.guarded.failures self.new.guarded.failures }
         ensures told { self.new.guarded.book.places
             ≡ told_if (wakes_of_settled (seen_settled result)).caller
             self.old.guarded.book.places }
+        ensures waiting { self.new.guarded.waiting ≡ self.old.guarded.waiting }
     {
         let (settled, to_wake) = self.guarded.fail(now, tries, text);
         wake(&mut self.wakers, &mut self.workers, to_wake);
@@ -346,9 +398,12 @@ impl<P: Drop> TaskBook<P> {
     ) -> Settled<P>
         ensures step { IsSettling now (outcome.Unsound id text) result
             self.old.guarded.book.book self.new.guarded.book.book }
+        ensures failures { IsOneCheckMore now distrusted_before
+            self.old.guarded.failures self.new.guarded.failures }
         ensures told { self.new.guarded.book.places
             ≡ told_if (wakes_of_settled (seen_settled result)).caller
             self.old.guarded.book.places }
+        ensures waiting { self.new.guarded.waiting ≡ self.old.guarded.waiting }
     {
         let (settled, to_wake) = self.guarded.fail_check(now, id, text, distrusted_before);
         wake(&mut self.wakers, &mut self.workers, to_wake);
@@ -358,14 +413,17 @@ impl<P: Drop> TaskBook<P> {
 
     /// What a worker is to do.
     pub fn begin(&mut self, now: Duration) -> Job
-        ensures { IsBegin now result self.old.guarded.book.book self.new.guarded.book.book }
+        ensures step { IsBegin now result self.old.guarded.book.book self.new.guarded.book.book }
+        ensures waiting { self.new.guarded.waiting ≡ self.old.guarded.waiting }
     {
         self.guarded.book.begin(now)
     }
 
     /// Gives an opened connection its id.
     pub fn number(&mut self, tries: u32) -> Result<u64, Refusal>
-        ensures { IsNumbering tries result self.old.guarded.book.book self.new.guarded.book.book }
+        ensures step { IsNumbering tries result
+            self.old.guarded.book.book self.new.guarded.book.book }
+        ensures waiting { self.new.guarded.waiting ≡ self.old.guarded.waiting }
     {
         self.guarded.book.number(tries)
     }
@@ -377,6 +435,7 @@ impl<P: Drop> TaskBook<P> {
             ≤ vec_capacity expired.old }
         ensures step { (ordered : _) × IsReap now expired.new.items ordered
             self.old.guarded.book.book self.new.guarded.book.book }
+        ensures waiting { self.new.guarded.waiting ≡ self.old.guarded.waiting }
     {
         let (_ordered, to_wake) = self.guarded.book.sweep(now, expired);
         wake(&mut self.wakers, &mut self.workers, to_wake);
@@ -392,6 +451,7 @@ impl<P: Drop> TaskBook<P> {
         ensures after { self.new.guarded.book.book
             ≡ after_eviction (as_nanos now) self.old.guarded.book.book }
         ensures line { self.new.guarded.book.places ≡ self.old.guarded.book.places }
+        ensures waiting { self.new.guarded.waiting ≡ self.old.guarded.waiting }
     {
         self.guarded.evict(now, &mut (), evicted);
         // What was ordered in their place.
@@ -400,7 +460,8 @@ impl<P: Drop> TaskBook<P> {
 
     /// The latest error, which is then none.
     pub fn take_error(&mut self) -> Option<String>
-        ensures { IsTelling result self.old.guarded.book.book self.new.guarded.book.book }
+        ensures step { IsTelling result self.old.guarded.book.book self.new.guarded.book.book }
+        ensures waiting { self.new.guarded.waiting ≡ self.old.guarded.waiting }
     {
         self.guarded.book.take_error()
     }
@@ -410,6 +471,7 @@ impl<P: Drop> TaskBook<P> {
     pub fn close(&mut self) -> Leftover<P>
         ensures step { IsClose result self.old.guarded.book.book self.new.guarded.book.book }
         ensures nobody { (slot : ℕ) → waker_at self.new.wakers slot ≡ None }
+        ensures waiting { self.new.guarded.waiting ≡ self.old.guarded.waiting }
     {
         self.wakers.clear();
         self.workers.wake_all();
@@ -432,6 +494,11 @@ impl<P: Drop> TaskBook<P> {
 // Who waits beside the line: a worker for something to do, a drain until nothing is lent. Each has
 // its place from its making on, so that waiting takes no memory.
 impl<P: Drop> TaskBook<P> {
+    ghost use Rattle.std.specs.Duration.{as_nanos};
+    ghost use Rattle.r2d2.specs.Failed.{one_more};
+    ghost use Rattle.r2d2.specs.Since.{since_with};
+    ghost use Rattle.r2d2.specs.Status.{all_who_wait};
+
     /// A place for a worker. The error is lack of memory.
     pub fn add_worker(&mut self) -> Result<Ticket, AllocError> {
         self.workers.insert(())
@@ -457,27 +524,34 @@ impl<P: Drop> TaskBook<P> {
         self.drains.insert(())
     }
 
-    /// A drain is counted among those who wait, from its first sleep on.
-    pub fn count_drain(&mut self, is_counted: &mut bool)
+    /// A drain is counted among those who wait, from its first sleep on. It waits since its call
+    /// began, at this moment.
+    pub fn count_drain(&mut self, start: Duration, is_counted: &mut bool)
         ensures counted { is_counted.new ≡ true }
-        ensures waiting { self.new.guarded.waiting ≡ (if is_counted.old
-            then self.old.guarded.waiting
-            else min (self.old.guarded.waiting + 1) (2 ^ 64 - 1)) }
+        ensures waiting { self.new.guarded.waiting.count ≡ (if is_counted.old
+            then self.old.guarded.waiting.count
+            else one_more self.old.guarded.waiting.count) }
+        ensures since { as_nanos self.new.guarded.waiting.since ≡ (if is_counted.old
+            then as_nanos self.old.guarded.waiting.since
+            else since_with (all_who_wait self.old.guarded.waiting.count
+            self.old.guarded.book.places) (as_nanos start)
+            (as_nanos self.old.guarded.waiting.since)) }
         ensures book { self.new.guarded.book ≡ self.old.guarded.book }
         ensures wakers { self.new.wakers ≡ self.old.wakers }
     {
         if !*is_counted {
             *is_counted = true;
-            self.guarded.begin_wait();
+            self.guarded.begin_wait(start);
         }
     }
 
     /// It waits no more.
     pub fn uncount_drain(&mut self, is_counted: &mut bool)
         ensures counted { is_counted.new ≡ false }
-        ensures waiting { self.new.guarded.waiting ≡ (if is_counted.old
-            then self.old.guarded.waiting - 1
-            else self.old.guarded.waiting) }
+        ensures waiting { self.new.guarded.waiting.count ≡ (if is_counted.old
+            then self.old.guarded.waiting.count - 1
+            else self.old.guarded.waiting.count) }
+        ensures since { self.new.guarded.waiting.since ≡ self.old.guarded.waiting.since }
         ensures book { self.new.guarded.book ≡ self.old.guarded.book }
         ensures wakers { self.new.wakers ≡ self.old.wakers }
     {

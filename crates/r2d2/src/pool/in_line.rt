@@ -3,6 +3,8 @@ ghost use Rattle.std.specs.Prelude.{◌≡◌, ◌<◌, ◌+◌, IsSome, IfSome,
 ghost use Rattle.std.specs.Prelude.{None};
 ghost use Rattle.std.specs.Option.{IsNone};
 ghost use Rattle.std.specs.Result.{IsOk};
+ghost use Rattle.std.specs.Sync.Mutex.{mutex_guard_value};
+ghost use Rattle.r2d2.specs.Failed.{one_more};
 ghost use Rattle.r2d2.specs.Failures.{IsOfAGet};
 
 use super::call_time::CallTime;
@@ -50,6 +52,7 @@ impl<P: Drop, C: TakeCounter, M, K, R: Clock + Wait + AllocGlobal> Shared<
             if self.tuning.asks_idle_times() {
                 time.find(guarded.book.book().next_idle_since());
             }
+            let since = guarded.since_with(time.start());
             let (look, to_wake) = guarded.book.look(now, place, keeps_place, tally);
             let slot = match look {
                 Look::Found { id, value } => {
@@ -57,7 +60,10 @@ impl<P: Drop, C: TakeCounter, M, K, R: Clock + Wait + AllocGlobal> Shared<
                     self.wake(to_wake);
                     return Ok(Lent { id, payload: value });
                 }
-                Look::Stands(slot) => slot,
+                Look::Stands(slot) => {
+                    guarded.wait_in_line(since);
+                    slot
+                }
                 Look::Full => {
                     guarded.refuse();
                     drop(guarded);
@@ -106,10 +112,13 @@ impl<P: Drop, C: TakeTotal, M, K, R: Clock + Wait + AllocGlobal> Shared<LinedBoo
     ) -> Error
         ensures kind { result.kind ≡ ErrorKind.Timeout }
         ensures gone { place.new ≡ None }
+        ensures counted { IfSome result.status (λ status. status.timeouts
+            ≡ one_more (mutex_guard_value guarded.entry).failures.timeouts) }
     {
         // Modelled in model/waiting.pml: keep both alike.
         let ahead = guarded.book.ahead_of(*place);
         let to_wake = guarded.book.leave(place);
+        guarded.give_up();
         let status = guarded.status();
         let error = guarded.book.take_error();
         drop(guarded);

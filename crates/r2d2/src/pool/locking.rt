@@ -6,6 +6,7 @@ ghost use Rattle.r2d2_core.specs.Reports.{IsSoundReport};
 
 use super::failures::Failures;
 use super::lined_book::{LinedBook, ToWake};
+use super::waiters::Waiters;
 use super::{State, Status};
 use crate::engine::{Outcome, Settled, TakeCounter, TakeTotal, Wakes};
 use crate::event::ReleaseReason;
@@ -30,14 +31,13 @@ const PAUSES: u32 = 40;
 /// run takes many times as long as a sleep and a wake.
 const PATIENCE: u128 = 200_000;
 
-/// What the lock guards: the book, with those who wait in line, how many others wait, which
-/// connections stay, and what failed.
+/// What the lock guards: the book, with those who wait in line, how many others wait, since when
+/// somebody does, which connections stay, and what failed.
 #[derive(Drop)]
 pub struct Guarded<B> {
     // Beside the lock, and the book after them: each step reads them.
-    /// Those at the callers' variable who have not the lock again. So it is at least the number of
-    /// those whom a wake can reach.
-    waiting: u64,
+    /// Who waits beside the line, and since when somebody waits at all.
+    waiting: Waiters,
     /// The least id that no eviction has reached: those below it are closed as they come back.
     evicted_below: u64,
     /// Until this moment nobody looks again before it waits, since letting others run took long.
@@ -48,38 +48,47 @@ pub struct Guarded<B> {
 
 impl<B> Guarded<B> {
     ghost use Rattle.r2d2.specs.Wakes.{needed_wakes};
-    ghost use Rattle.r2d2.specs.Failed.{HaveNone, IsOneRefusalMore};
+    ghost use Rattle.r2d2.specs.Failed.{HaveNone, IsOneRefusalMore, IsOneTimeoutMore};
     ghost use Rattle.r2d2.specs.Evicted.{is_evicted};
 
     /// A book for which nobody waits yet, and of which nothing was evicted.
     pub fn new(book: B) -> Guarded<B>
         ensures book { result.book ≡ book }
-        ensures waiting { result.waiting ≡ 0 }
+        ensures waiting { result.waiting.count ≡ 0 }
         ensures evicted { result.evicted_below ≡ 0 }
         ensures hurried { as_nanos result.hurried_until ≡ 0 }
         ensures failures { HaveNone result.failures }
     {
         Guarded {
             book,
-            waiting: 0,
+            waiting: Waiters::nobody(),
             evicted_below: 0,
             hurried_until: Duration::ZERO,
             failures: Failures::none(),
         }
     }
 
-    /// One caller more waits.
-    pub fn begin_wait(&mut self)
-        ensures { self.new ≡ record self.old { waiting = min (self.old.waiting + 1) (2 ^ 64 - 1) } }
+    /// One caller less waits. The answer is since when somebody waited, that one included: if it
+    /// waits again before the lock is free, it hands that in, so that the moment stays.
+    pub fn end_wait(&mut self) -> Duration
+        ensures since { result ≡ self.old.waiting.since }
+        ensures after { self.new ≡ record self.old {
+          waiting
+              = record self.old.waiting { count = self.old.waiting.count - 1 };
+        } }
     {
-        self.waiting = self.waiting.saturating_add(1);
+        self.waiting.end();
+        self.waiting.since
     }
 
-    /// One caller less waits.
-    pub fn end_wait(&mut self)
-        ensures { self.new ≡ record self.old { waiting = self.old.waiting - 1 } }
+    /// A caller stands in line, and somebody waits since this moment.
+    pub fn wait_in_line(&mut self, since: Duration)
+        ensures { self.new ≡ record self.old {
+          waiting
+              = record self.old.waiting { since = since };
+        } }
     {
-        self.waiting = self.waiting.saturating_sub(1);
+        self.waiting.since = since;
     }
 
     /// Whether a caller that finds all lent is to wait at once, rather than to look again.
@@ -113,6 +122,14 @@ impl<B> Guarded<B> {
         self.failures.add_refusal();
     }
 
+    /// Another caller gives up, since its time is over.
+    pub fn give_up(&mut self)
+        ensures failures { IsOneTimeoutMore self.old.failures self.new.failures }
+        ensures rest { self.new ≡ record self.old { failures = self.new.failures } }
+    {
+        self.failures.add_timeout();
+    }
+
     // Whether an eviction reached the connection with this id.
     fn is_evicted(&self, id: u64) -> bool
         ensures { result ≡ is_evicted id self.now.evicted_below }
@@ -122,12 +139,12 @@ impl<B> Guarded<B> {
 
     /// Of those to be woken, who is there: no caller where none waits.
     pub(super) fn needed_wakes(&self, to_wake: ToWake) -> ToWake
-        ensures wakes { result.wakes ≡ needed_wakes self.now.waiting to_wake.wakes }
+        ensures wakes { result.wakes ≡ needed_wakes self.now.waiting.count to_wake.wakes }
         ensures told { result.told ≡ to_wake.told }
     {
         let ToWake { wakes, told } = to_wake;
         let wakes = Wakes {
-            caller: wakes.caller && self.waiting > 0,
+            caller: wakes.caller && self.waiting.count > 0,
             workers: wakes.workers,
         };
         ToWake { wakes, told }
@@ -139,7 +156,8 @@ impl<P, C: TakeTotal> Guarded<LinedBook<P, C>> {
     ghost use Rattle.std.specs.Option.{IsNone};
     ghost use Rattle.r2d2_core.specs.Connections.{birth_in};
     ghost use Rattle.r2d2_core.specs.Limits.{wanted_of};
-    ghost use Rattle.r2d2.specs.Failed.{IsOneRefusalMore};
+    ghost use Rattle.r2d2.specs.Failed.{IsOneRefusalMore, one_more};
+    ghost use Rattle.r2d2.specs.Since.{since_with, since_if};
     ghost use Rattle.r2d2.specs.Status.{IsStatus, all_who_wait, is_all_lent, is_full};
 
     /// The counts, with those of the callers who wait.
@@ -150,14 +168,53 @@ impl<P, C: TakeTotal> Guarded<LinedBook<P, C>> {
         ensures idle { result.idle ≡ length self.now.book.book.picture.idle }
         ensures lent { result.lent ≡ length self.now.book.book.picture.lent }
         ensures opening { result.opening ≡ self.now.book.book.picture.on_order.pending }
-        ensures waiting { result.waiting ≡ all_who_wait self.now.waiting self.now.book.places }
+        ensures waiting { result.waiting
+            ≡ all_who_wait self.now.waiting.count self.now.book.places }
+        ensures since { result.waiting_since
+            ≡ since_if (all_who_wait self.now.waiting.count self.now.book.places)
+            self.now.waiting.since }
         ensures openings { result.failed_openings ≡ self.now.failures.openings }
         ensures checks { result.failed_checks ≡ self.now.failures.checks }
         ensures refused { result.refused ≡ self.now.failures.refused }
+        ensures timeouts { result.timeouts ≡ self.now.failures.timeouts }
+        ensures latest { result.latest_failure ≡ self.now.failures.latest }
         ensures closed { result.closed ≡ self.now.book.book.picture.on_order.closed }
     {
-        let waiting = self.waiting.saturating_add(self.book.in_line() as u64);
-        Status::of(self.book.book(), waiting, &self.failures)
+        let (waiting, since) = (self.all_who_wait(), self.waiting.since);
+        Status::of(self.book.book(), waiting, since, &self.failures)
+    }
+
+    // How many wait, at the callers' variable and in line.
+    fn all_who_wait(&self) -> u64
+        ensures { result ≡ all_who_wait self.now.waiting.count self.now.book.places }
+    {
+        let others = self.waiting.count;
+        others.saturating_add(self.book.in_line() as u64)
+    }
+
+    /// Since when somebody waits, once a caller does whose call began at this moment: since then,
+    /// where nobody waits yet; else since the earlier of that moment and the one before.
+    pub fn since_with(&self, start: Duration) -> Duration
+        ensures { as_nanos result
+            ≡ since_with (all_who_wait self.now.waiting.count self.now.book.places)
+            (as_nanos start) (as_nanos self.now.waiting.since) }
+    {
+        if self.all_who_wait() == 0 {
+            return start;
+        }
+        self.waiting.since.min(start)
+    }
+
+    /// One caller more waits, whose call began at this moment.
+    pub fn begin_wait(&mut self, start: Duration)
+        ensures count { self.new.waiting.count ≡ one_more self.old.waiting.count }
+        ensures since { as_nanos self.new.waiting.since
+            ≡ since_with (all_who_wait self.old.waiting.count self.old.book.places)
+            (as_nanos start) (as_nanos self.old.waiting.since) }
+        ensures rest { self.new ≡ record self.old { waiting = self.new.waiting } }
+    {
+        let since = self.since_with(start);
+        self.waiting.begin(since);
     }
 
     /// Whether the lent connection with this id has outlived its own lifetime, where lifetimes
@@ -205,7 +262,8 @@ impl<P, C: TakeTotal> Guarded<LinedBook<P, C>> {
 
     /// Whether a caller would have to wait, where as many wait as may: then it counts as refused.
     pub(super) fn is_refused(&mut self, max_waiting: Option<u32>) -> bool
-        ensures value { result ≡ is_full max_waiting self.old.waiting self.old.book.book.picture }
+        ensures value { result ≡ is_full max_waiting self.old.waiting.count
+            self.old.book.book.picture }
         ensures counted { IsTrue result
             → IsOneRefusalMore self.old.failures self.new.failures }
         ensures passed { result ≡ false → self.new ≡ self.old }
@@ -221,13 +279,14 @@ impl<P, C: TakeTotal> Guarded<LinedBook<P, C>> {
     /// Whether a caller would have to wait, where as many wait as may. Nobody else waits while the
     /// pool is open.
     pub(super) fn is_full(&self, max_waiting: Option<u32>) -> bool
-        ensures { result ≡ is_full max_waiting self.now.waiting self.now.book.book.picture }
+        ensures { result ≡ is_full max_waiting self.now.waiting.count
+            self.now.book.book.picture }
     {
         let Some(most) = max_waiting else {
             return false;
         };
         let book = self.book.book();
-        book.idle() == 0 && !book.is_closed() && self.waiting >= u64::from(most)
+        book.idle() == 0 && !book.is_closed() && self.waiting.count >= u64::from(most)
     }
 }
 
@@ -290,11 +349,11 @@ impl<P, C: TakeTotal> Guarded<LinedBook<P, C>> {
         ensures told { result.1.told ≡ slot_if result.1.wakes.caller self.old.book.places }
         ensures line { self.new.book.places ≡ told_if result.1.wakes.caller self.old.book.places }
         ensures total { self.new.book.total ≡ self.old.book.total }
-        ensures failures { IsOneOpeningMore self.old.failures self.new.failures }
+        ensures failures { IsOneOpeningMore now self.old.failures self.new.failures }
         ensures kept { self.new.evicted_below ≡ self.old.evicted_below }
         ensures waiting { self.new.waiting ≡ self.old.waiting }
     {
-        self.failures.add_opening();
+        self.failures.add_opening(now);
         self.book.settle(now, Outcome::Failed { tries, text })
     }
 
@@ -313,11 +372,12 @@ impl<P, C: TakeTotal> Guarded<LinedBook<P, C>> {
         ensures told { result.1.told ≡ slot_if result.1.wakes.caller self.old.book.places }
         ensures line { self.new.book.places ≡ told_if result.1.wakes.caller self.old.book.places }
         ensures total { self.new.book.total ≡ self.old.book.total }
-        ensures failures { IsOneCheckMore distrusted_before self.old.failures self.new.failures }
+        ensures failures { IsOneCheckMore now distrusted_before
+            self.old.failures self.new.failures }
         ensures kept { self.new.evicted_below ≡ self.old.evicted_below }
         ensures waiting { self.new.waiting ≡ self.old.waiting }
     {
-        self.failures.add_check(distrusted_before);
+        self.failures.add_check(now, distrusted_before);
         self.book.settle(now, Outcome::Unsound { id, text })
     }
 }

@@ -5,6 +5,7 @@ ghost use Rattle.r2d2_core.specs.Limits.{wanted_of};
 use super::failures::Failures;
 use r2d2_core::Book;
 use std::fmt;
+use std::time::Duration;
 
 /// The counts of a pool at one moment. Only a pool makes one.
 #[derive(Clone, Copy)]
@@ -50,6 +51,9 @@ pub struct Status {
     pub opening: u32,
     /// How many callers wait, for a connection or in a `drain`.
     pub waiting: u64,
+    /// Since this moment there has been a caller waiting, without a break; None where nobody waits.
+    /// Each waits since its call began, by the first reading of the clock that it needed.
+    pub waiting_since: Option<Duration>,
     /// How many openings failed so far, those among them whose connection the customizer refused.
     pub failed_openings: u64,
     /// How many checks failed so far.
@@ -57,15 +61,27 @@ pub struct Status {
     /// How many callers were refused so far, since as many waited as may: those that were told
     /// `ErrorKind::Full`.
     pub refused: u64,
+    /// How many callers gave up so far, since their time was over: those that were told
+    /// `ErrorKind::Timeout` by a get.
+    pub timeouts: u64,
+    /// The moment of the latest opening or check that failed; None before the first.
+    pub latest_failure: Option<Duration>,
     /// Whether it is closed: then nothing is idle, and nothing is opened.
     pub closed: bool,
 }
 
 impl Status {
+    ghost use Rattle.r2d2.specs.Since.{since_if};
     ghost use Rattle.r2d2.specs.Status.{IsStatus};
 
-    // What the book shows, with so many callers who wait, and what failed.
-    pub(super) fn of<P>(book: &Book<P>, waiting: u64, failures: &Failures) -> Status
+    // What the book shows, with so many callers who wait, since when somebody does if so, and what
+    // failed.
+    pub(super) fn of<P>(
+        book: &Book<P>,
+        waiting: u64,
+        since: Duration,
+        failures: &Failures,
+    ) -> Status
         ensures sums { IsStatus result }
         ensures max_size { result.max_size ≡ book.now.picture.on_order.limits.max_size }
         ensures wanted { result.wanted ≡ wanted_of book.now.picture.on_order.limits }
@@ -73,9 +89,12 @@ impl Status {
         ensures lent { result.lent ≡ length book.now.picture.lent }
         ensures opening { result.opening ≡ book.now.picture.on_order.pending }
         ensures waiting { result.waiting ≡ waiting }
+        ensures since { result.waiting_since ≡ since_if waiting since }
         ensures openings { result.failed_openings ≡ failures.now.openings }
         ensures checks { result.failed_checks ≡ failures.now.checks }
         ensures refused { result.refused ≡ failures.now.refused }
+        ensures timeouts { result.timeouts ≡ failures.now.timeouts }
+        ensures latest { result.latest_failure ≡ failures.now.latest }
         ensures closed { result.closed ≡ book.now.picture.on_order.closed }
     {
         let limits = book.limits();
@@ -88,9 +107,12 @@ impl Status {
             lent: connections - idle,
             opening: book.pending(),
             waiting,
+            waiting_since: (waiting > 0).then_some(since),
             failed_openings: failures.openings,
             failed_checks: failures.checks,
             refused: failures.refused,
+            timeouts: failures.timeouts,
+            latest_failure: failures.latest,
             closed: book.is_closed(),
         }
     }

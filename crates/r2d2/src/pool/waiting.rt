@@ -4,8 +4,10 @@ ghost use Rattle.std.specs.Prelude.{OnErr};
 ghost use Rattle.std.specs.Option.{IsNone};
 ghost use Rattle.std.specs.Result.{IsOk};
 ghost use Rattle.std.specs.Duration.{as_nanos};
+ghost use Rattle.std.specs.Sync.Mutex.{mutex_guard_value};
 ghost use Rattle.r2d2.specs.CallTime.{looked_at, waited_of, left_of};
 ghost use Rattle.r2d2.specs.Status.{IsStatus};
+ghost use Rattle.r2d2.specs.Failed.{one_more};
 ghost use Rattle.r2d2.specs.Failures.{IsOfAGet};
 
 use super::Status;
@@ -62,6 +64,7 @@ impl<P: Drop, C: TakeCounter, M, K, R: Clock + Wait + AllocGlobal> Shared<
                 None => return Err(Error::full()),
             };
         }
+        let mut since = None;
         for _ in self.rt.forever() {
             let now = self.moment();
             time.look(now);
@@ -85,7 +88,7 @@ impl<P: Drop, C: TakeCounter, M, K, R: Clock + Wait + AllocGlobal> Shared<
             // Before the wait, which lets the lock go.
             self.wake(ToWake::these(wakes));
             let left = time.left_of(timeout);
-            guarded.begin_wait();
+            guarded.begin_wait(since.unwrap_or(time.start()));
             let (again, outcome) = self.callers.wait_timeout(&self.rt, guarded, left);
             guarded = again;
             if outcome.timed_out() {
@@ -95,7 +98,7 @@ impl<P: Drop, C: TakeCounter, M, K, R: Clock + Wait + AllocGlobal> Shared<
             }
             // It is counted meanwhile, so that nobody else takes its place.
             guarded = self.look_again(guarded, self.moment());
-            guarded.end_wait();
+            since = Some(guarded.end_wait());
         }
         unreachable!()
     }
@@ -180,8 +183,11 @@ impl<P: Drop, C: TakeTotal, M, K, R: Clock + Wait + AllocGlobal> Shared<LinedBoo
     ) -> Error
         ensures kind { result.kind ≡ ErrorKind.Timeout }
         ensures waited { IfSome result.waited (λ length. as_nanos length ≡ as_nanos waited) }
+        ensures counted { IfSome result.status (λ status. status.timeouts
+            ≡ one_more (mutex_guard_value guarded.entry).failures.timeouts) }
     {
         // Modelled in model/waiting.pml: keep both alike.
+        guarded.give_up();
         let status = guarded.status();
         let error = guarded.book.take_error();
         // It is late by the clock, and may have been woken: that wake is another's now.
@@ -224,7 +230,7 @@ impl<P: Drop, C: TakeTotal, M, K, R: Clock + Wait + AllocGlobal> Shared<LinedBoo
         // Modelled in model/waiting.pml: keep both alike.
         let mut time = CallTime::new(Some(self.moment()));
         let mut guarded = self.guarded.lock(&self.rt);
-        guarded.begin_wait();
+        guarded.begin_wait(time.start());
         let (mut guarded, outcome) = self.callers.wait_timeout_while(
             &self.rt,
             guarded,
@@ -247,8 +253,9 @@ impl<P: Drop, C: TakeTotal, M, K, R: Clock + Wait + AllocGlobal> Shared<LinedBoo
         ensures { IfErr result (λ status. IsStatus status × (0 < status.lent)) }
     {
         // Modelled in model/waiting.pml: keep both alike.
+        let start = self.moment();
         let mut guarded = self.guarded.lock(&self.rt);
-        guarded.begin_wait();
+        guarded.begin_wait(start);
         let (mut guarded, _outcome) = self.callers.wait_timeout_while(
             &self.rt,
             guarded,

@@ -9,4 +9,5 @@ invariant-loop g l = record {
   line : l.self.guarded.book.places ≡ passed_late l.counter (as_nanos l.now) l.fn.self.ends.items l.fn.self.guarded.book.places;
   book : l.self.guarded.book.book ≡ l.fn.self.guarded.book.book;
   ends : l.self.ends ≡ l.fn.self.ends;
+  waiting : l.self.guarded.waiting ≡ l.fn.self.guarded.waiting;
 }

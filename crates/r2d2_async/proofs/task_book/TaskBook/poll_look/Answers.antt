@@ -34,7 +34,10 @@ invariant_of-self-in-Stands g c =
     let awake : AreAwake look.new.self.places c.wake.new.wakers =
     awake_look (is_found look.result.0) c.args.keeps_place c.args.place.now look.new.place old.guarded.book.places look.new.self.places
     old.wakers c.wake.new.wakers look.ensures.line old.awake c.in_default.ensures.awake c.wake.ensures.others in
+    let registered : AreAwake look.new.self.places c.register-in-Stands.new.wakers =
+    awake_registered c.in-Stands.slot look.new.self.places c.wake.new.wakers c.register-in-Stands.new.wakers untold.1
+    c.register-in-Stands.ensures.others awake in
     record {
-      awake = awake_registered c.in-Stands.slot look.new.self.places c.wake.new.wakers c.register-in-Stands.new.wakers untold.1
-          c.register-in-Stands.ensures.others awake;
+      awake = awake_same look.new.self.places c.wait_in_line.new.self.book.places c.register-in-Stands.new.wakers
+          (ap (λ (guarded : Guarded _). guarded.book.places) c.wait_in_line.ensures) registered;
     }
