@@ -1,17 +1,19 @@
 // The text of the program.
 
-use crate::lines::{Asked, Fault, Form, Lines, serve};
-use pool_pictures::{Finding, Headline, Notes, html, svg, text};
+use crate::asked::{Asked, Form, Lines};
+use crate::fault::Fault;
+use crate::lines::serve;
+use crate::outcome::Outcome;
 use pool_reports::{FromJsonError, from_json};
-use std::alloc::Global;
-use std::io::{self, BufWriter, ErrorKind, Read, Write};
+use std::alloc::{AllocError, Global};
+use std::io::{self, ErrorKind, Read, Write};
 use std::process::Abort;
 use std::str;
 use std::test::Fail;
 use std::time::Duration;
 
 // A report of a pool of one, which was just made.
-const NEW: &str = concat!(
+pub(crate) const NEW: &str = concat!(
     r#"{"version":1,"limits":{"max_size":1,"min_idle":null,"max_lifetime":null,"#,
     r#""idle_timeout":null,"connection_timeout":9,"reap_every":9,"#,
     r#""order":"newest_first"},"base":{"at":0,"idle":[],"#,
@@ -19,13 +21,13 @@ const NEW: &str = concat!(
     r#""idle":[],"lent":[],"connections":0,"pending":1,"closed":false}"#,
 );
 
-// What is seen first of it, where it is shorter than `connection_timeout`.
+// What is seen first of it: it does not say what callers met.
 const WELL: &str =
-    "all well: nothing lent, opening or exhausted for as long as connection_timeout, 9 ns";
+    "nothing stands out, but the report does not say whether callers failed: it has no status";
 
 // What is answered of it.
 const ANSWERS: &str = concat!(
-    "  all well: nothing lent, opening or exhausted for as long as connection_timeout, 9 ns\n",
+    "  nothing stands out, but the report does not say whether callers failed: it has no status\n",
     "  covers 0.000 s, from 0.000 s after the making to the last record\n",
     "  0 opened, 0 closed at return, 0 closed while idle\n",
     "  at most 0 of 1 lent at once; all of them lent or opening for 0.000 s\n",
@@ -33,19 +35,32 @@ const ANSWERS: &str = concat!(
 
 // The same in JSON.
 const SUMMARY: &str = concat!(
-    r#""concerns":[],"summary":{"from":0,"until":0,"most_lent":0,"exhausted":0,"#,
+    r#""concerns":[],"answers":["#,
+    r#""covers 0.000 s, from 0.000 s after the making to the last record","#,
+    r#""0 opened, 0 closed at return, 0 closed while idle","#,
+    r#""at most 0 of 1 lent at once; all of them lent or opening for 0.000 s"],"#,
+    r#""takes":0,"lost":0,"summary":{"from":0,"until":0,"most_lent":0,"exhausted":0,"#,
     r#""longest_exhaustion":0,"exhausted_since":0,"opening_since":0,"pending":1,"#,
-    r#""opened":0,"closed":0,"reaped":0,"lent":[]}"#,
+    r#""opened":0,"closed":0,"closed_early":0,"returned":0,"reaped":0,"lent":[],"calls":null}"#,
+);
+
+// What stands before it.
+const UNKNOWN: &str = r#""sound":true,"state":"unknown""#;
+
+// What JSON says of one with a record that can't be, on the line of this number.
+const WRONG: &str = concat!(
+    r#""sound":false,"state":"unsound","record":0,"#,
+    r#""why":"connection 4 is kept, but it is not lent","answers":[],"takes":0,"lost":0}"#,
 );
 
 // The same, with a record that can't be.
-fn wrong(alloc: Global) -> Result<String, Fail> {
+pub(crate) fn wrong(alloc: Global) -> Result<String, Fail> {
     let (front, back) = NEW.split_once(r#""records":["#).ok_or("records")?;
     Ok(format!(in alloc; r#"{front}"records":[{{"kind":"kept","at":1,"id":4}}{back}"#)?)
 }
 
 // All reports, one on each line.
-fn all(form: Form) -> Asked<'static> {
+pub(crate) fn all(form: Form) -> Asked<'static> {
     Asked {
         form,
         lines: Lines::Reports,
@@ -59,14 +74,11 @@ fn serves<R: AllocGlobal + Abort>(
     form: Form,
     input: &str,
     output: &str,
-    outcome: Result<bool, Fault>,
+    outcome: Result<Outcome, Fault>,
 ) -> Result<(), Fail> {
-    let (mut written, mut aside) = (Vec::new(rt.alloc()), String::new(rt.alloc()));
-    let mut writer = BufWriter::new(rt.alloc(), &mut written)?;
-    let got = serve(rt.alloc(), all(form), input.as_bytes(), &mut writer, &mut aside);
-    drop(writer);
+    let mut written = Vec::new(rt.alloc());
+    let got = serve(rt.alloc(), all(form), input.as_bytes(), &mut written);
     assert_eq!(rt; str::from_utf8(written.as_slice())?, output);
-    assert_eq!(rt; aside.as_str(), "");
     assert_eq!(rt; got, outcome, "after {output}");
     Ok(())
 }
@@ -76,75 +88,40 @@ fn says_of_each_line_what_it_is(rt: HostRuntime) -> Result<(), Fail> {
     let wrong = wrong(rt.alloc())?;
     let good = format!(in rt.alloc(); "\n{NEW}\r\n \t\n{NEW}")?;
     let input = format!(in rt.alloc(); "{good}\n{wrong}\n")?;
-    let all = format!(in rt.alloc(); "line 2: replays\n{ANSWERS}line 4: replays\n{ANSWERS}")?;
-    serves(&rt, Form::Words, good.as_str(), all.as_str(), Ok(true))?;
+    let all = format!(in rt.alloc(); "line 2: sound\n{ANSWERS}line 4: sound\n{ANSWERS}")?;
+    serves(&rt, Form::Words, good.as_str(), all.as_str(), Ok(Outcome::Sound))?;
     let why = "connection 4 is kept, but it is not lent";
     let words = format!(in rt.alloc(); "{all}line 5: record 0: {why}\n")?;
-    serves(&rt, Form::Words, input.as_str(), words.as_str(), Ok(false))?;
+    serves(&rt, Form::Words, input.as_str(), words.as_str(), Ok(Outcome::Unsound))?;
     let json = format!(in rt.alloc();
-        "{{\"line\":2,\"replays\":true,{SUMMARY}}}\n{{\"line\":4,\"replays\":true,{SUMMARY}}}\n{}\n",
-        r#"{"line":5,"replays":false,"record":0,"why":"connection 4 is kept, but it is not lent"}"#)?;
-    serves(&rt, Form::Json, input.as_str(), json.as_str(), Ok(false))?;
-    serves(&rt, Form::Words, "", "no report\n", Ok(true))?;
-    serves(&rt, Form::Json, "\n\n", "", Ok(true))
-}
-
-fn notes(words: &str, is_sound: bool, record: Option<usize>) -> Notes<'_> {
-    Notes {
-        finding: Some(Finding {
-            words,
-            is_sound,
-            record,
-        }),
-        ..Notes::none()
-    }
-}
-
-// The lines of a text behind the first ones, without what they are indented by.
-fn lines(alloc: Global, text: &str, first: usize) -> Result<Vec<String>, Fail> {
-    let mut lines = Vec::new(alloc);
-    for line in text.lines().skip(first) {
-        lines.push(String::from_str(alloc, line.trim_start())?)?;
-    }
-    Ok(lines)
+        "{{\"line\":2,{UNKNOWN},{SUMMARY}}}\n{{\"line\":4,{UNKNOWN},{SUMMARY}}}\n{{\"line\":5,{WRONG}\n")?;
+    serves(&rt, Form::Json, input.as_str(), json.as_str(), Ok(Outcome::Unsound))?;
+    serves(&rt, Form::Words, "", "no report\n", Ok(Outcome::Sound))?;
+    serves(&rt, Form::Json, "\n\n", "", Ok(Outcome::Sound))
 }
 
 #[test]
-fn draws_each_report(rt: HostRuntime) -> Result<(), Fail> {
-    let report = from_json(rt.alloc(), NEW)?;
-    let (answers, well) = (lines(rt.alloc(), ANSWERS, 1)?, lines(rt.alloc(), WELL, 0)?);
-    let sound = Notes {
-        headline: Some(Headline {
-            lines: well.as_slice(),
-            is_well: true,
-        }),
-        answers: answers.as_slice(),
-        ..notes("replays", true, None)
-    };
-    let timeline = text(rt.alloc(), &report, &sound)?;
-    let told = format!(in rt.alloc(); "line 1: replays\n{ANSWERS}{timeline}")?;
-    serves(&rt, Form::Text, NEW, told.as_str(), Ok(true))?;
-    let drawing = svg(rt.alloc(), &report, &sound)?;
-    serves(&rt, Form::Svg, NEW, drawing.as_str(), Ok(true))?;
-    let page = html(rt.alloc(), &report, &sound)?;
-    serves(&rt, Form::Html, NEW, page.as_str(), Ok(true))?;
-    let wrong = wrong(rt.alloc())?;
-    let report = from_json(rt.alloc(), wrong.as_str())?;
-    let words = "record 0: connection 4 is kept, but it is not lent";
-    let drawing = svg(rt.alloc(), &report, &notes(words, false, Some(0)))?;
-    serves(&rt, Form::Svg, wrong.as_str(), drawing.as_str(), Ok(false))
-}
-
-#[test]
-fn each_word_asks_for_a_form(rt: HostRuntime) -> Result<(), Fail> {
-    for (word, form) in [
-        ("--json", Some(Form::Json)),
-        ("--text", Some(Form::Text)),
-        ("--svg", Some(Form::Svg)),
-        ("--html", Some(Form::Html)),
-        ("--words", None),
+fn arguments_ask_for_a_form_and_a_pool(rt: HostRuntime) -> Result<(), Fail> {
+    let (words, log) = (all(Form::Words), Asked { lines: Lines::Log, ..all(Form::Words) });
+    let none: &[&str] = &[];
+    for (arguments, asked) in [
+        (none, Some(words)),
+        (&["--json"], Some(all(Form::Json))),
+        (&["--html"], Some(all(Form::Html))),
+        (&["--find"], Some(log)),
+        (&["--pool", "a"], Some(of_pool("a"))),
+        (&["--pool", "--json"], Some(of_pool("--json"))),
+        (&["--find", "--pool", "a", "--json"], Some(Asked { pool: Some("a"), form: Form::Json, ..log })),
+        (&["--text"], None),
+        (&["a"], None),
+        (&["--pool"], None),
+        (&["--find", "--pool"], None),
+        (&["--find", "--find"], None),
+        (&["--pool", "a", "--find"], None),
+        (&["--json", "--find"], None),
+        (&["--json", "--html"], None),
     ] {
-        assert_eq!(rt; Form::of(word), form);
+        assert_eq!(rt; Asked::of(arguments), asked);
     }
     Ok(())
 }
@@ -154,10 +131,11 @@ fn says_what_is_wrong_beside_the_records_in_json(rt: HostRuntime) -> Result<(), 
     let (front, back) = NEW.split_once(r#""pending":1"#).ok_or("pending")?;
     let input = format!(in rt.alloc(); r#"{front}"pending":2{back}"#)?;
     let json = concat!(
-        "{\"line\":1,\"replays\":false,\"why\":\"the base: connections and pending are 2 ",
-        "together, but max_size is 1\"}\n",
+        r#"{"line":1,"sound":false,"state":"unsound","why":"the base: connections and pending "#,
+        r#"are 2 together, but max_size is 1","answers":[],"takes":0,"lost":0}"#,
+        "\n",
     );
-    serves(&rt, Form::Json, input.as_str(), json, Ok(false))
+    serves(&rt, Form::Json, input.as_str(), json, Ok(Outcome::Unsound))
 }
 
 #[test]
@@ -169,16 +147,14 @@ fn stops_at_a_line_that_is_no_report(rt: HostRuntime) -> Result<(), Fail> {
         "line 3: version: missing ",
         "(--find looks for reports within the lines of a log)",
     );
-    let words = format!(in rt.alloc(); "line 1: replays\n{ANSWERS}")?;
-    let json = format!(in rt.alloc(); "{{\"line\":1,\"replays\":true,{SUMMARY}}}\n")?;
+    let words = format!(in rt.alloc(); "line 1: sound\n{ANSWERS}")?;
+    let json = format!(in rt.alloc(); "{{\"line\":1,{UNKNOWN},{SUMMARY}}}\n")?;
     for (form, first) in [
         (Form::Words, words.as_str()),
         (Form::Json, json.as_str()),
     ] {
         let mut written = Vec::new(rt.alloc());
-        let mut writer = BufWriter::new(rt.alloc(), &mut written)?;
-        let got = serve(rt.alloc(), all(form), input.as_bytes(), &mut writer, &mut String::new(rt.alloc()));
-        drop(writer);
+        let got = serve(rt.alloc(), all(form), input.as_bytes(), &mut written);
         assert_eq!(rt; str::from_utf8(written.as_slice())?, first);
         let told = got.err().ok_or("a fault")?;
         assert_eq!(rt;
@@ -186,34 +162,46 @@ fn stops_at_a_line_that_is_no_report(rt: HostRuntime) -> Result<(), Fail> {
             (fault, 6)
         );
     }
-    let mut writer = BufWriter::new(rt.alloc(), Vec::new(rt.alloc()))?;
-    let mut aside = String::new(rt.alloc());
-    let told = serve(rt.alloc(), all(Form::Words), missing.as_bytes(), &mut writer, &mut aside)
+    let told = serve(rt.alloc(), all(Form::Words), missing.as_bytes(), Vec::new(rt.alloc()))
         .err()
         .ok_or("a fault")?;
-    let lost = concat!(
-        "line 1: lost: not a whole number up to 18446744073709551615 ",
-        "(--find looks for reports within the lines of a log)",
-    );
-    assert_eq!(rt; told.to_string(rt.alloc())?.as_str(), lost);
+    let column = front.len() + r#""lost":"#.len() + 1;
+    let lost = format!(in rt.alloc(); "line 1: invalid value at column {column}: -1")?;
+    assert_eq!(rt; told.to_string(rt.alloc())?.as_str(), lost.as_str());
     Ok(())
 }
 
 #[test]
 fn each_fault_has_a_text_and_a_status(rt: HostRuntime) -> Result<(), Fail> {
-    let why = FromJsonError::Version(2);
+    let (asked, others) = (text_of(rt.alloc(), "db")?, text_of(rt.alloc(), "\"db2\"")?);
     for (fault, text, status) in [
         (
-            Fault::NoReport { line: 7, why },
+            Fault::NotOfReports { line: 7, why: FromJsonError::Version(2) },
             concat!(
                 "line 7: version: 2 is not one that can be read ",
                 "(--find looks for reports within the lines of a log)",
             ),
             6,
         ),
+        (
+            Fault::NoReport { line: 7, why: FromJsonError::Version(2) },
+            "line 7: version: 2 is not one that can be read",
+            6,
+        ),
+        (
+            Fault::Open(7),
+            concat!(
+                "line 7: an object that does not end there: ",
+                "write each report on one line (jq -c . FILE)",
+            ),
+            6,
+        ),
         (Fault::NotUtf8(3), "line 3: not UTF-8", 6),
+        (Fault::Compressed, "the input is compressed: gzip -dc FILE | pool-audit", 6),
+        (Fault::OtherPools { asked, others }, "no report of pool \"db\"; there are \"db2\"", 6),
         (Fault::Damaged(4), "damaged reports: 4", 6),
-        (Fault::Memory, "out of memory", 2),
+        (Fault::NotUnderstood, "pool_audit [--find] [--pool NAME] [--json | --html]", 5),
+        (Fault::Memory(AllocError), "out of memory", 2),
         (Fault::Read, "read failed", 3),
         (Fault::Write, "write failed", 3),
     ] {
@@ -223,11 +211,103 @@ fn each_fault_has_a_text_and_a_status(rt: HostRuntime) -> Result<(), Fail> {
     Ok(())
 }
 
+fn text_of(alloc: Global, text: &str) -> Result<String, Fail> {
+    Ok(String::from_str(alloc, text)?)
+}
+
+// What is told of an input that ends in a fault.
+fn fault(alloc: Global, asked: Asked<'_>, input: &[u8]) -> Result<(String, u8), Fail> {
+    let got = serve(alloc, asked, input, Vec::new(alloc));
+    let fault = got.err().ok_or("a fault")?;
+    Ok((fault.to_string(alloc)?, fault.status()))
+}
+
+// Each line that is no report is told for itself, and `--find` only where it may help.
+#[test]
+fn says_what_a_line_is_that_is_no_report(rt: HostRuntime) -> Result<(), Fail> {
+    let alloc = rt.alloc();
+    let version = NEW.replace(alloc, "\"version\":1", "\"version\":2")?;
+    let (front, back) = NEW.split_once(r#""lost":0,"#).ok_or("lost")?;
+    let missing = format!(in alloc; "{front}{back}")?;
+    let (_, sorted) = NEW.split_once(r#""order":"newest_first"},"#).ok_or("order")?;
+    let sorted = format!(in alloc; "{{{sorted}")?;
+    let (cut, _) = NEW.split_once(r#""base""#).ok_or("base")?;
+    let (half, _) = NEW.split_once(r#","base""#).ok_or("base")?;
+    let inner = format!(in alloc; r#"{{"level":"INFO","report":{NEW}}}"#)?;
+    let open = format!(in alloc; "{{\n{half}\n")?;
+    let find = " (--find looks for reports within the lines of a log)";
+    let jq = "an object that does not end there: write each report on one line (jq -c . FILE)";
+    for (input, why, is_helped) in [
+        (version.as_str(), "version: 2 is not one that can be read", false),
+        (missing.as_str(), "missing field `lost` at column ", false),
+        (sorted.as_str(), "version: missing", false),
+        (half, "not JSON at column ", false),
+        ("{\"base\"", "not JSON at column ", false),
+        (cut, jq, false),
+        ("{ \"version\": 1,\n", jq, false),
+        (open.as_str(), jq, false),
+        (inner.as_str(), "version: missing", true),
+        ("{\"level\": \"INFO\"}", "version: missing", true),
+        ("INFO starts", "not JSON at column 1", true),
+        ("{}", "version: missing", true),
+        ("[1,", "invalid type at column 1: [1", true),
+        ("7", "invalid type at column 1: 7", true),
+    ] {
+        let (told, status) = fault(alloc, all(Form::Words), input.as_bytes())?;
+        let wanted = format!(in alloc; "line 1: {why}")?;
+        assert!(rt; told.as_str().starts_with(wanted.as_str()), "{told} is not {wanted}");
+        assert_eq!(rt; (told.as_str().ends_with(find), status), (is_helped, 6), "{told}");
+        let ends = told.as_str().strip_suffix(find).unwrap_or(told.as_str()).ends_with(why);
+        assert!(rt; ends || why.ends_with(' '), "{told}");
+    }
+    let gzip: &[u8] = b"\x1f\x8b\x08\n";
+    for lines in [Lines::Reports, Lines::Log] {
+        let asked = Asked { lines, ..all(Form::Words) };
+        let told = fault(alloc, asked, gzip)?;
+        assert_eq!(rt; told.0.as_str(), "the input is compressed: gzip -dc FILE | pool-audit");
+    }
+    let second: &[u8] = b"\n\x1f\x8b\x08\n";
+    assert_eq!(rt; fault(alloc, all(Form::Words), second)?.0.as_str(), "line 2: not UTF-8");
+    Ok(())
+}
+
+// The report with each field, and each item of a list, on a line of its own.
+fn pretty(alloc: Global, report: &str) -> Result<String, Fail> {
+    let spread = report.replace(alloc, ",", ",\n  ")?;
+    let spread = spread.as_str().replace(alloc, "{", "{\n  ")?;
+    Ok(spread.as_str().replace(alloc, "}", "\n  }")?)
+}
+
+// A report over several lines is read, and those behind it keep their numbers.
+#[test]
+fn reads_a_report_over_several_lines(rt: HostRuntime) -> Result<(), Fail> {
+    let alloc = rt.alloc();
+    let report = pretty(alloc, NEW)?;
+    let count = report.as_str().lines().count();
+    let input = format!(in alloc; "\n{report}\r\n{NEW}\n")?;
+    let last = count + 2;
+    let words = format!(in alloc; "line 2: sound\n{ANSWERS}line {last}: sound\n{ANSWERS}")?;
+    serves(&rt, Form::Words, input.as_str(), words.as_str(), Ok(Outcome::Sound))?;
+    let log = format!(in alloc; "INFO\n{{\"log\": [\n{report}\nINFO {NEW}\n")?;
+    let last = count + 3;
+    let words = format!(in alloc; "line 3: sound\n{ANSWERS}line {last}: sound\n{ANSWERS}{}",
+        "lines without a report: 2\n")?;
+    finds(&rt, Form::Words, log.as_str(), words.as_str(), Ok(Outcome::Sound))?;
+    let log = format!(in alloc; "{{\nINFO {NEW}\n{NEW}\n")?;
+    let words = format!(in alloc; "line 1: sound\n{ANSWERS}line 3: sound\n{ANSWERS}{}",
+        "lines without a report: 0\n")?;
+    finds(&rt, Form::Words, log.as_str(), words.as_str(), Ok(Outcome::Sound))?;
+    let (last, others) = (count + 1, count - 1);
+    let log = format!(in alloc; "INFO report: {report}\n{NEW}\n")?;
+    let words = format!(in alloc; "{}line {last}: sound\n{ANSWERS}lines without a report: {others}\n",
+        "line 3: damaged: a report over several lines behind other text: write it on one line\n")?;
+    finds(&rt, Form::Words, log.as_str(), words.as_str(), Err(Fault::Damaged(1)))
+}
+
 #[test]
 fn bytes_that_are_no_text_are_told(rt: HostRuntime) -> Result<(), Fail> {
-    let mut writer = BufWriter::new(rt.alloc(), Vec::new(rt.alloc()))?;
     let input: &[u8] = b"\n{\"a\xff\":1}\n";
-    let got = serve(rt.alloc(), all(Form::Words), input, &mut writer, &mut String::new(rt.alloc()));
+    let got = serve(rt.alloc(), all(Form::Words), input, Vec::new(rt.alloc()));
     assert_eq!(rt; got, Err(Fault::NotUtf8(2)));
     Ok(())
 }
@@ -271,26 +351,23 @@ fn failed_reads_and_writes_are_told(rt: HostRuntime) -> Result<(), Fail> {
     let input = format!(in rt.alloc(); "{NEW}\n{NEW}")?;
     for (error, fault) in [
         (ErrorKind::BrokenPipe, Fault::Read),
-        (ErrorKind::OutOfMemory, Fault::Memory),
+        (ErrorKind::OutOfMemory, Fault::Memory(AllocError)),
     ] {
         let mut written = Vec::new(rt.alloc());
-        let mut writer = BufWriter::new(rt.alloc(), &mut written)?;
-        let (cut, mut aside) = (Cut { text: input.as_bytes(), error }, String::new(rt.alloc()));
-        let got = serve(rt.alloc(), all(Form::Words), cut, &mut writer, &mut aside);
-        drop(writer);
-        let first = format!(in rt.alloc(); "line 1: replays\n{ANSWERS}")?;
+        let cut = Cut { text: input.as_bytes(), error };
+        let got = serve(rt.alloc(), all(Form::Words), cut, &mut written);
+        let first = format!(in rt.alloc(); "line 1: sound\n{ANSWERS}")?;
         assert_eq!(rt; str::from_utf8(written.as_slice())?, first.as_str());
         assert_eq!(rt; got, Err(fault));
     }
-    let (mut writer, mut aside) = (BufWriter::new(rt.alloc(), Full)?, String::new(rt.alloc()));
-    let got = serve(rt.alloc(), all(Form::Words), input.as_bytes(), &mut writer, &mut aside);
+    let got = serve(rt.alloc(), all(Form::Words), input.as_bytes(), Full);
     assert_eq!(rt; got, Err(Fault::Write));
     Ok(())
 }
 
 // A report of two, of which one is lent since before the base, and one since 104 milliseconds after
 // the making; the pool was made at noon.
-const LENT: &str = concat!(
+pub(crate) const LENT: &str = concat!(
     r#"{"version":1,"made_at":"2026-01-31T12:00:00Z","limits":{"max_size":2,"min_idle":0,"#,
     r#""max_lifetime":null,"idle_timeout":null,"connection_timeout":9,"reap_every":9,"#,
     r#""order":"newest_first"},"base":{"at":100000000,"idle":[[0,1,1]],"lent":[[1,1]],"#,
@@ -305,8 +382,12 @@ const LENT: &str = concat!(
 
 // What is answered of it.
 const WHO: &str = concat!(
-    "  ! was exhausted for 396 ms at a stretch\n",
-    "  ! 1 lent for at least 9 ns: connection 0 for 7 s 700 ms, since 2026-01-31T12:00:00.104Z\n",
+    "  ! 1 lent for at least 9 ns: ",
+    "connection 0 for 7 s 700 ms, since 2026-01-31T12:00:00.104Z\n",
+    "    look for a caller that keeps its connection; give what callers do a timeout\n",
+    "  ! was exhausted for 396 ms at a stretch ",
+    "(a concern from 9 ns on)\n",
+    "    see what ran then; if it comes again, raise max_size or limit who calls\n",
     "  covers 7.704 s, from 2026-01-31T12:00:00.1Z (0.100 s after the making) to the last record\n",
     "  1 opened, 1 closed at return, 0 closed while idle\n",
     "  at most 2 of 2 lent at once; all of them lent or opening for 0.496 s, ",
@@ -319,25 +400,39 @@ const WHO: &str = concat!(
 
 #[test]
 fn answers_who_is_lent_and_how_long_all_were(rt: HostRuntime) -> Result<(), Fail> {
-    let words = format!(in rt.alloc(); "line 1: replays\n{WHO}")?;
-    serves(&rt, Form::Words, LENT, words.as_str(), Ok(true))?;
+    let words = format!(in rt.alloc(); "line 1: sound\n{WHO}")?;
+    serves(&rt, Form::Words, LENT, words.as_str(), Ok(Outcome::Concerned))?;
     let json = concat!(
-        r#"{"line":1,"replays":true,"concerns":["was exhausted for 396 ms at a stretch","#,
-        r#""1 lent for at least 9 ns: connection 0 for 7 s 700 ms, "#,
-        r#"since 2026-01-31T12:00:00.104Z"],"summary":{"from":100000000,"until":7804000000,"#,
+        r#"{"line":1,"sound":true,"state":"concerned","concerns":[{"kind":"lent_for_long","#,
+        r#""says":"1 lent for at least 9 ns: connection 0 for "#,
+        r#"7 s 700 ms, since 2026-01-31T12:00:00.104Z","next":"look for a caller that keeps "#,
+        r#"its connection; give what callers do a timeout"},{"kind":"was_exhausted","#,
+        r#""says":"was exhausted for 396 ms at a stretch (a concern from 9 ns on)"#,
+        r#"","next":"see what ran then; if it comes again, raise max_size or "#,
+        r#"limit who calls"}],"answers":["covers 7.704 s, from 2026-01-31T12:00:00.1Z "#,
+        r#"(0.100 s after the making) to the last record","#,
+        r#""1 opened, 1 closed at return, 0 closed while idle","#,
+        r#""at most 2 of 2 lent at once; all of them lent or opening for 0.496 s, "#,
+        r#"6 % of the time","lent at the end: connection 0, for 7.700 s, "#,
+        r#"since 2026-01-31T12:00:00.104Z (0.104 s after the making)","#,
+        r#""lent at the end: connection 2, for 0.000 s, "#,
+        r#"since 2026-01-31T12:00:07.804Z (7.804 s after the making)"],"#,
+        r#""made_at":"2026-01-31T12:00:00Z","takes":4,"lost":9,"#,
+        r#""summary":{"from":100000000,"until":7804000000,"#,
         r#""most_lent":2,"exhausted":496000000,"longest_exhaustion":396000000,"#,
         r#""exhausted_since":7804000000,"opening_since":null,"pending":0,"#,
-        r#""opened":1,"closed":1,"reaped":0,"#,
-        r#""lent":[{"id":0,"since":104000000},{"id":2,"since":7804000000}]}}"#,
+        r#""opened":1,"closed":1,"closed_early":1,"returned":1,"reaped":0,"#,
+        r#""lent":[{"id":0,"since":104000000},{"id":2,"since":7804000000}],"calls":null}}"#,
         "\n",
     );
-    serves(&rt, Form::Json, LENT, json, Ok(true))?;
+    serves(&rt, Form::Json, LENT, json, Ok(Outcome::Concerned))?;
     let (front, _) = LENT.split_once(r#",{"kind":"closed""#).ok_or("closed")?;
     let back = r#"],"lost":9,"takes":4,"idle":[],"lent":[1,0],"connections":2,"pending":0,"closed":false}"#;
     let early = format!(in rt.alloc(); "{front}{back}")?;
     let words = concat!(
-        "line 1: replays\n",
+        "line 1: sound\n",
         "  ! 1 lent for at least 9 ns: connection 1 for more than 4 ms\n",
+        "    look for a caller that keeps its connection; give what callers do a timeout\n",
         "  covers 0.004 s, from 2026-01-31T12:00:00.1Z (0.100 s after the making) ",
         "to the last record\n",
         "  0 opened, 0 closed at return, 0 closed while idle\n",
@@ -346,7 +441,7 @@ fn answers_who_is_lent_and_how_long_all_were(rt: HostRuntime) -> Result<(), Fail
         "  lent at the end: connection 0, for 0.000 s, ",
         "since 2026-01-31T12:00:00.104Z (0.104 s after the making)\n",
     );
-    serves(&rt, Form::Words, early.as_str(), words, Ok(true))
+    serves(&rt, Form::Words, early.as_str(), words, Ok(Outcome::Concerned))
 }
 
 // What is wrong with a report that replays hides none of the answers.
@@ -365,6 +460,8 @@ fn answers_what_a_report_that_replays_is_asked(rt: HostRuntime) -> Result<(), Fa
     let (front, back) = SUMMARY.split_once(opening).ok_or("opening")?;
     let still = format!(in alloc;
         r#"{front}"exhausted_since":null,"opening_since":null,"pending":0{back}"#)?;
+    let lost = still.as_str().replace(alloc, r#""lost":0"#, r#""lost":9"#)?;
+    let five = SUMMARY.replace(alloc, r#""takes":0"#, r#""takes":5"#)?;
     for (input, why, summary) in [
         (
             none.as_str(),
@@ -374,26 +471,26 @@ fn answers_what_a_report_that_replays_is_asked(rt: HostRuntime) -> Result<(), Fa
         (
             takes.as_str(),
             "the counts: takes is 5, but the records tell of 0",
-            SUMMARY,
+            five.as_str(),
         ),
         (
             starved.as_str(),
             "the counts: wanted are 1, and there is room, but idle has 0, and pending is 0",
-            still.as_str(),
+            lost.as_str(),
         ),
     ] {
         let words = format!(in alloc; "line 1: {why}\n{ANSWERS}")?;
-        serves(&rt, Form::Words, input, words.as_str(), Ok(false))?;
+        serves(&rt, Form::Words, input, words.as_str(), Ok(Outcome::Unsound))?;
         let json = format!(in alloc;
-            "{{\"line\":1,\"replays\":false,\"why\":\"{why}\",{summary}}}\n")?;
-        serves(&rt, Form::Json, input, json.as_str(), Ok(false))?;
+            "{{\"line\":1,\"sound\":false,\"state\":\"unsound\",\"why\":\"{why}\",{summary}}}\n")?;
+        serves(&rt, Form::Json, input, json.as_str(), Ok(Outcome::Unsound))?;
     }
     Ok(())
 }
 
 // A report of one, which begins nine seconds after the making and covers one second; it is lent for
 // the second half of that.
-const LATE: &str = concat!(
+pub(crate) const LATE: &str = concat!(
     r#"{"version":1,"limits":{"max_size":1,"min_idle":0,"max_lifetime":null,"#,
     r#""idle_timeout":null,"connection_timeout":9,"reap_every":9,"order":"newest_first"},"#,
     r#""base":{"at":9000000000,"idle":[[0,1,1]],"lent":[],"connections":1,"pending":0,"#,
@@ -405,14 +502,16 @@ const LATE: &str = concat!(
 #[test]
 fn the_exhausted_part_is_of_what_the_report_covers(rt: HostRuntime) -> Result<(), Fail> {
     let words = concat!(
-        "line 1: replays\n",
-        "  ! was exhausted for 500 ms at a stretch\n",
+        "line 1: sound\n",
+        "  ! was exhausted for 500 ms at a stretch ",
+        "(a concern from 9 ns on)\n",
+        "    see what ran then; if it comes again, raise max_size or limit who calls\n",
         "  covers 1.000 s, from 9.000 s after the making to the last record\n",
         "  0 opened, 0 closed at return, 0 closed while idle\n",
         "  at most 1 of 1 lent at once; all of them lent or opening for 0.500 s, ",
         "50 % of the time\n",
     );
-    serves(&rt, Form::Words, LATE, words, Ok(true))
+    serves(&rt, Form::Words, LATE, words, Ok(Outcome::Concerned))
 }
 
 // A report of a pool whose connections, so many, are all lent since before the base.
@@ -443,7 +542,7 @@ fn names_twenty_and_counts_the_others(rt: HostRuntime) -> Result<(), Fail> {
         (43, 20, "  lent at the end: 23 more\n"),
     ] {
         let counts = "0 opened, 0 closed at return, 0 closed while idle";
-        let mut words = format!(in alloc; "line 1: replays\n  {WELL}\n")?;
+        let mut words = format!(in alloc; "line 1: sound\n  {WELL}\n")?;
         words.push_str("  covers 0.000 s, from 0.000 s after the making to the last record\n")?;
         write!(words, "  {counts}\n  at most {count} of {count} lent at once; ")?;
         words.push_str("all of them lent or opening for 0.000 s\n")?;
@@ -451,43 +550,9 @@ fn names_twenty_and_counts_the_others(rt: HostRuntime) -> Result<(), Fail> {
             write!(words, "  lent at the end: connection {id}, since before the base\n")?;
         }
         words.push_str(more)?;
-        serves(&rt, Form::Words, all_lent(alloc, count)?.as_str(), words.as_str(), Ok(true))?;
+        serves(&rt, Form::Words, all_lent(alloc, count)?.as_str(), words.as_str(), Ok(Outcome::Sound))?;
     }
     Ok(())
-}
-
-// The lines of a text that say what somebody has to look at.
-fn marked(alloc: Global, text: &str) -> Result<Vec<String>, Fail> {
-    let mut lines = Vec::new(alloc);
-    for line in text.lines() {
-        if let Some(line) = line.trim_start().strip_prefix("! ") {
-            lines.push(String::from_str(alloc, line)?)?;
-        }
-    }
-    Ok(lines)
-}
-
-#[test]
-fn drawings_have_the_answers_and_the_clock(rt: HostRuntime) -> Result<(), Fail> {
-    let (concerns, answers) = (marked(rt.alloc(), WHO)?, lines(rt.alloc(), WHO, 2)?);
-    let notes = Notes {
-        headline: Some(Headline {
-            lines: concerns.as_slice(),
-            is_well: false,
-        }),
-        answers: answers.as_slice(),
-        // Noon of that day, after the beginning of 1970.
-        made_at: Some(Duration::from_secs(1_769_860_800)),
-        ..notes("replays", true, None)
-    };
-    let report = from_json(rt.alloc(), LENT)?;
-    let drawing = svg(rt.alloc(), &report, &notes)?;
-    serves(&rt, Form::Svg, LENT, drawing.as_str(), Ok(true))?;
-    let page = html(rt.alloc(), &report, &notes)?;
-    serves(&rt, Form::Html, LENT, page.as_str(), Ok(true))?;
-    let timeline = text(rt.alloc(), &report, &notes)?;
-    let told = format!(in rt.alloc(); "line 1: replays\n{WHO}{timeline}")?;
-    serves(&rt, Form::Text, LENT, told.as_str(), Ok(true))
 }
 
 // Serves the lines of a log, and compares.
@@ -496,16 +561,14 @@ fn finds<R: AllocGlobal + Abort>(
     form: Form,
     log: &str,
     output: &str,
-    outcome: Result<bool, Fault>,
+    outcome: Result<Outcome, Fault>,
 ) -> Result<(), Fail> {
     let mut written = Vec::new(rt.alloc());
-    let mut writer = BufWriter::new(rt.alloc(), &mut written)?;
     let asked = Asked {
         lines: Lines::Log,
         ..all(form)
     };
-    let got = serve(rt.alloc(), asked, log.as_bytes(), &mut writer, &mut String::new(rt.alloc()));
-    drop(writer);
+    let got = serve(rt.alloc(), asked, log.as_bytes(), &mut written);
     assert_eq!(rt; str::from_utf8(written.as_slice())?, output);
     assert_eq!(rt; got, outcome);
     Ok(())
@@ -523,11 +586,11 @@ fn finds_reports_in_the_lines_of_a_log(rt: HostRuntime) -> Result<(), Fail> {
         format!(in alloc; "{{\"open\": {NEW}\n")?.as_str(),
     )?;
     let why = "connection 4 is kept, but it is not lent";
-    let words = format!(in alloc; "line 4: replays\n{ANSWERS}line 5: replays\n{ANSWERS}line 5: record 0: {why}\nline 7: replays\n{ANSWERS}lines without a report: 3\n")?;
-    finds(&rt, Form::Words, log.as_str(), words.as_str(), Ok(false))?;
+    let words = format!(in alloc; "line 4: sound\n{ANSWERS}line 5: sound\n{ANSWERS}line 5: record 0: {why}\nline 7: sound\n{ANSWERS}lines without a report: 3\n")?;
+    finds(&rt, Form::Words, log.as_str(), words.as_str(), Ok(Outcome::Unsound))?;
     let none = "no report\nlines without a report: 2\n";
-    finds(&rt, Form::Words, "a\nb", none, Ok(true))?;
-    finds(&rt, Form::Json, "a\n\nb", "{\"lines_without_a_report\":2}\n", Ok(true))
+    finds(&rt, Form::Words, "a\nb", none, Ok(Outcome::Sound))?;
+    finds(&rt, Form::Json, "a\n\nb", "{\"lines_without_a_report\":2}\n", Ok(Outcome::Sound))
 }
 
 // A part of a line that stands in it so often.
@@ -556,11 +619,11 @@ fn a_line_of_many_objects_takes_no_longer_than_its_length(rt: HostRuntime) -> Re
     let line = format!(in alloc; "{open}{NEW}{close}\n")?;
     let too_deep = "line 1: damaged: not JSON at column 1399\nno report\nlines without a report: 0\n";
     finds(&rt, Form::Words, line.as_str(), too_deep, Err(Fault::Damaged(1)))?;
-    let found = format!(in alloc; "line 1: replays\n{ANSWERS}lines without a report: 0\n")?;
+    let found = format!(in alloc; "line 1: sound\n{ANSWERS}lines without a report: 0\n")?;
     for part in ["{", "{}", "{\"a\":1}, ", "{\"records\":1} "] {
         let small = often(alloc, part, count)?;
         let line = format!(in alloc; "{small}{NEW}\n")?;
-        finds(&rt, Form::Words, line.as_str(), found.as_str(), Ok(true))?;
+        finds(&rt, Form::Words, line.as_str(), found.as_str(), Ok(Outcome::Sound))?;
     }
     Ok(())
 }
@@ -569,13 +632,13 @@ fn a_line_of_many_objects_takes_no_longer_than_its_length(rt: HostRuntime) -> Re
 #[test]
 fn finds_a_report_within_others(rt: HostRuntime) -> Result<(), Fail> {
     let alloc = rt.alloc();
-    let found = format!(in alloc; "line 1: replays\n{ANSWERS}lines without a report: 0\n")?;
+    let found = format!(in alloc; "line 1: sound\n{ANSWERS}lines without a report: 0\n")?;
     for depth in [0usize, 1, 20, 60] {
         let (open, close) = (often(alloc, "{\"a\": ", depth)?, often(alloc, "}", depth)?);
         let line = format!(in alloc; "INFO {open}{NEW}{close}\n")?;
-        finds(&rt, Form::Words, line.as_str(), found.as_str(), Ok(true))?;
+        finds(&rt, Form::Words, line.as_str(), found.as_str(), Ok(Outcome::Sound))?;
         let line = format!(in alloc; "INFO {open}{NEW}\n")?;
-        finds(&rt, Form::Words, line.as_str(), found.as_str(), Ok(true))?;
+        finds(&rt, Form::Words, line.as_str(), found.as_str(), Ok(Outcome::Sound))?;
     }
     Ok(())
 }
@@ -592,10 +655,11 @@ fn tells_what_is_damaged_in_a_log(rt: HostRuntime) -> Result<(), Fail> {
         format!(in alloc; "{{\"version\":7,\"report\":{bad}}} {NEW}\n{NEW} {head}\n")?.as_str(),
         "INFO the limits are \"limits\": 7, no \"records\"\n",
     )?;
-    let why = "damaged: lost: not a whole number up to 18446744073709551615\n";
+    let column = front.len() + r#""lost":"#.len() + 1;
+    let why = format!(in alloc; "damaged: invalid value at column {column}: -1\n")?;
     let cut = "damaged: a part of it is missing, or it stands in too many others\n";
     let words = format!(in alloc; "line 1: {why}line 2: {cut}line 3: {cut}line 4: {why}{}{}",
-        format!(in alloc; "line 4: replays\n{ANSWERS}line 5: replays\n{ANSWERS}")?.as_str(),
+        format!(in alloc; "line 4: sound\n{ANSWERS}line 5: sound\n{ANSWERS}")?.as_str(),
         format!(in alloc; "line 5: {cut}lines without a report: 1\n")?.as_str(),
     )?;
     finds(&rt, Form::Words, log.as_str(), words.as_str(), Err(Fault::Damaged(5)))?;
@@ -609,20 +673,20 @@ fn tells_what_is_damaged_in_a_log(rt: HostRuntime) -> Result<(), Fail> {
 #[test]
 fn finds_a_report_in_a_string(rt: HostRuntime) -> Result<(), Fail> {
     let alloc = rt.alloc();
-    let found = format!(in alloc; "line 1: replays\n{ANSWERS}lines without a report: 0\n")?;
+    let found = format!(in alloc; "line 1: sound\n{ANSWERS}lines without a report: 0\n")?;
     let mut line = format!(in alloc; "2026 {NEW} \u{e9}")?;
     for _ in 0..2 {
         let inner = line.as_str().replace(alloc, "\\", "\\\\")?;
         let inner = inner.as_str().replace(alloc, "\"", "\\\"")?;
         line = format!(in alloc; "{{\"log\":\"{}\\n\\u00e9\",\"stream\":\"stdout\"}}", inner.as_str())?;
-        finds(&rt, Form::Words, line.as_str(), found.as_str(), Ok(true))?;
+        finds(&rt, Form::Words, line.as_str(), found.as_str(), Ok(Outcome::Sound))?;
     }
     let none = "{\"log\":\"a \\\"b\\\" \\ud800\"}";
-    finds(&rt, Form::Words, none, "no report\nlines without a report: 1\n", Ok(true))
+    finds(&rt, Form::Words, none, "no report\nlines without a report: 1\n", Ok(Outcome::Sound))
 }
 
 // The same report, of a pool that is called so.
-fn named(alloc: Global, name: &str) -> Result<String, Fail> {
+pub(crate) fn named(alloc: Global, name: &str) -> Result<String, Fail> {
     let (front, back) = NEW.split_once(r#""limits""#).ok_or("limits")?;
     Ok(format!(in alloc; r#"{front}"name":"{name}","limits"{back}"#)?)
 }
@@ -632,129 +696,53 @@ fn says_which_pool_a_report_is_of(rt: HostRuntime) -> Result<(), Fail> {
     let alloc = rt.alloc();
     let (orders, users) = (named(alloc, "orders")?, named(alloc, "users")?);
     let log = format!(in alloc; "{orders}\n{users}\n{NEW}\n")?;
-    let words = format!(in alloc; "line 1, pool \"orders\": replays\n{ANSWERS}{}",
-        format!(in alloc; "line 2, pool \"users\": replays\n{ANSWERS}line 3: replays\n{ANSWERS}")?
+    let words = format!(in alloc; "line 1, pool \"orders\": sound\n{ANSWERS}{}",
+        format!(in alloc; "line 2, pool \"users\": sound\n{ANSWERS}line 3: sound\n{ANSWERS}")?
             .as_str(),
     )?;
-    serves(&rt, Form::Words, log.as_str(), words.as_str(), Ok(true))?;
-    let json = format!(in alloc; "{{\"line\":1,\"pool\":\"orders\",\"replays\":true,{SUMMARY}}}\n")?;
-    serves(&rt, Form::Json, orders.as_str(), json.as_str(), Ok(true))?;
+    serves(&rt, Form::Words, log.as_str(), words.as_str(), Ok(Outcome::Sound))?;
+    let json = format!(in alloc;
+        "{{\"line\":1,\"pool\":\"orders\",{UNKNOWN},{SUMMARY}}}\n")?;
+    serves(&rt, Form::Json, orders.as_str(), json.as_str(), Ok(Outcome::Sound))?;
     let mut written = Vec::new(alloc);
-    let mut writer = BufWriter::new(alloc, &mut written)?;
     let asked = Asked {
         pool: Some("users"),
         ..all(Form::Words)
     };
-    let got = serve(alloc, asked, log.as_bytes(), &mut writer, &mut String::new(alloc));
-    drop(writer);
-    assert_eq!(rt; got, Ok(true));
+    let got = serve(alloc, asked, log.as_bytes(), &mut written);
+    assert_eq!(rt; got, Ok(Outcome::Sound));
     let words = format!(in alloc;
-        "line 2, pool \"users\": replays\n{ANSWERS}reports of other pools: 2\n")?;
+        "line 2, pool \"users\": sound\n{ANSWERS}reports of other pools: 2\n")?;
     assert_eq!(rt; str::from_utf8(written.as_slice())?, words.as_str());
     Ok(())
 }
 
-// What is drawn of the reports of a log, and what is told beside it.
-fn drawn(alloc: Global, asked: Asked<'_>, log: &str) -> Result<(String, String), Fail> {
-    let (mut written, mut aside) = (Vec::new(alloc), String::new(alloc));
-    let mut writer = BufWriter::new(alloc, &mut written)?;
-    serve(alloc, asked, log.as_bytes(), &mut writer, &mut aside).map_err(|_| "a fault")?;
-    drop(writer);
-    Ok((String::from_str(alloc, str::from_utf8(written.as_slice())?)?, aside))
-}
-
-// A drawing is of the last report, whichever pool that is of. Where there are others, that is told.
-#[test]
-fn draws_the_last_report(rt: HostRuntime) -> Result<(), Fail> {
-    let alloc = rt.alloc();
-    let (orders, users) = (named(alloc, "orders")?, named(alloc, "\\\"users")?);
-    let (orders, users) = (orders.as_str(), users.as_str());
-    let rest = "(--pool NAME draws one of them, --html all)\n";
-    for (earlier, last, told) in [
-        (vec![in alloc; NEW]?, LENT, ""),
-        (
-            vec![in alloc; NEW, orders]?,
-            LENT,
-            "drawn: the pool without a name, whose report is the last; other pools left out: 1 ",
-        ),
-        (
-            vec![in alloc; NEW, users, orders, users, LENT]?,
-            users,
-            "drawn: pool \"\\\"users\", whose report is the last; other pools left out: 2 ",
-        ),
-    ] {
-        let mut log = String::new(alloc);
-        for line in &earlier {
-            writeln!(log, "{line}")?;
-        }
-        log.push_str(last)?;
-        let (drawing, aside) = drawn(alloc, all(Form::Svg), log.as_str())?;
-        assert_eq!(rt; drawing.as_str(), drawn(alloc, all(Form::Svg), last)?.0.as_str());
-        let rest = if told.is_empty() { "" } else { rest };
-        assert_eq!(rt; aside.as_str(), format!(in alloc; "{told}{rest}")?.as_str());
-        assert_eq!(rt; drawn(alloc, all(Form::Html), log.as_str())?.1.as_str(), "");
+fn of_pool(pool: &str) -> Asked<'_> {
+    Asked {
+        pool: Some(pool),
+        ..all(Form::Words)
     }
-    Ok(())
 }
 
-// A drawing of the pool that is asked for is of its last report, and says which pool it is of.
+// A pool is asked for by its whole name. Where no report is of it, the fault says which there are.
 #[test]
-fn draws_the_pool_that_is_asked_for(rt: HostRuntime) -> Result<(), Fail> {
+fn says_which_pools_there_are(rt: HostRuntime) -> Result<(), Fail> {
     let alloc = rt.alloc();
-    let (orders, users) = (named(alloc, "orders")?, named(alloc, "a<b")?);
-    let log = format!(in alloc; "{users}\n{orders}\n{LENT}\n")?;
-    let asked = Asked {
-        pool: Some("a<b"),
-        ..all(Form::Svg)
-    };
-    let (drawing, aside) = drawn(alloc, asked, log.as_str())?;
-    assert_eq!(rt; drawing.as_str(), drawn(alloc, all(Form::Svg), users.as_str())?.0.as_str());
-    assert_eq!(rt; aside.as_str(), "");
-    let title = ">The pool a&lt;b, of at most 1 connections, 1 wanted idle<";
-    assert!(rt; drawing.as_str().contains(title), "{drawing}");
-    Ok(())
-}
-
-// A page has a section for each pool, about its last report, in the order in which they came; and
-// before them what to see first of each. A pool without a name is one too.
-#[test]
-fn a_page_has_a_section_for_each_pool(rt: HostRuntime) -> Result<(), Fail> {
-    let alloc = rt.alloc();
-    let (orders, users) = (named(alloc, "a<b")?, named(alloc, "users")?);
-    let wrong = users.as_str().replace(alloc, "\"takes\":0", "\"takes\":7")?;
-    let log = format!(in alloc; "{users}\n{LENT}\n{orders}\n{NEW}\n{wrong}\n")?;
-    let (page, _) = drawn(alloc, all(Form::Html), log.as_str())?;
-    let page = page.as_str();
-    assert_eq!(rt; page.matches("<!doctype html>").count(), 1);
-    assert_eq!(rt; page.matches("<section id=").count(), 3);
-    let list = concat!(
-        "<h1>The journals of 3 pools</h1>\n<ul class=\"pools\">\n",
-        "<li class=\"is-wrong\"><a href=\"#pool-0\">users</a>: ",
-        "Not sound: the counts: takes is 7, but the records tell of 0</li>\n",
-    );
-    let well = "all well: nothing lent, opening or exhausted for as long as connection_timeout, 9 ns";
-    let list = format!(in alloc; "{list}{}{}",
-        format!(in alloc; "<li class=\"is-well\"><a href=\"#pool-1\">without a name</a>: {well}</li>\n")?
-            .as_str(),
-        format!(in alloc; "<li class=\"is-well\"><a href=\"#pool-2\">a&lt;b</a>: {well}</li>\n</ul>\n")?
-            .as_str(),
-    )?;
-    assert!(rt; page.contains(list.as_str()), "{page}");
-    let mut rest = page;
-    for (number, title) in ["pool users", "pool", "pool a&lt;b"].iter().enumerate() {
-        let article = if number == 1 { "a" } else { "the" };
-        let head = format!(in alloc;
-            "<section id=\"pool-{number}\">\n<h1>The journal of {article} {title}</h1>\n"
-        )?;
-        rest = rest.split_once(head.as_str()).ok_or("a section")?.1;
+    let (longer, other) = (named(alloc, "db2")?, named(alloc, "d")?);
+    let log = format!(in alloc; "{longer}\n{other}\n{longer}\n{NEW}\n")?;
+    let there = "there are \"db2\", \"d\", one without a name";
+    let told = fault(alloc, of_pool("db"), log.as_bytes())?;
+    let wanted = format!(in alloc; "no report of pool \"db\"; {there}")?;
+    assert_eq!(rt; (told.0.as_str(), told.1), (wanted.as_str(), 6));
+    let none = "no report of pool \"db\"; there are no reports of others";
+    assert_eq!(rt; fault(alloc, of_pool("db"), b"\n")?.0.as_str(), none);
+    let mut many = String::new(alloc);
+    for number in 0..30 {
+        let name = format!(in alloc; "{number}")?;
+        writeln!(many, "{}", named(alloc, name.as_str())?)?;
     }
-    let asked = Asked {
-        pool: Some("users"),
-        ..all(Form::Html)
-    };
-    let (alone, _) = drawn(alloc, asked, log.as_str())?;
-    assert!(rt; !alone.as_str().contains("<ul class=\"pools\">"));
-    assert_eq!(rt; alone.as_str().matches("<section id=").count(), 1);
+    let told = fault(alloc, of_pool("db"), many.as_bytes())?.0;
+    assert_eq!(rt; told.as_str().matches("\"").count(), 42);
     Ok(())
 }
 
@@ -765,9 +753,13 @@ fn reckons_up_to_the_report(rt: HostRuntime) -> Result<(), Fail> {
     let (front, back) = LENT.split_once(r#""limits""#).ok_or("limits")?;
     let late = format!(in alloc; r#"{front}"reported_at":3607804000000,"limits"{back}"#)?;
     let words = concat!(
-        "line 1: replays\n",
-        "  ! exhausted for 1 h, since 2026-01-31T12:00:07.804Z: 2 of 2 lent, 0 opening\n",
-        "  ! 2 lent for at least 9 ns: connection 0 for 1 h, since 2026-01-31T12:00:00.104Z\n",
+        "line 1: sound\n",
+        "  ! 2 lent for at least 9 ns: ",
+        "connection 0 for 1 h, since 2026-01-31T12:00:00.104Z\n",
+        "    look for a caller that keeps its connection; give what callers do a timeout\n",
+        "  ! exhausted for 1 h, since 2026-01-31T12:00:07.804Z: 2 of 2 lent, 0 opening ",
+        "(a concern from 9 ns on)\n",
+        "    see who has the connections for so long; if all are short, raise max_size\n",
         "  covers 3607.704 s, from 2026-01-31T12:00:00.1Z (0.100 s after the making) ",
         "to the report\n",
         "  1 opened, 1 closed at return, 0 closed while idle\n",
@@ -778,5 +770,5 @@ fn reckons_up_to_the_report(rt: HostRuntime) -> Result<(), Fail> {
         "  lent at the end: connection 2, for 3600.000 s, ",
         "since 2026-01-31T12:00:07.804Z (7.804 s after the making)\n",
     );
-    serves(&rt, Form::Words, late.as_str(), words, Ok(true))
+    serves(&rt, Form::Words, late.as_str(), words, Ok(Outcome::Concerned))
 }

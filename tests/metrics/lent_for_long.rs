@@ -2,6 +2,7 @@
 
 use crate::kind::{Makes, PooledConnection};
 use crate::managers::Sevens;
+use crate::place::Place;
 use pool_metrics::Metrics;
 use r2d2::Builder;
 use std::test::Fail;
@@ -68,5 +69,28 @@ fn a_detached_connection_is_not_lent_any_more(rt: HostRuntime) -> Result<(), Fai
     assert_eq!(rt; PooledConnection::detach(pool.get()?), 7);
     assert_eq!(rt; metrics.lent_longer_than(Duration::ZERO)?.len(), 0);
     assert_eq!(rt; metrics.snapshot().ages.count(), 1);
+    Ok(())
+}
+
+#[test]
+fn all_loans_are_listed_those_of_no_time_too(rt: HostRuntime) -> Result<(), Fail> {
+    let place = Place::new(rt, 3, |all| all)?;
+    assert_eq!(rt; place.metrics.loans()?.len(), 0);
+    let first = place.pool.get()?;
+    place.hand.set(4, 0);
+    let second = place.pool.get()?;
+    place.hand.set(6, 0);
+    let third = place.pool.get()?;
+    let all = place.metrics.loans()?;
+    assert_eq!(rt; all.len(), 3);
+    let told = [all[0].lent_for(), all[1].lent_for(), all[2].lent_for()];
+    assert_eq!(rt; told, [Duration::from_secs(6), Duration::from_secs(2), Duration::ZERO]);
+    assert_eq!(rt; all[0].id, PooledConnection::id(&first));
+    assert_eq!(rt; all[1].id, PooledConnection::id(&second));
+    assert_eq!(rt; all[2].id, PooledConnection::id(&third));
+    assert_eq!(rt; place.metrics.lent_longer_than(Duration::ZERO)?.len(), 2);
+    drop(second);
+    let all = place.metrics.loans()?;
+    assert_eq!(rt; (all.len(), all[1].id), (2, PooledConnection::id(&third)));
     Ok(())
 }

@@ -10,7 +10,11 @@ mod hand;
 #[cfg(test)]
 mod kind;
 #[cfg(test)]
+mod latest_error;
+#[cfg(test)]
 mod lent_for_long;
+#[cfg(test)]
+mod long_waits;
 #[cfg(test)]
 mod managers;
 #[cfg(test)]
@@ -23,5 +27,9 @@ mod play;
 mod printing;
 #[cfg(test)]
 mod reasons;
+#[cfg(test)]
+mod report;
+#[cfg(test)]
+mod tasks;
 #[cfg(test)]
 mod timing;

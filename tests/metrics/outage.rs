@@ -3,11 +3,11 @@
 use crate::managers::Blammo;
 use crate::place::Place;
 use crate::play::watched;
-use pool_metrics::{Metrics, Reading, write};
+use pool_metrics::{Metrics, Reading, Snapshot, write};
 use r2d2::{HandleError, NopErrorHandler, PoolRuntime};
 use std::sync::atomic::Ordering;
 use std::test::Fail;
-use std::time::Duration;
+use std::time::{Duration, SystemTime};
 
 // At 5 s the server of two connections goes away, of which a `try_get` hears at two checks, and the
 // worker at two openings. The clock stands, so that none is tried again.
@@ -26,6 +26,7 @@ fn each_error_is_counted_and_passed_on(rt: HostRuntime) -> Result<(), Fail> {
     let place = Place::new(rt, 2, |all| all)?;
     let seen = place.metrics.snapshot();
     assert_eq!(rt; (seen.errors, seen.latest_error), (Some(0), None));
+    assert_eq!(rt; seen.latest_error_at, None);
     dies(&place)?;
     assert_eq!(rt; place.server.heard.load(Ordering::SeqCst), 4);
     assert_eq!(rt; place.metrics.snapshot().errors, Some(4));
@@ -39,8 +40,11 @@ fn how_long_ago_the_latest_error_came(rt: HostRuntime) -> Result<(), Fail> {
     let place = Place::new(rt, 2, |all| all)?;
     dies(&place)?;
     place.hand.set(12, 0);
-    let ago = place.metrics.snapshot().latest_error;
-    assert_eq!(rt; ago, Some(Duration::from_secs(7)));
+    let seen = place.metrics.snapshot();
+    assert_eq!(rt; seen.latest_error, Some(Duration::from_secs(7)));
+    let latest = place.metrics.latest_error()?.ok_or("an error")?;
+    assert_eq!(rt; (latest.at, latest.time), (Duration::from_secs(5), seen.latest_error_at));
+    assert_eq!(rt; latest.text.ok_or("a text")?.as_str(), "blammo");
     Ok(())
 }
 
@@ -68,7 +72,7 @@ const TOLD: [&str; 15] = [
     "db_client_connection_failed_openings_total{db_client_connection_pool_name=\"o\"} 2\n",
     "db_client_connection_failed_checks_total{db_client_connection_pool_name=\"o\"} 2\n",
     "db_client_connection_errors_total{db_client_connection_pool_name=\"o\"} 4\n",
-    "db_client_connection_latest_error_age_seconds{db_client_connection_pool_name=\"o\"} 4\n",
+    "db_client_connection_latest_error_timestamp_seconds{db_client_connection_pool_name=\"o\"} 1700000004.5\n",
     "db_client_connection_opened_total{db_client_connection_pool_name=\"o\"} 3\n",
     "db_client_connection_closed_total{db_client_connection_pool_name=\"o\",reason=\"check_failed\"} 2\n",
     "db_client_connection_closed_total{db_client_connection_pool_name=\"o\",reason=\"broken\"} 0\n",
@@ -85,10 +89,16 @@ fn a_page_tells_what_failed(rt: HostRuntime) -> Result<(), Fail> {
     let lent = place.pool.get()?;
     dies(&place)?;
     place.hand.set(9, 0);
+    let seen = place.metrics.snapshot();
+    assert!(rt; seen.latest_error_at.is_some());
+    let at = SystemTime::UNIX_EPOCH + Duration::from_millis(1_700_000_004_500);
     let reading = Reading {
         pool: "o",
         status: place.pool.status(),
-        snapshot: place.metrics.snapshot(),
+        snapshot: Snapshot {
+            latest_error_at: Some(at),
+            ..seen
+        },
     };
     let mut page = String::new(rt.alloc());
     write(&[reading], &mut page)?;

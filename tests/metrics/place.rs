@@ -1,7 +1,7 @@
 // A pool whose server can go away, and its metrics: by a clock that the test moves.
 
 use crate::hand::Hand;
-use crate::kind::{Makes, Pool};
+use crate::kind::{Makes, Pool, PooledConnection};
 use crate::managers::Blammo;
 use pool_metrics::{CountingErrorHandler, Metrics};
 use r2d2::{Builder, HandleError, ManageConnection, NopConnectionCustomizer, PoolRuntime};
@@ -72,6 +72,14 @@ pub(crate) type Settings<R> = Builder<
 >;
 
 type PoolOf<R> = Pool<Client, Counting<R>, Metrics<Hand<R>>, NopConnectionCustomizer, Hand<R>>;
+
+pub(crate) type LentOf<R> = PooledConnection<
+    Client,
+    Counting<R>,
+    Metrics<Hand<R>>,
+    NopConnectionCustomizer,
+    Hand<R>,
+>;
 
 /// A pool, its metrics, its clock, and its server.
 #[derive(Drop)]

@@ -5,7 +5,7 @@ use r2d2::Status;
 use std::alloc::Global;
 use std::fmt;
 use std::test::Fail;
-use std::time::Duration;
+use std::time::{Duration, SystemTime};
 
 // A pool of three, one of which is lent.
 fn status() -> Status {
@@ -17,9 +17,12 @@ fn status() -> Status {
         lent: 1,
         opening: 2,
         waiting: 7,
+        waiting_since: Some(Duration::from_secs(8)),
         failed_openings: 48,
         failed_checks: 6,
         refused: 9,
+        timeouts: 10,
+        latest_failure: Some(Duration::from_secs(11)),
         closed: false,
     }
 }
@@ -44,6 +47,7 @@ fn snapshot(openings: Option<Distribution>) -> Snapshot {
         timeouts: 8,
         errors: None,
         latest_error: None,
+        latest_error_at: None,
         longest_loan: Duration::from_millis(90_500),
         vain_waits: Distribution::of(Scale::Short, in_vain, 95_000_000_000),
         waits: Distribution::of(Scale::Short, waits, 61_000_000_001),
@@ -217,12 +221,20 @@ fn each_metric_stands_once_for_all_pools(rt: HostRuntime) -> Result<(), Fail> {
     Ok(())
 }
 
+const NANOS: u64 = 1_796_000_000_012_345_000;
+
+const LATEST: &str = r#"# HELP db_client_connection_latest_error_timestamp_seconds When the latest of these errors came, in seconds since 1970.
+# TYPE db_client_connection_latest_error_timestamp_seconds gauge
+db_client_connection_latest_error_timestamp_seconds{db_client_connection_pool_name="orders"} 1796000000.012345
+"#;
+
 // Where a handler of errors tells of them.
 #[test]
 fn errors_are_printed_where_they_are_counted(rt: HostRuntime) -> Result<(), Fail> {
     let heard = Snapshot {
         errors: Some(54),
         latest_error: Some(Duration::from_millis(1250)),
+        latest_error_at: Some(SystemTime::UNIX_EPOCH + Duration::from_nanos(NANOS)),
         ..snapshot(None)
     };
     let mut readings = [Reading {
@@ -233,8 +245,12 @@ fn errors_are_printed_where_they_are_counted(rt: HostRuntime) -> Result<(), Fail
     let page = text(rt.alloc(), &readings)?;
     let count = "db_client_connection_errors_total{db_client_connection_pool_name=\"orders\"} 54\n";
     assert!(rt; page.as_str().contains(count));
-    let age = "_latest_error_age_seconds{db_client_connection_pool_name=\"orders\"} 1.25\n";
-    assert!(rt; page.as_str().contains(age));
+    assert!(rt; page.as_str().contains(LATEST));
+    // Where no wall clock could be read.
+    readings[0].snapshot.latest_error_at = None;
+    let page = text(rt.alloc(), &readings)?;
+    assert!(rt; page.as_str().contains(count));
+    assert!(rt; !page.as_str().contains("latest_error"));
     // Before the first one.
     readings[0].snapshot.errors = Some(0);
     readings[0].snapshot.latest_error = None;

@@ -28,11 +28,11 @@ fn what_a_report_that_replays_may_still_lack(rt: HostRuntime) -> Result<(), Fail
     let making = "the base: lost is 0, so it is that of the making, but";
     let takes = "the counts: takes is";
     for (part, change, wanted) in [
-        ("", "", "replays"),
+        ("", "", "sound"),
         (r#""takes":1"#, r#""takes":0"#, "0, but the records tell of 1"),
         (r#""takes":1"#, r#""takes":2"#, "2, but the records tell of 1"),
-        (r#""lost":0,"takes":1"#, r#""lost":1,"takes":2"#, "replays"),
-        (r#""lost":0"#, r#""lost":7"#, "replays"),
+        (r#""lost":0,"takes":1"#, r#""lost":1,"takes":2"#, "sound"),
+        (r#""lost":0"#, r#""lost":7"#, "sound"),
     ] {
         let (front, back) = GOOD.split_once(part).ok_or("a part")?;
         let text = format!(in rt.alloc(); "{front}{change}{back}")?;
@@ -73,7 +73,7 @@ fn a_base_that_no_pool_begins_with(rt: HostRuntime) -> Result<(), Fail> {
     let counts = r#""idle":[],"lent":[0,1,2,3],"connections":4,"pending":0,"closed":false"#;
     let making = "the base: lost is 0, so it is that of the making, but lent has 4";
     standing(&rt, 0, base.as_str(), counts, making)?;
-    standing(&rt, 9, base.as_str(), counts, "replays")?;
+    standing(&rt, 9, base.as_str(), counts, "sound")?;
     let idle = r#""idle":[[3,0,0]],"lent":[],"connections":1,"pending":1,"closed":false"#;
     let counts = r#""idle":[3],"lent":[],"connections":1,"pending":1,"closed":false"#;
     let making = "the base: lost is 0, so it is that of the making, but idle has 1";
@@ -84,7 +84,7 @@ fn a_base_that_no_pool_begins_with(rt: HostRuntime) -> Result<(), Fail> {
     let closed = r#""idle":[],"lent":[],"connections":0,"pending":0,"closed":true"#;
     let making = "the base: lost is 0, so it is that of the making, but it is closed";
     standing(&rt, 0, closed, closed, making)?;
-    standing(&rt, 9, closed, closed, "replays")
+    standing(&rt, 9, closed, closed, "sound")
 }
 
 #[test]

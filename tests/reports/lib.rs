@@ -1,5 +1,5 @@
-//! Tests of `pool_reports` and `pool_pictures`: reports as text, what is said to be wrong with one,
-//! and its story and pictures, over reports that books made.
+//! Tests of `pool_reports`: reports as text, what is said to be wrong with one, what somebody has to
+//! look at, and its story, over reports that books made.
 #![tactic(auto)]
 
 #[cfg(test)]
@@ -7,11 +7,11 @@ mod books;
 #[cfg(test)]
 mod changes;
 #[cfg(test)]
+mod concerns;
+#[cfg(test)]
 mod errors;
 #[cfg(test)]
 mod kept;
-#[cfg(test)]
-mod pictures;
 #[cfg(test)]
 mod reasons;
 #[cfg(test)]
@@ -24,5 +24,3 @@ mod shown;
 mod stories;
 #[cfg(test)]
 mod summaries;
-#[cfg(test)]
-mod within;

@@ -135,7 +135,7 @@ fn what_is_wrong_with_a_take_or_a_return(rt: HostRuntime) -> Result<(), Fail> {
         &rt,
         BASE,
         &[
-            ("", "replays"),
+            ("", "sound"),
             (
                 r#"{"kind":"taken","at":9,"id":7,"ordered":0}"#,
                 "record 0: its moment is before that of the base",

@@ -1,8 +1,8 @@
 // What a story says, against the report that it tells.
 
 use crate::books::{Driven, below, limits, ms, random_report};
-use pool_pictures::story::{Cause, Coming, Counts, Ending, Life, Story, Stretch, Use};
-use pool_pictures::{Notes, svg};
+use pool_reports::story::{Cause, Coming, Counts, Ending, Life, Story, Stretch, Use};
+use pool_reports::story::story_to_json;
 use r2d2_core::Report;
 use rand_core::SeedableRng;
 use rand_pcg::Pcg32;
@@ -121,7 +121,7 @@ fn a_report_that_does_not_replay_is_told_as_far_as_it_goes(rt: HostRuntime) -> R
         for life in story.lives.iter() {
             assert!(rt; is_whole(life, story.to), "{seed}: {}", life.id);
         }
-        assert!(rt; svg(alloc, &report, &Notes::none())?.as_str().ends_with("</svg>\n"));
+        assert!(rt; story_to_json(alloc, &report, None)?.as_str().ends_with("}"));
     }
     assert!(rt; strange > 100);
     Ok(())
@@ -165,6 +165,7 @@ fn tells_what_became_of_each(rt: HostRuntime) -> Result<(), Fail> {
         (story.from, story.to, story.length()),
         (ms(0), ms(140), ms(140))
     );
+    assert_eq!(rt; (story.closed, story.closing), (true, Some(ms(140))));
     assert_eq!(rt; story.lives.len(), 3);
     let first = &story.lives[0];
     assert_eq!(rt;
@@ -186,6 +187,47 @@ fn tells_what_became_of_each(rt: HostRuntime) -> Result<(), Fail> {
     for (life, end) in story.lives.iter().zip(ends.iter()) {
         assert_eq!(rt; life.ending, *end);
     }
-    assert_eq!(rt; story.most(), 2);
+    Ok(())
+}
+
+// What a page draws: a step for the base and for each record, and a lane for each connection.
+#[test]
+fn a_story_has_this_text(rt: HostRuntime) -> Result<(), Fail> {
+    let alloc = rt.alloc();
+    let limits = limits(1, 1, None, None).ok_or("limits")?;
+    let mut driven = Driven::new(alloc, limits, ms(0), 0, 9)?;
+    driven.open(ms(10));
+    driven.take(ms(20), true)?;
+    driven.put_back(ms(30), 0, true);
+    let report = driven.report()?;
+    let text = concat!(
+        r#"{"limits":{"max_size":1,"min_idle":1,"max_lifetime":null,"idle_timeout":null,"#,
+        r#""connection_timeout":30000000000,"reap_every":30000000000,"order":"newest_first"},"#,
+        r#""wanted":1,"steps":[[0,0,0,1,1,"base",null,null],"#,
+        r#"[10000000,0,1,0,0,"admitted",0,null],[20000000,1,0,0,1,"taken",0,0],"#,
+        r#"[30000000,0,0,1,1,"closed",0,1]],"#,
+        r#""lanes":[{"id":0,"birth":10000000,"came":"admitted","#,
+        r#""stretches":[["idle",10000000,20000000],["lent",20000000,30000000]],"#,
+        r#""end":["closed",30000000]}],"left_out":0}"#,
+    );
+    assert_eq!(rt; story_to_json(alloc, &report, Some(ms(40)))?.as_str(), text);
+    Ok(())
+}
+
+// Of more connections than have lanes the newest are drawn.
+#[test]
+fn the_oldest_lanes_are_left_out(rt: HostRuntime) -> Result<(), Fail> {
+    let alloc = rt.alloc();
+    let limits = limits(1, 1, None, None).ok_or("limits")?;
+    let mut driven = Driven::new(alloc, limits, ms(0), 0, 9000)?;
+    for turn in 0..1003 {
+        driven.open(ms(turn * 10));
+        driven.take(ms(turn * 10 + 1), true)?;
+        driven.put_back(ms(turn * 10 + 2), 0, true);
+    }
+    let report = driven.report()?;
+    let text = story_to_json(alloc, &report, None)?;
+    assert!(rt; text.as_str().contains(r#""lanes":[{"id":3,"#));
+    assert!(rt; text.as_str().ends_with(r#""left_out":3}"#));
     Ok(())
 }

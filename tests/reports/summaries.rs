@@ -1,9 +1,9 @@
 // What a summary says of a report, beside a replay that keeps all in lists.
 
 use crate::books::{Driven, limits, ms, seeded_report};
-use pool_pictures::story::Story;
-use pool_reports::{Concern, Loan, Origin, Summary, from_json, from_json_of_pool, summarize};
-use pool_reports::{to_json, to_json_of_pool};
+use pool_reports::story::Story;
+use pool_reports::{Loan, Origin, PoolStatus, Summary, Waits, from_json, from_json_of_pool};
+use pool_reports::{summarize, to_json, to_json_of_pool};
 use r2d2_core::{Record, Report};
 use std::alloc::Global;
 use std::test::Fail;
@@ -76,6 +76,19 @@ impl Played {
     }
 }
 
+/// What a report says that was made at this moment, of which nothing else is known.
+pub(crate) fn summary_at(
+    alloc: Global,
+    report: &Report,
+    reported_at: Option<Duration>,
+) -> Result<Summary, Fail> {
+    let origin = Origin {
+        reported_at,
+        ..Origin::unknown()
+    };
+    Ok(summarize(alloc, report, &origin, None)?)
+}
+
 fn replayed(alloc: Global, report: &Report) -> Result<Played, Fail> {
     let mut lent = Vec::new(alloc);
     for (id, _) in &report.base.lent {
@@ -116,7 +129,7 @@ fn says_what_a_replay_in_lists_says(rt: HostRuntime) -> Result<(), Fail> {
         let later = if seed % 6 == 0 { last } else { last.saturating_add(ms(seed)) };
         let reported_at = (seed % 3 == 0).then_some(later);
         let (said, mut played) =
-            (summarize(alloc, &report, reported_at)?, replayed(alloc, &report)?);
+            (summary_at(alloc, &report, reported_at)?, replayed(alloc, &report)?);
         played.go_on(reported_at.unwrap_or(last));
         assert_eq!(rt; said.until, reported_at.unwrap_or(last), "{seed}");
         assert_eq!(rt; said.longest_exhaustion, played.longest, "{seed}");
@@ -127,9 +140,8 @@ fn says_what_a_replay_in_lists_says(rt: HostRuntime) -> Result<(), Fail> {
         assert_eq!(rt; said.most_lent, played.most_lent, "{seed}");
         assert_eq!(rt; said.exhausted, played.exhausted, "{seed}");
         let story = Story::of(alloc, &report, reported_at)?;
-        let drawn = story.exhaustion();
         assert_eq!(rt; (said.until, said.covers()), (story.to, story.length()), "{seed}");
-        assert_eq!(rt; said.exhausted.as_nanos(), drawn.nanos, "{seed}");
+        assert_eq!(rt; said.exhausted, story.exhausted, "{seed}");
         assert_eq!(rt; (said.opened, said.closed), (played.opened, played.closed), "{seed}");
         let left = u64::from(report.connections).saturating_add(said.closed);
         let came = u64::from(report.base.connections).saturating_add(said.opened);
@@ -149,10 +161,9 @@ fn a_closed_pool_is_not_exhausted(rt: HostRuntime) -> Result<(), Fail> {
     driven.close();
     driven.put_back(ms(90), 0, false);
     let report = driven.report()?;
-    let said = summarize(rt.alloc(), &report, None)?;
+    let said = summary_at(rt.alloc(), &report, None)?;
     assert_eq!(rt; (said.exhausted, said.until), (ms(40), ms(90)));
-    let drawn = Story::of(rt.alloc(), &report, None)?.exhaustion();
-    assert_eq!(rt; (drawn.nanos, drawn.times), (ms(40).as_nanos(), 2));
+    assert_eq!(rt; Story::of(rt.alloc(), &report, None)?.exhausted, ms(40));
     Ok(())
 }
 
@@ -164,7 +175,7 @@ fn a_report_without_records_covers_no_time(rt: HostRuntime) -> Result<(), Fail> 
     driven.open(ms(70));
     let report = driven.report()?;
     assert!(rt; report.records.as_slice().is_empty());
-    let said = summarize(rt.alloc(), &report, None)?;
+    let said = summary_at(rt.alloc(), &report, None)?;
     assert_eq!(rt; (said.from, said.until, said.covers()), (ms(70), ms(70), ms(0)));
     Ok(())
 }
@@ -179,12 +190,11 @@ fn an_exhaustion_goes_on_over_its_records(rt: HostRuntime) -> Result<(), Fail> {
     driven.put_back(ms(40), 0, true);
     driven.open(ms(90));
     let report = driven.report()?;
-    let said = summarize(rt.alloc(), &report, None)?;
+    let said = summary_at(rt.alloc(), &report, None)?;
     assert_eq!(rt; said.exhausted, ms(80));
     // Until the first one came, and from its take until the second one came.
-    let drawn = Story::of(rt.alloc(), &report, None)?.exhaustion();
-    assert_eq!(rt; (drawn.nanos, drawn.times), (ms(80).as_nanos(), 2));
-    assert!(rt; !drawn.is_still);
+    assert_eq!(rt; Story::of(rt.alloc(), &report, None)?.exhausted, ms(80));
+    assert_eq!(rt; (said.longest_exhaustion, said.exhausted_since), (ms(70), None));
     Ok(())
 }
 
@@ -224,6 +234,48 @@ fn the_wall_clock_goes_round(rt: HostRuntime) -> Result<(), Fail> {
     Ok(())
 }
 
+// So do what callers met, the latest error, and since when connections are lent.
+#[test]
+fn what_callers_met_goes_round(rt: HostRuntime) -> Result<(), Fail> {
+    let alloc = rt.alloc();
+    let report = seeded_report(alloc, 3, 40, 10)?;
+    let bare = PoolStatus {
+        connection_timeout: ms(1),
+        waiting: u64::MAX,
+        waiting_since: None,
+        timeouts: 1,
+        refused: 2,
+        failed_openings: 3,
+        failed_checks: 4,
+        latest_failure: None,
+        waits: None,
+    };
+    let full = PoolStatus {
+        waiting_since: Some(Duration::MAX),
+        latest_failure: Some(ms(5)),
+        waits: Some(Waits {
+            bound: Duration::MAX,
+            longer: 6,
+            all: u64::MAX,
+        }),
+        ..bare
+    };
+    let loans = [(u64::MAX, ms(7)), (0, Duration::MAX)];
+    for status in [bare, full] {
+        for loans in [&loans[..], &[]] {
+            let origin = Origin::unknown()
+                .with_status(status)
+                .with_error("no\n\"route\"")
+                .with_loans(loans);
+            let written = to_json_of_pool(alloc, &report, origin)?;
+            assert!(rt; !written.as_str().contains('\n'));
+            let read = from_json_of_pool(alloc, written.as_str())?;
+            assert_eq!(rt; read.origin(), origin);
+        }
+    }
+    Ok(())
+}
+
 // The name of a pool and the moment of a report go round, whatever they are.
 #[test]
 fn the_origin_goes_round(rt: HostRuntime) -> Result<(), Fail> {
@@ -257,13 +309,13 @@ fn an_origin_has_the_moment_of_its_report(rt: HostRuntime) -> Result<(), Fail> {
 }
 
 // What one that stands still since 20 ms is reckoned to, of which one is lent since then.
-fn standing(alloc: Global, reported_at: Option<Duration>) -> Result<(Report, Summary), Fail> {
+pub(crate) fn standing(alloc: Global, reported_at: Option<Duration>) -> Result<(Report, Summary), Fail> {
     let limits = limits(1, 1, None, None).ok_or("limits")?;
     let mut driven = Driven::new(alloc, limits, ms(0), 0, 9)?;
     driven.open(ms(10));
     driven.take(ms(20), true)?;
     let report = driven.report()?;
-    let summary = summarize(alloc, &report, reported_at)?;
+    let summary = summary_at(alloc, &report, reported_at)?;
     Ok((report, summary))
 }
 
@@ -280,73 +332,8 @@ fn a_pool_that_stands_still_is_reckoned_to_its_report(rt: HostRuntime) -> Result
         assert_eq!(rt; (said.until, said.exhausted), (ms(until), ms(exhausted)));
         let story = Story::of(alloc, &report, reported_at)?;
         assert_eq!(rt; (story.to, story.exhausted), (ms(until), ms(exhausted)));
-        assert_eq!(rt; story.quiet(), ms(until.saturating_sub(20)));
         let last = story.lives[0].latest().ok_or("a stretch")?;
         assert_eq!(rt; (last.from, last.to), (ms(20), ms(until)));
     }
-    Ok(())
-}
-
-// What lasts for as long as a caller waits, 30 seconds, is a concern, and nothing shorter is.
-#[test]
-fn what_lasts_as_long_as_a_caller_waits_is_a_concern(rt: HostRuntime) -> Result<(), Fail> {
-    let (report, said) = standing(rt.alloc(), Some(ms(30_019)))?;
-    assert_eq!(rt; said.concerns(&report.limits), [None, None, None]);
-    let (report, said) = standing(rt.alloc(), Some(ms(30_020)))?;
-    let longest = Loan {
-        id: 0,
-        since: Some(ms(20)),
-    };
-    assert_eq!(rt;
-        said.concerns(&report.limits),
-        [
-            None,
-            Some(Concern::Exhausted { since: ms(20) }),
-            Some(Concern::LentForLong { count: 1, longest }),
-        ]
-    );
-    Ok(())
-}
-
-#[test]
-fn openings_that_fail_for_long_are_a_concern(rt: HostRuntime) -> Result<(), Fail> {
-    let alloc = rt.alloc();
-    let limits = limits(3, 1, None, None).ok_or("limits")?;
-    let mut driven = Driven::new(alloc, limits, ms(0), 0, 9)?;
-    driven.open(ms(10));
-    driven.take(ms(20), true)?;
-    driven.put_back(ms(1_020), 0, true);
-    let report = driven.report()?;
-    let said = summarize(alloc, &report, Some(ms(30_019)))?;
-    assert_eq!(rt; said.concerns(&limits), [None, None, None]);
-    let said = summarize(alloc, &report, Some(ms(30_020)))?;
-    let since = ms(20);
-    assert_eq!(rt; said.concerns(&limits), [Some(Concern::NothingOpens { since }), None, None]);
-    // One of the two comes in.
-    driven.open(ms(30_010));
-    let said = summarize(alloc, &driven.report()?, Some(ms(30_020)))?;
-    assert_eq!(rt; said.opening_since, Some(ms(30_010)));
-    assert_eq!(rt; said.concerns(&limits), [None, None, None]);
-    Ok(())
-}
-
-// One that is exhausted for long and then not, also where it is so again at the end.
-#[test]
-fn a_long_exhaustion_that_is_over_is_a_concern(rt: HostRuntime) -> Result<(), Fail> {
-    let alloc = rt.alloc();
-    let limits = limits(1, 0, None, None).ok_or("limits")?;
-    let mut driven = Driven::new(alloc, limits, ms(0), 0, 9)?;
-    driven.take(ms(10), true)?;
-    driven.open(ms(20));
-    driven.take(ms(30), true)?;
-    driven.put_back(ms(30_030), 0, false);
-    let longest = ms(30_000);
-    let was = [None, Some(Concern::WasExhausted { longest }), None];
-    let said = summarize(alloc, &driven.report()?, None)?;
-    assert_eq!(rt; said.concerns(&limits), was);
-    driven.take(ms(40_000), true)?;
-    let said = summarize(alloc, &driven.report()?, Some(ms(40_001)))?;
-    assert_eq!(rt; said.exhausted_since, Some(ms(40_000)));
-    assert_eq!(rt; said.concerns(&limits), was);
     Ok(())
 }

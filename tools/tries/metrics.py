@@ -10,7 +10,7 @@ import tempfile
 from programs import examples
 from tally import TOP, Tally
 
-KINDS = 18
+KINDS = 19
 # A name of OpenTelemetry's is odd to promtool, which keeps `_count` for histograms.
 ODD = 'db_client_connection_count non-histogram and non-summary metrics should not have "_count" suffix'
 FOLDER = os.path.join(TOP, "crates", "pool_metrics", "prometheus")
@@ -24,6 +24,8 @@ ADDED, POOL = re.compile(r',instance="\w+"'), re.compile(r'(?<=pool_name=)"\w+"'
 LABEL, VARIABLE, GRAFANAS = re.compile(r"\{\{(\w+)\}\}"), re.compile(r"\$\{?(\w+)"), ["__all", "__rate_interval"]
 # What Grafana puts in place of a variable for which all was chosen, and of the range that a rate needs.
 CHOSEN, RANGE = ".*", ("$__rate_interval", "5m")
+# What a page has once an error came, of which the example has none: as a test of the printer has it.
+LATEST = re.compile(r'^const LATEST: &str = r#"(.*?)"#;', re.MULTILINE | re.DOTALL)
 
 
 class Page:
@@ -41,6 +43,12 @@ class Page:
 def read(name):
     with open(os.path.join(FOLDER, name), encoding="utf-8") as file:
         return file.read()
+
+
+def of_an_error():
+    """What a page has besides, once an error came."""
+    with open(os.path.join(TOP, "tests", "metrics", "printing.rs"), encoding="utf-8") as file:
+        return LATEST.search(file.read())[1]
 
 
 def refused(what, path):
@@ -140,8 +148,10 @@ def tried():
         return tally
     done = subprocess.run([program.path, "metrics"], stdin=subprocess.DEVNULL, capture_output=True, text=True)
     tally.check("the example runs", done.returncode == 0, done.stderr[-2000:])
-    page = Page(done.stdout)
-    try_page(tally, done.stdout, page)
+    tally.check("the example has no error", "latest_error" not in done.stdout)
+    text = done.stdout + of_an_error()
+    page = Page(text)
+    try_page(tally, text, page)
     try_names(tally, page)
     try_alerts(tally, page)
     try_dashboard(tally, page)

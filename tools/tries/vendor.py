@@ -6,7 +6,8 @@ import shutil
 import subprocess
 import tempfile
 
-from copies import Runs, end_the_look_at_names
+import trying
+from copies import Runs
 from tally import TOP, Tally
 
 TALLY = Tally("vendor")
@@ -100,7 +101,7 @@ def runs(mine):
     os.makedirs(os.path.join(folder, "src"))
     write(PROGRAM, folder, "src", "main.rt")
     write(read(mine, "crates.txt") + "numbers: r2d2 anyhow\n", mine, "crates.txt")
-    status, said = Runs().run(["rt", "try"], end_the_look_at_names, cwd=folder)
+    status, said = Runs().run(trying.command(), cwd=folder)
     is_written = "lent 7: State { connections: 1, idle_connections: 0 }" in said.splitlines()
     check("the pool runs there", status == 0 and is_written, said[-2000:])
 
@@ -134,6 +135,14 @@ def try_reports(logged):
     lines = re.findall(r"^(?:r2d2|r2d2_core|pool_reports)[ :].*\n", read(TOP, "crates.txt"), re.M)
     check("the lines of all arrive", sorted(read(logged, "crates.txt").splitlines(True)) == sorted(lines), read(logged, "crates.txt"))
     arrives(logged, "pool_reports")
+
+
+def try_metrics(measured):
+    """With what counts and times, which stands on what writes reports."""
+    os.mkdir(measured)
+    answers("with metrics", 0, "put there: crates.txt: made, with four lines", "--metrics", measured)
+    arrives(measured, "pool_metrics")
+    arrives(measured, "pool_reports")
 
 
 def try_options(place):
@@ -197,6 +206,7 @@ def tried():
         try_an_empty_folder(os.path.join(place, "mine"), lines)
         try_a_repository(os.path.join(place, "theirs"), lines)
         try_reports(os.path.join(place, "logged"))
+        try_metrics(os.path.join(place, "measured"))
         try_options(place)
         try_an_adapter(place)
         try_refusals(place)

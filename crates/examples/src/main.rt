@@ -1,6 +1,6 @@
 //! First programs with the pool, its reports and its core, one after another: a module for each,
-//! and here the first one, threads that share a pool. With the argument `text`, `svg` or `html` it
-//! draws the script on standard input in their place, and with `metrics` it prints those of a
+//! and here the first one, threads that share a pool. With the argument `report` it writes what a
+//! book reports that took the script on standard input, and with `metrics` it prints those of a
 //! service.
 #![tactic(auto)]
 
@@ -52,8 +52,13 @@ fn main(rt: HostRuntime) -> Result<ExitCode, anyhow::Error> {
     let mut prints = Prints::Findings;
     let word = env::args(&rt)?.nth(1);
     if let Some(word) = word {
-        if word.as_str() != "metrics" {
-            return stories::drawn(&rt, word.as_str());
+        match word.as_str() {
+            "metrics" => {}
+            "report" => return stories::reported(&rt),
+            _ => {
+                eprintln!(rt; "examples: report or metrics")?;
+                return Ok(ExitCode::from(5));
+            }
         }
         prints = Prints::Pages;
     } else {

@@ -2,8 +2,17 @@
 // audit of that log.
 
 use crate::Numbers;
-use pool_reports::{Origin, audit, from_json, to_json_of_pool};
-use r2d2::{Builder, PlainPool, PoolRuntime};
+use pool_metrics::{CountingErrorHandler, Metrics, report_of};
+use pool_reports::{audit, from_json};
+use r2d2::{Builder, NopConnectionCustomizer, NopErrorHandler, Pool, PoolRuntime};
+
+type Watched<R> = Pool<
+    Numbers,
+    CountingErrorHandler<NopErrorHandler, R>,
+    Metrics<R>,
+    NopConnectionCustomizer,
+    R,
+>;
 
 pub fn audited<R: PoolRuntime + Print>(rt: R) -> Result<(), anyhow::Error> {
     let log = serve(rt)?;
@@ -22,34 +31,38 @@ pub fn audited<R: PoolRuntime + Print>(rt: R) -> Result<(), anyhow::Error> {
 // Answers thirty requests, and gives the log.
 fn serve<R: PoolRuntime>(rt: R) -> Result<String, anyhow::Error> {
     let mut log = String::new(rt.alloc());
+    let metrics = Metrics::new(rt, 1)?;
     let pool = Builder::new()
         .max_size(1)
         .journal_room(32)
+        .error_handler(metrics.around(NopErrorHandler)?)
+        .event_handler(metrics.try_clone()?)
         .build(rt, Numbers)?;
     for request in 1u32..31 {
         answer(&pool)?;
         if request % 10 == 0 {
-            write_journal(&rt, &pool, &mut log)?;
+            write_report(&rt, &pool, &metrics, &mut log)?;
         }
     }
     Ok(log)
 }
 
 // What a request is for. The connection goes back to the pool at the end.
-fn answer<R: PoolRuntime>(pool: &PlainPool<Numbers, R>) -> Result<u32, anyhow::Error> {
+fn answer<R: PoolRuntime>(pool: &Watched<R>) -> Result<u32, anyhow::Error> {
     let connection = pool.get()?;
     Ok(*connection)
 }
 
-// Writes a line into the log: what stood, what happened since, and what there is now.
-fn write_journal<R: PoolRuntime>(
+// Writes a line into the log: what stood, what happened since, what there is now, and what callers
+// met.
+fn write_report<R: PoolRuntime>(
     rt: &R,
-    pool: &PlainPool<Numbers, R>,
+    pool: &Watched<R>,
+    metrics: &Metrics<R>,
     log: &mut String,
 ) -> Result<(), anyhow::Error> {
-    let report = pool.journal()?;
-    let origin = Origin::at(pool.made_at(), pool.moment()).named("numbers");
-    log.push_str(to_json_of_pool(rt.alloc(), &report, origin)?.as_str())?;
+    let line = report_of(rt.alloc(), "numbers", pool, metrics)?;
+    log.push_str(line.as_str())?;
     log.push('\n')?;
     Ok(())
 }

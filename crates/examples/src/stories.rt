@@ -1,9 +1,9 @@
-// A script of steps, as `pool-steps` reads them, that a book takes; and a drawing of what the book
-// reports then: as text, as SVG or as a page.
+// A script of steps, as `pool-steps` reads them, that a book takes; and what the book reports then:
+// in a few figures, or as the line of JSON that `pool-audit` reads.
 
 use pool_lines::program::Fault;
 use pool_lines::program::line::{Line, limits};
-use pool_pictures::{Notes, html, svg, text};
+use pool_reports::{Origin, Summary, summarize, to_json};
 use r2d2_core::{Book, Report};
 use std::alloc::{AllocError, Global};
 use std::io;
@@ -23,34 +23,6 @@ return 40 0 7
 reap 130
 close
 ";
-
-/// What is written.
-#[derive(Clone, Copy)]
-enum Kind {
-    Text,
-    Svg,
-    Html,
-}
-
-impl Kind {
-    fn of(word: &str) -> Option<Kind> {
-        match word {
-            "text" => Some(Kind::Text),
-            "svg" => Some(Kind::Svg),
-            "html" => Some(Kind::Html),
-            _ => None,
-        }
-    }
-
-    fn drawing(self, alloc: Global, report: &Report) -> Result<String, AllocError> {
-        let notes = Notes::none();
-        match self {
-            Kind::Text => text(alloc, report, &notes),
-            Kind::Svg => svg(alloc, report, &notes),
-            Kind::Html => html(alloc, report, &notes),
-        }
-    }
-}
 
 // The lines of a script that say something: none that are empty or begin with `#`.
 fn said(alloc: Global, script: &str) -> Result<Vec<&str>, AllocError> {
@@ -97,25 +69,34 @@ fn take_line(alloc: Global, book: &mut Book<u64>, line: Line) -> Result<(), Allo
     Ok(())
 }
 
-// Draws a script that is there.
+// Tells a script that is there.
 pub fn told<R: Print + AllocGlobal>(rt: &R) -> Result<(), anyhow::Error> {
-    print!(rt; "{}", drawing(rt.alloc(), Kind::Text, SCRIPT)?)?;
+    let Summary {
+        opened,
+        returned,
+        reaped,
+        exhausted,
+        ..
+    } = summary(rt.alloc(), SCRIPT)?;
+    println!(rt; "{opened} opened, {returned} came back, {reaped} closed while idle")?;
+    println!(rt; "exhausted for {exhausted:?}")?;
     Ok(())
 }
 
-// Draws the script on standard input, and answers the status to end with.
-pub fn drawn<R: Input + Print + Eprint + AllocGlobal>(
+fn summary(alloc: Global, script: &str) -> Result<Summary, Fault> {
+    let report = report(alloc, script)?;
+    Ok(summarize(alloc, &report, &Origin::unknown(), None)?)
+}
+
+// Writes what a book reports that took the script on standard input, and answers the status to end
+// with.
+pub fn reported<R: Input + Print + Eprint + AllocGlobal>(
     rt: &R,
-    word: &str,
 ) -> Result<ExitCode, anyhow::Error> {
-    let Some(kind) = Kind::of(word) else {
-        eprintln!(rt; "examples: text, svg or html")?;
-        return Ok(ExitCode::from(5));
-    };
     let script = io::read_to_string(rt.alloc(), rt.reader())?;
-    match drawing(rt.alloc(), kind, script.as_str()) {
-        Ok(drawing) => {
-            print!(rt; "{drawing}")?;
+    match written(rt.alloc(), script.as_str()) {
+        Ok(line) => {
+            println!(rt; "{line}")?;
             Ok(ExitCode::SUCCESS)
         }
         Err(fault) => {
@@ -125,10 +106,7 @@ pub fn drawn<R: Input + Print + Eprint + AllocGlobal>(
     }
 }
 
-// What a book that took the steps of a script reports, drawn.
-fn drawing(alloc: Global, kind: Kind, script: &str) -> Result<String, Fault> {
+fn written(alloc: Global, script: &str) -> Result<String, Fault> {
     let report = report(alloc, script)?;
-    let drawing = kind.drawing(alloc, &report);
-    drop(report);
-    Ok(drawing?)
+    Ok(to_json(alloc, &report)?)
 }

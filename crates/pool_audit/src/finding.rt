@@ -1,39 +1,34 @@
 // Reports in the lines of a log.
 
+use memchr::memmem;
 use pool_reports::{FromJsonError, Written, from_json_of_pool};
-use std::alloc::Global;
-use std::fmt;
+use std::alloc::{AllocError, Global};
+use thiserror::Error;
 
 // Each byte of a line may be passed so often in the search for the ends of objects; then the rest
 // of the line is passed over. So deep may a report stand in others, and so many objects may never
 // close.
 const MOST_PASSES: usize = 64;
 
-/// What stands in a line.
-#[derive(Drop)]
-pub(crate) enum Found {
-    Report(Written),
-    /// What reads like a report, and is none.
-    Damaged(Damage),
-}
+/// What stands in a line: a report, or what reads like one, and is none.
+pub(crate) type Found = Result<Written, Damage>;
 
 /// What is wrong with what reads like a report.
-#[derive(Drop)]
+#[derive(Debug, Drop, Error)]
 pub(crate) enum Damage {
+    #[error("{0}")]
     Unreadable(FromJsonError),
     /// A part of it is missing, or the search was given up before it.
+    #[error("a part of it is missing, or it stands in too many others")]
     CutOff,
+    /// It goes on in the next line, and text stands before it.
+    #[error("a report over several lines behind other text: write it on one line")]
+    Spread,
 }
 
-impl fmt::Display for Damage {
-    fn fmt<W: fmt::Write>(&self, f: &mut fmt::Formatter<W>) -> fmt::Result {
-        match self {
-            Damage::Unreadable(why) => write!(f, "{why}"),
-            Damage::CutOff => f.write_str(
-                "a part of it is missing, or it stands in too many others",
-            ),
-        }
-    }
+/// Whether a line may hold a report or a part of one, so that it is worth the search.
+pub(crate) fn may_hold_one(line: &[u8]) -> bool {
+    memmem::find(line, b"records").is_some() || memmem::find(line, b"limits").is_some()
 }
 
 /// The reports in a line: objects of JSON that are one, whatever stands before them or around them.
@@ -62,82 +57,55 @@ impl<'t> Reports<'t> {
         }
     }
 
-    /// The next one. None if there is no further one. The error comes only where memory is refused.
-    pub(crate) fn next(&mut self, alloc: Global) -> Result<Option<Found>, FromJsonError> {
+    /// The next one. None if there is no further one.
+    pub(crate) fn next(&mut self, alloc: Global) -> Result<Option<Found>, AllocError> {
         for _ in 0..self.line.len() {
             let object = self.next_object();
             let begin = object.map_or(self.line.len(), |found| found.0);
-            if let Some(damage) = self.damage_before(begin) {
-                return Ok(Some(Found::Damaged(damage)));
+            if let Some(why) = self.damage_before(begin) {
+                return Ok(Some(Err(Damage::Unreadable(why))));
             }
             let Some((begin, text)) = object else {
-                return Ok(self.cut_off());
+                return Ok(self.cut_off().map(Err));
             };
-            if let Some(written) = self.read(alloc, begin, text)? {
-                return Ok(Some(Found::Report(written)));
+            match from_json_of_pool(alloc, text) {
+                Ok(written) => {
+                    self.damaged = None;
+                    self.told = self.from;
+                    return Ok(Some(Ok(written)));
+                }
+                Err(FromJsonError::Memory) => return Err(AllocError),
+                Err(why) => self.look_within(begin, text, why),
             }
         }
         Ok(None)
     }
 
-    // The report that an object is, which begins there. Where it is none, it may hold one.
-    fn read(
-        &mut self,
-        alloc: Global,
-        begin: usize,
-        text: &str,
-    ) -> Result<Option<Written>, FromJsonError> {
-        match from_json_of_pool(alloc, text) {
-            Ok(written) => {
-                self.damaged = None;
-                self.told = self.from;
-                Ok(Some(written))
-            }
-            Err(FromJsonError::Memory) => Err(FromJsonError::Memory),
-            Err(why) => {
-                self.note(text, why);
-                self.from = begin.saturating_add(1);
-                Ok(None)
-            }
+    // An object that was just passed is no report: it may hold one. If it reads like one, what is
+    // wrong with it is noted. What is wrong with an inner one says more.
+    fn look_within(&mut self, begin: usize, text: &str, why: FromJsonError) {
+        if text.contains("\"limits\"") {
+            let end = self.damaged.as_ref().map_or(0, |damaged| damaged.0);
+            self.damaged = Some((end.max(self.from), why));
         }
-    }
-
-    // Notes what is wrong with an object that was just passed, if it reads like a report. What is
-    // wrong with an inner one says more.
-    fn note(&mut self, text: &str, why: FromJsonError) {
-        if !text.contains("\"limits\"") {
-            return;
-        }
-        let end = match &self.damaged {
-            Some((end, _)) => self.from.max(*end),
-            None => self.from,
-        };
-        self.damaged = Some((end, why));
+        self.from = begin.saturating_add(1);
     }
 
     // What is wrong with the object that ended before a place, which is then looked at anew.
-    fn damage_before(&mut self, place: usize) -> Option<Damage> {
-        let (end, why) = self.damaged.take()?;
-        if end > place {
-            self.damaged = Some((end, why));
-            return None;
-        }
+    fn damage_before(&mut self, place: usize) -> Option<FromJsonError> {
+        let (end, why) = self.damaged.take_if(|damaged| damaged.0 <= place)?;
         self.told = end;
         self.from = place;
-        Some(Damage::Unreadable(why))
+        Some(why)
     }
 
     // Whether the rest of the line has parts of a report, which is told once.
-    fn cut_off(&mut self) -> Option<Found> {
+    fn cut_off(&mut self) -> Option<Damage> {
         let rest = self.line.get(self.told..)?;
         self.told = self.line.len();
         let is_head = rest.contains("\"limits\"") && rest.contains("\"max_size\"");
         let is_tail = rest.contains("\"records\"") && rest.contains("\"takes\"");
-        if is_head || is_tail {
-            Some(Found::Damaged(Damage::CutOff))
-        } else {
-            None
-        }
+        (is_head || is_tail).then_some(Damage::CutOff)
     }
 
     // The next object with records, and where it begins. The rest of the line is what follows it.
@@ -167,48 +135,57 @@ fn next_brace(line: &str, from: usize) -> Option<usize> {
         match byte {
             b'{' => brace = Some(from.saturating_add(place)),
             b'"' if brace.is_some() => return brace,
-            b' ' | b'\t' => {}
+            b' ' | b'\t' | b'\r' | b'\n' => {}
             _ => brace = None,
         }
     }
     None
 }
 
-// The object that a text begins with, if it closes: braces in its strings do not count.
+// The object that a text begins with, if it closes.
 fn closed_object(text: &str) -> Option<&str> {
-    let mut depth = 0usize;
-    let mut string = Inside::Nothing;
-    for (place, byte) in text.bytes().enumerate() {
-        string = string.after(byte);
-        if string != Inside::Nothing {
-            continue;
+    let end = Braces::default().close_in(text.as_bytes())?;
+    text.get(..end)
+}
+
+/// How many objects are open in a text, as it is passed. Braces in strings do not count.
+#[derive(Clone, Copy, Default)]
+pub(crate) struct Braces {
+    open: usize,
+    is_in_string: bool,
+    // Behind a backslash in a string.
+    is_escaped: bool,
+}
+
+impl Braces {
+    /// Where the first object ends in the next bytes, which are passed up to there.
+    pub(crate) fn close_in(&mut self, bytes: &[u8]) -> Option<usize> {
+        for (place, byte) in bytes.iter().enumerate() {
+            if self.close_at(*byte) {
+                return Some(place.saturating_add(1));
+            }
+        }
+        None
+    }
+
+    // Whether the first object closes with the next byte, which is passed.
+    #[inline(always)]
+    fn close_at(&mut self, byte: u8) -> bool {
+        if self.is_escaped {
+            self.is_escaped = false;
+            return false;
         }
         match byte {
-            b'{' => depth = depth.saturating_add(1),
-            b'}' if depth == 1 => return text.get(..place.saturating_add(1)),
-            b'}' => depth = depth.saturating_sub(1),
+            b'"' => self.is_in_string = !self.is_in_string,
+            b'\\' => self.is_escaped = self.is_in_string,
+            b'{' if !self.is_in_string => self.open = self.open.saturating_add(1),
+            b'}' if !self.is_in_string => {
+                let closes = self.open == 1;
+                self.open = self.open.saturating_sub(1);
+                return closes;
+            }
             _ => {}
         }
-    }
-    None
-}
-
-// Whether a byte of JSON stands in a string.
-#[derive(Clone, Copy, PartialEq, Eq)]
-enum Inside {
-    Nothing,
-    String,
-    // Behind a backslash.
-    Escape,
-}
-
-impl Inside {
-    fn after(self, byte: u8) -> Inside {
-        match (self, byte) {
-            (Inside::Nothing, b'"') | (Inside::Escape, _) => Inside::String,
-            (Inside::String, b'"') => Inside::Nothing,
-            (Inside::String, b'\\') => Inside::Escape,
-            (inside, _) => inside,
-        }
+        false
     }
 }

@@ -1,8 +1,7 @@
 // Moments and lengths of time, as the answers tell them.
 
 use jiff::Timestamp;
-use pool_pictures::Length;
-use pool_reports::Origin;
+use pool_reports::{Origin, Summary};
 use std::fmt;
 use std::time::{Duration, SystemTime};
 
@@ -16,17 +15,25 @@ impl fmt::Display for Seconds {
     }
 }
 
-/// A moment of a pool: what the wall clock showed then, where that is known, and how long after the
-/// making it was.
+/// A moment of a pool: what the wall clock showed then, or, where that is not known, how long after
+/// the making it was. With `#` it tells that in both cases, in seconds.
 #[derive(Clone, Copy)]
 pub(crate) struct Moment {
     at: Duration,
     clock: Option<Timestamp>,
 }
 
-impl Moment {
-    pub(crate) fn of(at: Duration, origin: &Origin<'_>) -> Moment {
-        let clock = origin.made_at.and_then(|made_at| clock_at(made_at, at));
+/// What is known of the time that a report covers.
+#[derive(Clone, Copy)]
+pub(crate) struct Time<'a> {
+    pub(crate) origin: Origin<'a>,
+    pub(crate) summary: &'a Summary,
+}
+
+impl Time<'_> {
+    pub(crate) fn moment(&self, at: Duration) -> Moment {
+        let made_at = self.origin.made_at;
+        let clock = made_at.and_then(|made_at| clock_at(made_at, at));
         Moment { at, clock }
     }
 }
@@ -39,26 +46,47 @@ fn clock_at(made_at: SystemTime, length: Duration) -> Option<Timestamp> {
 
 impl fmt::Display for Moment {
     fn fmt<W: fmt::Write>(&self, f: &mut fmt::Formatter<W>) -> fmt::Result {
-        let after = Seconds(self.at);
+        let (length, seconds) = (Length(self.at), Seconds(self.at));
         match self.clock {
-            Some(clock) => write!(f, "{clock} ({after} after the making)"),
-            None => write!(f, "{after} after the making"),
+            Some(clock) if f.alternate() => write!(f, "{clock} ({seconds} after the making)"),
+            Some(clock) => write!(f, "{clock}"),
+            None if f.alternate() => write!(f, "{seconds} after the making"),
+            None => write!(f, "{length} after the making"),
         }
     }
 }
 
-/// The same in short, as a headline has it.
+/// A length of time by its two largest units, as `16 min 41 s`. What is smaller is left out.
 #[derive(Clone, Copy)]
-pub(crate) struct When(pub(crate) Moment);
+pub(crate) struct Length(pub(crate) Duration);
 
-impl fmt::Display for When {
+impl fmt::Display for Length {
     fn fmt<W: fmt::Write>(&self, f: &mut fmt::Formatter<W>) -> fmt::Result {
-        match self.0.clock {
-            Some(clock) => write!(f, "{clock}"),
-            None => {
-                let after = Length(self.0.at);
-                write!(f, "{after} after the making")
-            }
+        let ((large, unit), (small, part)) = parts(self.0);
+        if small == 0 {
+            write!(f, "{large} {unit}")
+        } else {
+            write!(f, "{large} {unit} {small} {part}")
         }
+    }
+}
+
+// How many of the largest unit that fits, and how many of the next one besides.
+fn parts(length: Duration) -> ((u64, &'static str), (u64, &'static str)) {
+    let (seconds, nanos) = (length.as_secs(), u64::from(length.subsec_nanos()));
+    if seconds >= 86_400 {
+        ((seconds / 86_400, "d"), (seconds % 86_400 / 3600, "h"))
+    } else if seconds >= 3600 {
+        ((seconds / 3600, "h"), (seconds % 3600 / 60, "min"))
+    } else if seconds >= 60 {
+        ((seconds / 60, "min"), (seconds % 60, "s"))
+    } else if seconds >= 1 || nanos == 0 {
+        ((seconds, "s"), (nanos / 1_000_000, "ms"))
+    } else if nanos >= 1_000_000 {
+        ((nanos / 1_000_000, "ms"), (nanos % 1_000_000 / 1000, "µs"))
+    } else if nanos >= 1000 {
+        ((nanos / 1000, "µs"), (nanos % 1000, "ns"))
+    } else {
+        ((nanos, "ns"), (0, ""))
     }
 }

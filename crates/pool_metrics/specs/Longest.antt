@@ -3,9 +3,13 @@ use Rattle.std.specs.Prelude.{ℕ, ◌-◌, ◌<◌, ◌≤◌, List, [], ◌∷
 use Rattle.pool_metrics.specs.declared.loans.Loan.{Loan}
 use Rattle.pool_metrics.specs.declared.loans.LongLoan.{LongLoan}
 
+-- for how long each of them is lent
+abbrev pub told_at : ℕ → List Loan → List LongLoan
+told_at now entries = map (λ e. record { id = e.id; nanos = now - e.since }) entries
+
 -- of what is lent, in that order, all that is lent for more than so many nanoseconds
 abbrev pub longer_than : ℕ → ℕ → List Loan → List LongLoan
-longer_than nanos now entries = map (λ e. record { id = e.id; nanos = now - e.since }) (filter (λ e. nat_lt nanos (now - e.since)) entries)
+longer_than nanos now entries = told_at now (filter (λ e. nat_lt nanos (now - e.since)) entries)
 
 -- nobody stands behind one who is lent for less
 abbrev pub IsLongestFirst : List LongLoan → Type 0

@@ -1,7 +1,9 @@
 -- Which number stands under which name.
 use Rattle.std.specs.Prelude.{◌-◌, ◌^◌, min, Option, Some, option_map}
 use Rattle.std.specs.Duration.{as_nanos}
+use Rattle.std.specs.Time.{system_time_nanos}
 use Rattle.std.specs.declared.time.Duration.{Duration}
+use Rattle.std.specs.declared.time.SystemTime.{SystemTime}
 use Rattle.r2d2.specs.declared.pool.state.Status.{Status}
 use Rattle.pool_metrics.specs.declared.histogram.Distribution.{Distribution}
 use Rattle.pool_metrics.specs.declared.recording.Snapshot.{Snapshot}
@@ -16,6 +18,10 @@ use Rattle.pool_metrics.specs.declared.text.Timing.TheVariants as timing
 abbrev pub length_of : Duration → Figure
 length_of length = Length (min (as_nanos length) (2 ^ 64 - 1))
 
+-- a moment, by the length since 1970
+abbrev pub moment_of : SystemTime → Figure
+moment_of time = Length (min (system_time_nanos time) (2 ^ 64 - 1))
+
 abbrev pub figure_of : Number → Status → Snapshot → Option Figure
 figure_of number.Max status snapshot = Some (Count status.max_size)
 figure_of number.IdleMin status snapshot = Some (Count status.wanted)
@@ -27,7 +33,7 @@ figure_of number.FailedOpenings status snapshot = Some (Count status.failed_open
 figure_of number.FailedChecks status snapshot = Some (Count status.failed_checks)
 figure_of number.Rejected status snapshot = Some (Count status.refused)
 figure_of number.Errors status snapshot = option_map (λ count. Count count) snapshot.errors
-figure_of number.LatestError status snapshot = option_map length_of snapshot.latest_error
+figure_of number.LatestError status snapshot = option_map moment_of snapshot.latest_error_at
 figure_of number.Opened status snapshot = Some (Count snapshot.opened)
 
 abbrev pub timing_of : Timing → Snapshot → Option Distribution

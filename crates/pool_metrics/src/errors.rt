@@ -6,8 +6,8 @@ use r2d2::{HandleError, PoolRuntime};
 use std::fmt;
 use std::marker::Model;
 
-/// A handler of errors that counts each for the metrics of its pool, and then passes it to the
-/// handler in it. `Metrics::around` makes it.
+/// A handler of errors that counts each for the metrics of its pool, which keep the text of the
+/// latest one, and then passes it to the handler in it. `Metrics::around` makes it.
 #[derive(Drop)]
 pub struct CountingErrorHandler<H, R> {
     handler: H,
@@ -30,9 +30,10 @@ impl<H, R> CountingErrorHandler<H, R> {
     }
 }
 
-impl<E, H: HandleError<E>, R: PoolRuntime> HandleError<E> for CountingErrorHandler<H, R> {
+impl<E: fmt::Display, H: HandleError<E>, R: PoolRuntime> HandleError<E>
+    for CountingErrorHandler<H, R> {
     fn handle_error(&self, error: E) {
-        self.metrics.count_error();
+        self.metrics.count_error(&error);
         self.handler.handle_error(error);
     }
 }

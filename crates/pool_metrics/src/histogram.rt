@@ -1,7 +1,9 @@
 // Histograms, and what is read of them.
-ghost use Rattle.std.specs.Prelude.{◌≡◌, ℕ, ◌+◌, ◌<◌, slice_index, slice_index_or};
+ghost use Rattle.std.specs.Prelude.{◌≡◌, ℕ, ◌+◌, ◌-◌, ◌<◌, ◌^◌, min, slice_index};
+ghost use Rattle.std.specs.Prelude.{slice_index_or};
 ghost use Rattle.std.specs.Duration.{as_nanos};
 ghost use Rattle.std.specs.List.Sorted.{IsNonDecreasing, IsNonDecreasingBy};
+ghost use Rattle.pool_metrics.specs.Above.{IsPlaceFor};
 ghost use Rattle.pool_metrics.specs.Bounds.{bounds_of};
 ghost use Rattle.pool_metrics.specs.declared.histogram.Bucket.{Bucket};
 ghost use Rattle.pool_metrics.specs.declared.histogram.UpTo.TheVariants.{Nanos, Infinity};
@@ -9,6 +11,7 @@ ghost use Rattle.pool_metrics.specs.Counted.{counted_up_to};
 
 use crate::buckets::{BOUNDS, BUCKETS, Scale, bucket_of, nanos_of};
 use crate::text::Seconds;
+use pool_reports::Waits;
 use std::sync::atomic::{AtomicU64, Ordering};
 use std::time::Duration;
 use std::{array, fmt};
@@ -120,6 +123,24 @@ impl Distribution {
             };
         }
         buckets
+    }
+
+    /// How many were longer than the least bound that is not below `least`, or than the last one
+    /// where all are.
+    pub(crate) fn above(&self, least: Duration) -> Waits
+        ensures place { let bounds = bounds_of self.now.scale in
+            (place : ℕ) × IsPlaceFor (min (as_nanos least) (2 ^ 64 - 1)) bounds place
+            × (as_nanos result.bound ≡ slice_index bounds place)
+            × (result.longer ≡ slice_index self.now.up_to 13 - slice_index self.now.up_to place) }
+        ensures all { result.all ≡ slice_index self.now.up_to 13 }
+    {
+        let bounds = self.scale.bounds();
+        let place = bucket_of(bounds, nanos_of(least)).min(BOUNDS - 1);
+        Waits {
+            bound: Duration::from_nanos(bounds[place]),
+            longer: self.count().saturating_sub(self.up_to[place]),
+            all: self.count(),
+        }
     }
 
     /// All lengths added up. Past 584 years it begins anew.

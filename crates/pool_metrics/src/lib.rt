@@ -20,24 +20,30 @@
 //! ```
 //!
 //! [`Metrics`] is the handler of events, and what is read of it; its `around` makes a handler of
-//! errors, and its `lent_longer_than` lists the connections that somebody forgot to give back.
+//! errors, of which its `latest_error` tells the latest, and its `lent_longer_than` lists the
+//! connections that somebody forgot to give back.
 //! [`Timed`] round a manager times its openings too.
 #![tactic(auto)]
 
 mod buckets;
 mod closings;
 mod errors;
+mod heard;
 mod histogram;
 mod loans;
 mod recording;
+mod report;
 mod text;
 mod timed;
 
 pub use buckets::{BOUNDS, BUCKETS, OwnBounds, Scale, Scales, bucket_of};
 pub use closings::Closings;
 pub use errors::CountingErrorHandler;
+pub use heard::LatestError;
 pub use histogram::{Bucket, Distribution, UpTo};
 pub use loans::LongLoan;
+pub use pool_reports::Waits;
 pub use recording::{Metrics, Snapshot};
+pub use report::{report_of, status_of};
 pub use text::{Reading, write};
 pub use timed::Timed;

@@ -3,7 +3,7 @@ ghost use Rattle.std.specs.Prelude.{◌≡◌, ℕ, ◌+◌, ◌<◌, ◌≤◌,
 ghost use Rattle.std.specs.Prelude.{nat_lt, All, IfOk, not, filter, map, vec_len, vec_capacity};
 ghost use Rattle.std.specs.Duration.{as_nanos};
 ghost use Rattle.std.specs.List.Sorted.{IsNonDecreasingBy};
-ghost use Rattle.pool_metrics.specs.Longest.{IsLongestFirst, longer_than, longest};
+ghost use Rattle.pool_metrics.specs.Longest.{IsLongestFirst, longer_than, longest, told_at};
 
 use std::alloc::{AllocError, Global};
 use std::time::Duration;
@@ -23,6 +23,13 @@ impl LongLoan {
     {
         Duration::from_nanos(self.nanos)
     }
+
+    /// Since when it is lent, where it is for that long at this moment.
+    pub fn since(&self, moment: Duration) -> Duration
+        ensures { as_nanos result ≡ as_nanos moment - self.now.nanos }
+    {
+        moment.saturating_sub(self.lent_for())
+    }
 }
 
 /// A connection that is lent. Moments are nanoseconds.
@@ -30,6 +37,18 @@ impl LongLoan {
 pub(crate) struct Loan {
     id: u64,
     since: u64,
+}
+
+impl Loan {
+    // For how long it is lent.
+    fn told(&self, now: u64) -> LongLoan
+        ensures { result ≡ record { id = self.now.id; nanos = now - self.now.since } }
+    {
+        LongLoan {
+            id: self.id,
+            nanos: now.saturating_sub(self.since),
+        }
+    }
 }
 
 /// Who is lent, in the order of lending. It asks for memory when it is made, and never again.
@@ -116,6 +135,25 @@ impl Loans {
         }
     }
 
+    /// All that are lent, the longest first. The error is lack of memory.
+    pub(crate) fn all(&self, alloc: Global, now: u64) -> Result<Vec<LongLoan>, AllocError>
+        ensures all { IfOk result
+            (λ v. v.items ≡ told_at (max self.now.latest now) self.now.entries.items) }
+        ensures longest_first { IfOk result (λ v. IsLongestFirst v.items) }
+    {
+        self.all_in_order(alloc, self.latest.max(now))
+    }
+
+    // The same. That the longest come first follows from the order of the list.
+    fn all_in_order(&self, alloc: Global, now: u64) -> Result<Vec<LongLoan>, AllocError>
+        ensures { IfOk result (λ v. v.items ≡ told_at now self.now.entries.items) }
+    {
+        self.entries
+            .iter()
+            .map(|entry| entry.told(now))
+            .collect(alloc)
+    }
+
     /// Those that are lent for longer than so many nanoseconds, the longest first. The error is
     /// lack of memory.
     pub(crate) fn longer_than(
@@ -144,10 +182,7 @@ impl Loans {
         self.entries
             .iter()
             .filter(|entry| now.saturating_sub(entry.since) > nanos)
-            .map(|entry| LongLoan {
-                id: entry.id,
-                nanos: now.saturating_sub(entry.since),
-            })
+            .map(|entry| entry.told(now))
             .collect(alloc)
     }
 }

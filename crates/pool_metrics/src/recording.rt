@@ -1,13 +1,17 @@
 // The handler that counts and times, and what is read of it.
-ghost use Rattle.std.specs.Prelude.{◌≡◌, ◌<◌, ◌↔◌, slice_index, unwrap_or, IsSome, IfOk};
+ghost use Rattle.std.specs.Prelude.{◌≡◌, ◌<◌, ◌↔◌, slice_index, unwrap_or, IsSome, IfSome};
+ghost use Rattle.std.specs.Prelude.{IfOk};
 ghost use Rattle.std.specs.Option.{IsNone};
+ghost use Rattle.pool_metrics.specs.Heard.{IsShort};
 ghost use Rattle.pool_metrics.specs.Longest.{IsLongestFirst};
 
 use crate::buckets::{Scales, nanos_of};
 use crate::closings::{Closings, Leaving};
 use crate::errors::CountingErrorHandler;
+use crate::heard::{Beginning, Heard, Latest, LatestError, Moment, Tally};
 use crate::histogram::{Distribution, Histogram};
 use crate::loans::{Loans, LongLoan};
+use pool_reports::Waits;
 use r2d2::event::{AcquireEvent, CheckinEvent, CheckoutEvent, ReleaseEvent, TimeoutEvent};
 use r2d2::{HandleEvent, PoolRuntime};
 use std::alloc::{AllocError, AllocGlobal};
@@ -16,12 +20,13 @@ use std::marker::Model;
 use std::rt::Clock;
 use std::sync::atomic::{AtomicBool, AtomicU64, Ordering};
 use std::sync::{Arc, Mutex, Wait};
-use std::time::{Duration, Instant};
+use std::time::{Duration, Instant, SystemTime};
 
 /// Counts and times what a pool tells. It is the pool's event handler, and what the service reads:
 /// `try_clone` makes another one over the same counts. An event costs some atomic additions; a
 /// checkout and a checkin also take a lock of the metrics' own, for as long as it takes to look
-/// through what is lent, and so do a snapshot and `lent_longer_than`.
+/// through what is lent, and so do a snapshot, `loans` and `lent_longer_than`. An error takes
+/// another one, and so do a snapshot and `latest_error`.
 ///
 /// Counted is what is told: a connection that is dropped idle as the pool closes is told of by no
 /// event, and not counted as closed. Errors are counted by the handler that `around` makes.
@@ -56,11 +61,9 @@ struct Records<R> {
     openings: Histogram,
     /// Whether a manager tells how long its openings take.
     is_timed: AtomicBool,
-    errors: AtomicU64,
-    /// The moment of the latest error.
-    latest_error: AtomicU64,
     /// Whether a handler of errors tells of each.
     hears_errors: AtomicBool,
+    heard: Mutex<Heard>,
     lent: Mutex<Loans>,
     /// When the metrics were made; None where the clock could not be read.
     made: Option<Instant>,
@@ -81,6 +84,9 @@ pub struct Snapshot {
     pub errors: Option<u64>,
     /// How long ago the latest of these errors came; None before the first one.
     pub latest_error: Option<Duration>,
+    /// When it came, by the wall clock as it was then; None before the first one, and where that
+    /// could not be read.
+    pub latest_error_at: Option<SystemTime>,
     /// For how long that connection is lent that is lent for longest, of those that `Metrics` has
     /// room for; zero where none is lent.
     pub longest_loan: Duration,
@@ -95,6 +101,26 @@ pub struct Snapshot {
     pub ages: Distribution,
     /// How long the manager took for each opening that succeeded; None unless it is a `Timed` one.
     pub openings: Option<Distribution>,
+}
+
+impl Snapshot {
+    ghost use Rattle.std.specs.Prelude.{ℕ, ◌-◌, ◌^◌, min};
+    ghost use Rattle.std.specs.Duration.{as_nanos};
+    ghost use Rattle.pool_metrics.specs.Above.{IsPlaceFor};
+    ghost use Rattle.pool_metrics.specs.Bounds.{bounds_of};
+
+    /// How many callers waited for longer than the least bound of the histogram of waits that is
+    /// not below `least`, or than the last bound where all are below it. Callers that waited in
+    /// vain are not among them.
+    pub fn waits_above(&self, least: Duration) -> Waits
+        ensures place { let waits = self.now.waits in let bounds = bounds_of waits.scale in
+            (place : ℕ) × IsPlaceFor (min (as_nanos least) (2 ^ 64 - 1)) bounds place
+            × (as_nanos result.bound ≡ slice_index bounds place)
+            × (result.longer ≡ slice_index waits.up_to 13 - slice_index waits.up_to place) }
+        ensures all { result.all ≡ slice_index self.now.waits.up_to 13 }
+    {
+        self.waits.above(least)
+    }
 }
 
 impl<R> Metrics<R> {
@@ -128,9 +154,8 @@ impl<R> Metrics<R> {
             ages: Histogram::new(scales.ages),
             openings: Histogram::new(scales.openings),
             is_timed: AtomicBool::new(false),
-            errors: AtomicU64::new(0),
-            latest_error: AtomicU64::new(0),
             hears_errors: AtomicBool::new(false),
+            heard: Mutex::new(Heard::new()),
             lent: Mutex::new(Loans::new(alloc, max_size as usize)?),
             made: Instant::now(&rt).ok(),
             rt,
@@ -167,6 +192,8 @@ impl<R> Metrics<R> {
         R: Clock + Wait,
         ensures bounds { HasBounds self.now result }
         ensures timeouts { result.timeouts ≡ slice_index result.vain_waits.up_to 13 }
+        ensures latest { IsSome result.latest_error ↔ (0 < unwrap_or result.errors 0) }
+        ensures at { IsNone result.latest_error → IsNone result.latest_error_at }
     {
         let records = &*self.records;
         // What ends is read before what begins it, so that no more are closed than were opened.
@@ -177,6 +204,7 @@ impl<R> Metrics<R> {
         );
         let is_timed = records.is_timed.load(Ordering::SeqCst);
         let (vain_waits, errors) = (records.vain_waits.read(), records.errors());
+        let latest = errors.and_then(|it| it.latest);
         Snapshot {
             closed,
             ages,
@@ -186,8 +214,9 @@ impl<R> Metrics<R> {
             opened: records.opened.load(Ordering::SeqCst),
             timeouts: vain_waits.count(),
             vain_waits,
-            errors,
-            latest_error: records.since_latest(errors),
+            errors: errors.map(|it| it.count),
+            latest_error: records.since(latest),
+            latest_error_at: latest.and_then(|it| it.time),
             longest_loan: records.longest_loan(),
         }
     }
@@ -207,6 +236,31 @@ impl<R> Metrics<R> {
         lent.longer_than(records.rt.alloc(), nanos_of(length), records.moment())
     }
 
+    /// All connections that are lent now, those first that are lent for longest: as
+    /// `lent_longer_than`, with those that were lent just now. The error is lack of memory for the
+    /// list.
+    pub fn loans(&self) -> Result<Vec<LongLoan>, AllocError>
+    where
+        R: Clock + Wait + AllocGlobal,
+        ensures longest_first { IfOk result (λ list. IsLongestFirst list.items) }
+    {
+        let records = &*self.records;
+        let lent = records.lent.lock(&records.rt);
+        lent.all(records.rt.alloc(), records.moment())
+    }
+
+    /// The latest error that a handler told of which `around` made, with its text; None before the
+    /// first one. The error is lack of memory for a copy of the text.
+    pub fn latest_error(&self) -> Result<Option<LatestError>, AllocError>
+    where
+        R: Wait + AllocGlobal,
+        ensures short { IfOk result (λ told. IfSome told (λ it. IfSome it.text IsShort)) }
+    {
+        let records = &*self.records;
+        let alloc = records.rt.alloc();
+        records.heard.lock(&records.rt).told(alloc)
+    }
+
     /// How many connections were lent that `lent_longer_than` knows nothing of, since there was no
     /// room to list them: none, if `max_size` was that of the pool, and these are the metrics of
     /// that pool alone.
@@ -218,17 +272,15 @@ impl<R> Metrics<R> {
         records.lent.lock(&records.rt).unlisted()
     }
 
-    /// The manager or the customizer failed now.
-    pub(crate) fn count_error(&self)
+    /// The manager or the customizer failed now, with this error.
+    pub(crate) fn count_error<E: fmt::Display>(&self, error: &E)
     where
-        R: Clock,
+        R: Clock + Wait + AllocGlobal,
     {
         let records = &*self.records;
-        // The moment of an error that is counted is there.
-        records
-            .latest_error
-            .store(records.moment(), Ordering::SeqCst);
-        records.errors.fetch_add(1, Ordering::SeqCst);
+        // The text is made before the lock is taken, and what was kept is dropped after it.
+        let text = Beginning::of(records.rt.alloc(), error);
+        drop(records.hear(text));
     }
 
     /// From now on openings are timed.
@@ -269,28 +321,14 @@ impl<R> Records<R> {
         }
     }
 
-    // How many errors came; None where no handler tells of them.
-    fn errors(&self) -> Option<u64> {
-        if self.hears_errors.load(Ordering::SeqCst) {
-            Some(self.errors.load(Ordering::SeqCst))
-        } else {
-            None
-        }
-    }
-
-    // How long ago the latest of so many errors came; None where none came.
-    fn since_latest(&self, errors: Option<u64>) -> Option<Duration>
+    // How long ago that moment was.
+    fn since(&self, moment: Option<Moment>) -> Option<Duration>
     where
         R: Clock,
-        ensures { IsSome result ↔ (0 < unwrap_or errors 0) }
+        ensures { IsSome result ↔ IsSome moment }
     {
-        match errors {
-            None | Some(0) => None,
-            Some(_) => {
-                let latest = self.latest_error.load(Ordering::SeqCst);
-                Some(Duration::from_nanos(self.moment().saturating_sub(latest)))
-            }
-        }
+        let at = moment?;
+        Some(Duration::from_nanos(self.moment().saturating_sub(at.nanos)))
     }
 }
 
@@ -299,6 +337,25 @@ impl<R: Clock + Wait> Records<R> {
     fn longest_loan(&self) -> Duration {
         let lent = self.lent.lock(&self.rt);
         Duration::from_nanos(lent.longest(self.moment()))
+    }
+
+    // How many errors came, and when the latest one did; None where no handler tells of them.
+    fn errors(&self) -> Option<Tally> {
+        if self.hears_errors.load(Ordering::SeqCst) {
+            Some(self.heard.lock(&self.rt).tally())
+        } else {
+            None
+        }
+    }
+
+    // An error came now, and said this. What was kept of the one before it is handed out.
+    fn hear(&self, text: Option<Beginning>) -> Option<Latest> {
+        let mut heard = self.heard.lock(&self.rt);
+        // The wall clock is read at each error, and not once at the making: since then it may have
+        // been set right, or have gone on while the machine slept and the other clock stood.
+        let time = SystemTime::now(&self.rt).ok();
+        let nanos = self.moment();
+        heard.add(text, Moment { nanos, time })
     }
 
     fn lend(&self, id: u64, waited: Duration) {

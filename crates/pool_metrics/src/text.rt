@@ -1,5 +1,6 @@
 // Prometheus' text format, version 0.0.4.
-ghost use Rattle.std.specs.Prelude.{◌≡◌};
+ghost use Rattle.std.specs.Prelude.{◌≡◌, ◌-◌, ◌^◌, min};
+ghost use Rattle.std.specs.Time.{system_time_nanos};
 ghost use Rattle.pool_metrics.specs.Printed.{figure_of, timing_of};
 
 use crate::buckets::nanos_of;
@@ -8,6 +9,7 @@ use crate::recording::Snapshot;
 use r2d2::Status;
 use r2d2::event::ReleaseReason;
 use std::fmt;
+use std::time::{Duration, SystemTime};
 
 /// What is printed of one pool.
 #[derive(Clone, Copy, Debug)]
@@ -175,7 +177,7 @@ impl Number {
             Number::FailedChecks => "db_client_connection_failed_checks_total",
             Number::Rejected => "db_client_connection_rejected_total",
             Number::Errors => "db_client_connection_errors_total",
-            Number::LatestError => "db_client_connection_latest_error_age_seconds",
+            Number::LatestError => "db_client_connection_latest_error_timestamp_seconds",
             Number::Opened => "db_client_connection_opened_total",
         }
     }
@@ -196,7 +198,7 @@ impl Number {
             Number::FailedChecks => "Checks of connections that failed.",
             Number::Rejected => "Callers that were refused, since as many waited as may.",
             Number::Errors => "Errors of the manager and of the customizer.",
-            Number::LatestError => "How long ago the latest of these errors came.",
+            Number::LatestError => "When the latest of these errors came, in seconds since 1970.",
             Number::Opened => "Connections that were opened.",
         }
     }
@@ -234,8 +236,8 @@ impl Number {
             Number::Rejected => Some(Figure::Count(status.refused)),
             Number::Errors => snapshot.errors.map(|count| Figure::Count(count)),
             Number::LatestError => {
-                let latest = snapshot.latest_error;
-                latest.map(|length| Figure::Length(nanos_of(length)))
+                let latest = snapshot.latest_error_at;
+                latest.map(|time| Figure::Length(since_1970(time)))
             }
             Number::Opened => Some(Figure::Count(snapshot.opened)),
         }
@@ -260,11 +262,19 @@ impl Number {
     }
 }
 
+// In nanoseconds, up to the year 2554.
+fn since_1970(time: SystemTime) -> u64
+    ensures { result ≡ min (system_time_nanos time) (2 ^ 64 - 1) }
+{
+    let length = time.duration_since(SystemTime::UNIX_EPOCH);
+    nanos_of(length.unwrap_or(Duration::ZERO))
+}
+
 /// What a metric tells.
 #[derive(Clone, Copy, PartialEq, Eq, Debug)]
 pub(crate) enum Figure {
     Count(u64),
-    /// In nanoseconds; in seconds where it is printed.
+    /// In nanoseconds, a moment's since 1970; in seconds where it is printed.
     Length(u64),
 }
 

@@ -4,19 +4,27 @@
 //! program and at another time.
 #![tactic(auto)]
 
+pub mod calls;
 mod counting;
 pub mod error;
 mod nanoseconds;
 mod origin;
 mod reading;
+mod status;
+pub mod story;
 pub mod summary;
+mod text;
 pub mod verdict;
+mod walk;
+mod wall_clock;
 mod writing;
 
-pub use error::{FromJsonError, Place, Wanted};
+pub use calls::Calls;
+pub use error::FromJsonError;
 pub use origin::{Origin, Written};
 pub use reading::{from_json, from_json_of_pool};
-pub use summary::{Concern, Loan, Summary, summarize};
+pub use status::{PoolStatus, Waits};
+pub use summary::{Concern, Loan, State, Summary, summarize};
 pub use verdict::{
     BaseReason, CountsReason, MakingReason, RecordReason, StarvedReason, Verdict, audit,
 };

@@ -2,7 +2,10 @@
 ghost use Rattle.std.specs.Prelude.{◌≡◌, ◌≤◌, ◌↔◌, IsSome, IfSome};
 ghost use Rattle.std.specs.Duration.{as_nanos, max_nanos};
 
-use serde::{Described, Serialize, Serializer};
+use serde::{
+    Described, Deserialize, DeserializeOwned, Deserializer, Format, Kind, Serialize, Serializer,
+};
+use std::alloc::Global;
 use std::time::Duration;
 
 /// The nanoseconds of the greatest length of time.
@@ -46,5 +49,65 @@ impl Serialize for Nanoseconds {
             Ok(number) => out.u64(number),
             Err(_) => out.collect_str(&nanoseconds),
         }
+    }
+}
+
+impl DeserializeOwned for Nanoseconds {
+    fn deserialize_owned<F: Format>(
+        alloc: Global,
+        from: &mut Deserializer<'_, '_, F>,
+    ) -> Result<Nanoseconds, F::Error> {
+        if from.peek()? != Kind::Str {
+            return Ok(Nanoseconds(Duration::from_nanos(from.u64()?)));
+        }
+        let digits = from.string(alloc)?;
+        of_digits(digits.as_str())
+            .map(Nanoseconds)
+            .ok_or(from.custom("not whole nanoseconds"))
+    }
+}
+
+impl<'de> Deserialize<'de> for Nanoseconds {
+    fn deserialize<F: Format>(
+        alloc: Global,
+        from: &mut Deserializer<'de, '_, F>,
+    ) -> Result<Nanoseconds, F::Error> {
+        DeserializeOwned::deserialize_owned(alloc, from)
+    }
+}
+
+/// Writes a field in nanoseconds: `#[serde(with = "nanoseconds")]`.
+pub(crate) fn serialize<S: Serializer>(length: &Duration, out: &mut S) -> Result<(), S::Error> {
+    Nanoseconds(*length).serialize(out)
+}
+
+/// Reads such a field.
+pub(crate) fn deserialize<F: Format>(
+    alloc: Global,
+    from: &mut Deserializer<'_, '_, F>,
+) -> Result<Duration, F::Error> {
+    Ok(Nanoseconds::deserialize_owned(alloc, from)?.0)
+}
+
+/// The same of a field that may be null: `#[serde(with = "nanoseconds::optional")]`.
+pub(crate) mod optional {
+    use super::Nanoseconds;
+    use serde::{DeserializeOwned, Deserializer, Format, Serialize, Serializer};
+    use std::alloc::Global;
+    use std::time::Duration;
+
+    pub(crate) fn serialize<S: Serializer>(
+        length: &Option<Duration>,
+        out: &mut S,
+    ) -> Result<(), S::Error> {
+        length.map(Nanoseconds).serialize(out)
+    }
+
+    pub(crate) fn deserialize<F: Format>(
+        alloc: Global,
+        from: &mut Deserializer<'_, '_, F>,
+    ) -> Result<Option<Duration>, F::Error> {
+        let length: Option<Nanoseconds> = Option::deserialize_owned(alloc, from)?;
+        Ok(length.map(|length| length.0))
     }
 }

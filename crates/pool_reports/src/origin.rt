@@ -1,6 +1,7 @@
 // What a service tells of a report besides what it says.
-ghost use Rattle.std.specs.Prelude.{◌≡◌, None, Some};
+ghost use Rattle.std.specs.Prelude.{◌≡◌, [], None, Some};
 
+use crate::status::PoolStatus;
 use r2d2_core::Report;
 use std::time::{Duration, SystemTime};
 
@@ -15,15 +16,29 @@ pub struct Origin<'a> {
     /// The moment of the report, since the pool was made. Without it a report ends with its last
     /// record, however long ago that was.
     pub reported_at: Option<Duration>,
+    /// What callers met. Without it nobody who reads the report knows whether callers failed.
+    pub status: Option<PoolStatus>,
+    /// The text of the latest error of an opening or a check.
+    pub latest_error: Option<&'a str>,
+    /// Since when connections are lent that are lent now: the id of each of which that is known,
+    /// and the moment since the pool was made. A journal of little room has forgotten the takes of
+    /// those that are lent for long.
+    pub loans: &'a [(u64, Duration)],
 }
 
 impl<'a> Origin<'a> {
     /// Nothing is known.
-    pub fn unknown() -> Origin<'static> {
+    pub fn unknown() -> Origin<'static>
+        ensures name { result.name ≡ None }
+        ensures status { result.status ≡ None }
+    {
         Origin {
             name: None,
             made_at: None,
             reported_at: None,
+            status: None,
+            latest_error: None,
+            loans: &[],
         }
     }
 
@@ -33,11 +48,12 @@ impl<'a> Origin<'a> {
         ensures name { result.name ≡ None }
         ensures made_at { result.made_at ≡ made_at }
         ensures reported_at { result.reported_at ≡ Some moment }
+        ensures status { result.status ≡ None }
     {
         Origin {
-            name: None,
             made_at,
             reported_at: Some(moment),
+            ..Origin::unknown()
         }
     }
 
@@ -47,6 +63,29 @@ impl<'a> Origin<'a> {
             name: Some(name),
             ..self
         }
+    }
+
+    /// The same, where this is what callers met.
+    pub fn with_status(self, status: PoolStatus) -> Origin<'a>
+        ensures { result ≡ record self.entry { status = Some status } }
+    {
+        Origin {
+            status: Some(status),
+            ..self
+        }
+    }
+
+    /// The same, with the text of the latest error.
+    pub fn with_error(self, text: &'a str) -> Origin<'a> {
+        Origin {
+            latest_error: Some(text),
+            ..self
+        }
+    }
+
+    /// The same, with the moments since which connections are lent.
+    pub fn with_loans(self, loans: &'a [(u64, Duration)]) -> Origin<'a> {
+        Origin { loans, ..self }
     }
 }
 
@@ -60,6 +99,12 @@ pub struct Written {
     pub made_at: Option<SystemTime>,
     /// The moment of the report, since the pool was made.
     pub reported_at: Option<Duration>,
+    /// What callers met.
+    pub status: Option<PoolStatus>,
+    /// The text of the latest error.
+    pub latest_error: Option<String>,
+    /// Since when connections are lent.
+    pub loans: Vec<(u64, Duration)>,
 }
 
 impl Written {
@@ -69,6 +114,9 @@ impl Written {
             name: self.name.as_deref(),
             made_at: self.made_at,
             reported_at: self.reported_at,
+            status: self.status,
+            latest_error: self.latest_error.as_deref(),
+            loans: self.loans.as_slice(),
         }
     }
 }

@@ -1,56 +1,25 @@
 // A report read from JSON.
 
 use crate::VERSION;
-use crate::error::{FromJsonError, Place, Wanted};
+use crate::error::FromJsonError;
+use crate::nanoseconds::Nanoseconds;
 use crate::origin::Written;
-use found::{Found, Object, Read};
-use json::{MAX_LEN, Scratch, Tape};
-use parts::{Items, Parts, count_items};
-use place::not_json;
+use crate::text::{BaseText, LimitsText, OrderText, RecordText, ReportText};
+use jiff::Timestamp;
 use r2d2_core::{Base, LendingOrder, LimitSettings, Limits, Record, Report};
-use std::alloc::Global;
+use serde::{Deserialize, Deserializer, Format, Kind, Name};
+use serde_json::Value;
+use std::alloc::{AllocError, Global};
+use std::borrow::CowStr;
+use std::fmt::InlineText;
 use std::time::{Duration, SystemTime};
-
-mod found;
-mod parts;
-mod place;
-
-const REPORT_FIELDS: [&str; 14] = [
-    "version",
-    "name",
-    "made_at",
-    "reported_at",
-    "limits",
-    "base",
-    "records",
-    "lost",
-    "takes",
-    "idle",
-    "lent",
-    "connections",
-    "pending",
-    "closed",
-];
-
-const LIMITS_FIELDS: [&str; 7] = [
-    "max_size",
-    "min_idle",
-    "max_lifetime",
-    "idle_timeout",
-    "connection_timeout",
-    "reap_every",
-    "order",
-];
-
-const BASE_FIELDS: [&str; 6] = ["at", "idle", "lent", "connections", "pending", "closed"];
 
 /// The report that a text of JSON says, as [`to_json`](crate::to_json) writes it. White space and
 /// the order of the fields do not matter; where a field stands twice, the last one counts.
 ///
-/// It takes memory in proportion to the text, and that of the report: as much as the text for the
-/// list of records, and some ten times as much for the rest of it. The error says what is wrong,
-/// and where: `records[17].id: not a whole number up to 18446744073709551615`. Whether the report
-/// is one of a pool is not asked here: `audit` tells.
+/// It takes memory in proportion to the text, and that of the report. The error says what is wrong,
+/// and where: ``missing field `id` at column 407``. Whether the report is one of a pool is not
+/// asked here: `audit` tells.
 pub fn from_json(alloc: Global, text: &str) -> Result<Report, FromJsonError> {
     Ok(from_json_of_pool(alloc, text)?.report)
 }
@@ -58,384 +27,205 @@ pub fn from_json(alloc: Global, text: &str) -> Result<Report, FromJsonError> {
 /// The same, and what the text says of its origin, as [`to_json_of_pool`](crate::to_json_of_pool)
 /// writes it.
 pub fn from_json_of_pool(alloc: Global, text: &str) -> Result<Written, FromJsonError> {
-    if text.len() > MAX_LEN {
-        return Err(FromJsonError::Memory);
+    match read(alloc, text) {
+        Err(FromJsonError::Wrong(why)) => read_last_ones(alloc, text, why),
+        read => read,
     }
-    let mut scratch = Scratch::new(alloc);
-    match Parts::of(alloc, text, &mut scratch)? {
-        Some(parts) => {
-            let list = Some(parts.records);
-            read(alloc, text, parts.rest.as_str(), list, &mut scratch)
+}
+
+// Nothing that is read by a derive may have a field twice. In a `Value` the last one counts.
+fn read_last_ones(alloc: Global, text: &str, why: String) -> Result<Written, FromJsonError> {
+    let value = match Value::from_str(alloc, text) {
+        Ok(value) => value,
+        Err(error) if error.is_memory() => return Err(FromJsonError::Memory),
+        Err(_) => return Err(FromJsonError::Wrong(why)),
+    };
+    match read(alloc, value.to_string(alloc)?.as_str()) {
+        // What was said of the text itself has its place.
+        Err(FromJsonError::Wrong(_)) => Err(FromJsonError::Wrong(why)),
+        read => read,
+    }
+}
+
+fn read(alloc: Global, text: &str) -> Result<Written, FromJsonError> {
+    // Other versions may have other fields, so this one comes first.
+    match parsed(alloc, text)? {
+        Version(Some(VERSION)) => written(alloc, parsed(alloc, text)?),
+        Version(Some(version)) => Err(FromJsonError::Version(version)),
+        Version(None) => Err(FromJsonError::NoVersion),
+    }
+}
+
+fn parsed<'t, T: Deserialize<'t>>(alloc: Global, text: &'t str) -> Result<T, FromJsonError> {
+    match serde_json::from_str(alloc, text) {
+        Ok(value) => Ok(value),
+        Err(error) if error.is_memory() => Err(FromJsonError::Memory),
+        Err(error) => Err(FromJsonError::Wrong(told(alloc, text, &error)?)),
+    }
+}
+
+// What is said of a text, on one line. Most are one line, so the number of the first is left out.
+fn told(alloc: Global, text: &str, error: &serde_json::Error) -> Result<String, AllocError> {
+    let (line, column) = (error.line(), error.column());
+    let place = match line {
+        1 => format!(in alloc; "at column {column}")?,
+        _ => format!(in alloc; "at line {line}, column {column}")?,
+    };
+    if !error.is_data() {
+        return format!(in alloc; "not JSON {place}");
+    }
+    let said = error.to_string(alloc)?;
+    let what = said
+        .as_str()
+        .split_once(" at line ")
+        .map_or("", |(what, _)| what);
+    match found_at(text, line, column) {
+        "" => format!(in alloc; "{what} {place}"),
+        found => format!(in alloc; "{what} {place}: {}", InlineText::<40>::of(found).as_str()),
+    }
+}
+
+// What stands at a place, up to the end of a value.
+fn found_at(text: &str, line: usize, column: usize) -> &str {
+    let line = text.split('\n').nth(line.saturating_sub(1));
+    let rest = line.and_then(|line| line.get(column.saturating_sub(1)..));
+    let mut parts = rest.unwrap_or_default().split([',', '}', ']']);
+    parts.next().unwrap_or_default().trim_ascii()
+}
+
+// The version of an object of JSON, whose fields hold objects where those of a report do.
+#[derive(Drop)]
+struct Version(Option<u64>);
+
+impl<'de> Deserialize<'de> for Version {
+    fn deserialize<F: Format>(
+        _alloc: Global,
+        from: &mut Deserializer<'de, '_, F>,
+    ) -> Result<Version, F::Error> {
+        let names = ["version", "limits", "base", "status"].map(|name| Name::exact(name));
+        let mut version = None;
+        from.begin_map()?;
+        for _ in 0..u64::MAX {
+            match from.next_key(&names)? {
+                Some(0) => version = Some(from.u64()?),
+                Some(1..=3) if from.peek()? != Kind::Map => return Err(from.invalid()),
+                Some(_) => from.skip()?,
+                None => break,
+            }
         }
-        None => read(alloc, text, text, None, &mut scratch),
+        Ok(Version(version))
     }
 }
 
-// What a text says. The list of records stands apart from the rest of it, where it has one.
-fn read(
-    alloc: Global,
-    text: &str,
-    rest: &str,
-    list: Option<&str>,
-    scratch: &mut Scratch,
-) -> Result<Written, FromJsonError> {
-    let tape = tape_of(alloc, rest, text, scratch)?;
-    read_root(alloc, &Found::new(tape.root(), Place::report()), list)
-}
-
-// The tape of a part of a text. Where it is no JSON, the error says where in the whole.
-fn tape_of<'t>(
-    alloc: Global,
-    part: &'t str,
-    whole: &str,
-    scratch: &'t mut Scratch,
-) -> Result<Tape<'t>, FromJsonError> {
-    match Tape::parse(part, scratch, Vec::new(alloc)) {
-        Ok(tape) => Ok(tape),
-        Err(json::Error::Invalid) => Err(not_json(alloc, whole)),
-        Err(_) => Err(FromJsonError::Memory),
-    }
-}
-
-fn read_root(
-    alloc: Global,
-    found: &Found<'_>,
-    list: Option<&str>,
-) -> Result<Written, FromJsonError> {
-    read_version(&found.object()?)?;
-    let report = found.object_of(alloc, &REPORT_FIELDS)?;
-    let (made_at, reported_at) = read_moments(&report)?;
-    let name = read_name(alloc, &report)?;
+// What the text of a report says.
+fn written(alloc: Global, text: ReportText<'_, Vec<u64>>) -> Result<Written, FromJsonError> {
+    let limits = limits_of(alloc, &text.limits)?;
+    let base = base_of(alloc, &text.base)?;
+    let records = text.records.iter().map(record_of).collect(alloc)?;
+    let loans = text.loans.iter().map(loan_of).collect(alloc)?;
+    let name = owned(alloc, &text.name)?;
+    let latest_error = owned(alloc, &text.latest_error)?;
     Ok(Written {
-        report: read_report(alloc, &report, list)?,
+        report: Report {
+            limits,
+            base,
+            records,
+            lost: text.lost,
+            takes: text.takes,
+            idle: text.idle,
+            lent: text.lent,
+            connections: text.connections,
+            pending: text.pending,
+            closed: text.closed,
+        },
         name,
-        made_at,
-        reported_at,
+        made_at: text.made_at.and_then(wall_clock),
+        reported_at: text.reported_at.map(|moment| moment.0),
+        status: text.status,
+        latest_error,
+        loans,
     })
 }
 
-// When the pool was made, and when the report, as far as the text says that.
-fn read_moments(
-    report: &Object<'_, '_>,
-) -> Result<(Option<SystemTime>, Option<Duration>), FromJsonError> {
-    Ok((report.optional("made_at")?, report.optional("reported_at")?))
+fn wall_clock(moment: Timestamp) -> Option<SystemTime> {
+    SystemTime::try_from(moment).ok()
 }
 
-// What the pool is called, if the text says that.
-fn read_name(alloc: Global, report: &Object<'_, '_>) -> Result<Option<String>, FromJsonError> {
-    match report.optional_text("name")? {
-        Some(name) => Ok(Some(String::from_str(alloc, name)?)),
+fn owned(alloc: Global, text: &Option<CowStr<'_>>) -> Result<Option<String>, AllocError> {
+    match text {
+        Some(text) => Ok(Some(String::from_str(alloc, text.as_str())?)),
         None => Ok(None),
     }
 }
 
-// Other versions may have other fields, so this one comes first.
-fn read_version(report: &Object<'_, '_>) -> Result<(), FromJsonError> {
-    let version: u64 = report.read("version")?;
-    if version != VERSION {
-        return Err(FromJsonError::Version(version));
-    }
-    Ok(())
-}
-
-fn read_report(
-    alloc: Global,
-    report: &Object<'_, '_>,
-    list: Option<&str>,
-) -> Result<Report, FromJsonError> {
-    let limits = read_limits(alloc, report)?;
-    let lost = report.read("lost")?;
-    let takes = report.read("takes")?;
-    let counts = read_counts(report)?;
-    let (base, records, (idle, lent)) = read_lists(alloc, report, list)?;
-    Ok(Report {
-        limits,
-        base,
-        records,
-        lost,
-        takes,
-        idle,
-        lent,
-        connections: counts.connections,
-        pending: counts.pending,
-        closed: counts.closed,
-    })
-}
-
-// The base, the records, and the ids of the idle and of the lent connections.
-fn read_lists(
-    alloc: Global,
-    report: &Object<'_, '_>,
-    list: Option<&str>,
-) -> Result<(Base, Vec<Record>, (Vec<u64>, Vec<u64>)), FromJsonError> {
-    let base = read_base(alloc, report)?;
-    let records = read_records(alloc, report, list)?;
-    Ok((base, records, read_holders(alloc, report)?))
-}
-
-// What a report and its base both count.
-#[derive(Clone, Copy)]
-struct Counts {
-    connections: u32,
-    pending: u32,
-    closed: bool,
-}
-
-fn read_counts(object: &Object<'_, '_>) -> Result<Counts, FromJsonError> {
-    Ok(Counts {
-        connections: object.read("connections")?,
-        pending: object.read("pending")?,
-        closed: object.read("closed")?,
-    })
-}
-
-fn read_limits(alloc: Global, report: &Object<'_, '_>) -> Result<Limits, FromJsonError> {
-    let found = report.named("limits")?;
-    limits_of(&found.object_of(alloc, &LIMITS_FIELDS)?)
-}
-
-fn limits_of(limits: &Object<'_, '_>) -> Result<Limits, FromJsonError> {
+fn limits_of(alloc: Global, text: &LimitsText) -> Result<Limits, FromJsonError> {
     let settings = LimitSettings {
-        max_size: limits.read("max_size")?,
-        min_idle: limits.read("min_idle")?,
-        max_lifetime: limits.read("max_lifetime")?,
-        idle_timeout: limits.read("idle_timeout")?,
-        connection_timeout: limits.read("connection_timeout")?,
-        reap_every: limits.read("reap_every")?,
-        order: limits.read("order")?,
+        max_size: text.max_size,
+        min_idle: text.min_idle,
+        max_lifetime: text.max_lifetime,
+        idle_timeout: text.idle_timeout,
+        connection_timeout: text.connection_timeout,
+        reap_every: text.reap_every,
+        order: match text.order {
+            OrderText::NewestFirst => LendingOrder::NewestFirst,
+            OrderText::OldestFirst => LendingOrder::OldestFirst,
+        },
     };
     match settings.limits() {
         Some(limits) => Ok(limits),
-        None => Err(wrong_setting(&settings)),
+        None => Err(FromJsonError::Wrong(format!(in alloc; "limits.{}", wrong_one(&settings))?)),
     }
 }
 
 // The first of the settings that no pool may have. One has to be there.
-fn wrong_setting(settings: &LimitSettings) -> FromJsonError {
-    let max_size = settings.max_size;
-    let (name, wanted) = if max_size == 0 {
-        ("max_size", Wanted::Positive)
-    } else if settings.min_idle.is_some_and(|count| count > max_size) {
-        ("min_idle", Wanted::UpToMaxSize(max_size))
-    } else {
-        (zero_length(settings), Wanted::Positive)
-    };
-    FromJsonError::Wrong {
-        place: Place::named("limits").field(name),
-        wanted,
-    }
+fn wrong_one(settings: &LimitSettings) -> &'static str {
+    let (max_size, zero) = (settings.max_size, Some(Duration::ZERO));
+    let ones = [
+        (max_size == 0, "max_size: zero"),
+        (
+            settings.min_idle.is_some_and(|count| count > max_size),
+            "min_idle: above max_size",
+        ),
+        (settings.max_lifetime == zero, "max_lifetime: zero"),
+        (settings.idle_timeout == zero, "idle_timeout: zero"),
+        (
+            settings.connection_timeout.is_zero(),
+            "connection_timeout: zero",
+        ),
+    ];
+    let first = ones.iter().find(|(is_wrong, _)| *is_wrong);
+    first.map_or("reap_every: zero", |(_, what)| *what)
 }
 
-// The first of the lengths of time that is zero. One has to be there.
-fn zero_length(settings: &LimitSettings) -> &'static str {
-    if settings.max_lifetime == Some(Duration::ZERO) {
-        "max_lifetime"
-    } else if settings.idle_timeout == Some(Duration::ZERO) {
-        "idle_timeout"
-    } else if settings.connection_timeout.is_zero() {
-        "connection_timeout"
-    } else {
-        "reap_every"
-    }
-}
-
-impl Read for LendingOrder {
-    fn read_from(found: &Found<'_>) -> Result<LendingOrder, FromJsonError> {
-        match found.text(Wanted::Order)? {
-            "newest_first" => Ok(LendingOrder::NewestFirst),
-            "oldest_first" => Ok(LendingOrder::OldestFirst),
-            _ => Err(found.is_not(Wanted::Order)),
-        }
-    }
-}
-
-fn read_base(alloc: Global, report: &Object<'_, '_>) -> Result<Base, FromJsonError> {
-    let found = report.named("base")?;
-    base_of(alloc, &found.object_of(alloc, &BASE_FIELDS)?)
-}
-
-fn base_of(alloc: Global, base: &Object<'_, '_>) -> Result<Base, FromJsonError> {
-    let (idle, lent) = read_connections(alloc, base)?;
-    let (at, counts) = read_rest(base)?;
+fn base_of(alloc: Global, text: &BaseText) -> Result<Base, AllocError> {
+    let idle = text.idle.iter().map(resting_of).collect(alloc)?;
+    let lent = text.lent.iter().map(loan_of).collect(alloc)?;
     Ok(Base {
-        at,
+        at: text.at.0,
         idle,
         lent,
-        connections: counts.connections,
-        pending: counts.pending,
-        closed: counts.closed,
+        connections: text.connections,
+        pending: text.pending,
+        closed: text.closed,
     })
 }
 
-// The idle connections of a base, and the lent ones.
-fn read_connections(
-    alloc: Global,
-    base: &Object<'_, '_>,
-) -> Result<(Vec<(u64, Duration, Duration)>, Vec<(u64, Duration)>), FromJsonError> {
-    let idle = read_list(alloc, base, "idle", "base.idle")?;
-    let lent = read_list(alloc, base, "lent", "base.lent")?;
-    Ok((idle, lent))
+fn resting_of(text: &(u64, Nanoseconds, Nanoseconds)) -> (u64, Duration, Duration) {
+    (text.0, text.1.0, text.2.0)
 }
 
-// The moment of a base, and what it counts.
-fn read_rest(base: &Object<'_, '_>) -> Result<(Duration, Counts), FromJsonError> {
-    Ok((base.read("at")?, read_counts(base)?))
+fn loan_of(text: &(u64, Nanoseconds)) -> (u64, Duration) {
+    (text.0, text.1.0)
 }
 
-// An idle connection: id, birth, and since when it is idle.
-impl Read for (u64, Duration, Duration) {
-    fn read_from(found: &Found<'_>) -> Result<(u64, Duration, Duration), FromJsonError> {
-        found.has_items(3)?;
-        Ok((found.item(0)?, found.item(1)?, found.item(2)?))
-    }
-}
-
-// A lent connection: id and birth.
-impl Read for (u64, Duration) {
-    fn read_from(found: &Found<'_>) -> Result<(u64, Duration), FromJsonError> {
-        found.has_items(2)?;
-        Ok((found.item(0)?, found.item(1)?))
-    }
-}
-
-// The idle connections, and the lent ones.
-fn read_holders(
-    alloc: Global,
-    report: &Object<'_, '_>,
-) -> Result<(Vec<u64>, Vec<u64>), FromJsonError> {
-    let idle = read_list(alloc, report, "idle", "idle")?;
-    let lent = read_list(alloc, report, "lent", "lent")?;
-    Ok((idle, lent))
-}
-
-// The list in a field. Errors call it by the name.
-fn read_list<T: Read>(
-    alloc: Global,
-    object: &Object<'_, '_>,
-    field: &'static str,
-    name: &'static str,
-) -> Result<Vec<T>, FromJsonError> {
-    list_of(alloc, &object.field(field)?, name)
-}
-
-fn list_of<T: Read>(
-    alloc: Global,
-    found: &Found<'_>,
-    name: &'static str,
-) -> Result<Vec<T>, FromJsonError> {
-    let mut list = Vec::with_capacity(alloc, found.count_items()?)?;
-    let mut items = found.list(name)?;
-    while let Some(item) = items.next() {
-        list.push(T::read_from(&item)?)?;
-    }
-    Ok(list)
-}
-
-fn read_records(
-    alloc: Global,
-    report: &Object<'_, '_>,
-    list: Option<&str>,
-) -> Result<Vec<Record>, FromJsonError> {
-    let found = report.field("records")?;
-    match list {
-        Some(list) => read_items(alloc, list),
-        None => Err(found.is_not(Wanted::List)),
-    }
-}
-
-fn read_items(alloc: Global, list: &str) -> Result<Vec<Record>, FromJsonError> {
-    let (mut scratch, mut spare) = (Scratch::new(alloc), Scratch::new(alloc));
-    let count = count_items(list, &mut scratch)?;
-    let mut records = Vec::with_capacity(alloc, count)?;
-    let mut items = Items::of(list, &mut scratch)?;
-    for number in 0..count {
-        let Some(text) = items.next() else {
-            break;
-        };
-        records.push(read_item(alloc, number, text, &mut spare)?)?;
-    }
-    Ok(records)
-}
-
-// The record of this number.
-fn read_item(
-    alloc: Global,
-    number: usize,
-    text: &str,
-    scratch: &mut Scratch,
-) -> Result<Record, FromJsonError> {
-    let tape = tape_of(alloc, text, text, scratch)?;
-    let place = Place::item_of("records", number);
-    read_record(alloc, &Found::new(tape.root(), place))
-}
-
-fn read_record(alloc: Global, found: &Found<'_>) -> Result<Record, FromJsonError> {
-    let kind: Kind = found.object()?.read("kind")?;
-    kind.read(&found.object_of(alloc, kind.fields())?)
-}
-
-#[derive(Clone, Copy)]
-enum Kind {
-    Taken,
-    Ordered,
-    Admitted,
-    Kept,
-    Closed,
-    Reaped,
-    ClosedAll,
-}
-
-impl Read for Kind {
-    fn read_from(found: &Found<'_>) -> Result<Kind, FromJsonError> {
-        match found.text(Wanted::Kind)? {
-            "taken" => Ok(Kind::Taken),
-            "ordered" => Ok(Kind::Ordered),
-            "admitted" => Ok(Kind::Admitted),
-            "kept" => Ok(Kind::Kept),
-            "closed" => Ok(Kind::Closed),
-            "reaped" => Ok(Kind::Reaped),
-            "closed_all" => Ok(Kind::ClosedAll),
-            _ => Err(found.is_not(Wanted::Kind)),
-        }
-    }
-}
-
-impl Kind {
-    // What fields a record of this kind has.
-    fn fields(self) -> &'static [&'static str] {
-        match self {
-            Kind::Taken | Kind::Closed => &["kind", "at", "id", "ordered"],
-            Kind::Ordered | Kind::Reaped => &["kind", "at", "ordered"],
-            Kind::Admitted | Kind::Kept => &["kind", "at", "id"],
-            Kind::ClosedAll => &["kind", "at"],
-        }
-    }
-
-    // What the field says, or nothing where records of this kind do not have it.
-    fn read_field<T: Read + Default>(
-        self,
-        record: &Object<'_, '_>,
-        name: &'static str,
-    ) -> Result<T, FromJsonError> {
-        if !self.fields().contains(&name) {
-            return Ok(T::default());
-        }
-        record.read(name)
-    }
-
-    // The record of this kind that these fields tell.
-    fn read(self, record: &Object<'_, '_>) -> Result<Record, FromJsonError> {
-        let at = record.read("at")?;
-        let id = self.read_field(record, "id")?;
-        let ordered = self.read_field(record, "ordered")?;
-        Ok(match self {
-            Kind::Taken => Record::Taken { at, id, ordered },
-            Kind::Ordered => Record::Ordered { at, ordered },
-            Kind::Admitted => Record::Admitted { at, id },
-            Kind::Kept => Record::Kept { at, id },
-            Kind::Closed => Record::Closed { at, id, ordered },
-            Kind::Reaped => Record::Reaped { at, ordered },
-            Kind::ClosedAll => Record::ClosedAll { at },
-        })
+fn record_of(text: &RecordText) -> Record {
+    match *text {
+        RecordText::Taken { at, id, ordered } => Record::Taken { at, id, ordered },
+        RecordText::Ordered { at, ordered } => Record::Ordered { at, ordered },
+        RecordText::Admitted { at, id } => Record::Admitted { at, id },
+        RecordText::Kept { at, id } => Record::Kept { at, id },
+        RecordText::Closed { at, id, ordered } => Record::Closed { at, id, ordered },
+        RecordText::Reaped { at, ordered } => Record::Reaped { at, ordered },
+        RecordText::ClosedAll { at } => Record::ClosedAll { at },
     }
 }

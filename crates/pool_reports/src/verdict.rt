@@ -23,7 +23,7 @@ mod record;
 #[derive(Clone, Copy, Debug, PartialEq, Eq)]
 pub enum Verdict {
     /// The report is as each report of a pool is: it replays, none of the rest is wrong. Its text
-    /// is `replays`.
+    /// is `sound`.
     Sound,
     /// The base is none that a pool with the limits may come to.
     Base(BaseReason),
@@ -42,7 +42,7 @@ pub enum Verdict {
 impl fmt::Display for Verdict {
     fn fmt<W: fmt::Write>(&self, f: &mut fmt::Formatter<W>) -> fmt::Result {
         match self {
-            Verdict::Sound => write!(f, "replays"),
+            Verdict::Sound => write!(f, "sound"),
             Verdict::Base(reason) => write!(f, "the base: {reason}"),
             Verdict::Record { place, reason } => write!(f, "record {place}: {reason}"),
             Verdict::Counts(reason) => write!(f, "the counts: {reason}"),

@@ -2,60 +2,30 @@
 
 use r2d2_core::{Base, Limits};
 use std::alloc::{AllocError, Allocator, Global};
-use std::fmt;
 use std::time::Duration;
+use thiserror::Error;
 
-/// Why a base is none that a pool with the limits may come to.
-#[derive(Clone, Copy, Debug, PartialEq, Eq)]
+/// Why a base is none that a pool with the limits may come to, as its text says.
+#[derive(Clone, Copy, Debug, Error, PartialEq, Eq)]
 pub enum BaseReason {
-    /// The connection of this id stands twice.
+    #[error("connection {0} stands twice")]
     Twice(u64),
-    /// The idle connection of this id is idle for longer than the one that stands before it.
+    #[error("connection {0} was idle earlier than the one that stands before it")]
     OutOfOrder(u64),
-    /// The idle connection of this id is idle since a moment after that of the base.
+    #[error("connection {0} is idle since after the moment of the base")]
     IdleAfterBase(u64),
-    /// The idle connection of this id was admitted after it came to be idle.
+    #[error("connection {0} was admitted after it came to be idle")]
     BornAfterIdle(u64),
-    /// The lent connection of this id was admitted after the moment of the base.
+    #[error("connection {0} was admitted after the moment of the base")]
     BornAfterBase(u64),
-    /// The connections are not as many as the idle and the lent ones.
+    #[error("connections is {shown}, but {listed} are listed")]
     Connections { shown: u32, listed: usize },
-    /// Connections and pending openings are more than `max_size` together.
+    #[error("connections and pending are {all} together, but max_size is {max_size}")]
     TooMany { all: u64, max_size: u32 },
-    /// It is closed, and so many are idle.
+    #[error("it is closed, but idle has {0}")]
     IdleThoughClosed(usize),
-    /// It is closed, and so many openings are pending.
+    #[error("it is closed, but pending is {0}")]
     PendingThoughClosed(u32),
-}
-
-impl fmt::Display for BaseReason {
-    fn fmt<W: fmt::Write>(&self, f: &mut fmt::Formatter<W>) -> fmt::Result {
-        let (id, what) = match *self {
-            BaseReason::Connections { shown, listed } => {
-                return write!(f, "connections is {shown}, but {listed} are listed");
-            }
-            BaseReason::TooMany { all, max_size } => {
-                return write!(
-                    f,
-                    "connections and pending are {all} together, but max_size is {max_size}"
-                );
-            }
-            BaseReason::IdleThoughClosed(count) => {
-                return write!(f, "it is closed, but idle has {count}");
-            }
-            BaseReason::PendingThoughClosed(count) => {
-                return write!(f, "it is closed, but pending is {count}");
-            }
-            BaseReason::Twice(id) => (id, "stands twice"),
-            BaseReason::OutOfOrder(id) => {
-                (id, "was idle earlier than the one that stands before it")
-            }
-            BaseReason::IdleAfterBase(id) => (id, "is idle since after the moment of the base"),
-            BaseReason::BornAfterIdle(id) => (id, "was admitted after it came to be idle"),
-            BaseReason::BornAfterBase(id) => (id, "was admitted after the moment of the base"),
-        };
-        write!(f, "connection {id} {what}")
-    }
 }
 
 /// Why the base is none that a pool with the limits may come to. It has to be none.
@@ -78,32 +48,12 @@ pub(super) fn reason<A: Allocator>(
 
 // The least id that stands twice.
 fn twice<A: Allocator>(alloc: Global, base: &Base<A>) -> Result<Option<u64>, AllocError> {
-    let mut ids = Vec::new(alloc);
-    for (id, _, _) in &base.idle {
-        ids.push(*id)?;
-    }
-    add_lent(&mut ids, base.lent.as_slice())?;
+    let idle = base.idle.iter().map(|entry| entry.0);
+    let lent = base.lent.iter().map(|loan| loan.0);
+    let mut ids: Vec<u64> = idle.chain(lent).collect(alloc)?;
     ids.sort_unstable();
-    Ok(first_pair(ids.as_slice()))
-}
-
-fn add_lent(ids: &mut Vec<u64>, lent: &[(u64, Duration)]) -> Result<(), AllocError> {
-    for (id, _) in lent {
-        ids.push(*id)?;
-    }
-    Ok(())
-}
-
-// The first that is the same as the one after it.
-fn first_pair(ids: &[u64]) -> Option<u64> {
-    let mut last = None;
-    for id in ids {
-        if last == Some(*id) {
-            return last;
-        }
-        last = Some(*id);
-    }
-    None
+    let mut pairs = ids.iter().zip(ids.iter().skip(1));
+    Ok(pairs.find(|(id, next)| id == next).map(|(id, _)| *id))
 }
 
 fn wrong_idle(at: Duration, idle: &[(u64, Duration, Duration)]) -> Option<BaseReason> {

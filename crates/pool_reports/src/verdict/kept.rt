@@ -11,52 +11,28 @@ use super::Verdict;
 use crate::counting::takes;
 use r2d2_core::{Base, Limits, Report};
 use std::alloc::Allocator;
-use std::fmt;
+use thiserror::Error;
 
 /// How a base, into which no record was folded, is not that of a pool just made.
-#[derive(Clone, Copy, Debug, PartialEq, Eq)]
+#[derive(Clone, Copy, Debug, Error, PartialEq, Eq)]
 pub enum MakingReason {
-    /// So many are idle.
+    #[error("lost is 0, so it is that of the making, but idle has {0}")]
     Idle(usize),
-    /// So many are lent.
+    #[error("lost is 0, so it is that of the making, but lent has {0}")]
     Lent(usize),
-    /// So many openings are pending, and another number is wanted.
+    #[error("lost is 0, so it is that of the making, but pending is {shown} where {due} are wanted")]
     Pending { shown: u32, due: u32 },
-    /// It is closed.
+    #[error("lost is 0, so it is that of the making, but it is closed")]
     Closed,
 }
 
-impl fmt::Display for MakingReason {
-    fn fmt<W: fmt::Write>(&self, f: &mut fmt::Formatter<W>) -> fmt::Result {
-        f.write_str("lost is 0, so it is that of the making, but ")?;
-        let (list, count) = match *self {
-            MakingReason::Idle(count) => ("idle", count),
-            MakingReason::Lent(count) => ("lent", count),
-            MakingReason::Pending { shown, due } => {
-                return write!(f, "pending is {shown} where {due} are wanted");
-            }
-            MakingReason::Closed => return f.write_str("it is closed"),
-        };
-        write!(f, "{list} has {count}")
-    }
-}
-
 /// How a pool that is open has too few: more are wanted, there is room, and none is on its way.
-#[derive(Clone, Copy, Debug, PartialEq, Eq)]
+#[derive(Clone, Copy, Debug, Error, PartialEq, Eq)]
+#[error("wanted are {wanted}, and there is room, but idle has {idle}, and pending is {pending}")]
 pub struct StarvedReason {
     pub wanted: u32,
     pub idle: usize,
     pub pending: u32,
-}
-
-impl fmt::Display for StarvedReason {
-    fn fmt<W: fmt::Write>(&self, f: &mut fmt::Formatter<W>) -> fmt::Result {
-        let (wanted, idle, pending) = (self.wanted, self.idle, self.pending);
-        write!(
-            f,
-            "wanted are {wanted}, and there is room, but idle has {idle}, and pending is {pending}"
-        )
-    }
 }
 
 /// What is wrong with a report that replays, if something is.

@@ -2,98 +2,49 @@
 ghost use Rattle.std.specs.Prelude.{◌≡◌};
 ghost use Rattle.r2d2_core.specs.Limits.{seen_limits, top_up};
 
+use crate::walk::is_expired;
 use r2d2_core::{Base, LendingOrder, Limits, Record};
 use std::alloc::Allocator;
 use std::fmt;
 use std::time::Duration;
+use thiserror::Error;
 
-/// Why a record may not follow what stood before it.
-#[derive(Clone, Copy, Debug, PartialEq, Eq)]
+/// Why a record may not follow what stood before it, as its text says.
+#[derive(Clone, Copy, Debug, Error, PartialEq, Eq)]
 pub enum RecordReason {
-    /// It is the first one, and its moment is before that of the base.
+    #[error("its moment is before that of the base")]
     BeforeBase,
-    /// Its moment is before that of the record before it.
+    #[error("its moment is before that of the record before it")]
     BeforeLast,
-    /// The id is taken, but none is idle.
+    #[error("connection {0} is taken, but none is idle")]
     NoneIdle(u64),
-    /// The id is taken, but another is lent next.
+    #[error("connection {id} is taken, but connection {next} is lent next")]
     NotNext { id: u64, next: u64 },
-    /// So many were ordered, and another number was due.
+    #[error("{} ordered where {} due", Were(*.ordered), Were(*.due))]
     Ordered { ordered: u32, due: u32 },
     /// One was ordered alone, as where none is idle, but the connection of this id is idle.
+    #[error("one is ordered alone, but connection {0} is idle")]
     OrderedThoughIdle(u64),
-    /// One was ordered alone, but the pool is closed.
+    #[error("one is ordered alone, but the pool is closed")]
     OrderedThoughClosed,
-    /// One was ordered alone, but there are as many as `max_size` already.
+    #[error("one is ordered alone, but there are {0} already, which is max_size")]
     OrderedThoughFull(u32),
-    /// The id is admitted, but no opening was pending.
+    #[error("connection {0} is admitted, but no opening was pending")]
     NonePending(u64),
-    /// The id is admitted, but there was one of that id before.
+    #[error("connection {0} is admitted, but there was one of that id before")]
     AdmittedTwice(u64),
-    /// The id is kept, but it is not lent.
+    #[error("connection {0} is kept, but it is not lent")]
     KeptThoughNotLent(u64),
-    /// The id is kept, but the pool is closed.
+    #[error("connection {0} is kept, but the pool is closed")]
     KeptThoughClosed(u64),
-    /// The id is kept, but its age has reached `max_lifetime`.
+    #[error("connection {0} is kept, but its age has reached max_lifetime")]
     KeptThoughOld(u64),
-    /// The id is closed, but it is not lent.
+    #[error("connection {0} is closed, but it is not lent")]
     ClosedThoughNotLent(u64),
-    /// A reap closed none and ordered none, which makes no record.
+    #[error("a reap that closed none and ordered none makes no record")]
     NothingReaped,
-    /// The pool is closed, but it was closed before.
+    #[error("the pool is closed, but it was closed before")]
     ClosedTwice,
-}
-
-impl fmt::Display for RecordReason {
-    fn fmt<W: fmt::Write>(&self, f: &mut fmt::Formatter<W>) -> fmt::Result {
-        let (id, what) = match *self {
-            RecordReason::Ordered { ordered, due } => {
-                return write!(f, "{} ordered where {} due", Were(ordered), Were(due));
-            }
-            RecordReason::NotNext { id, next } => {
-                return write!(
-                    f,
-                    "connection {id} is taken, but connection {next} is lent next"
-                );
-            }
-            RecordReason::OrderedThoughIdle(id) => {
-                return write!(f, "one is ordered alone, but connection {id} is idle");
-            }
-            RecordReason::OrderedThoughFull(max_size) => {
-                return write!(
-                    f,
-                    "one is ordered alone, but there are {max_size} already, which is max_size"
-                );
-            }
-            RecordReason::BeforeBase => (None, "its moment is before that of the base"),
-            RecordReason::BeforeLast => (None, "its moment is before that of the record before it"),
-            RecordReason::OrderedThoughClosed => {
-                (None, "one is ordered alone, but the pool is closed")
-            }
-            RecordReason::NoneIdle(id) => (Some(id), "is taken, but none is idle"),
-            RecordReason::NonePending(id) => (Some(id), "is admitted, but no opening was pending"),
-            RecordReason::AdmittedTwice(id) => {
-                (Some(id), "is admitted, but there was one of that id before")
-            }
-            RecordReason::KeptThoughNotLent(id) => (Some(id), "is kept, but it is not lent"),
-            RecordReason::KeptThoughClosed(id) => (Some(id), "is kept, but the pool is closed"),
-            RecordReason::KeptThoughOld(id) => {
-                (Some(id), "is kept, but its age has reached max_lifetime")
-            }
-            RecordReason::ClosedThoughNotLent(id) => (Some(id), "is closed, but it is not lent"),
-            RecordReason::NothingReaped => {
-                (
-                    None,
-                    "a reap that closed none and ordered none makes no record",
-                )
-            }
-            RecordReason::ClosedTwice => (None, "the pool is closed, but it was closed before"),
-        };
-        match id {
-            Some(id) => write!(f, "connection {id} {what}"),
-            None => f.write_str(what),
-        }
-    }
 }
 
 // A number of openings, with its verb.
@@ -224,10 +175,6 @@ fn of_reaped<A: Allocator>(
     } else {
         RecordReason::Ordered { ordered, due }
     }
-}
-
-fn is_expired(limits: &Limits, at: Duration, birth: Duration, since: Duration) -> bool {
-    limits.is_idle_too_long(at.saturating_sub(since)) || limits.is_too_old(at.saturating_sub(birth))
 }
 
 // What is to be ordered where so many are idle, and so many connected.
