@@ -1,9 +1,10 @@
-"""Copies of the repository in which the tests of tests/ stand as crates: `tools/run-tests`, `tools/bodies/try` and
+"""Copies of the repository in which the tests of tests/ stand as crates: `tools/run-tests`, `tools/wrong/try` and
 `tools/refuse/try` have it in common.
 
-tests/NAME/ is the source of a crate NAME, whose line tests/libraries.txt has. tests/inside_NAME/ is laid over the source of the crate
-NAME of crates/, for what only that crate can see; each `tests.rs` in it becomes a module of the file that it is named for. The
-files end in .rs here and in .rt in the copy, since `rt ci` takes each .rt file for one that a check reads."""
+tests/NAME/ is the source of a crate NAME, whose line tests/libraries.txt has; tests/pool_bench is a program. tests/inside_NAME/ is laid
+over the source of the crate NAME of crates/, for what only that crate can see; each `tests.rs` in it becomes a module of the file that it
+is named for. The files end in .rs here and in .rt in the copy, and those of proofs in .proof and in .antt, since `rt ci` takes each .rt
+and each .antt file for one that a check reads."""
 import collections
 import contextlib
 import os
@@ -17,10 +18,10 @@ import threading
 import time
 
 import needed
+import trying
 
 TOP = os.path.dirname(os.path.dirname(os.path.realpath(__file__)))
 TESTS = os.path.join(TOP, "tests")
-RT = os.environ.get("RT", "rt")
 INSIDE = "inside_"
 # Folders whose lib.rs names modules of others, where it has no such file itself: so the same bodies run over another kind of pool.
 OTHERS = {"faults": ["pool"], "counted_pool": ["pool", "faults"], "line_pool": ["pool", "faults"], "metrics": ["pool", "faults"]}
@@ -35,10 +36,10 @@ def names():
     return sorted(folders, key=lambda name: (-count_of(files_of(name).values()), name))
 
 
-def proved():
-    """The crates of the repository that have tests of their own, which `rt ci` proves and runs."""
-    crates = os.path.join(TOP, "crates")
-    return [name for name in sorted(os.listdir(crates)) if count_in(os.path.join(crates, name, "src"))]
+def programs():
+    """The folders that are programs, with no test."""
+    lines = open(os.path.join(TESTS, "libraries.txt"), encoding="utf-8").read().splitlines()
+    return sorted({line.split(":")[0] for line in lines if not line.startswith("#")} - set(names()))
 
 
 def write(path, text):
@@ -54,7 +55,7 @@ def crate_of(name):
 def sources(folder):
     for place, _, files in os.walk(folder):
         for file in files:
-            if file.endswith((".rs", ".rt")):
+            if file.endswith((".rs", ".rt", ".proof")):
                 yield os.path.join(place, file)
 
 
@@ -132,6 +133,8 @@ def put(source, copy, file):
 
 def place_of(name, file):
     """Where a file of tests/NAME goes in the copy."""
+    if file.endswith(".proof"):
+        return os.path.join("crates", crate_of(name), file.removesuffix(".proof") + ".antt")
     return os.path.join("crates", crate_of(name), "src", re.sub(r"\.rs$", ".rt", file))
 
 
@@ -163,7 +166,7 @@ def fill(copy):
     for file in listed():
         if not file.startswith("tests/"):
             put(os.path.join(TOP, file), copy, file)
-    for name in names():
+    for name in names() + programs():
         add_tests(copy, name)
     for file, source in LAID.items():
         lay(copy, file, source)
@@ -181,16 +184,14 @@ class Runs:
         self.lock = threading.Lock()
         self.is_over = False
 
-    def run(self, words, beside=None, **how):
-        """How the program ended, and what it said. `beside` is called with it, in a thread of its own."""
+    def run(self, words, **how):
+        """How the program ended, and what it said."""
         with self.lock:
             if self.is_over:
                 return 1, "stopped"
             streams = {"stdin": subprocess.DEVNULL, "stdout": subprocess.PIPE, "stderr": subprocess.STDOUT}
             process = subprocess.Popen(words, errors="replace", **streams, **how)
             self.running.add(process)
-        if beside:
-            threading.Thread(target=beside, args=[process], daemon=True).start()
         said, _ = process.communicate()
         with self.lock:
             self.running.discard(process)
@@ -210,7 +211,7 @@ class Copy:
 
     def __init__(self, folder):
         self.folder = os.path.join(folder, "copy")
-        # What `rt` puts aside while it works.
+        # What the compiler puts aside while it works.
         self.aside = os.path.join(folder, "aside")
         self.runs = Runs()
         self.locks = collections.defaultdict(threading.Lock)
@@ -235,35 +236,9 @@ class Copy:
 
     def run_tests(self, name, flags=(), only=None):
         """The tests of a folder, or one of them, without proof: the status, and what was said."""
-        words = [RT, "try", "--test", "--seconds", SECONDS, *flags, *(["--", only] if only else [])]
+        words = trying.command("--test", "--seconds", SECONDS, *flags, *(["--", only] if only else []))
         with self.locks[name], only_what_it_needs(self.folder, name, only or ""):
-            return self.runs.run(words, end_the_look_at_names, cwd=self.crate(name), env={**os.environ, "TMPDIR": self.aside})
-
-
-def end_the_look_at_names(process):
-    """Ends what `rt try` does beside the tests: it looks for names that a check refuses, which takes as much time as they do, and
-    says no more than a hint."""
-    while process.poll() is None:
-        for child in children(process.pid):
-            if b"no function" in command(child):
-                with contextlib.suppress(OSError):
-                    os.kill(child, signal.SIGKILL)
-                return
-        time.sleep(0.2)
-
-
-def children(number):
-    try:
-        return [int(it) for it in open(f"/proc/{number}/task/{number}/children").read().split()]
-    except OSError:
-        return []
-
-
-def command(number):
-    try:
-        return open(f"/proc/{number}/cmdline", "rb").read()
-    except OSError:
-        return b""
+            return self.runs.run(words, cwd=self.crate(name), env={**os.environ, "TMPDIR": self.aside})
 
 
 def outcomes(said):
@@ -278,7 +253,7 @@ def raise_exit(number, _):
 @contextlib.contextmanager
 def copied():
     """A copy that is gone at the end, with all that was started in it, also where the script is stopped."""
-    lacking = needed.lacking(TOP, RT)
+    lacking = needed.lacking(TOP, trying.RT)
     if lacking:
         sys.exit(lacking)
     for number in (signal.SIGTERM, signal.SIGHUP):

@@ -1,4 +1,4 @@
-//! Times the calls of r2d2's pool in the scenarios of `crates/pool_bench`, under their names and
+//! Times the calls of r2d2's pool in the scenarios of `tests/pool_bench`, under their names and
 //! with their figures, and prints the same lines: the name, the threads, `max_size`, how many
 //! operations were timed, and the nanoseconds for each, the least and the median of the runs; `-`
 //! for both where several threads hardly met. Given `waits`, it prints how long callers wait.

@@ -1,6 +1,4 @@
-// What the tests call. None of it has a contract, so that a test is proved without those of the
-// core; and each stops the test where it fails. Books, reports and heaps are handed to `drop`, so
-// that a test is proved without their parts too.
+// What the tests call; each stops the test where it fails.
 
 use core_uses::makers::{answered, book_in, core_in};
 use linked_list_allocator::LocalHeap;

@@ -2,9 +2,6 @@
 //! rules.
 #![tactic(auto)]
 
-// What has many parts, as a book or a report, is handed to `drop`: so the function that had it is
-// proved without them.
-
 #[cfg(test)]
 mod bases;
 #[cfg(test)]
