@@ -11,7 +11,8 @@ import subprocess
 import tempfile
 import threading
 
-from copies import Runs, TESTS, end_the_look_at_names
+import trying
+from copies import Runs, TESTS
 from servers import HOST, SECONDS, Forwarder, Postgres, Redis, within
 from tally import TOP, Tally
 
@@ -56,7 +57,7 @@ def built(mine, aside, tally):
     """The service, built without proof. It hands itself out."""
     program = os.path.join(aside, "service")
     how = {"cwd": os.path.join(mine, "crates", "service"), "env": {**os.environ, "TMPDIR": aside}}
-    _, said = Runs().run(["rt", "try", "--", program], end_the_look_at_names, **how)
+    _, said = Runs().run(trying.command("--", program), **how)
     is_built = os.path.exists(program)
     tally.check("the service is built", is_built, said[-3000:])
     if is_built:
@@ -340,7 +341,7 @@ def those_there(tally):
 
 def try_tokio(mine, tally):
     """The pool for tasks lends over tokio's runtime."""
-    status, said = Runs().run(["rt", "try"], end_the_look_at_names, cwd=os.path.join(mine, "crates", "first_tokio"))
+    status, said = Runs().run(trying.command(), cwd=os.path.join(mine, "crates", "first_tokio"))
     tally.check("the first program over tokio", status == 0 and "7" in said.splitlines(), said[-3000:])
 
 

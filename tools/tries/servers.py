@@ -1,4 +1,5 @@
-"""Real servers on loopback, each in a folder of its own, and a forwarder before them: for `adapters.py`."""
+"""Real servers on loopback, each in a folder of its own, and a forwarder before them: for `adapters.py` and
+`soaks.py`."""
 import contextlib
 import glob
 import os
@@ -104,6 +105,13 @@ class Redis(Server):
 
     def is_left_open(self):
         return b"multi=-1" not in self.ask("CLIENT", "LIST") or b"multi=1" in self.ask("CLIENT", "LIST")
+
+
+class FleetingRedis(Redis):
+    """One that keeps nothing, and waits for no disk."""
+
+    def words(self):
+        return ["redis-server", "--port", str(self.port), "--bind", HOST, "--save", ""]
 
 
 class Postgres(Server):
@@ -224,3 +232,12 @@ class Forwarder:
 
     def close(self):
         self.socket.close()
+
+
+class SlowForwarder(Forwarder):
+    """One by which an opening takes a second: each connection stands still at first."""
+
+    @staticmethod
+    def pass_on(one, other):
+        time.sleep(1)
+        Forwarder.pass_on(one, other)
