@@ -1,4 +1,4 @@
-"""Refuses one request in a run: for memory, or the start of a thread. `tools/refuse/try` and `tools/bodies/try` have it in common.
+"""Refuses one request in a run: for memory, or the start of a thread. `tools/refuse/try` and `tools/wrong/try` have it in common.
 
 The cases are the tests of tests/faults/in_turn.rs. For memory each becomes as many tests as there are requests to refuse, in a crate of a
 copy that is built once, so that `rt try --fail-alloc` refuses another one in each. A thread, and memory of a program that is
