@@ -8,12 +8,14 @@ import subprocess
 
 # A program, and the packages that bring it. Debian keeps those of a PostgreSQL server off the PATH.
 PACKAGES = {
+    "git": ["git"],
     "gcc": ["gcc", "libc6-dev"],
     "objdump": ["binutils"],
     "spin": ["spin"],
     "promtool": ["prometheus"],
     "redis-server": ["redis-server"],
     "initdb": ["postgresql"],
+    "chromium": ["chromium"],
 }
 OFF_THE_PATH = {"initdb": "/usr/lib/postgresql/*/bin/initdb"}
 # How apt-get asks nothing, takes no more than it has to, and gives up soon where there is no network.
@@ -31,12 +33,16 @@ def missing(programs):
     return [it for it in programs if not is_there(it)]
 
 
+def how_to_install(program):
+    return f"On Debian, as root: apt-get install {' '.join(PACKAGES[program])}"
+
+
 def lacking(top, rt="rt"):
     """What keeps every tool from running in this folder, and what to do; None where nothing does."""
     if not is_there(rt):
         return "rt is missing: put the folder bin/ of the toolchain on the PATH"
     if not is_there("git"):
-        return "git is missing. On Debian, as root: apt-get install git"
+        return f"git is missing. {how_to_install('git')}"
     asked = subprocess.run(["git", "-C", top, "ls-files", "--error-unmatch", "crates.txt"], capture_output=True, text=True)
     if asked.returncode != 0:
         why = asked.stderr.strip().splitlines()[0]
@@ -101,4 +107,4 @@ def provide(programs, say):
         say(f"installing {' '.join(packages(wanted))} by apt-get, for {', '.join(wanted)}")
         install(wanted)
     for program in missing(programs):
-        say(f"{program} is missing, so what needs it is skipped. On Debian, as root: apt-get install {' '.join(PACKAGES[program])}")
+        say(f"{program} is missing, so what needs it is skipped. {how_to_install(program)}")

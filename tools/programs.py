@@ -1,19 +1,20 @@
-"""A program of this repository as a script of its own. Where it was proved and built since its sources changed, that is run; else its
-source is tried: compiled with checks, and not proved. `tools/play`, `tools/audit` and `tools/times` have it in common."""
+"""A program of this repository as a script of its own. Where it was proved and built since its sources changed, that is run; else
+one that is compiled from the same sources with checks, and not proved. `tools/play`, `tools/audit` and `tools/times` have it in common."""
 import contextlib
 import os
-import re
+import shutil
 import signal
 import subprocess
 import sys
 import time
 
+import copies
+import unproved
+
 TOP = os.path.dirname(os.path.dirname(os.path.realpath(__file__)))
 NOT_BUILT, NOT_UNDERSTOOD, READ_FAILED, WRITE_FAILED = 4, 5, 3, 3
 # The word by which a script proves and builds its program.
 BUILD = "--build"
-# What `rt try` says besides what the program says, and that the program ran.
-OF_A_TRY, DID_RUN = re.compile(rb"(rt: |checked: |run=)"), re.compile(rb"^run=ended ", re.MULTILINE)
 # Where the script at the top hands standard input over.
 INPUT = 3
 
@@ -53,7 +54,8 @@ class Program:
         self.path = os.path.join(self.folder, "out", crate)
         self.log = os.path.join(self.folder, "out", "build.log")
         self.sample = sample
-        self.is_told = False
+        # What is run, once that is known.
+        self.command = None
 
     def say(self, text):
         try:
@@ -82,9 +84,9 @@ class Program:
         begun = time.time_ns()
         try:
             os.makedirs(os.path.dirname(self.log), exist_ok=True)
-            with open(self.log, "wb", buffering=0) as out:
+            with open(self.log, "wb", buffering=0) as out, self.place() as folder:
                 out.write(f"proving {', '.join(self.crates)}; each tells how many of its functions are checked\n".encode())
-                self.run_build(out)
+                self.run_build(out, folder)
             # A source that was edited meanwhile is newer than the program.
             os.utime(self.path, ns=(begun, begun))
         except FileNotFoundError as error:
@@ -98,10 +100,15 @@ class Program:
             return False
         return True
 
-    def run_build(self, out):
+    @contextlib.contextmanager
+    def place(self):
+        """The folder of the crate, in which `rt` builds it."""
+        yield self.folder
+
+    def run_build(self, out, folder):
         """Runs `rt`, in a group of its own: a signal ends all of it, and leaves no program that is half written."""
         words = ["rt", "run"]
-        process = subprocess.Popen(words, cwd=self.folder, stdin=subprocess.PIPE, stdout=out, stderr=out, start_new_session=True)
+        process = subprocess.Popen(words, cwd=folder, stdin=subprocess.PIPE, stdout=out, stderr=out, start_new_session=True)
         RUNNING.append(process)
         try:
             process.communicate(self.sample)
@@ -114,39 +121,59 @@ class Program:
         RUNNING.remove(process)
         if process.returncode != 0:
             raise subprocess.CalledProcessError(process.returncode, words)
+        if folder != self.folder:
+            shutil.copy(os.path.join(folder, "out", self.crates[-1]), self.path)
 
     def is_ready(self):
         return self.is_built() or self.build()
 
-    def start(self, words, **streams):
-        """Starts the program, or a try of its source where it is not built. What it says on standard error is for `ended`."""
-        command, folder = [self.path], None
-        if not self.is_built():
-            command, folder = ["rt", "try", "--"], self.folder
-            self.say_that_it_is_tried()
+    def compiled(self):
+        """The program that is not proved, compiled where no earlier call has done that for these sources."""
+        path = os.path.join(self.folder, "out", "unproved", unproved.stamp(self.sources(), TOP))
+        build = f"{self.script} {BUILD} proves and builds it"
+        if os.access(path, os.X_OK):
+            self.say(f"not proved: this runs what was compiled from the source, with checks; {build}")
+            return path
+        self.say(f"not proved: this compiles the program from its source, with checks, in a minute or two; until the source changes, "
+                 f"later calls run that at once; {build}")
         try:
-            process = subprocess.Popen(command + words, cwd=folder, bufsize=0, stderr=subprocess.PIPE, start_new_session=True, **streams)
+            unproved.compile_program(self.folder, path)
+        except (KeyboardInterrupt, Ended):
+            self.say("interrupted: nothing is kept; the next call compiles it")
+            raise
+        except unproved.Failed as error:
+            raise NotBuilt(f"not built: {error}") from error
         except FileNotFoundError as error:
             raise NotBuilt(f"not built: {error.filename} is missing") from error
-        process.is_tried = folder is not None
+        except (OSError, subprocess.CalledProcessError) as error:
+            raise NotBuilt(f"not built: {error}") from error
+        return path
+
+    def as_proved(self):
+        """The path of a program that is not proved, but compiled as a proved one is, so that it is as fast."""
+        path = os.path.join(self.folder, "out", "as-proved", unproved.stamp(self.sources(), TOP))
+        if not os.access(path, os.X_OK):
+            self.say(f"compiling {self.crates[-1]} as a proved build would, without the proofs")
+            try:
+                with self.place() as folder:
+                    unproved.compile_program(folder, path, unproved.as_proved)
+            except (unproved.Failed, OSError) as error:
+                raise NotBuilt(f"not built: {error}") from error
+        return path
+
+    def start(self, words, **streams):
+        """Starts the program. What it says on standard error is for `ended`."""
+        if self.command is None:
+            self.command = self.path if self.is_built() else self.compiled()
+        process = subprocess.Popen([self.command] + words, bufsize=0, stderr=subprocess.PIPE, start_new_session=True, **streams)
         RUNNING.append(process)
         return process
-
-    def say_that_it_is_tried(self):
-        if not self.is_told:
-            self.say(f"not proved: this compiles the program for each answer, in a minute or two, and answers once all input is there; "
-                     f"{self.script} {BUILD} proves and builds it, once")
-        self.is_told = True
 
     def ended(self, process):
         """The status of the program once it has ended, as a shell tells it, and what it said on standard error."""
         said = process.stderr.read()
         process.wait()
         RUNNING.remove(process)
-        if process.is_tried:
-            if not DID_RUN.search(said):
-                raise NotBuilt(f"not built: {said.decode(errors='replace').strip() or 'rt try gave no answer'}")
-            said = b"".join(line for line in said.splitlines(keepends=True) if not OF_A_TRY.match(line))
         return process.returncode if process.returncode >= 0 else 128 - process.returncode, said
 
     def version(self):
@@ -162,6 +189,32 @@ class Program:
         print("toolchain:", first_line("rt", "version"))
 
 
+class OfTests(Program):
+    """A program of tests/, which no gate proves: it is built in a copy of the repository, over what the folders out/ keep of the proofs of
+    its libraries."""
+
+    def __init__(self, script, name, libraries):
+        super().__init__(script, name, libraries, b"")
+        self.folder = os.path.join(copies.TESTS, name)
+        self.path = os.path.join(self.folder, "out", name)
+        self.log = os.path.join(self.folder, "out", "build.log")
+
+    def sources(self):
+        yield from super().sources()
+        for folder, folders, files in os.walk(self.folder):
+            folders[:] = [it for it in folders if it != "out"]
+            yield from (os.path.join(folder, file) for file in files)
+
+    @contextlib.contextmanager
+    def place(self):
+        with copies.copied() as copy:
+            for crate in self.crates:
+                kept = os.path.join("crates", crate, "out", "incremental")
+                if os.path.isdir(os.path.join(TOP, kept)):
+                    shutil.copytree(os.path.join(TOP, kept), os.path.join(copy.folder, kept))
+            yield copy.crate(self.crates[-1])
+
+
 def pool_steps(script):
     """The program of scripts, for a script of this name."""
     return Program(script, "pool_steps", ["r2d2_core", "pool_lines"], b"limits 1 - - - 30000 30000\n")
@@ -169,7 +222,7 @@ def pool_steps(script):
 
 def examples(script):
     """The program of examples, for a script of this name."""
-    return Program(script, "examples", ["r2d2_core", "r2d2", "pool_reports", "pool_pictures", "pool_lines", "pool_metrics"], b"")
+    return Program(script, "examples", ["r2d2_core", "r2d2", "pool_reports", "pool_lines", "pool_metrics"], b"")
 
 
 def raise_ended(number, _):

@@ -2,11 +2,11 @@
 import glob
 import os
 import select
-import shutil
 import subprocess
 import tempfile
 import time
 
+import stand_in
 from tally import TOP, Tally
 
 TALLY = Tally("pool-steps")
@@ -142,55 +142,44 @@ def try_the_program():
 
 
 def try_a_build(folder):
-    """The build, with a stand-in for the command `rt` in a copy of the repository."""
-    source = os.path.join(folder, "crates", "r2d2_core", "src", "lib.rt")
-    crate = os.path.join(folder, "crates", "pool_steps")
-    commands = os.path.join(folder, "commands")
-    for place in [os.path.dirname(source), crate, commands, os.path.join(folder, "tools")]:
-        os.makedirs(place)
-    for path in ["pool-steps", "tools/play", "tools/programs.py"]:
-        shutil.copy(os.path.join(TOP, path), os.path.join(folder, path))
-    for path in [source, os.path.join(folder, "crates.txt")]:
-        with open(path, "w", encoding="utf-8") as out:
-            out.write("anything\n")
-
-    def stand_in(body):
-        with open(os.path.join(commands, "rt"), "w", encoding="utf-8") as out:
-            out.write("#!/bin/sh\n" + body)
-        os.chmod(os.path.join(commands, "rt"), 0o755)
+    """The build, with a stand-in for the toolchain in a copy of the repository."""
+    copy = stand_in.Copy(folder, "pool-steps", "pool_steps")
 
     def holds(what, words, status, output, *errors):
-        paths = [path for path in os.environ["PATH"].split(":") if not os.path.exists(os.path.join(path, "rt"))]
-        done = subprocess.run(
-            [os.path.join(folder, "pool-steps"), *words], input=(LIMITS + "state\n").encode(), stdout=subprocess.PIPE,
-            stderr=subprocess.PIPE, timeout=60, cwd=folder, env={**os.environ, "PATH": ":".join([commands] + paths)},
-        )
-        seen = (done.returncode, done.stdout.decode(), done.stderr.decode())
-        told = "".join(line + "\n" if line.startswith("line ") else f"pool-steps: {line}\n" for line in errors)
+        told = "".join(line if line.endswith("\n") else f"pool-steps: {line}\n" for line in errors)
+        seen = copy.run(*words, given=(LIMITS + "state\n").encode())
         check(what, seen == (status, output, told), seen)
 
     log = "crates/pool_steps/out/build.log"
     progress = f"proving and building; {log} tells how far it is"
-    tried = ("not proved: this compiles the program for each answer, in a minute or two, and answers once all input is there; "
-             "pool-steps --build proves and builds it, once")
+    first, later = stand_in.first("pool-steps"), stand_in.later("pool-steps")
+    toolchain = os.path.join(folder, "kit", "bin", "rt")
+    os.rename(toolchain, toolchain + ".gone")
     holds("no rt", ["--build"], 4, "", progress, "not built: rt is missing")
-    holds("no rt for a try", [], 4, "", tried, "not built: rt is missing")
-    stand_in("echo no proof; exit 1\n")
+    holds("no rt for an answer", [], 4, "", first, "not built: rt is missing")
+    os.rename(toolchain + ".gone", toolchain)
+    copy.write("fails", "no proof\n")
     holds("a build that fails", ["--build"], 4, "", progress, f"not built: {log} tells why")
     with open(os.path.join(folder, log), encoding="utf-8") as told:
         check("the log of a build", told.read().endswith("\nno proof\n"), log)
-    stand_in("echo a hole >&2; exit 1\n")
-    holds("a try that fails", [], 4, "", tried, "not built: a hole")
-    # What the toolchain says of a try is left out, and what the program says is not.
-    stand_in("cat > /dev/null; echo state 0 0 1; echo 'rt: a hint\nline 2: not a step\nchecked: ended\nrun=ended status=1' >&2; exit 1\n")
-    holds("a try", [], 1, "state 0 0 1\n", tried, "line 2: not a step")
+    holds("a source that is refused", [], 4, "", first, "not built: no proof")
+    os.unlink(os.path.join(folder, "fails"))
+    copy.write("clang-fails", "no code\n")
+    holds("a module that is refused", [], 4, "", first, "not built: no code")
+    check("nothing is kept of these", copy.kept() == [], copy.kept())
+    os.unlink(os.path.join(folder, "clang-fails"))
+    copy.program("cat > /dev/null; echo state 0 0 1; echo 'line 2: not a step' >&2; exit 1")
+    holds("a first answer", [], 1, "state 0 0 1\n", first, "line 2: not a step\n")
+    tries = copy.tries()
+    holds("a second answer", [], 1, "state 0 0 1\n", later, "line 2: not a step\n")
+    check("it runs what the first one made", copy.tries() == tries and len(copy.kept()) == 1, (copy.tries(), copy.kept()))
     # It reads a script of its own, and not what the build's caller was given.
-    stand_in(f'[ "$1" = run ] && [ "$(cat)" = "{LIMITS.strip()}" ] && cp "{PROGRAM}" out/pool_steps\n')
+    copy.write("kit/bin/rt", f'#!/bin/sh\n[ "$1" = run ] && [ "$(cat)" = "{LIMITS.strip()}" ] && cp "{PROGRAM}" out/pool_steps\n')
     holds("a build", ["--build"], 0, "", progress)
     holds("no second build", ["--build"], 0, "")
     holds("a run", [], 0, "state 0 0 1\n")
-    later = time.time() + 10
-    os.utime(source, (later, later))
+    soon = time.time() + 10
+    os.utime(copy.source, (soon, soon))
     holds("a build after a change", ["--build"], 0, "", progress)
 
 

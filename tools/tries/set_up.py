@@ -10,6 +10,7 @@ import sys
 import tempfile
 import types
 
+import copies
 import needed
 from tally import TOP, Tally
 
@@ -114,26 +115,31 @@ def try_what_is_lacking(top):
 
 def prove():
     """The script as a module."""
-    loader = importlib.machinery.SourceFileLoader("prove", os.path.join(TOP, "prove"))
+    return module_of(os.path.join(TOP, "prove"))
+
+
+def module_of(path):
+    """A script as a module."""
+    loader = importlib.machinery.SourceFileLoader(os.path.basename(path), path)
     module = importlib.util.module_from_spec(importlib.util.spec_from_loader(loader.name, loader))
     loader.exec_module(module)
     return module
 
 
 def try_what_was_not_checked(top):
-    """A tool that lacks its program, a part whose crates edits/tried knows, and one that was stopped."""
+    """A tool that lacks its program, a part whose crates wrong/tried knows, and one that was stopped."""
     script = prove()
     done = subprocess.run([sys.executable, os.path.join(TOP, "tools", "model")], capture_output=True, text=True, env={"PATH": top})
     model = script.Part("the model of waiting", [])
     model.lines, model.is_over = done.stdout.splitlines(keepends=True), True
     model.judge(0)
-    edits = script.Part("edits", [])
-    edits.lines, edits.is_over = ["r2d2: 3 edits; it is as edits/tried says\n", "examples: 6 edits; it is not as edits/tried says\n", "9 passed, 0 failed\n"], True
+    wrong = script.Part("wrong bodies", [])
+    wrong.lines, wrong.is_over = ["r2d2: 3 bodies; it is as wrong/tried says\n", "examples: 6 bodies; it is not as wrong/tried says\n", "9 passed, 0 failed\n"], True
     stopped = script.Part("the blocks of code", [])
-    said = list(script.not_checked([model, edits, stopped], []))
+    said = list(script.not_checked([model, wrong, stopped], []))
     wanted = [
         f"the model of waiting, {model.skipped} of it: the model of waiting is skipped: spin is missing",
-        "edits: of r2d2 all but three each, which were refused before, as edits/tried says",
+        "wrong bodies: of r2d2 all but three each, which were refused before, as wrong/tried says",
         "the blocks of code: stopped, since another part failed",
     ]
     check("what was not checked is said", model.skipped > 0 and said[:3] == wanted and len(said) == 5, said)
@@ -143,6 +149,15 @@ def try_what_was_not_checked(top):
     check("and nothing of what was", len(list(script.not_checked([whole], []))) == 2)
 
 
+def try_the_tests_that_it_names():
+    """A test in a crate would be proved, twice as long as the crate: those of the core stand in a folder, of which each test counts."""
+    script, folders = prove(), copies.names()
+    check("each folder that prove names has tests", set(script.POOL_TESTS) <= set(folders), script.POOL_TESTS)
+    check("the core's tests are among them", {"core_tests", "inside_r2d2_core"} <= set(script.POOL_TESTS), script.POOL_TESTS)
+    in_crates = [name for name in script.crates() if copies.count_in(os.path.join(TOP, "crates", name, "src"))]
+    check("no crate has tests that are proved", in_crates == [], in_crates)
+
+
 def tried():
     with tempfile.TemporaryDirectory() as top:
         try_installing(top)
@@ -150,4 +165,5 @@ def tried():
         try_naming(top)
         try_what_was_not_checked(top)
         try_what_is_lacking(top)
+    try_the_tests_that_it_names()
     return TALLY
