@@ -42,6 +42,10 @@ UNREAD = re.compile(r"is not in scope|has no field|is no name|operand is missing
 # A function that is asked for, and that the prover knows by another name, or several by that name.
 UNKNOWN = re.compile(r"has no function `([^`]*)`")
 SEVERAL = re.compile(r"several functions are named `([^`]*)`: help: (.*)")
+# What a type means to a clause.
+MODEL = re.compile(r"^impl\b[^{;]*\bModel for (\w+)[^{]*\{.*?^\}", re.M | re.S)
+WORD = re.compile(r"\w+")
+DEFINED = re.compile(r"\bRattle\.(\w+)\.specs((?:\.\w+)+)")
 # A proof file that names what an edit took away.
 NAMES = re.compile(r"has no field|is not in scope|has no `|was not admitted")
 
@@ -187,13 +191,34 @@ class Repository:
         return sorted(it for it in found if os.path.isfile(it))
 
     def sum_of(self, crate, toolchain, mine):
-        """A sum of the bodies, of the crate, and of what it takes from those below: their sources and definitions, and no proof."""
+        """A sum of the bodies, of the crate, and of what its clauses mean by the crates below. Where a contract below says less, the crate's
+        own proof fails; where one says more, a body that broke a clause still breaks it."""
         total = hashlib.sha256(toolchain.encode())
-        below = [it for name in self.below(crate) for it in self.files(name, ("src", "specs"))]
-        for path in [*(it.path for it in mine), *below, *self.files(crate)]:
+        definitions, models = self.meant_by(crate)
+        for path in [*(it.path for it in mine), *definitions, *self.files(crate)]:
             total.update(repr((os.path.relpath(path, TOP), read(path))).encode())
+        total.update(repr(models).encode())
         total.update(repr([self.lines[it] for it in [*self.below(crate), crate]]).encode())
         return total.hexdigest()
+
+    def meant_by(self, crate):
+        """The definitions below that a crate's files reach, and the models of those types below that they name."""
+        below, own = self.below(crate), "".join(read(it) for it in self.files(crate))
+        words = set(WORD.findall(own))
+        models = [found for name in below for it in self.files(name, ("src",)) for found in MODEL.finditer(read(it))]
+        models = [it[0] for it in models if it[1] in words]
+        reached, left = set(), [own, *models]
+        while left:
+            new = {self.defined_in(*it) for it in DEFINED.findall(left.pop()) if it[0] in below} - reached - {None}
+            reached |= new
+            left += [read(it) for it in new]
+        return sorted(reached), models
+
+    def defined_in(self, crate, path):
+        """The file of definitions that such a path leads into."""
+        names = path.strip(".").split(".")
+        places = [os.path.join(TOP, "crates", crate, "specs", *names[:count]) + ".antt" for count in range(len(names), 0, -1)]
+        return next((it for it in places if os.path.isfile(it)), None)
 
 
 @functools.lru_cache(maxsize=None)
