@@ -21,7 +21,8 @@ fn main(rt: HostRuntime) -> Result<(), Fail> {
     for word in env::args(&rt)?.skip(1) {
         words.push(word)?;
     }
-    let timeout = Duration::from_secs(2);
+    // A server on a busy machine has answered long before.
+    let timeout = Duration::from_secs(10);
     match words.as_slice() {
         [place] => {
             // What `rt try` runs lies there under this name.
@@ -30,10 +31,11 @@ fn main(rt: HostRuntime) -> Result<(), Fail> {
             Ok(())
         }
         [kind, address, rest @ ..] if kind.as_str().starts_with("redis") => {
-            let checks = match kind.as_str() {
-                "redis-unchecked" => Checks::Never,
-                "redis-unchecked-for-an-hour" => Checks::AfterAnHour,
-                _ => Checks::Always,
+            let (checks, timeout) = match kind.as_str() {
+                // A server stands still for longer than this.
+                "redis-unchecked" => (Checks::Never, Duration::from_secs(2)),
+                "redis-unchecked-for-an-hour" => (Checks::AfterAnHour, timeout),
+                _ => (Checks::Always, timeout),
             };
             let manager = RedisConnectionManager::new(rt, address.as_str(), timeout)?;
             match rest {
