@@ -56,10 +56,11 @@ class Refusals:
 
     def write(self, chosen):
         texts = {
-            "lib.rt": "//! Cases in which something is refused.\n#![tactic(auto)]\n\n#[cfg(test)]\nmod in_turn;\n#[cfg(test)]\nmod play;\n",
+            "lib.rt": "//! Cases in which something is refused.\n#![tactic(auto)]\n\n#[cfg(test)]\nmod in_turn;\n#[cfg(test)]\nmod play;\n#[cfg(test)]\nmod watching;\n",
             # A test can't be called, so each case becomes a function.
             "in_turn.rt": CASE.sub(r"fn \1<R: PoolRuntime + Abort>(rt: R)", in_turn()) + "\nmod refusing;\n",
             "play.rt": open(os.path.join(FAULTS, "play.rs"), encoding="utf-8").read(),
+            "watching.rt": open(os.path.join(copies.TESTS, "pool", "watching.rs"), encoding="utf-8").read(),
             "in_turn/refusing.rt": open(os.path.join(REFUSE, "refusing.rs"), encoding="utf-8").read()
             + f'\nconst PROGRAM: &str = "{self.program}";\n'
             + "".join(test for case in chosen for test in tests_of(case)),

@@ -1,6 +1,7 @@
 // The kind of pool that the tests run over: a counted one. Each call is lent a part of the ledger,
 // and gives it back.
 
+use crate::watching::comes_true;
 use r2d2::{
     Builder, CountedConnection, CountedPool, CustomizeConnection, Error, HandleError, HandleEvent,
     ManageConnection, NopConnectionCustomizer, NopErrorHandler, NopEventHandler, PoolRuntime,
@@ -11,7 +12,6 @@ use std::marker::Brand;
 use std::sync::ledger::{Blank, Share};
 use std::sync::{Arc, Mutex};
 use std::test::Fail;
-use std::thread;
 use std::time::{Duration, SystemTime};
 
 /// More than there are calls at once.
@@ -141,7 +141,7 @@ where
     V: HandleEvent + 'static,
     Z: CustomizeConnection<M::Connection, M::Error>,
 {
-    /// With the connections that are wanted idle: it looks for them for ten seconds at most.
+    /// With the connections that are wanted idle, where they come.
     fn make<R: PoolRuntime>(self, rt: R, manager: M) -> Result<Pool<M, H, V, Z, R>, Fail>;
 
     /// Without waiting for them.
@@ -158,12 +158,7 @@ where
     fn make<R: PoolRuntime>(self, rt: R, manager: M) -> Result<Pool<M, H, V, Z, R>, Fail> {
         let made = self.make_unchecked(rt, manager)?;
         let wanted = made.pool.min_idle().unwrap_or(made.pool.max_size());
-        for _ in 0..10_000 {
-            if made.pool.state().connections >= wanted {
-                break;
-            }
-            thread::sleep(&rt, Duration::from_millis(1));
-        }
+        comes_true(&rt, || made.pool.state().connections >= wanted);
         Ok(made)
     }
 

@@ -84,3 +84,5 @@ mod threads;
 mod too_many;
 #[cfg(test)]
 mod waking;
+#[cfg(test)]
+mod watching;

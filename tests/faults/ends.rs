@@ -3,7 +3,8 @@
 
 use crate::hand::Hand;
 use crate::kind::{Makes, PlainPool, Pool};
-use crate::play::{GOOD, Manager, Others, Play, Rows, watched};
+use crate::play::{GOOD, Manager, Others, Play, Rows};
+use crate::watching::{comes_true, glimpsed, watched};
 use r2d2::{
     Builder, ErrorKind, HandleError, ManageConnection, NopConnectionCustomizer, NopEventHandler,
     PoolRuntime,
@@ -18,13 +19,6 @@ use std::time::Duration;
 
 /// How many calls ended.
 type Ended = Arc<AtomicU64>;
-
-// A caller and a drain at the beginning of their waits have read the clock so often: the caller for
-// its look and its wait, the drain for its close, its whole time, what is left of that, and its
-// wait.
-const OF_A_CALLER: u64 = 2;
-
-const OF_A_DRAIN: u64 = 4;
 
 // Waits for a connection so many seconds; the error's kind.
 fn waits<M: ManageConnection, H: HandleError<M::Error>, R: PoolRuntime>(
@@ -68,9 +62,24 @@ fn closes<M: ManageConnection, R: PoolRuntime>(pool: PlainPool<M, R>) {
     pool.close();
 }
 
-// Waits until the clock was read so often after a count, for at most five seconds.
+// Whether so many callers wait, at last.
+fn once_waiting<M, H, R, T>(
+    rt: &T,
+    pool: &Pool<M, H, NopEventHandler, NopConnectionCustomizer, R>,
+    callers: u64,
+) -> bool
+where
+    M: ManageConnection,
+    H: HandleError<M::Error>,
+    R: PoolRuntime,
+    T: Clock,
+{
+    comes_true(rt, || pool.status().waiting == callers)
+}
+
+// Whether the clock was read so often after a count, at last.
 fn once_read<R: Clock, C>(rt: &R, hand: &Hand<C>, after: u64, more: u64) -> bool {
-    watched(rt, hand.readings(), after + more, 500) >= after + more
+    watched(rt, hand.readings(), after + more) >= after + more
 }
 
 // Begins such a wait in a thread of its own.
@@ -102,10 +111,10 @@ fn one_waits<R: PoolRuntime + Abort>(
         .max_size(1)
         .thread_pool(1)
         .make_unchecked(hand, Manager::new(rt, play)?)?;
-    assert_eq!(rt; watched(&rt, play.connects(), 1, 500), 1);
-    let before = hand.readings().load(Ordering::SeqCst);
+    assert_eq!(rt; watched(&rt, play.connects(), 1), 1);
     let caller = begins_to_wait(&rt, &pool, 60, ended)?;
-    assert!(rt; once_read(&rt, &hand, before, OF_A_CALLER));
+    assert!(rt; once_waiting(&rt, &pool, 1));
+    hand.come_to_rest();
     Ok((pool, caller))
 }
 
@@ -126,19 +135,14 @@ fn a_caller_who_waits_again_has_what_is_left(rt: HostRuntime) -> Result<(), Fail
         .make(hand, Manager::new(rt, &play)?)?;
     let (first, second) = (pool.get()?, pool.get()?);
     let caller = begins_to_wait(&rt, &pool, 1000, &ended)?;
-    for _ in 0..500 {
-        if pool.status().waiting == 1 {
-            break;
-        }
-        thread::sleep(&rt, Duration::from_millis(10));
-    }
+    assert!(rt; once_waiting(&rt, &pool, 1));
     hand.set(600, 0);
     drop(first);
     // It has looked at 600 s.
-    assert_eq!(rt; watched(&rt, play.connects(), 3, 500), 3);
+    assert_eq!(rt; watched(&rt, play.connects(), 3), 3);
     hand.set(1100, 0);
     drop(second);
-    assert_eq!(rt; watched(&rt, &ended, 1, 500), 1);
+    assert_eq!(rt; watched(&rt, &ended, 1), 1);
     assert_eq!(rt; caller.join(&rt), Some(ErrorKind::Timeout));
     play.let_go.store(u64::MAX, Ordering::SeqCst);
     Ok(())
@@ -162,19 +166,19 @@ fn who_gives_up_with_a_text_passes_the_wake_on(rt: HostRuntime) -> Result<(), Fa
         .error_handler(Others::new(rt, &play)?)
         .make(hand, Manager::new(rt, &play)?)?;
     let lent = pool.get()?;
-    assert_eq!(rt; watched(&rt, &play.errors, 1, 500), 1);
+    assert_eq!(rt; watched(&rt, &play.errors, 1), 1);
     // Now the opening is due again.
     hand.set(10, 0);
-    assert_eq!(rt; watched(&rt, play.connects(), 3, 500), 3);
-    let before = hand.readings().load(Ordering::SeqCst);
+    assert_eq!(rt; watched(&rt, play.connects(), 3), 3);
     let theirs = pool.try_clone()?;
     let hasty = thread::spawn(&rt, move || is_told(theirs, 60, "connect 1"))?;
-    assert!(rt; once_read(&rt, &hand, before, OF_A_CALLER));
+    assert!(rt; once_waiting(&rt, &pool, 1));
     let patient = begins_to_wait(&rt, &pool, 1000, &served)?;
-    assert!(rt; once_read(&rt, &hand, before, 2 * OF_A_CALLER));
+    assert!(rt; once_waiting(&rt, &pool, 2));
+    hand.come_to_rest();
     hand.set(100, 0);
     drop(lent);
-    assert_eq!(rt; watched(&rt, &served, 1, 500), 1);
+    assert_eq!(rt; watched(&rt, &served, 1), 1);
     assert!(rt; hasty.join(&rt));
     assert_eq!(rt; patient.join(&rt), None);
     play.let_go.store(u64::MAX, Ordering::SeqCst);
@@ -189,7 +193,7 @@ fn who_is_late_is_told_so_though_the_pool_is_closed(rt: HostRuntime) -> Result<(
     let (pool, caller) = one_waits(rt, &play, hand, &ended)?;
     hand.set(100, 0);
     pool.close();
-    assert_eq!(rt; watched(&rt, &ended, 1, 500), 1);
+    assert_eq!(rt; watched(&rt, &ended, 1), 1);
     assert_eq!(rt; caller.join(&rt), Some(ErrorKind::Timeout));
     play.let_go.store(u64::MAX, Ordering::SeqCst);
     Ok(())
@@ -209,18 +213,18 @@ fn a_drain_waits_no_longer_for_each_return(rt: HostRuntime) -> Result<(), Fail> 
         .make(hand, Manager::new(rt, &play)?)?;
     let (first, second, _third) = (pool.get()?, pool.get()?, pool.get()?);
     // The worker is at the fourth until the end.
-    assert_eq!(rt; watched(&rt, play.connects(), 4, 500), 4);
-    let before = hand.readings().load(Ordering::SeqCst);
+    assert_eq!(rt; watched(&rt, play.connects(), 4), 4);
     let (theirs, count) = (pool.try_clone()?, Arc::try_clone(&ended)?);
     let drain = thread::spawn(&rt, move || drains(theirs, 1000, count))?;
-    assert!(rt; once_read(&rt, &hand, before, OF_A_DRAIN));
+    assert!(rt; once_waiting(&rt, &pool, 1));
     hand.set(600, 0);
     drop(first);
-    // Twice by this return, and then by the drain, for what is left.
-    assert!(rt; once_read(&rt, &hand, before + OF_A_DRAIN, 4));
+    // The drain has looked for what is left.
+    hand.come_to_rest();
+    assert_eq!(rt; pool.status().waiting, 1);
     hand.set(1200, 0);
     drop(second);
-    assert_eq!(rt; watched(&rt, &ended, 1, 500), 1);
+    assert_eq!(rt; watched(&rt, &ended, 1), 1);
     assert_eq!(rt; drain.join(&rt), 1);
     play.let_go.store(u64::MAX, Ordering::SeqCst);
     Ok(())
@@ -241,11 +245,11 @@ fn a_close_wakes_after_its_step(rt: HostRuntime) -> Result<(), Fail> {
     let theirs = pool.try_clone()?;
     let closer = thread::spawn(&rt, move || closes(theirs))?;
     let more = before + 2;
-    assert_eq!(rt; watched(&rt, hand.readings(), more, 30), more - 1);
+    assert_eq!(rt; glimpsed(&rt, hand.readings(), more), more - 1);
     hand.let_read(true);
     other.join(&rt);
     closer.join(&rt);
-    assert_eq!(rt; watched(&rt, &ended, 1, 500), 1);
+    assert_eq!(rt; watched(&rt, &ended, 1), 1);
     assert_eq!(rt; caller.join(&rt), Some(ErrorKind::Closed));
     play.let_go.store(u64::MAX, Ordering::SeqCst);
     Ok(())
@@ -269,6 +273,6 @@ fn a_close_ends_the_workers_of_a_pool_that_stays(rt: HostRuntime) -> Result<(), 
     assert!(rt; once_read(&rt, &hand, 4, 4));
     assert_eq!(rt; play.managers_dropped.load(Ordering::SeqCst), 0);
     drop(pool);
-    assert_eq!(rt; watched(&rt, &play.managers_dropped, 1, 500), 1);
+    assert_eq!(rt; watched(&rt, &play.managers_dropped, 1), 1);
     Ok(())
 }

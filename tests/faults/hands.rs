@@ -2,7 +2,8 @@
 
 use crate::hand::Hand;
 use crate::kind::Makes;
-use crate::play::{GOOD, Manager, Others, Play, Rows, Sorry, watched};
+use crate::play::{GOOD, Manager, Others, Play, Rows, Sorry};
+use crate::watching::watched;
 use r2d2::event::{AcquireEvent, CheckinEvent, CheckoutEvent, ReleaseEvent, TimeoutEvent};
 use r2d2::{Builder, HandleError, HandleEvent, PoolRuntime};
 use r2d2_core::Record;
@@ -138,7 +139,7 @@ fn a_reap_has_a_moment_of_its_own(rt: HostRuntime) -> Result<(), Fail> {
         .make(hand, Manager::new(rt, &play)?)?;
     drop(pool.get()?);
     play.let_go.store(u64::MAX, Ordering::SeqCst);
-    assert!(rt; watched(&rt, &play.released, 1, 1000) >= 1);
+    assert!(rt; watched(&rt, &play.released, 1) >= 1);
     assert_eq!(rt; ages.lock(&rt)[0], Duration::from_secs(45));
     Ok(())
 }
@@ -157,12 +158,12 @@ fn a_reap_wakes_the_other_workers(rt: HostRuntime) -> Result<(), Fail> {
         .idle_timeout(Some(Duration::from_secs(60)))
         .make(hand, Manager::new(rt, &play)?)?;
     let _lent = pool.get()?;
-    assert_eq!(rt; watched(&rt, play.connects(), 4, 1000), 4);
+    assert_eq!(rt; watched(&rt, play.connects(), 4), 4);
     // Time for the other one to come to its wait.
     thread::sleep(&rt, Duration::from_millis(300));
     hand.set(100, 0);
     play.let_go.store(1, Ordering::SeqCst);
-    assert_eq!(rt; watched(&rt, play.connects(), 6, 500), 6);
+    assert_eq!(rt; watched(&rt, play.connects(), 6), 6);
     play.let_go.store(u64::MAX, Ordering::SeqCst);
     Ok(())
 }

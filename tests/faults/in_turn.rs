@@ -2,7 +2,8 @@
 // nothing is refused, and each test sees that all goes well. `tools/refuse` runs each again and
 // again, and refuses another request each time.
 
-use crate::play::{GOOD, Manager, Others, Play, Rows, watched};
+use crate::play::{GOOD, Manager, Others, Play, Rows};
+use crate::watching::watched;
 use r2d2::{
     Builder, ErrorKind, Extension, Extensions, NopConnectionCustomizer, NopErrorHandler, Pool,
     PoolRuntime,
@@ -130,7 +131,7 @@ fn building(rt: HostRuntime) -> Result<(), Fail> {
             assert!(rt; error.message().is_none());
         }
     }
-    assert_eq!(rt; watched(&rt, &play.managers_dropped, 1, 1000), 1);
+    assert_eq!(rt; watched(&rt, &play.managers_dropped, 1), 1);
     let opened = play.opened.load(Ordering::SeqCst);
     assert_eq!(rt; play.dropped.load(Ordering::SeqCst), opened);
     Ok(())
@@ -153,7 +154,7 @@ fn building_a_line(rt: HostRuntime) -> Result<(), Fail> {
             );
         }
     }
-    assert_eq!(rt; watched(&rt, &play.managers_dropped, 1, 1000), 1);
+    assert_eq!(rt; watched(&rt, &play.managers_dropped, 1), 1);
     let opened = play.opened.load(Ordering::SeqCst);
     assert_eq!(rt; play.dropped.load(Ordering::SeqCst), opened);
     Ok(())
@@ -170,11 +171,11 @@ fn starting_each_worker(rt: HostRuntime) -> Result<(), Fail> {
     let builder = Builder::new().max_size(3).thread_pool(3);
     let built = builder.build_unchecked(rt, manager);
     if built.is_ok() {
-        assert_eq!(rt; watched(&rt, play.connects(), 3, 500), 3);
+        assert_eq!(rt; watched(&rt, play.connects(), 3), 3);
     }
     play.let_go.store(u64::MAX, Ordering::SeqCst);
     drop(built);
-    assert_eq!(rt; watched(&rt, &play.managers_dropped, 1, 1000), 1);
+    assert_eq!(rt; watched(&rt, &play.managers_dropped, 1), 1);
     let opened = play.opened.load(Ordering::SeqCst);
     assert_eq!(rt; play.dropped.load(Ordering::SeqCst), opened);
     Ok(())

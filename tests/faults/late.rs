@@ -3,12 +3,13 @@
 
 use crate::hand::Hand;
 use crate::kind::{Makes, Pool};
-use crate::play::watched;
+use crate::watching::{comes_true, held_back, watched};
 use r2d2::event::{AcquireEvent, CheckinEvent, CheckoutEvent, ReleaseEvent, TimeoutEvent};
 use r2d2::{
     Builder, ErrorKind, HandleEvent, ManageConnection, NopConnectionCustomizer, NopErrorHandler,
     NopEventHandler, PoolRuntime,
 };
+use std::process::Abort;
 use std::rt::Clock;
 use std::sync::atomic::{AtomicU64, Ordering};
 use std::sync::{Arc, Mutex, Wait};
@@ -49,7 +50,7 @@ impl<R: PoolRuntime> ManageConnection for Dead<R> {
 
     fn connect(&self) -> Result<u64, Silence> {
         let number = self.server.opened.fetch_add(1, Ordering::SeqCst);
-        watched(&self.hand, &self.server.openings, number + 1, 1000);
+        held_back(&self.hand, &self.server.openings, number + 1);
         Ok(number)
     }
 
@@ -58,7 +59,7 @@ impl<R: PoolRuntime> ManageConnection for Dead<R> {
         if number < self.server.sound.load(Ordering::SeqCst) {
             return Ok(());
         }
-        watched(&self.hand, &self.server.answers, number + 1, 1000);
+        held_back(&self.hand, &self.server.answers, number + 1);
         self.hand.set((number + 1) * CHECK, 0);
         Err(Silence { number })
     }
@@ -231,7 +232,7 @@ fn it_passes_a_wake_on(rt: HostRuntime) -> Result<(), Fail> {
         .make(hand, manager)?;
     let theirs = pool.try_clone()?;
     let late = thread::spawn(&rt, move || gives_up(theirs, 5))?;
-    assert_eq!(rt; watched(&rt, &server.checks, 1, 500), 1);
+    assert_eq!(rt; watched(&rt, &server.checks, 1), 1);
     let (one, other) = (pool.try_clone()?, pool.try_clone()?);
     let (one, other) = (
         thread::spawn(&rt, move || waits(one))?,
@@ -244,7 +245,7 @@ fn it_passes_a_wake_on(rt: HostRuntime) -> Result<(), Fail> {
     // By the step of the check, the look after it, the worker that opens another, and each of the
     // two: as it is woken, for its look, and for its wait.
     let more = before + 3 + 2 * 3;
-    assert!(rt; watched(&rt, hand.readings(), more, 500) >= more);
+    assert!(rt; watched(&rt, hand.readings(), more) >= more);
     hand.set(2000, 0);
     pool.close();
     server.openings.store(u64::MAX, Ordering::SeqCst);
@@ -258,13 +259,7 @@ fn once_waiting<R: PoolRuntime>(
     pool: &PoolOf<NopEventHandler, R>,
     callers: u64,
 ) -> bool {
-    for _ in 0..500 {
-        if pool.status().waiting == callers {
-            return true;
-        }
-        thread::sleep(rt, Duration::from_millis(10));
-    }
-    false
+    comes_true(rt, || pool.status().waiting == callers)
 }
 
 // A call with so many seconds: whether its time ran out.
@@ -285,35 +280,48 @@ fn waited<R: PoolRuntime>(
     error?.waited()
 }
 
-// The one connection is lent, and nobody listens. After the first reading of the clock others run
-// for a hundred seconds: a caller who looks again before it waits has none left then.
-#[test]
-fn a_caller_has_begun_before_it_looks_again(rt: HostRuntime) -> Result<(), Fail> {
-    let (hand, server) = (Hand::new(rt)?, server(rt, 1, 0)?);
+// A pool of one connection, and of a worker that is at a second one, which does not come. So once
+// the first is lent, nobody but a test's own threads reads the clock.
+fn quiet<R: PoolRuntime + Abort>(
+    rt: R,
+    hand: Hand<R>,
+    server: &Arc<Server>,
+) -> Result<PoolOf<NopEventHandler, R>, Fail> {
     let manager = Dead {
         hand,
-        server: Arc::try_clone(&server)?,
+        server: Arc::try_clone(server)?,
     };
-    let pool: PoolOf<NopEventHandler, HostRuntime> = Builder::new()
-        .max_size(1)
+    let pool = Builder::new()
+        .max_size(2)
+        .min_idle(Some(1))
         .thread_pool(1)
         .test_on_check_out(false)
         .max_lifetime(None)
         .idle_timeout(None)
         .make(hand, manager)?;
+    drop(pool.get()?);
+    assert_eq!(rt; watched(&rt, &server.opened, 2), 2);
+    Ok(pool)
+}
+
+// The one connection is lent, and nobody listens. After the first reading of the clock others run
+// for a hundred seconds: a caller who looks again before it waits has none left then.
+#[test]
+fn a_caller_has_begun_before_it_looks_again(rt: HostRuntime) -> Result<(), Fail> {
+    let (hand, server) = (Hand::new(rt)?, server(rt, 1, 0)?);
+    let pool = quiet(rt, hand, &server)?;
     let _lent = pool.get()?;
-    // Time for the worker to rest.
-    thread::sleep(&rt, Duration::from_millis(200));
     let before = hand.readings().load(Ordering::SeqCst);
     hand.let_read(false);
     let ended = Arc::new(rt.alloc(), AtomicU64::new(0))?;
     let (theirs, count) = (pool.try_clone()?, Arc::try_clone(&ended)?);
     let caller = thread::spawn(&rt, move || waited(theirs, count))?;
-    assert!(rt; watched(&rt, hand.readings(), before + 1, 500) > before);
+    assert!(rt; watched(&rt, hand.readings(), before + 1) > before);
     hand.set(100, 0);
     hand.let_read(true);
-    assert!(rt; watched(&rt, &ended, 1, 500) == 1, "it waits on");
+    assert!(rt; watched(&rt, &ended, 1) == 1, "it waits on");
     assert_eq!(rt; caller.join(&rt), Some(Duration::from_secs(100)));
+    server.openings.store(u64::MAX, Ordering::SeqCst);
     Ok(())
 }
 
@@ -336,16 +344,8 @@ fn readings_of<R: PoolRuntime>(
 #[test]
 fn looks_that_take_too_long_are_the_last_for_a_second(rt: HostRuntime) -> Result<(), Fail> {
     let (hand, server) = (Hand::new(rt)?, server(rt, 1, 0)?);
-    let pool: PoolOf<NopEventHandler, HostRuntime> = Builder::new()
-        .max_size(1)
-        .thread_pool(1)
-        .test_on_check_out(false)
-        .max_lifetime(None)
-        .idle_timeout(None)
-        .make(hand, Dead { hand, server })?;
+    let pool = quiet(rt, hand, &server)?;
     let _lent = pool.get()?;
-    // Time for the worker to rest.
-    thread::sleep(&rt, Duration::from_millis(200));
     hand.set(10, 0);
     assert_eq!(rt; readings_of(&hand, &pool)?, 10);
     hand.set(20, 1);
@@ -354,6 +354,7 @@ fn looks_that_take_too_long_are_the_last_for_a_second(rt: HostRuntime) -> Result
     assert_eq!(rt; readings_of(&hand, &pool)?, 5);
     hand.set(22, 0);
     assert_eq!(rt; readings_of(&hand, &pool)?, 10);
+    server.openings.store(u64::MAX, Ordering::SeqCst);
     Ok(())
 }
 
@@ -381,7 +382,7 @@ fn a_try_get_checks_no_more_than_were_idle(rt: HostRuntime) -> Result<(), Fail> 
     let lent = place.pool.get()?;
     let theirs = place.pool.try_clone()?;
     let caller = thread::spawn(&rt, move || finds_none(theirs))?;
-    assert_eq!(rt; watched(&rt, &place.server.checks, 2, 500), 2);
+    assert_eq!(rt; watched(&rt, &place.server.checks, 2), 2);
     drop(lent);
     place.server.answers.store(u64::MAX, Ordering::SeqCst);
     assert!(rt; caller.join(&rt));

@@ -46,3 +46,5 @@ mod server;
 mod since;
 #[cfg(test)]
 mod too_many;
+#[cfg(test)]
+mod watching;

@@ -3,7 +3,8 @@
 
 use crate::hand::Hand;
 use crate::kind::{Makes, Pool};
-use crate::play::{GOOD, Manager, Others, Play, Rows, watched};
+use crate::play::{GOOD, Manager, Others, Play, Rows};
+use crate::watching::{comes_true, held_back, watched};
 use r2d2::{Builder, ErrorKind, NopConnectionCustomizer, NopErrorHandler, PoolRuntime};
 use std::alloc::AllocError;
 use std::process::Abort;
@@ -51,7 +52,7 @@ fn stands<R: PoolRuntime>(
             // Where memory is refused it is missing in the list, and the test that reads it fails.
             roll.served.lock(&rt).push(place).ok();
             let served = roll.count.fetch_add(1, Ordering::SeqCst).saturating_add(1);
-            watched(&rt, &roll.go_on, served, 1000);
+            held_back(&rt, &roll.go_on, served);
             drop(lent);
             None
         }
@@ -90,18 +91,12 @@ impl<R: PoolRuntime> Scene<R> {
 
     // Whether so many callers wait, at last.
     fn once_waiting(&self, callers: u64) -> bool {
-        for _ in 0..2000 {
-            if self.pool.status().waiting == callers {
-                return true;
-            }
-            thread::sleep(&self.rt, Duration::from_millis(5));
-        }
-        false
+        comes_true(&self.rt, || self.pool.status().waiting == callers)
     }
 
     // Whether so many were served, at last.
     fn once_served(&self, callers: u64) -> bool {
-        watched(&self.rt, &self.roll.count, callers, 1000) >= callers
+        watched(&self.rt, &self.roll.count, callers) >= callers
     }
 
     // All who are served may go on.
@@ -146,7 +141,7 @@ fn those_who_wait<R: PoolRuntime + Abort>(
     Ok(waiting)
 }
 
-// All end, and so many of them were served: who is not after ten seconds finds the pool closed.
+// All end, and so many of them were served: who is not, at last, finds the pool closed.
 fn end<R: PoolRuntime>(scene: &Scene<R>, callers: Vec<JoinHandle<Option<ErrorKind>>>) -> usize {
     scene.let_all_go();
     if !scene.once_waiting(0) {
@@ -240,6 +235,7 @@ fn who_gives_up_passes_it_on(rt: HostRuntime) -> Result<(), Fail> {
     let mut callers = Vec::new(rt.alloc());
     callers.push(joins(&scene, 2, 1000)?)?;
     callers.push(joins(&scene, 3, 1000)?)?;
+    scene.hand.come_to_rest();
     scene.hand.set(100, 0);
     drop(lent);
     assert_eq!(rt; hasty.join(&rt), Some(ErrorKind::Timeout));
@@ -260,6 +256,7 @@ fn who_gives_up_leaves_the_others_in_order(rt: HostRuntime) -> Result<(), Fail> 
     let hasty = joins(&scene, 2, 60)?;
     callers.push(joins(&scene, 3, 1000)?)?;
     callers.push(joins(&scene, 4, 1000)?)?;
+    scene.hand.come_to_rest();
     scene.hand.set(100, 0);
     drop(lent);
     assert_eq!(rt; end(&scene, callers), 3);
@@ -282,7 +279,7 @@ fn who_finds_one_unsound_keeps_its_place(rt: HostRuntime) -> Result<(), Fail> {
     let lent = scene.pool.get()?;
     let callers = those_who_wait(&scene, 2)?;
     drop(lent);
-    assert_eq!(rt; watched(&rt, scene.play.checks(), 2, 500), 2);
+    assert_eq!(rt; watched(&rt, scene.play.checks(), 2), 2);
     // It has one, and is at its check.
     assert_eq!(rt; scene.pool.status().waiting, 1);
     scene.play.checks_let_go.store(1, Ordering::SeqCst);
@@ -308,7 +305,7 @@ fn who_is_late_after_its_check_leaves_the_line(rt: HostRuntime) -> Result<(), Fa
     let mut callers = Vec::new(rt.alloc());
     callers.push(joins(&scene, 2, 1000)?)?;
     drop(lent);
-    assert_eq!(rt; watched(&rt, scene.play.checks(), 2, 500), 2);
+    assert_eq!(rt; watched(&rt, scene.play.checks(), 2), 2);
     scene.hand.set(100, 0);
     scene.play.checks_let_go.store(1, Ordering::SeqCst);
     assert_eq!(rt; hasty.join(&rt), Some(ErrorKind::Timeout));
@@ -336,6 +333,7 @@ fn a_line_is_full_where_as_many_stand_in_it_as_may(rt: HostRuntime) -> Result<()
     assert_eq!(rt; scene.pool.status().waiting, 2);
     assert!(rt; scene.play.told(&rt, "acquire 0; checkout 0; "));
     // Who gives up leaves its place to the next.
+    scene.hand.come_to_rest();
     scene.hand.set(100, 0);
     drop(lent);
     assert_eq!(rt; hasty.join(&rt), Some(ErrorKind::Timeout));
@@ -429,7 +427,7 @@ fn what_a_kept_one_hides_is_ordered_later(rt: HostRuntime) -> Result<(), Fail> {
     let mut callers = Vec::new(rt.alloc());
     callers.push(joins(&scene, 1, 1000)?)?;
     // Its own order, which does not come.
-    assert_eq!(rt; watched(&rt, scene.play.connects(), 2, 500), 2);
+    assert_eq!(rt; watched(&rt, scene.play.connects(), 2), 2);
     let (theirs, roll) = (scene.pool.try_clone()?, Arc::try_clone(&scene.roll)?);
     let returns = move || {
         drop(lent);
@@ -437,7 +435,7 @@ fn what_a_kept_one_hides_is_ordered_later(rt: HostRuntime) -> Result<(), Fail> {
     };
     callers.push(thread::spawn(&rt, returns)?)?;
     assert!(rt; scene.once_served(1));
-    assert_eq!(rt; watched(&rt, scene.play.connects(), 3, 500), 3);
+    assert_eq!(rt; watched(&rt, scene.play.connects(), 3), 3);
     assert!(rt; scene.once_waiting(1));
     assert_eq!(rt; end(&scene, callers), 2);
     assert!(rt; scene.served(&[1, 2]));
@@ -464,6 +462,7 @@ fn events_in_line_are_those_of_any_call(rt: HostRuntime) -> Result<(), Fail> {
     let hasty = joins(&scene, 1, 60)?;
     let mut callers = Vec::new(rt.alloc());
     callers.push(joins(&scene, 2, 1000)?)?;
+    scene.hand.come_to_rest();
     scene.hand.set(100, 0);
     drop(lent);
     assert_eq!(rt; hasty.join(&rt), Some(ErrorKind::Timeout));

@@ -1,7 +1,8 @@
 // Each outcome of each call, in each place of a connection's life.
 
 use crate::kind::Makes;
-use crate::play::{GOOD, Manager, Others, Play, Rows, watched};
+use crate::play::{GOOD, Manager, Others, Play, Rows};
+use crate::watching::watched;
 use r2d2::{Builder, PoolRuntime};
 use std::process::Abort;
 use std::sync::atomic::Ordering;
@@ -14,7 +15,7 @@ type Row = (Rows<'static>, &'static str, u32);
 
 // What was opened was dropped, each once: its numbers stand in the text.
 fn ends<R: PoolRuntime + Abort>(rt: &R, play: &Play, wanted: &str) -> Result<(), Fail> {
-    assert_eq!(rt; watched(rt, &play.managers_dropped, 1, 1000), 1, "{wanted}");
+    assert_eq!(rt; watched(rt, &play.managers_dropped, 1), 1, "{wanted}");
     let text = play.text(rt, rt.alloc())?;
     assert_eq!(rt; text.as_str(), wanted);
     let opened = play.opened.load(Ordering::SeqCst);

@@ -3,7 +3,8 @@
 
 use crate::hand::Hand;
 use crate::kind::{Makes, PlainPool, PooledConnection};
-use crate::play::{GOOD, Manager, Play, Rows, watched};
+use crate::play::{GOOD, Manager, Play, Rows};
+use crate::watching::{glimpsed, watched};
 use r2d2::event::{AcquireEvent, CheckinEvent, CheckoutEvent, ReleaseEvent, TimeoutEvent};
 use r2d2::{Builder, HandleEvent, ManageConnection, PoolRuntime};
 use std::alloc::AllocError;
@@ -178,7 +179,7 @@ impl<R: PoolRuntime> Quiet<R> {
             .max_size(1)
             .thread_pool(1)
             .make_unchecked(hand, Manager::new(rt, &play)?)?;
-        watched(&rt, play.connects(), 1, 1000);
+        watched(&rt, play.connects(), 1);
         Ok(Quiet { pool, play, hand })
     }
 }
@@ -202,8 +203,8 @@ fn a_step_reads_its_moment_under_the_lock(rt: HostRuntime) -> Result<(), Fail> {
     let (one, other) = (pool.try_clone()?, pool.try_clone()?);
     let one = thread::spawn(&rt, move || look(one))?;
     let other = thread::spawn(&rt, move || look(other))?;
-    assert_eq!(rt; watched(&rt, hand.readings(), before + 1, 500), before + 1);
-    assert_eq!(rt; watched(&rt, hand.readings(), before + 2, 30), before + 1);
+    assert_eq!(rt; watched(&rt, hand.readings(), before + 1), before + 1);
+    assert_eq!(rt; glimpsed(&rt, hand.readings(), before + 2), before + 1);
     hand.let_read(true);
     one.join(&rt);
     other.join(&rt);
@@ -223,15 +224,15 @@ fn an_eviction_reads_its_moment_under_the_lock(rt: HostRuntime) -> Result<(), Fa
     let theirs = pool.try_clone()?;
     let eviction = thread::spawn(&rt, move || evict(theirs))?;
     assert_eq!(rt;
-        watched(&rt, hand.memory_asked(), asked + 1, 500),
+        watched(&rt, hand.memory_asked(), asked + 1),
         asked + 1
     );
     hand.let_read(false);
     let theirs = pool.try_clone()?;
     let other = thread::spawn(&rt, move || look(theirs))?;
-    assert_eq!(rt; watched(&rt, hand.readings(), before + 1, 500), before + 1);
+    assert_eq!(rt; watched(&rt, hand.readings(), before + 1), before + 1);
     hand.let_allocate(true);
-    assert_eq!(rt; watched(&rt, hand.readings(), before + 2, 30), before + 1);
+    assert_eq!(rt; glimpsed(&rt, hand.readings(), before + 2), before + 1);
     hand.let_read(true);
     other.join(&rt);
     assert!(rt; eviction.join(&rt));

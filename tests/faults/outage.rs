@@ -1,8 +1,8 @@
 // What a pool does in an outage, and soon after it: which connections it distrusts, which it
 // checks, and when it tries again.
 
-use crate::play::watched;
 use crate::server::{CHECK, Place};
+use crate::watching::{comes_true, watched};
 use r2d2::{LendingOrder, PoolRuntime};
 use r2d2::event::ReleaseReason::{CheckFailed, Distrusted};
 use std::sync::atomic::Ordering;
@@ -276,9 +276,9 @@ fn what_failed_is_counted(rt: HostRuntime) -> Result<(), Fail> {
     let lent = place.pool.get()?;
     crate::kind::PooledConnection::detach(lent);
     // The clock moves past the delay of the one that was refused.
-    assert!(rt; watched(&rt, &place.server.opened, 3, 500) >= 3);
+    assert!(rt; place.once_failed(1));
     place.hand.set(10, 0);
-    assert!(rt; watched(&rt, &place.server.opened, 4, 500) >= 4);
+    assert!(rt; watched(&rt, &place.server.opened, 4) >= 4);
     let status = place.pool.status();
     assert_eq!(rt; (status.failed_openings, status.failed_checks), (1, 0));
     place.dies();
@@ -290,13 +290,10 @@ fn what_failed_is_counted(rt: HostRuntime) -> Result<(), Fail> {
 
 // The moment of the latest failure, once so many openings and checks failed.
 fn latest_of<R: PoolRuntime>(place: &Place<R>, failed: u64) -> Option<Duration> {
-    for _ in 0..500 {
+    comes_true(&place.hand, || {
         let status = place.pool.status();
-        if status.failed_openings + status.failed_checks >= failed {
-            break;
-        }
-        thread::sleep(&place.hand, Duration::from_millis(10));
-    }
+        status.failed_openings + status.failed_checks >= failed
+    });
     place.pool.status().latest_failure
 }
 

@@ -1,9 +1,10 @@
 // Callers who are woken as their time runs out, and give up: another one has what they were woken
 // for.
 
-use crate::clocks::{Fault, Faulty};
+use crate::hand::Hand;
 use crate::kind::{Makes, PlainPool};
-use crate::play::{GOOD, Manager, Play, Rows, watched};
+use crate::play::{GOOD, Manager, Play, Rows};
+use crate::watching::{comes_true, watched};
 use r2d2::{Builder, ManageConnection, PoolRuntime};
 use std::rt::Clock;
 use std::sync::Arc;
@@ -33,13 +34,11 @@ fn the_last_one_is_served<R: PoolRuntime>(
     rows: Rows<'_>,
     impatient: u32,
 ) -> Result<bool, Fail> {
-    let play = Play::new(rt.alloc(), rows)?;
-    let jump = rt.monotonic()?.saturating_add(Duration::from_secs(2));
-    let fault = Fault::AheadFrom(jump, Duration::from_secs(100));
+    let (play, hand) = (Play::new(rt.alloc(), rows)?, Hand::new(rt)?);
     let pool = Builder::new()
         .max_size(1)
         .min_idle(Some(0))
-        .make(Faulty { rt, fault }, Manager::new(rt, &play)?)?;
+        .make(hand, Manager::new(rt, &play)?)?;
     let lent = pool.get()?;
     let served = Arc::new(rt.alloc(), AtomicU64::new(0))?;
     let mut threads = Vec::new(rt.alloc());
@@ -47,12 +46,15 @@ fn the_last_one_is_served<R: PoolRuntime>(
         let wait = Duration::from_secs(if place < impatient { 60 } else { 1000 });
         let (theirs, count) = (pool.try_clone()?, Arc::try_clone(&served)?);
         threads.push(thread::spawn(&rt, move || waits(theirs, wait, count))?)?;
-        // Time for it to come to its wait.
-        thread::sleep(&rt, Duration::from_millis(200));
+        let callers = threads.len() as u64;
+        if !comes_true(&rt, || pool.status().waiting == callers) {
+            return Err(Fail::from("it does not wait"));
+        }
     }
-    thread::sleep(&rt, jump.saturating_sub(rt.monotonic()?));
+    hand.come_to_rest();
+    hand.set(100, 0);
     drop(lent);
-    if watched(&rt, &served, 1, 100) == 0 {
+    if watched(&rt, &served, 1) == 0 {
         return Ok(false);
     }
     let found = threads.into_iter().map(|thread| thread.join(&rt));
@@ -92,14 +94,14 @@ fn no_caller_waits_beside_an_idle_connection(rt: HostRuntime) -> Result<(), Fail
         let start = Instant::now(&rt)?;
         thread::sleep(&rt, Duration::from_millis(2));
         let (second, count) = (pool.try_clone()?, Arc::try_clone(&served)?);
-        let patient = thread::spawn(&rt, move || waits(second, Duration::from_secs(20), count))?;
+        let patient = thread::spawn(&rt, move || waits(second, Duration::from_secs(60), count))?;
         let end = Duration::from_micros(4700 + trial % 60 * 15);
         thread::sleep(&rt, end.saturating_sub(start.elapsed(&rt)?));
         drop(lent);
         let back = Instant::now(&rt)?;
         hasty.join(&rt);
         assert!(rt; patient.join(&rt), "trial {trial}");
-        assert!(rt; back.elapsed(&rt)?.as_secs() < 5, "trial {trial}");
+        assert!(rt; back.elapsed(&rt)?.as_secs() < 20, "trial {trial}");
     }
     Ok(())
 }

@@ -1,14 +1,13 @@
 // A manager, a customizer and handlers that answer by a script, and write down what they are asked
 // and told.
 
+use crate::watching::held_back;
 use r2d2::event::{AcquireEvent, CheckinEvent, CheckoutEvent, ReleaseEvent, TimeoutEvent};
 use r2d2::{CustomizeConnection, HandleError, HandleEvent, ManageConnection, PoolRuntime};
 use std::alloc::{AllocError, Global};
-use std::rt::Clock;
+use std::fmt;
 use std::sync::atomic::{AtomicU64, Ordering};
 use std::sync::{Arc, Mutex, Wait};
-use std::time::Duration;
-use std::{fmt, thread};
 
 /// How each call goes, in the order of the calls: `+` for well and `-` for badly. Each call after
 /// the last sign goes well.
@@ -218,7 +217,7 @@ impl<R: PoolRuntime> ManageConnection for Manager<R> {
         let (number, goes_well) = play.connect.next();
         if number >= play.unheld {
             let place = (number - play.unheld).saturating_add(1);
-            watched(&self.rt, &play.let_go, place, 1000);
+            held_back(&self.rt, &play.let_go, place);
         }
         if !goes_well {
             return Err(Sorry::Connect(number));
@@ -238,7 +237,7 @@ impl<R: PoolRuntime> ManageConnection for Manager<R> {
         let (number, goes_well) = play.is_valid.next();
         if number >= play.unheld_checks {
             let place = (number - play.unheld_checks).saturating_add(1);
-            watched(&self.rt, &play.checks_let_go, place, 1000);
+            held_back(&self.rt, &play.checks_let_go, place);
         }
         if goes_well {
             return Ok(());
@@ -318,17 +317,4 @@ impl<R: PoolRuntime> HandleEvent for Others<R> {
         self.play
             .note_event(&self.rt, "checkin", event.connection_id());
     }
-}
-
-/// Looks at a count until it has reached what is awaited, so many times at most, 10 ms apart. It
-/// answers what it saw last.
-pub(crate) fn watched<R: Clock>(rt: &R, count: &AtomicU64, awaited: u64, looks: u32) -> u64 {
-    for _ in 0..looks {
-        let seen = count.load(Ordering::SeqCst);
-        if seen >= awaited {
-            return seen;
-        }
-        thread::sleep(rt, Duration::from_millis(10));
-    }
-    count.load(Ordering::SeqCst)
 }

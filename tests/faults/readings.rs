@@ -3,7 +3,8 @@
 
 use crate::hand::Hand;
 use crate::kind::{Makes, Pool, PooledConnection};
-use crate::play::{GOOD, Manager, Play, Rows, watched};
+use crate::play::{GOOD, Manager, Play, Rows};
+use crate::watching::{comes_true, watched};
 use r2d2::{
     Builder, HandleEvent, NopConnectionCustomizer, NopErrorHandler, NopEventHandler, PoolRuntime,
 };
@@ -44,7 +45,7 @@ fn used<V: HandleEvent + 'static, R: PoolRuntime>(
         .max_size(2)
         .thread_pool(1)
         .make_unchecked(hand, Manager::new(rt, &play)?)?;
-    watched(&rt, play.connects(), 2, 1000);
+    watched(&rt, play.connects(), 2);
     let readings = || hand.readings().load(Ordering::SeqCst);
     hand.set(10, 1);
     let before = readings();
@@ -141,11 +142,8 @@ fn moments<V: HandleEvent + 'static, R: PoolRuntime>(
     let lent = pool.get()?;
     let theirs = pool.try_clone()?;
     let caller = thread::spawn(&rt, move || waits(theirs))?;
-    for _ in 0..500 {
-        if pool.status().waiting == 1 {
-            break;
-        }
-        thread::sleep(&rt, Duration::from_millis(10));
+    if !comes_true(&rt, || pool.status().waiting == 1) {
+        return Err(Fail::from("it does not wait"));
     }
     hand.set(20, 1);
     drop(lent);
@@ -186,16 +184,13 @@ fn since<V: HandleEvent + 'static, R: PoolRuntime>(
         .max_size(2)
         .thread_pool(1)
         .make_unchecked(hand, Manager::new(rt, &play)?)?;
-    watched(&rt, play.connects(), 2, 1000);
+    watched(&rt, play.connects(), 2);
     let lent = pool.get()?;
     let theirs = pool.try_clone()?;
     hand.set(10, 1);
     let caller = thread::spawn(&rt, move || waits(theirs))?;
-    for _ in 0..500 {
-        if pool.status().waiting == 1 {
-            break;
-        }
-        thread::sleep(&rt, Duration::from_millis(10));
+    if !comes_true(&rt, || pool.status().waiting == 1) {
+        return Err(Fail::from("it does not wait"));
     }
     let since = pool.status().waiting_since;
     drop(lent);

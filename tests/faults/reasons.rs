@@ -1,14 +1,12 @@
 // Why a connection is released: each reason, and which of several is told.
 
 use crate::kind::PooledConnection;
-use crate::play::watched;
 use crate::server::Place;
 use r2d2::PoolRuntime;
 use r2d2::event::ReleaseReason;
 use std::process::Abort;
 use std::sync::atomic::Ordering;
 use std::test::Fail;
-use std::thread;
 use std::time::Duration;
 
 // The pool has one connection, lent since 0 and given back at 100 s, after this was done to it. It
@@ -119,12 +117,7 @@ fn reaped<R: PoolRuntime>(
     place.server.broken.store(3, Ordering::SeqCst);
     place.hand.set(700, 0);
     drop(lent);
-    for _ in 0..500 {
-        if place.released()?.len() == 3 {
-            break;
-        }
-        thread::sleep(&rt, Duration::from_millis(10));
-    }
+    place.once_released(3);
     let mut released = place.released()?;
     released.sort_unstable_by_key(|(id, _, _)| *id);
     Ok(released)
@@ -217,6 +210,8 @@ fn closed_at_last<R: PoolRuntime + Abort>(
         }
     }
     assert_eq!(rt; place.pool.state().connections, 0);
+    // What a reap closed is told of later.
+    place.once_released(64);
     let released = place.released()?;
     let lifetime = |(_, _, reason): &(u64, u64, ReleaseReason)| *reason == ReleaseReason::Lifetime;
     assert!(rt; released.iter().all(lifetime) && released.len() == 64);

@@ -2,6 +2,7 @@
 
 use crate::kind::Makes;
 use crate::play::{GOOD, Manager, Others, Play, Rows};
+use crate::watching::watched;
 use r2d2::Builder;
 use r2d2_core::Record;
 use std::alloc::AllocError;
@@ -18,11 +19,12 @@ fn connect_script(rt: HostRuntime) -> Result<(), Fail> {
     let play = Play::new(rt.alloc(), rows)?;
     let pool = Builder::new()
         .max_size(1)
-        .connection_timeout(Duration::from_secs(2))
+        .connection_timeout(Duration::from_secs(20))
         .error_handler(Others::new(rt, &play)?)
         .event_handler(Others::new(rt, &play)?)
         .make(rt, Manager::new(rt, &play)?)?;
-    assert_eq!(rt; play.errors.load(Ordering::SeqCst), 2);
+    // Another worker may open the connection before this is told.
+    assert_eq!(rt; watched(&rt, &play.errors, 2), 2);
     assert!(rt; play.told(&rt, "acquire 0; "));
     assert_eq!(rt; pool.state().connections, 1);
     Ok(())
@@ -37,12 +39,12 @@ fn acquire_script(rt: HostRuntime) -> Result<(), Fail> {
     let play = Play::new(rt.alloc(), rows)?;
     let pool = Builder::new()
         .max_size(1)
-        .connection_timeout(Duration::from_secs(2))
+        .connection_timeout(Duration::from_secs(20))
         .error_handler(Others::new(rt, &play)?)
         .event_handler(Others::new(rt, &play)?)
         .connection_customizer(Others::new(rt, &play)?)
         .make(rt, Manager::new(rt, &play)?)?;
-    assert_eq!(rt; play.errors.load(Ordering::SeqCst), 1);
+    assert_eq!(rt; watched(&rt, &play.errors, 1), 1);
     assert_eq!(rt; play.dropped.load(Ordering::SeqCst), 1);
     assert!(rt; play.told(&rt, "acquire 0; "));
     assert_eq!(rt; play.released.load(Ordering::SeqCst), 0);

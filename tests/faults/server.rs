@@ -3,6 +3,7 @@
 
 use crate::hand::Hand;
 use crate::kind::{Makes, Pool};
+use crate::watching::comes_true;
 use r2d2::event::{
     AcquireEvent, CheckinEvent, CheckoutEvent, ReleaseEvent, ReleaseReason, TimeoutEvent,
 };
@@ -13,7 +14,6 @@ use std::fmt;
 use std::sync::atomic::{AtomicU64, Ordering};
 use std::sync::{Arc, Mutex};
 use std::test::Fail;
-use std::thread;
 use std::time::Duration;
 
 /// How many seconds a check takes that fails.
@@ -206,24 +206,22 @@ impl<R: PoolRuntime> Place<R> {
 
     /// Whether so many are idle, at last.
     pub(crate) fn once_idle(&self, idle: u32) -> bool {
-        for _ in 0..500 {
-            if self.pool.state().idle_connections == idle {
-                return true;
-            }
-            thread::sleep(&self.hand, Duration::from_millis(10));
-        }
-        false
+        comes_true(&self.hand, || self.pool.state().idle_connections == idle)
     }
 
     /// Whether so many callers wait, at last.
     pub(crate) fn once_waiting(&self, callers: u64) -> bool {
-        for _ in 0..1000 {
-            if self.pool.status().waiting == callers {
-                return true;
-            }
-            thread::sleep(&self.hand, Duration::from_millis(1));
-        }
-        false
+        comes_true(&self.hand, || self.pool.status().waiting == callers)
+    }
+
+    /// Whether so many connections were released, at last.
+    pub(crate) fn once_released(&self, connections: usize) -> bool {
+        comes_true(&self.hand, || self.server.released.lock(&self.hand).len() == connections)
+    }
+
+    /// Whether so many openings failed, at last: the pool has read the clock for them.
+    pub(crate) fn once_failed(&self, openings: u64) -> bool {
+        comes_true(&self.hand, || self.pool.status().failed_openings >= openings)
     }
 
     /// Lends all, so many, and gives them back in the order of their lending, at these seconds.

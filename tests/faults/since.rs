@@ -1,7 +1,7 @@
 // Since when somebody waits, by a clock that stands where the test sets it.
 
-use crate::play::watched;
 use crate::server::{Place, PoolOf};
+use crate::watching::{comes_true, held_back};
 use r2d2::PoolRuntime;
 use std::sync::Arc;
 use std::sync::atomic::{AtomicU64, Ordering};
@@ -20,7 +20,7 @@ fn waits<R: PoolRuntime>(
     let Ok(lent) = pool.get_timeout(timeout) else {
         return false;
     };
-    watched(&rt, &go_on, 1, 1000);
+    held_back(&rt, &go_on, 1);
     drop(lent);
     true
 }
@@ -80,13 +80,7 @@ impl<R: PoolRuntime> Scene<R> {
 
     // Whether an opening is under way, at last.
     fn once_opening(&self) -> bool {
-        for _ in 0..1000 {
-            if self.place.pool.status().opening == 1 {
-                return true;
-            }
-            thread::sleep(&self.rt, Duration::from_millis(1));
-        }
-        false
+        comes_true(&self.rt, || self.place.pool.status().opening == 1)
     }
 }
 
@@ -116,14 +110,15 @@ fn somebody_waits_since_the_first_caller_came(rt: HostRuntime) -> Result<(), Fai
     Ok(())
 }
 
-// The first caller gives up. Then the connection comes back broken: the second one is woken, finds
-// none, and orders one, which does not come.
+// The first caller gives up once its time is over by the clock. Then the connection comes back
+// broken: the second one is woken, finds none, and orders one, which does not come.
 #[test]
 fn who_is_woken_in_vain_makes_no_break(rt: HostRuntime) -> Result<(), Fail> {
     let scene = Scene::new(rt)?;
     let lent = scene.place.pool.get()?;
     let hasty = scene.comes(3, 2)?;
-    let patient = scene.comes(7, 1000)?;
+    let patient = scene.comes(4, 1000)?;
+    scene.place.hand.set(7, 0);
     assert!(rt; !hasty.join(&rt));
     assert_eq!(rt; (scene.place.pool.status().waiting, scene.since()), (1, Some(3)));
     scene.place.server.broken.store(1, Ordering::SeqCst);

@@ -2,7 +2,8 @@
 
 use crate::hand::Hand;
 use crate::kind::{Makes, PlainPool, Pool};
-use crate::play::{GOOD, Manager, Others, Play, Rows, watched};
+use crate::play::{GOOD, Manager, Others, Play, Rows};
+use crate::watching::{comes_true, watched};
 use r2d2::{
     Builder, ErrorKind, ManageConnection, NopConnectionCustomizer, NopErrorHandler,
     NopEventHandler, PoolRuntime,
@@ -36,13 +37,7 @@ fn once_waiting<M: ManageConnection, R: PoolRuntime, T: Clock>(
     pool: &PlainPool<M, R>,
     callers: u64,
 ) -> bool {
-    for _ in 0..1000 {
-        if pool.status().waiting == callers {
-            return true;
-        }
-        thread::sleep(rt, Duration::from_millis(5));
-    }
-    false
+    comes_true(rt, || pool.status().waiting == callers)
 }
 
 // One waits, and ordered the second connection, which does not come. There is room for a third.
@@ -61,7 +56,7 @@ fn who_is_refused_orders_none_and_asks_for_no_memory(rt: HostRuntime) -> Result<
     let (theirs, count) = (pool.try_clone()?, Arc::try_clone(&ended)?);
     let caller = thread::spawn(&rt, move || told(theirs, count))?;
     assert!(rt; once_waiting(&rt, &pool, 1));
-    assert_eq!(rt; watched(&rt, play.connects(), 2, 500), 2);
+    assert_eq!(rt; watched(&rt, play.connects(), 2), 2);
     let before = pool.journal()?;
     let asked = hand.memory_asked().load(Ordering::SeqCst);
     let error = pool.get_timeout(long()).err().ok_or("a connection")?;
@@ -99,7 +94,7 @@ fn who_was_let_wait_is_not_refused(rt: HostRuntime) -> Result<(), Fail> {
     let caller = thread::spawn(&rt, move || told(theirs, count))?;
     assert!(rt; once_waiting(&rt, &pool, 1));
     drop(lent);
-    assert_eq!(rt; watched(&rt, play.connects(), 2, 500), 2);
+    assert_eq!(rt; watched(&rt, play.connects(), 2), 2);
     assert!(rt; once_waiting(&rt, &pool, 1));
     let error = pool.get_timeout(long()).err().ok_or("a connection")?;
     assert_eq!(rt; error.kind(), ErrorKind::Full);
@@ -125,6 +120,7 @@ fn who_gave_up_makes_room_for_others(rt: HostRuntime) -> Result<(), Fail> {
         callers.push(thread::spawn(&rt, move || told(theirs, count))?)?;
         assert!(rt; once_waiting(&rt, &pool, waiting));
     }
+    hand.come_to_rest();
     hand.set(2000, 0);
     drop(first);
     for caller in callers {
@@ -176,17 +172,12 @@ fn who_would_wait_after_a_failed_check_is_refused(rt: HostRuntime) -> Result<(),
     let ended = Arc::new(rt.alloc(), AtomicU64::new(0))?;
     let (theirs, count) = (pool.try_clone()?, Arc::try_clone(&ended)?);
     let taker = thread::spawn(&rt, move || checked(theirs, count))?;
-    assert_eq!(rt; watched(&rt, play.checks(), 2, 500), 2);
+    assert_eq!(rt; watched(&rt, play.checks(), 2), 2);
     let theirs = pool.try_clone()?;
     let waiter = thread::spawn(&rt, move || waits(theirs))?;
-    for _ in 0..1000 {
-        if pool.status().waiting == 1 {
-            break;
-        }
-        thread::sleep(&rt, Duration::from_millis(5));
-    }
+    assert!(rt; comes_true(&rt, || pool.status().waiting == 1));
     play.checks_let_go.store(u64::MAX, Ordering::SeqCst);
-    assert_eq!(rt; watched(&rt, &ended, 1, 500), 1);
+    assert_eq!(rt; watched(&rt, &ended, 1), 1);
     assert_eq!(rt; taker.join(&rt), Some(ErrorKind::Full));
     assert_eq!(rt; pool.status().refused, 1);
     // (The newest is lent first.)

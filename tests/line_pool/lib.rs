@@ -75,3 +75,5 @@ mod telling;
 mod threads;
 #[cfg(test)]
 mod waking;
+#[cfg(test)]
+mod watching;

@@ -33,3 +33,5 @@ mod report;
 mod tasks;
 #[cfg(test)]
 mod timing;
+#[cfg(test)]
+mod watching;

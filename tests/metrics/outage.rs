@@ -2,7 +2,7 @@
 
 use crate::managers::Blammo;
 use crate::place::Place;
-use crate::play::watched;
+use crate::watching::watched;
 use pool_metrics::{Metrics, Reading, Snapshot, write};
 use r2d2::{HandleError, NopErrorHandler, PoolRuntime};
 use std::sync::atomic::Ordering;
@@ -17,7 +17,7 @@ fn dies<R: PoolRuntime>(place: &Place<R>) -> Result<(), Fail> {
     if place.pool.try_get()?.is_some() {
         return Err(Fail::from("a connection"));
     }
-    watched(&place.hand, &place.server.heard, 4, 1000);
+    watched(&place.hand, &place.server.heard, 4);
     Ok(())
 }
 

@@ -2,12 +2,12 @@
 
 use crate::kind::PooledConnection;
 use crate::place::{Place, Settings};
+use crate::watching::comes_true;
 use pool_metrics::Closings;
 use r2d2::PoolRuntime;
 use r2d2::event::ReleaseReason;
 use std::sync::atomic::Ordering;
 use std::test::Fail;
-use std::thread;
 use std::time::Duration;
 
 const NONE: Closings = Closings {
@@ -78,12 +78,7 @@ fn closes<R: PoolRuntime>(place: &Place<R>) -> Result<(), Fail> {
 // One comes back broken, which wakes the worker, for which a reap is due: of the two others.
 fn reaps<R: PoolRuntime>(place: &Place<R>) -> Result<(), Fail> {
     breaks(place)?;
-    for _ in 0..500 {
-        if place.metrics.snapshot().closed.total() == 3 {
-            break;
-        }
-        thread::sleep(&place.hand, Duration::from_millis(10));
-    }
+    comes_true(&place.hand, || place.metrics.snapshot().closed.total() == 3);
     Ok(())
 }
 

@@ -5,7 +5,7 @@ ghost use Rattle.std.specs.Prelude.{◌≡◌};
 use crate::kind::PooledConnection;
 use crate::managers::Sevens;
 use crate::place::{LentOf, Place, Settings};
-use crate::play::watched;
+use crate::watching::{comes_true, watched};
 use pool_metrics::{Metrics, report_of, status_of};
 use pool_reports::{PoolStatus, Waits, Written, from_json_of_pool};
 use r2d2::{Builder, Error, ErrorKind, Observe, PoolRuntime, Status};
@@ -44,11 +44,8 @@ fn wait<R: PoolRuntime>(place: &Place<R>) -> Result<Waiter<R>, Fail> {
 }
 
 fn until<R: PoolRuntime, F: Fn(Status) -> bool>(place: &Place<R>, is_so: F) -> Result<(), Fail> {
-    for _ in 0..2_000 {
-        if is_so(place.pool.status()) {
-            return Ok(());
-        }
-        thread::sleep(&place.hand, Duration::from_millis(5));
+    if comes_true(&place.hand, || is_so(place.pool.status())) {
+        return Ok(());
     }
     Err(Fail::from("another status"))
 }
@@ -90,7 +87,7 @@ fn outage<R: PoolRuntime>(place: &Place<R>, lent: LentOf<R>) -> Result<(), Fail>
     if place.pool.try_get()?.is_some() {
         return Err(Fail::from("a connection"));
     }
-    watched(&place.hand, &place.server.heard, 2, 1000);
+    watched(&place.hand, &place.server.heard, 2);
     until(place, |status| status.failed_openings == 1)?;
     place.server.is_dead.store(false, Ordering::SeqCst);
     place.hand.set(15, 0);

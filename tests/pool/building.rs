@@ -1,8 +1,8 @@
 // What comes of building, and what a built pool says of itself.
 
-use crate::callers::watched;
 use crate::listening::Listener;
 use crate::managers::{Breaks, Counts, Manager, Sevens, Wrong, WrongOnce};
+use crate::watching::{comes_true, watched};
 use r2d2::{
     Builder, Error, ErrorKind, NopConnectionCustomizer, NopErrorHandler, NopEventHandler,
     PlainPool, Pool, PoolRuntime,
@@ -38,7 +38,7 @@ fn test_initialization_failure(rt: HostRuntime) -> Result<(), Fail> {
     let manager = Manager::new(&counts, 0, Breaks::Never)?;
     let told = Arc::new(rt.alloc(), Mutex::new(Vec::new(rt.alloc())))?;
     let builder = Builder::new()
-        .connection_timeout(Duration::from_secs(1))
+        .connection_timeout(Duration::from_secs(5))
         .event_handler(Listener::new(rt, &told)?);
     let error = builder.build(rt, manager).err().ok_or("a pool")?;
     assert_eq!(rt;
@@ -56,6 +56,7 @@ fn test_lazy_initialization_failure(rt: HostRuntime) -> Result<(), Fail> {
     let manager = Manager::new(&counts, 0, Breaks::Never)?;
     let builder = Builder::new().connection_timeout(Duration::from_secs(1));
     let pool = builder.build_unchecked(rt, manager)?;
+    assert!(rt; comes_true(&rt, || pool.status().failed_openings > 0));
     let error = pool.get().err().ok_or("a connection")?;
     assert_eq!(rt;
         error.to_string(rt.alloc())?.as_str(),
@@ -71,23 +72,23 @@ fn a_build_short_of_connections_leaves_nothing(rt: HostRuntime) -> Result<(), Fa
     let builder = Builder::new()
         .max_size(5)
         .min_idle(Some(3))
-        .connection_timeout(Duration::from_millis(500));
+        .connection_timeout(Duration::from_secs(5));
     let error = builder.build(rt, manager).err().ok_or("a pool")?;
     assert_eq!(rt; error.kind(), ErrorKind::Timeout);
     assert_eq!(rt; error.message(), Some("blammo"));
-    assert_eq!(rt; watched(&rt, &counts.managers_dropped, 1, 1000), 1);
+    assert_eq!(rt; watched(&rt, &counts.managers_dropped, 1), 1);
     assert_eq!(rt; counts.dropped(), 2);
     Ok(())
 }
 
-// A `build` that waits half a second for three connections of which there are two.
+// A `build` that waits five seconds for three connections of which there are two.
 fn given_up<R: PoolRuntime>(rt: R) -> Result<Error, Fail> {
     let counts = Counts::new(rt.alloc())?;
     let manager = Manager::new(&counts, 2, Breaks::Never)?;
     let builder = Builder::new()
         .max_size(5)
         .min_idle(Some(3))
-        .connection_timeout(Duration::from_millis(500));
+        .connection_timeout(Duration::from_secs(5));
     Ok(builder.build(rt, manager).err().ok_or("a pool")?)
 }
 
@@ -103,7 +104,7 @@ fn a_build_that_gives_up_tells_what_there_is(rt: HostRuntime) -> Result<(), Fail
 
 #[test]
 fn a_build_that_gives_up_tells_how_long_it_took(rt: HostRuntime) -> Result<(), Fail> {
-    assert!(rt; given_up(rt)?.waited() > Some(Duration::from_millis(500)));
+    assert!(rt; given_up(rt)?.waited() > Some(Duration::from_secs(5)));
     Ok(())
 }
 

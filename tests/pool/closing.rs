@@ -1,10 +1,11 @@
 // What happens to connections and to the manager where a connection is broken, or its pool goes
 // away.
 
-use crate::callers::{keep, watched};
+use crate::callers::keep;
 use crate::kind::{Makes, Pool};
 use crate::listening::{Listener, Told};
 use crate::managers::{Blammo, Breaks, Counts, Manager, Value};
+use crate::watching::{glimpsed, held_back, watched};
 use r2d2::{Builder, ManageConnection, PoolRuntime};
 use std::rt::Clock;
 use std::sync::atomic::{AtomicU64, Ordering};
@@ -30,7 +31,7 @@ fn conns_drop_on_pool_drop(rt: HostRuntime) -> Result<(), Fail> {
         .max_lifetime(Some(Duration::from_secs(10)))
         .make(rt, Manager::new(&counts, 10, Breaks::Never)?)?;
     drop(pool);
-    assert_eq!(rt; watched(&rt, &counts.dropped, 10, 1000), 10);
+    assert_eq!(rt; watched(&rt, &counts.dropped, 10), 10);
     Ok(())
 }
 
@@ -42,9 +43,9 @@ fn workers_end_after_the_last_drop(rt: HostRuntime) -> Result<(), Fail> {
     drop(pool);
     let lent = clone.get()?;
     drop(clone);
-    assert_eq!(rt; watched(&rt, &counts.managers_dropped, 1, 20), 0);
+    assert_eq!(rt; glimpsed(&rt, &counts.managers_dropped, 1), 0);
     drop(lent);
-    assert_eq!(rt; watched(&rt, &counts.managers_dropped, 1, 1000), 1);
+    assert_eq!(rt; watched(&rt, &counts.managers_dropped, 1), 1);
     assert_eq!(rt; counts.dropped(), 10);
     Ok(())
 }
@@ -64,7 +65,7 @@ fn close_by_return(rt: HostRuntime) -> Result<(), Fail> {
     assert_eq!(rt; counts.dropped(), 0);
     drop(lent);
     assert_eq!(rt; counts.dropped(), 1);
-    assert_eq!(rt; watched(&rt, &counts.managers_dropped, 1, 1000), 1);
+    assert_eq!(rt; watched(&rt, &counts.managers_dropped, 1), 1);
     assert_eq!(rt; counts.dropped(), 1);
     let events = [Told::Acquire(0), Told::Checkout(0), Told::Checkin(0)];
     assert_eq!(rt; told.lock(&rt).as_slice(), events.as_slice());
@@ -85,7 +86,7 @@ fn close_by_the_return_of_another_thread(rt: HostRuntime) -> Result<(), Fail> {
     let other = thread::spawn(&rt, move || keep(rt, Duration::ZERO, lent))?;
     other.join(&rt);
     assert_eq!(rt; counts.dropped(), 1);
-    assert_eq!(rt; watched(&rt, &counts.managers_dropped, 1, 1000), 1);
+    assert_eq!(rt; watched(&rt, &counts.managers_dropped, 1), 1);
     let events = [Told::Acquire(0), Told::Checkout(0), Told::Checkin(0)];
     assert_eq!(rt; told.lock(&rt).as_slice(), events.as_slice());
     Ok(())
@@ -99,7 +100,7 @@ struct Drops {
     waited_in_vain: AtomicU64,
 }
 
-/// A connection whose drop waits until a second one is dropped, for at most five seconds.
+/// A connection whose drop waits until a second one is dropped.
 struct Waiting<R: Clock + Drop> {
     drops: Arc<Drops>,
     rt: R,
@@ -109,13 +110,13 @@ impl<R: Clock + Drop> Drop for Waiting<R> {
     fn drop(self) {
         let Waiting { drops, rt } = self;
         drops.dropped.fetch_add(1, Ordering::SeqCst);
-        if watched(&rt, &drops.dropped, 2, 500) < 2 {
+        if watched(&rt, &drops.dropped, 2) < 2 {
             drops.waited_in_vain.fetch_add(1, Ordering::SeqCst);
         }
     }
 }
 
-/// Its second opening waits until a connection is dropped, for at most five seconds.
+/// Its second opening waits until a connection is dropped.
 #[derive(Drop)]
 struct OpensLate<R> {
     drops: Arc<Drops>,
@@ -131,7 +132,7 @@ impl<R: PoolRuntime> ManageConnection for OpensLate<R> {
 
     fn connect(&self) -> Result<Waiting<R>, Blammo> {
         if self.drops.connects.fetch_add(1, Ordering::SeqCst) > 0 {
-            watched(&self.rt, &self.drops.dropped, 1, 500);
+            held_back(&self.rt, &self.drops.dropped, 1);
         }
         Ok(Waiting {
             drops: Arc::try_clone(&self.drops).map_err(|_| Blammo)?,
@@ -161,12 +162,12 @@ fn what_is_idle_at_a_close_is_dropped_without_the_lock(rt: HostRuntime) -> Resul
         rt,
     };
     let pool = Builder::new().max_size(2).make_unchecked(rt, manager)?;
-    assert_eq!(rt; watched(&rt, &drops.connects, 2, 1000), 2);
+    assert_eq!(rt; watched(&rt, &drops.connects, 2), 2);
     // Waits until the first connection is there, and gives it back. A worker comes with the second
     // one while the first is dropped.
     drop(pool.get()?);
     drop(pool);
-    assert_eq!(rt; watched(&rt, &drops.dropped, 2, 1000), 2);
+    assert_eq!(rt; watched(&rt, &drops.dropped, 2), 2);
     assert_eq!(rt; drops.waited_in_vain.load(Ordering::SeqCst), 0);
     Ok(())
 }

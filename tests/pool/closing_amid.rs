@@ -1,10 +1,11 @@
 // A pool that is closed amid some work: the work ends, each connection is dropped once, no worker
 // is left, and no event is told that a close does not have.
 
-use crate::callers::{keep, watched};
+use crate::callers::keep;
 use crate::kind::{Makes, PlainPool, Pool};
 use crate::listening::{Events, Listener, Told};
 use crate::managers::{Blammo, Breaks, Counts, Line, Manager, Value};
+use crate::watching::{held_back, watched};
 use r2d2::event::{AcquireEvent, CheckinEvent, CheckoutEvent, ReleaseEvent, TimeoutEvent};
 use r2d2::{
     Builder, CustomizeConnection, HandleEvent, ManageConnection, NopErrorHandler, PoolRuntime,
@@ -40,8 +41,7 @@ impl Halt {
     }
 }
 
-/// A manager and a customizer that wait at one place until the test lets them go on, for at most
-/// five seconds.
+/// A manager and a customizer that wait at one place until the test lets them go on.
 #[derive(Drop)]
 struct Halting<R> {
     place: Place,
@@ -73,7 +73,7 @@ impl<R: Clock> Halting<R> {
     fn come_to(&self, place: Place) {
         if self.place == place {
             self.halt.reached.fetch_add(1, Ordering::SeqCst);
-            watched(&self.rt, &self.halt.may_go_on, 1, 500);
+            held_back(&self.rt, &self.halt.may_go_on, 1);
         }
     }
 }
@@ -193,10 +193,10 @@ impl<R: PoolRuntime> Scene<R> {
             told,
             rt,
         } = self;
-        watched(&rt, &halt.reached, 1, 500);
+        watched(&rt, &halt.reached, 1);
         drop(pool);
         halt.release();
-        let ended = watched(&rt, &counts.managers_dropped, 3, 500);
+        let ended = watched(&rt, &counts.managers_dropped, 3);
         (told, ended, counts.dropped())
     }
 }
@@ -261,7 +261,7 @@ fn close_amid_waiting(rt: HostRuntime) -> Result<(), Fail> {
     assert!(rt; one.join(&rt) && other.join(&rt));
     assert_eq!(rt; (counts.managers_dropped(), counts.dropped()), (0, 0));
     drop(lent);
-    assert_eq!(rt; watched(&rt, &counts.managers_dropped, 1, 500), 1);
+    assert_eq!(rt; watched(&rt, &counts.managers_dropped, 1), 1);
     assert_eq!(rt; counts.dropped(), 1);
     Ok(())
 }
@@ -277,7 +277,7 @@ fn close_by_two_at_once(rt: HostRuntime) -> Result<(), Fail> {
         let theirs = thread::spawn(&rt, move || keep(rt, Duration::ZERO, other))?;
         drop(one);
         theirs.join(&rt);
-        assert_eq!(rt; watched(&rt, &counts.managers_dropped, 1, 500), 1);
+        assert_eq!(rt; watched(&rt, &counts.managers_dropped, 1), 1);
         assert_eq!(rt; counts.dropped(), 2);
     }
     Ok(())

@@ -104,7 +104,7 @@ fn lend_in_threads<R: PoolRuntime, L: Ledger + Send + Sync + 'static>(
     let pool = builder.build_counted(rt, Sevens, total)?;
     let threads = start_four(rt, &pool, &mut all)?;
     join_all(rt, threads, &mut all);
-    drop(pool.get_timeout(Duration::from_secs(1), &mut all)?);
+    drop(pool.get_timeout(Duration::from_secs(20), &mut all)?);
     drop(pool.try_get(&mut all)?.ok_or("none is idle")?);
     Ok(pool.audit(&mut all)?)
 }

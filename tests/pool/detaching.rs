@@ -1,9 +1,9 @@
 // What a caller takes out of a pool for good.
 
-use crate::callers::watched;
 use crate::kind::{Makes, PlainPool, Pool, PooledConnection};
 use crate::listening::{Ends, Listener, Told};
 use crate::managers::{Breaks, Counts, Manager};
+use crate::watching::{comes_true, watched};
 use r2d2::{Builder, PoolRuntime};
 use std::sync::atomic::{AtomicU64, Ordering};
 use std::sync::{Arc, Mutex};
@@ -16,7 +16,7 @@ fn of_two<R: PoolRuntime>(rt: R, counts: &Arc<Counts>) -> Result<PlainPool<Manag
     Builder::new()
         .max_size(2)
         .min_idle(Some(0))
-        .connection_timeout(Duration::from_secs(10))
+        .connection_timeout(Duration::from_secs(20))
         .make(rt, Manager::new(counts, 100, Breaks::Never)?)
 }
 
@@ -31,7 +31,7 @@ fn a_detached_connection_is_the_callers(rt: HostRuntime) -> Result<(), Fail> {
     let status = pool.status();
     assert_eq!(rt; (status.connections, status.lent, status.idle, status.opening), (0, 0, 0, 0));
     drop(pool);
-    assert_eq!(rt; watched(&rt, &counts.managers_dropped, 1, 1000), 1);
+    assert_eq!(rt; watched(&rt, &counts.managers_dropped, 1), 1);
     assert_eq!(rt; counts.dropped(), 0);
     drop(detached);
     assert_eq!(rt; counts.dropped(), 1);
@@ -43,7 +43,7 @@ fn another_one_is_opened_in_its_place(rt: HostRuntime) -> Result<(), Fail> {
     let counts = Counts::new(rt.alloc())?;
     let pool = Builder::new()
         .max_size(1)
-        .connection_timeout(Duration::from_secs(10))
+        .connection_timeout(Duration::from_secs(20))
         .make(rt, Manager::new(&counts, 100, Breaks::Never)?)?;
     let _first = PooledConnection::detach(pool.get()?);
     let second = pool.get()?;
@@ -68,15 +68,10 @@ fn who_waits_is_served_after_a_detach(rt: HostRuntime) -> Result<(), Fail> {
     let (first, _second) = (pool.get()?, pool.get()?);
     let (one, count) = (pool.try_clone()?, Arc::try_clone(&served)?);
     thread::spawn(&rt, move || be_served(one, count))?;
-    for _ in 0..2_000 {
-        if pool.status().waiting == 1 {
-            break;
-        }
-        thread::sleep(&rt, Duration::from_millis(5));
-    }
+    assert!(rt; comes_true(&rt, || pool.status().waiting == 1));
     assert_eq!(rt; served.load(Ordering::SeqCst), 0);
     let _detached = PooledConnection::detach(first);
-    assert_eq!(rt; watched(&rt, &served, 1, 1000), 1);
+    assert_eq!(rt; watched(&rt, &served, 1), 1);
     Ok(())
 }
 
@@ -87,7 +82,7 @@ fn nothing_is_wrong_where_the_pool_is_gone(rt: HostRuntime) -> Result<(), Fail> 
     let lent = pool.get()?;
     drop(pool);
     let detached = PooledConnection::detach(lent);
-    assert_eq!(rt; watched(&rt, &counts.managers_dropped, 1, 1000), 1);
+    assert_eq!(rt; watched(&rt, &counts.managers_dropped, 1), 1);
     assert_eq!(rt; (detached.field, counts.dropped()), (0, 0));
     Ok(())
 }

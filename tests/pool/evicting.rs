@@ -1,9 +1,9 @@
 // What is closed because its database has moved, and what stays.
 
-use crate::callers::watched;
 use crate::kind::{Makes, PlainPool, PooledConnection};
 use crate::listening::{Ends, Listener, Told};
 use crate::managers::{Breaks, Counts, Manager};
+use crate::watching::{comes_true, watched};
 use r2d2::{Builder, PoolRuntime};
 use r2d2_core::Record;
 use std::sync::atomic::{AtomicU64, Ordering};
@@ -22,7 +22,7 @@ fn of<R: PoolRuntime>(
     Builder::new()
         .max_size(size)
         .min_idle(Some(idle))
-        .connection_timeout(Duration::from_secs(10))
+        .connection_timeout(Duration::from_secs(300))
         .journal_room(100)
         .make(rt, Manager::new(counts, u64::MAX, Breaks::Never)?)
 }
@@ -35,7 +35,7 @@ fn what_is_idle_is_closed_at_once(rt: HostRuntime) -> Result<(), Fail> {
     thread::sleep(&rt, Duration::from_millis(300));
     assert_eq!(rt; pool.evict()?, 3);
     assert_eq!(rt; counts.dropped(), 3);
-    assert_eq!(rt; watched(&rt, &counts.connects, 6, 1000), 6);
+    assert_eq!(rt; watched(&rt, &counts.connects, 6), 6);
     for _ in 0..3 {
         let lent = pool.get()?;
         assert!(rt; PooledConnection::id(&lent) >= 3);
@@ -92,15 +92,10 @@ fn who_waits_is_served_by_a_new_one(rt: HostRuntime) -> Result<(), Fail> {
     let lent = pool.get()?;
     let (theirs, told) = (pool.try_clone()?, Arc::try_clone(&served)?);
     thread::spawn(&rt, move || be_served(theirs, told))?;
-    for _ in 0..2_000 {
-        if pool.status().waiting == 1 {
-            break;
-        }
-        thread::sleep(&rt, Duration::from_millis(5));
-    }
+    assert!(rt; comes_true(&rt, || pool.status().waiting == 1));
     assert_eq!(rt; (pool.evict()?, served.load(Ordering::SeqCst)), (0, 0));
     drop(lent);
-    assert_eq!(rt; watched(&rt, &served, 1, 1000), 2);
+    assert_eq!(rt; watched(&rt, &served, 1), 2);
     Ok(())
 }
 
@@ -206,9 +201,9 @@ fn nothing_is_lost_amid_evictions_detaches_and_a_drain(rt: HostRuntime) -> Resul
     assert!(rt; report.replays()?);
     assert_eq!(rt; report.takes, takes);
     assert_eq!(rt; kept.load(Ordering::SeqCst), 8 * 63);
-    assert!(rt; pool.drain(Duration::from_secs(10)).is_ok());
+    assert!(rt; pool.drain(Duration::from_secs(300)).is_ok());
     drop(pool);
-    assert_eq!(rt; watched(&rt, &counts.managers_dropped, 1, 1000), 1);
+    assert_eq!(rt; watched(&rt, &counts.managers_dropped, 1), 1);
     assert_eq!(rt; counts.dropped(), counts.connects.load(Ordering::SeqCst));
     Ok(())
 }
@@ -218,9 +213,10 @@ fn callers_are_told_where_nothing_opens_afterwards(rt: HostRuntime) -> Result<()
     let counts = Counts::new(rt.alloc())?;
     let pool = Builder::new()
         .max_size(1)
-        .connection_timeout(Duration::from_secs(1))
+        .connection_timeout(Duration::from_secs(20))
         .make(rt, Manager::new(&counts, 1, Breaks::Never)?)?;
     assert_eq!(rt; pool.evict()?, 1);
+    assert!(rt; comes_true(&rt, || pool.status().failed_openings > 0));
     let error = pool.get_timeout(Duration::from_millis(500)).err().ok_or("a connection")?;
     assert_eq!(rt; error.message(), Some("blammo"));
     let status = pool.status();
@@ -252,12 +248,12 @@ fn a_pool_closes_amid_evictions(rt: HostRuntime) -> Result<(), Fail> {
             threads.push(thread::spawn(&rt, move || evict_until_closed(theirs))?)?;
         }
         thread::sleep(&rt, Duration::from_millis(length * 3));
-        assert!(rt; pool.drain(Duration::from_secs(10)).is_ok());
+        assert!(rt; pool.drain(Duration::from_secs(300)).is_ok());
         for thread in threads {
             assert!(rt; thread.join(&rt));
         }
         drop(pool);
-        assert_eq!(rt; watched(&rt, &counts.managers_dropped, 1, 1000), 1);
+        assert_eq!(rt; watched(&rt, &counts.managers_dropped, 1), 1);
         assert_eq!(rt; counts.dropped(), counts.connects.load(Ordering::SeqCst));
     }
     Ok(())

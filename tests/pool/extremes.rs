@@ -3,6 +3,7 @@
 use crate::callers::keep;
 use crate::kind::Makes;
 use crate::managers::Sevens;
+use crate::watching::comes_true;
 use r2d2::{Builder, ErrorKind};
 use std::test::Fail;
 use std::thread;
@@ -29,10 +30,10 @@ fn a_call_that_waits_for_ever(rt: HostRuntime) -> Result<(), Fail> {
         .connection_timeout(Duration::MAX)
         .make(rt, Sevens)?;
     let lent = pool.get()?;
-    let other = thread::spawn(&rt, move || keep(rt, Duration::from_millis(200), lent))?;
     let began = Instant::now(&rt)?;
+    let other = thread::spawn(&rt, move || keep(rt, Duration::from_millis(200), lent))?;
     drop(pool.get()?);
-    assert!(rt; began.elapsed(&rt)? >= Duration::from_millis(100));
+    assert!(rt; began.elapsed(&rt)? >= Duration::from_millis(200));
     other.join(&rt);
     assert!(rt; pool.get_timeout(Duration::MAX).is_ok());
     Ok(())
@@ -44,12 +45,7 @@ fn a_timeout_of_a_nanosecond(rt: HostRuntime) -> Result<(), Fail> {
         .max_size(1)
         .connection_timeout(Duration::from_nanos(1))
         .make_unchecked(rt, Sevens)?;
-    for _ in 0..500 {
-        if pool.state().idle_connections == 1 {
-            break;
-        }
-        thread::sleep(&rt, Duration::from_millis(10));
-    }
+    assert!(rt; comes_true(&rt, || pool.state().idle_connections == 1));
     let lent = pool.get()?;
     let error = pool.get().err().ok_or("a connection")?;
     assert_eq!(rt; error.kind(), ErrorKind::Timeout);

@@ -1,8 +1,8 @@
 // Callers who wait in line.
 
-use crate::callers::watched;
 use crate::kind::{Makes, PlainPool};
 use crate::managers::Sevens;
+use crate::watching::{comes_true, watched};
 use r2d2::{Builder, ErrorKind, PoolRuntime};
 use std::sync::atomic::{AtomicU64, Ordering};
 use std::sync::{Arc, Mutex};
@@ -10,15 +10,9 @@ use std::test::Fail;
 use std::thread;
 use std::time::Duration;
 
-// Whether so many callers wait, for which it looks ten seconds long.
+// Whether so many callers wait, at last.
 fn will_wait<R: PoolRuntime>(rt: &R, pool: &PlainPool<Sevens, R>, callers: u64) -> bool {
-    for _ in 0..2_000 {
-        if pool.status().waiting == callers {
-            return true;
-        }
-        thread::sleep(rt, Duration::from_millis(5));
-    }
-    false
+    comes_true(rt, || pool.status().waiting == callers)
 }
 
 // Waits for a connection, notes its number, and counts itself.
@@ -41,7 +35,7 @@ fn callers_are_served_in_the_order_of_their_coming(rt: HostRuntime) -> Result<()
     let order = Arc::new(rt.alloc(), Mutex::new(Vec::new(rt.alloc())))?;
     let pool = Builder::new()
         .max_size(1)
-        .connection_timeout(Duration::from_secs(20))
+        .connection_timeout(Duration::from_secs(60))
         .waiting_line(8)
         .make(rt, Sevens)?;
     let lent = pool.get()?;
@@ -55,7 +49,7 @@ fn callers_are_served_in_the_order_of_their_coming(rt: HostRuntime) -> Result<()
     assert_eq!(rt; error.kind(), ErrorKind::Full);
     assert!(rt; pool.try_get()?.is_none());
     drop(lent);
-    assert_eq!(rt; watched(&rt, &served, 8, 1_000), 8);
+    assert_eq!(rt; watched(&rt, &served, 8), 8);
     assert_eq!(rt; order.lock(&rt).as_slice(), [0, 1, 2, 3, 4, 5, 6, 7].as_slice());
     assert!(rt; will_wait(&rt, &pool, 0));
     drop(pool.get()?);

@@ -1,9 +1,13 @@
 // How callers come to connections, wait for them, and what stays with a connection.
 
-use crate::callers::{keep, watched};
-use crate::kind::{Makes, PooledConnection};
+use crate::callers::keep;
+use crate::hand::Hand;
+use crate::kind::{Makes, PlainPool, PooledConnection};
 use crate::managers::{Breaks, Counts, Kind, Manager, Sevens, Value};
-use r2d2::{Builder, ErrorKind};
+use crate::watching::{comes_true, watched};
+use r2d2::{Builder, ErrorKind, ManageConnection, PoolRuntime};
+use std::sync::Arc;
+use std::sync::atomic::{AtomicU64, Ordering};
 use std::test::Fail;
 use std::thread;
 use std::time::{Duration, Instant};
@@ -51,36 +55,50 @@ fn try_get_orders_none(rt: HostRuntime) -> Result<(), Fail> {
 fn get_timeout(rt: HostRuntime) -> Result<(), Fail> {
     let pool = Builder::new()
         .max_size(1)
-        .connection_timeout(Duration::from_millis(500))
+        .connection_timeout(Duration::from_secs(60))
         .make(rt, Sevens)?;
+    let lent = pool.get()?;
+    let other = thread::spawn(&rt, move || keep(rt, Duration::from_millis(50), lent))?;
+    let _lent = pool.get_timeout(Duration::from_secs(20))?;
+    other.join(&rt);
+    let start = Instant::now(&rt)?;
     let wait = Duration::from_millis(100);
-
-    let lent = pool.get_timeout(wait)?;
-    let short = thread::spawn(&rt, move || keep(rt, Duration::from_millis(50), lent))?;
-    let lent = pool.get_timeout(wait)?;
-    let long = thread::spawn(&rt, move || keep(rt, Duration::from_millis(150), lent))?;
     let error = pool.get_timeout(wait).err().ok_or("a connection")?;
+    let waited = start.elapsed(&rt)?.as_millis();
     assert_eq!(rt; error.kind(), ErrorKind::Timeout);
-    short.join(&rt);
-    long.join(&rt);
+    assert!(rt; waited >= 100 && waited < 20_000, "{waited} ms");
     Ok(())
 }
 
+// Waits in vain, and counts itself; its error.
+fn waits_in_vain<M: ManageConnection, R: PoolRuntime>(
+    pool: PlainPool<M, R>,
+    ended: Arc<AtomicU64>,
+) -> Option<(ErrorKind, Option<Duration>, bool)> {
+    let error = pool.get().err();
+    ended.fetch_add(1, Ordering::SeqCst);
+    let error = error?;
+    Some((error.kind(), error.waited(), error.message().is_none()))
+}
+
+// A moment of the pool, which is a thousand seconds old, is no length of time.
 #[test]
 fn test_get_global_timeout(rt: HostRuntime) -> Result<(), Fail> {
+    let hand = Hand::new(rt)?;
     let pool = Builder::new()
         .max_size(1)
         .connection_timeout(Duration::from_secs(1))
-        .make(rt, Sevens)?;
+        .make(hand, Sevens)?;
     let _lent = pool.get()?;
-    // From here on a moment of the pool is no length of time.
-    thread::sleep(&rt, Duration::from_secs(1));
-    let start = Instant::now(&rt)?;
-    let error = pool.get().err().ok_or("a connection")?;
-    let waited = start.elapsed(&rt)?.as_millis();
-    assert_eq!(rt; error.kind(), ErrorKind::Timeout);
-    assert_eq!(rt; error.message(), None);
-    assert!(rt; waited >= 1000 && waited < 2000, "{waited} ms");
+    hand.set(1000, 0);
+    let ended = Arc::new(rt.alloc(), AtomicU64::new(0))?;
+    let (theirs, count) = (pool.try_clone()?, Arc::try_clone(&ended)?);
+    let caller = thread::spawn(&rt, move || waits_in_vain(theirs, count))?;
+    assert!(rt; comes_true(&rt, || pool.status().waiting == 1));
+    hand.set(1001, 0);
+    assert_eq!(rt; watched(&rt, &ended, 1), 1);
+    let error = caller.join(&rt).ok_or("a connection")?;
+    assert_eq!(rt; error, (ErrorKind::Timeout, Some(Duration::from_secs(1)), true));
     Ok(())
 }
 
@@ -95,10 +113,16 @@ fn longest_timeout(rt: HostRuntime) -> Result<(), Fail> {
 fn waits_for_the_longest_timeout(rt: HostRuntime) -> Result<(), Fail> {
     let pool = Builder::new().max_size(1).make(rt, Sevens)?;
     let lent = pool.get()?;
-    let other = thread::spawn(&rt, move || keep(rt, Duration::from_millis(300), lent))?;
     assert!(rt; pool.try_get()?.is_none());
+    let theirs = pool.try_clone()?;
+    let returns = move || {
+        let has_come = comes_true(&rt, || theirs.status().waiting == 1);
+        drop(lent);
+        has_come
+    };
+    let other = thread::spawn(&rt, returns)?;
     assert!(rt; pool.get_timeout(Duration::MAX).is_ok());
-    other.join(&rt);
+    assert!(rt; other.join(&rt), "nobody waited");
     Ok(())
 }
 
@@ -161,9 +185,8 @@ fn a_timeout_tells_an_error_from_before_the_call(rt: HostRuntime) -> Result<(), 
     let pool = Builder::new()
         .max_size(1)
         .make_unchecked(rt, Manager::new(&counts, 0, Breaks::Never)?)?;
-    assert!(rt; watched(&rt, &counts.connects, 2, 1000) >= 2);
-    // The first failure is told, and now the second is; the third comes 800 ms after it.
-    thread::sleep(&rt, Duration::from_millis(100));
+    // The third failure comes 800 ms after the second.
+    assert!(rt; comes_true(&rt, || pool.status().failed_openings >= 2));
     let wait = Duration::from_millis(1);
     let error = pool.get_timeout(wait).err().ok_or("a connection")?;
     assert_eq!(rt; error.message(), Some("blammo"));

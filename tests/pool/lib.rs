@@ -24,6 +24,8 @@ mod extensions;
 #[cfg(test)]
 mod extremes;
 #[cfg(test)]
+mod hand;
+#[cfg(test)]
 mod in_line;
 #[cfg(test)]
 mod journal;
@@ -59,3 +61,5 @@ mod telling;
 mod threads;
 #[cfg(test)]
 mod waking;
+#[cfg(test)]
+mod watching;

@@ -1,9 +1,9 @@
 // A limit to how many callers wait.
 
-use crate::callers::watched;
 use crate::kind::{Makes, PlainPool};
 use crate::listening::Listener;
 use crate::managers::Sevens;
+use crate::watching::{comes_true, watched};
 use r2d2::{Builder, ErrorKind, PoolRuntime, Status};
 use std::sync::atomic::{AtomicU64, Ordering};
 use std::sync::{Arc, Mutex};
@@ -11,15 +11,9 @@ use std::test::Fail;
 use std::thread;
 use std::time::{Duration, Instant};
 
-// Whether so many callers wait, for which it looks ten seconds long.
+// Whether so many callers wait, at last.
 fn will_wait<R: PoolRuntime>(rt: &R, pool: &PlainPool<Sevens, R>, callers: u64) -> bool {
-    for _ in 0..2_000 {
-        if pool.status().waiting == callers {
-            return true;
-        }
-        thread::sleep(rt, Duration::from_millis(5));
-    }
-    false
+    comes_true(rt, || pool.status().waiting == callers)
 }
 
 // Waits for a connection, and counts itself when it has one.
@@ -34,7 +28,7 @@ fn one_more_than_may_wait_is_refused_at_once(rt: HostRuntime) -> Result<(), Fail
     let served = Arc::new(rt.alloc(), AtomicU64::new(0))?;
     let pool = Builder::new()
         .max_size(1)
-        .connection_timeout(Duration::from_secs(20))
+        .connection_timeout(Duration::from_secs(60))
         .max_waiting(2)
         .make(rt, Sevens)?;
     let lent = pool.get()?;
@@ -45,14 +39,14 @@ fn one_more_than_may_wait_is_refused_at_once(rt: HostRuntime) -> Result<(), Fail
     }
     let start = Instant::now(&rt)?;
     let error = pool.get().err().ok_or("a connection")?;
-    assert!(rt; start.elapsed(&rt)? < Duration::from_secs(5));
+    assert!(rt; start.elapsed(&rt)? < Duration::from_secs(20));
     assert_eq!(rt; error.kind(), ErrorKind::Full);
     assert_eq!(rt; format!(in rt.alloc(); "{error}")?.as_str(), "too many callers are waiting");
     assert!(rt; error.message().is_none() && error.status().is_none());
     assert_eq!(rt; pool.status().waiting, 2);
     assert!(rt; pool.try_get()?.is_none());
     drop(lent);
-    assert_eq!(rt; watched(&rt, &served, 2, 1_000), 2);
+    assert_eq!(rt; watched(&rt, &served, 2), 2);
     assert!(rt; will_wait(&rt, &pool, 0));
     drop(pool.get()?);
     Ok(())
@@ -90,7 +84,7 @@ fn refused_in<R: PoolRuntime>(
 
 #[test]
 fn all_who_are_refused_are_counted(rt: HostRuntime) -> Result<(), Fail> {
-    let settings = || Builder::new().max_size(1).connection_timeout(Duration::from_secs(20));
+    let settings = || Builder::new().max_size(1).connection_timeout(Duration::from_secs(300));
     let pool = settings().max_waiting(1).make(rt, Sevens)?;
     assert_eq!(rt; refused_in(rt, pool, 1_000)?, (0, 1_000));
     let pool = settings().waiting_line(1).make(rt, Sevens)?;
@@ -102,13 +96,13 @@ fn all_who_are_refused_are_counted(rt: HostRuntime) -> Result<(), Fail> {
 fn a_closed_pool_says_so_though_it_is_full(rt: HostRuntime) -> Result<(), Fail> {
     let pool = Builder::new()
         .max_size(1)
-        .connection_timeout(Duration::from_secs(20))
+        .connection_timeout(Duration::from_secs(60))
         .max_waiting(1)
         .make(rt, Sevens)?;
     let lent = pool.get()?;
     pool.close();
     let drained = pool.try_clone()?;
-    let drain = thread::spawn(&rt, move || drained.drain(Duration::from_secs(20)).is_ok())?;
+    let drain = thread::spawn(&rt, move || drained.drain(Duration::from_secs(60)).is_ok())?;
     assert!(rt; will_wait(&rt, &pool, 1));
     let error = pool.get().err().ok_or("a connection")?;
     assert_eq!(rt; error.kind(), ErrorKind::Closed);
@@ -123,7 +117,7 @@ fn no_event_tells_of_who_is_refused(rt: HostRuntime) -> Result<(), Fail> {
     let told = Arc::new(rt.alloc(), Mutex::new(Vec::new(rt.alloc())))?;
     let pool = Builder::new()
         .max_size(1)
-        .connection_timeout(Duration::from_secs(20))
+        .connection_timeout(Duration::from_secs(60))
         .max_waiting(1)
         .event_handler(Listener::new(rt, &told)?)
         .make(rt, Sevens)?;
@@ -136,12 +130,7 @@ fn no_event_tells_of_who_is_refused(rt: HostRuntime) -> Result<(), Fail> {
             count.fetch_add(1, Ordering::SeqCst);
         }
     })?;
-    for _ in 0..2_000 {
-        if pool.status().waiting == 1 {
-            break;
-        }
-        thread::sleep(&rt, Duration::from_millis(5));
-    }
+    assert!(rt; comes_true(&rt, || pool.status().waiting == 1));
     let error = pool.get().err().ok_or("a connection")?;
     assert_eq!(rt; error.kind(), ErrorKind::Full);
     assert_eq!(rt; told.lock(&rt).len(), seen);

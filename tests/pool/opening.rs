@@ -1,8 +1,8 @@
 // How connections are opened.
 
-use crate::callers::watched;
 use crate::kind::Makes;
 use crate::managers::{Blammo, Breaks, Counts, Line, Manager, Sevens, Value};
+use crate::watching::{comes_true, held_back, watched};
 use r2d2::{Builder, CustomizeConnection, ManageConnection, PoolRuntime};
 use std::process::Abort;
 use std::sync::Arc;
@@ -18,7 +18,7 @@ struct Openings {
     saw_both: AtomicBool,
 }
 
-/// Its first opening waits until a second one has begun, for at most five seconds.
+/// Its first opening waits until a second one has begun.
 #[derive(Drop)]
 struct Pair<R> {
     openings: Arc<Openings>,
@@ -35,7 +35,7 @@ impl<R: PoolRuntime> ManageConnection for Pair<R> {
     fn connect(&self) -> Result<u32, Blammo> {
         let begun = &self.openings.begun;
         if begun.fetch_add(1, Ordering::SeqCst) == 0 {
-            let saw_both = watched(&self.rt, begun, 2, 500) >= 2;
+            let saw_both = watched(&self.rt, begun, 2) >= 2;
             self.openings.saw_both.store(saw_both, Ordering::SeqCst);
         }
         Ok(7)
@@ -125,8 +125,7 @@ fn test_connection_customizer(rt: HostRuntime) -> Result<(), Fail> {
     Ok(())
 }
 
-/// Each of its openings but the first three waits until a sixth one has begun, for at most five
-/// seconds.
+/// Each of its openings but the first three waits until a sixth one has begun.
 #[derive(Drop)]
 struct Sixth<R> {
     begun: Arc<AtomicU64>,
@@ -142,7 +141,7 @@ impl<R: PoolRuntime> ManageConnection for Sixth<R> {
 
     fn connect(&self) -> Result<u32, Blammo> {
         if self.begun.fetch_add(1, Ordering::SeqCst) >= 3 {
-            watched(&self.rt, &self.begun, 6, 500);
+            held_back(&self.rt, &self.begun, 6);
         }
         Ok(7)
     }
@@ -172,7 +171,7 @@ fn all_workers_are_woken(rt: HostRuntime) -> Result<(), Fail> {
     thread::sleep(&rt, Duration::from_millis(300));
     // The first take orders one opening, the second two.
     let _lent = (pool.get()?, pool.get()?);
-    assert_eq!(rt; watched(&rt, &begun, 6, 400), 6);
+    assert_eq!(rt; watched(&rt, &begun, 6), 6);
     Ok(())
 }
 
@@ -183,7 +182,7 @@ fn retries_are_put_off_by_half_of_the_timeout_at_most(rt: HostRuntime) -> Result
         .max_size(1)
         .connection_timeout(Duration::from_millis(200))
         .make_unchecked(rt, Manager::new(&counts, 0, Breaks::Never)?)?;
-    assert!(rt; watched(&rt, &counts.connects, 10, 500) >= 10);
+    assert!(rt; watched(&rt, &counts.connects, 20) >= 20);
     Ok(())
 }
 
@@ -199,7 +198,7 @@ fn min_idle(rt: HostRuntime) -> Result<(), Fail> {
     let first = pool.get()?;
     let second = pool.get()?;
     let third = pool.get()?;
-    thread::sleep(&rt, Duration::from_secs(1));
+    assert!(rt; comes_true(&rt, || pool.state().idle_connections == 2));
     let state = pool.state();
     assert_eq!(rt; (state.idle_connections, state.connections), (2, 5));
     drop((first, second, third));
@@ -208,13 +207,13 @@ fn min_idle(rt: HostRuntime) -> Result<(), Fail> {
     Ok(())
 }
 
-/// The first six of its openings fail.
+/// The first ten of its openings fail.
 #[derive(Drop)]
-struct SixFail {
+struct TenFail {
     begun: AtomicU64,
 }
 
-impl ManageConnection for SixFail {
+impl ManageConnection for TenFail {
     type Connection = u64;
 
     type Error = Blammo;
@@ -223,7 +222,7 @@ impl ManageConnection for SixFail {
 
     fn connect(&self) -> Result<u64, Blammo> {
         let number = self.begun.fetch_add(1, Ordering::SeqCst);
-        if number < 6 { Err(Blammo) } else { Ok(number) }
+        if number < 10 { Err(Blammo) } else { Ok(number) }
     }
 
     fn is_valid(&self, _connection: &mut u64) -> Result<(), Blammo> {
@@ -235,8 +234,8 @@ impl ManageConnection for SixFail {
     }
 }
 
-// With the delays of `connection_timeout` alone the sixth failure comes after six seconds, and the
-// seventh try after twelve.
+// With the delays of `connection_timeout` alone the seventh failure comes after twelve seconds, and
+// the eighth try after twice as many.
 #[test]
 fn an_opening_is_tried_again_soon(rt: HostRuntime) -> Result<(), Fail> {
     let pool = Builder::new()
@@ -244,14 +243,14 @@ fn an_opening_is_tried_again_soon(rt: HostRuntime) -> Result<(), Fail> {
         .retry_at_most(Duration::from_millis(50))
         .make_unchecked(
             rt,
-            SixFail {
+            TenFail {
                 begun: AtomicU64::new(0),
             },
         )?;
-    let lent = pool.get_timeout(Duration::from_secs(5))?;
-    assert_eq!(rt; *lent, 6);
+    let lent = pool.get_timeout(Duration::from_secs(20))?;
+    assert_eq!(rt; *lent, 10);
     let status = pool.status();
-    assert_eq!(rt; (status.failed_openings, status.failed_checks), (6, 0));
+    assert_eq!(rt; (status.failed_openings, status.failed_checks), (10, 0));
     Ok(())
 }
 

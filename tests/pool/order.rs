@@ -1,9 +1,11 @@
 // In which order a caller's thread calls, what waits for a call, and what does not.
 
-use crate::callers::{keep, watched};
-use crate::kind::Makes;
+use crate::callers::keep;
+use crate::hand::Hand;
+use crate::kind::{Makes, PlainPool};
 use crate::listening::{Listener, Told};
 use crate::managers::{Blammo, Breaks, Counts, Line, Manager, Sevens, Value};
+use crate::watching::watched;
 use r2d2::event::{AcquireEvent, CheckinEvent, CheckoutEvent, ReleaseEvent, TimeoutEvent};
 use r2d2::{
     Builder, CustomizeConnection, ErrorKind, HandleError, HandleEvent, ManageConnection,
@@ -14,7 +16,7 @@ use std::rt::Clock;
 use std::sync::atomic::{AtomicU64, Ordering};
 use std::sync::{Arc, Mutex, Wait};
 use std::test::Fail;
-use std::time::{Duration, Instant};
+use std::time::Duration;
 use std::{fmt, thread};
 
 /// What a caller's thread calls.
@@ -128,15 +130,16 @@ impl<R: PoolRuntime> HandleEvent for Scribe<R> {
 #[test]
 fn a_failed_check_and_a_broken_return(rt: HostRuntime) -> Result<(), Fail> {
     let calls = Arc::new(rt.alloc(), Mutex::new(Vec::new(rt.alloc())))?;
+    let hand = Hand::new(rt)?;
     let pool = Builder::new()
         .max_size(1)
         .min_idle(Some(0))
         .error_handler(Scribe::new(rt, &calls)?)
         .event_handler(Scribe::new(rt, &calls)?)
         .connection_customizer(Scribe::new(rt, &calls)?)
-        .make(rt, Scribe::new(rt, &calls)?)?;
+        .make(hand, Scribe::new(rt, &calls)?)?;
     // From here on the time since the pool was made is no young age.
-    thread::sleep(&rt, Duration::from_secs(2));
+    hand.set(1000, 0);
     drop(pool.get()?);
     let wanted = [
         Called::IsValid,
@@ -154,25 +157,23 @@ fn a_failed_check_and_a_broken_return(rt: HostRuntime) -> Result<(), Fail> {
     Ok(())
 }
 
-/// Its first check takes so long, and fails. It opens so many connections; each later opening
+/// Its first check takes a second, and fails. It opens so many connections; each later opening
 /// fails.
 #[derive(Drop)]
 struct FirstFails<R> {
     connects: AtomicU64,
     checks: AtomicU64,
     most: u64,
-    pause: Duration,
-    rt: R,
+    hand: Hand<R>,
 }
 
 impl<R> FirstFails<R> {
-    fn new(rt: R, most: u64, pause: Duration) -> FirstFails<R> {
+    fn new(hand: Hand<R>, most: u64) -> FirstFails<R> {
         FirstFails {
             connects: AtomicU64::new(0),
             checks: AtomicU64::new(0),
             most,
-            pause,
-            rt,
+            hand,
         }
     }
 }
@@ -195,7 +196,7 @@ impl<R: PoolRuntime> ManageConnection for FirstFails<R> {
         if self.checks.fetch_add(1, Ordering::SeqCst) > 0 {
             return Ok(());
         }
-        thread::sleep(&self.rt, self.pause);
+        self.hand.move_on(1);
         Err(Blammo)
     }
 
@@ -206,34 +207,43 @@ impl<R: PoolRuntime> ManageConnection for FirstFails<R> {
 
 #[test]
 fn try_get_looks_on_after_a_failed_check(rt: HostRuntime) -> Result<(), Fail> {
-    let manager = FirstFails::new(rt, 2, Duration::ZERO);
-    let pool = Builder::new().max_size(2).make(rt, manager)?;
+    let hand = Hand::new(rt)?;
+    let pool = Builder::new().max_size(2).make(hand, FirstFails::new(hand, 2))?;
     assert!(rt; pool.try_get()?.is_some());
     Ok(())
 }
 
 #[test]
 fn checks_only_where_it_is_set_to(rt: HostRuntime) -> Result<(), Fail> {
-    let manager = FirstFails::new(rt, 1, Duration::ZERO);
+    let hand = Hand::new(rt)?;
     let pool = Builder::new()
         .max_size(1)
         .test_on_check_out(false)
-        .make(rt, manager)?;
+        .make(hand, FirstFails::new(hand, 1))?;
     assert!(rt; pool.try_get()?.is_some());
     Ok(())
 }
 
+// Has a second, and counts itself at its end; whether its time was over, and after how long.
+fn has_a_second<R: PoolRuntime>(
+    pool: PlainPool<FirstFails<R>, Hand<R>>,
+    ended: Arc<AtomicU64>,
+) -> Option<(ErrorKind, Option<Duration>)> {
+    let error = pool.get_timeout(Duration::from_secs(1)).err();
+    ended.fetch_add(1, Ordering::SeqCst);
+    let error = error?;
+    Some((error.kind(), error.waited()))
+}
+
 #[test]
 fn a_failed_check_does_not_begin_the_wait_anew(rt: HostRuntime) -> Result<(), Fail> {
-    let second = Duration::from_secs(1);
-    let pool = Builder::new()
-        .max_size(1)
-        .make(rt, FirstFails::new(rt, 1, second))?;
-    let start = Instant::now(&rt)?;
-    let error = pool.get_timeout(second).err().ok_or("a connection")?;
-    let waited = start.elapsed(&rt)?.as_millis();
-    assert_eq!(rt; error.kind(), ErrorKind::Timeout);
-    assert!(rt; waited >= 1000 && waited < 2000, "{waited} ms");
+    let (hand, ended) = (Hand::new(rt)?, Arc::new(rt.alloc(), AtomicU64::new(0))?);
+    let pool = Builder::new().max_size(1).make(hand, FirstFails::new(hand, 1))?;
+    let (theirs, count) = (pool.try_clone()?, Arc::try_clone(&ended)?);
+    let caller = thread::spawn(&rt, move || has_a_second(theirs, count))?;
+    assert_eq!(rt; watched(&rt, &ended, 1), 1);
+    let error = caller.join(&rt).ok_or("a connection")?;
+    assert_eq!(rt; error, (ErrorKind::Timeout, Some(Duration::from_secs(1))));
     Ok(())
 }
 
@@ -288,8 +298,7 @@ fn nobody_is_lent_what_is_still_told_of(rt: HostRuntime) -> Result<(), Fail> {
     Ok(())
 }
 
-/// Takes an error, or a connection that is closed, and waits until there was a second opening, for
-/// at most five seconds.
+/// Takes an error, or a connection that is closed, and waits until there was a second opening.
 #[derive(Drop)]
 struct Patient<R> {
     counts: Arc<Counts>,
@@ -299,7 +308,7 @@ struct Patient<R> {
 
 impl<R: Clock> Patient<R> {
     fn wait(&self) {
-        if watched(&self.rt, &self.counts.connects, 2, 500) < 2 {
+        if watched(&self.rt, &self.counts.connects, 2) < 2 {
             self.waited_in_vain.fetch_add(1, Ordering::SeqCst);
         }
     }
@@ -336,7 +345,7 @@ fn an_opening_is_tried_again_while_its_error_is_told(rt: HostRuntime) -> Result<
         .max_size(1)
         .error_handler(handler)
         .make_unchecked(rt, Manager::new(&counts, 0, Breaks::Never)?)?;
-    assert!(rt; watched(&rt, &counts.connects, 2, 1000) >= 2);
+    assert!(rt; watched(&rt, &counts.connects, 2) >= 2);
     assert_eq!(rt; waited_in_vain.load(Ordering::SeqCst), 0);
     Ok(())
 }

@@ -1,8 +1,8 @@
 // What a pool shows of itself, and a lent connection of how it was lent.
 
-use crate::callers::watched;
 use crate::kind::{Makes, PlainPool, PooledConnection};
 use crate::managers::Sevens;
+use crate::watching::{comes_true, watched};
 use r2d2::{Builder, ErrorKind, PoolRuntime, Status};
 use std::sync::Arc;
 use std::sync::atomic::{AtomicU64, Ordering};
@@ -15,18 +15,13 @@ fn with_one_idle<R: PoolRuntime>(rt: R) -> Result<PlainPool<Sevens, R>, Fail> {
     Builder::new()
         .max_size(3)
         .min_idle(Some(1))
-        .connection_timeout(Duration::from_secs(10))
+        .connection_timeout(Duration::from_secs(60))
         .make(rt, Sevens)
 }
 
-// The status once so many callers wait, for which it looks ten seconds long.
+// The status once so many callers wait.
 fn once_waiting<R: PoolRuntime>(rt: &R, pool: &PlainPool<Sevens, R>, callers: u64) -> Status {
-    for _ in 0..2_000 {
-        if pool.status().waiting == callers {
-            break;
-        }
-        thread::sleep(rt, Duration::from_millis(5));
-    }
+    comes_true(rt, || pool.status().waiting == callers);
     pool.status()
 }
 
@@ -101,7 +96,7 @@ fn those_who_wait_are_counted(rt: HostRuntime) -> Result<(), Fail> {
     let served = Arc::new(rt.alloc(), AtomicU64::new(0))?;
     let pool = Builder::new()
         .max_size(1)
-        .connection_timeout(Duration::from_secs(10))
+        .connection_timeout(Duration::from_secs(60))
         .make(rt, Sevens)?;
     let lent = pool.get()?;
     assert_eq!(rt; pool.status().waiting, 0);
@@ -111,7 +106,7 @@ fn those_who_wait_are_counted(rt: HostRuntime) -> Result<(), Fail> {
         assert_eq!(rt; once_waiting(&rt, &pool, callers).waiting, callers);
     }
     drop(lent);
-    assert_eq!(rt; watched(&rt, &served, 3, 1_000), 3);
+    assert_eq!(rt; watched(&rt, &served, 3), 3);
     assert_eq!(rt; once_waiting(&rt, &pool, 0).waiting, 0);
     Ok(())
 }

@@ -1,9 +1,9 @@
 // Many threads over a manager that fails at random: none is served wrongly, nothing is lost, and
 // each report of the journal replays, whatever room there is for records.
 
-use crate::callers::watched;
 use crate::kind::{Makes, PlainPool};
 use crate::managers::{Blammo, Breaks, Counts, Line, Manager, Value};
+use crate::watching::watched;
 use r2d2::{Builder, ManageConnection, PoolRuntime};
 use std::alloc::{AllocError, Global};
 use std::process::Abort;
@@ -12,6 +12,7 @@ use std::sync::atomic::{AtomicU64, Ordering};
 use std::test::Fail;
 use std::thread;
 use std::thread::JoinHandle;
+use std::time::Duration;
 
 const MAX_SIZE: u32 = 8;
 
@@ -211,6 +212,7 @@ where
         .max_size(MAX_SIZE)
         .max_lifetime(None)
         .idle_timeout(None)
+        .connection_timeout(Duration::from_secs(300))
         .journal_room(room)
         .make(rt, Fickle::new(&counts, &fit)?)?;
     let threads = start_all(rt, &pool, &start)?;
@@ -223,7 +225,7 @@ where
     assert_eq!(rt; fit.most.load(Ordering::SeqCst), u64::from(MAX_SIZE));
     tells_all(&rt, &pool, &fit, room)?;
     drop(pool);
-    assert_eq!(rt; watched(&rt, &counts.managers_dropped, 1, 1000), 1);
+    assert_eq!(rt; watched(&rt, &counts.managers_dropped, 1), 1);
     assert_eq!(rt; counts.dropped(), counts.connects.load(Ordering::SeqCst));
     Ok(())
 }

@@ -1,9 +1,10 @@
 // Which events are told, and in which order.
 
-use crate::callers::keep;
+use crate::hand::Hand;
 use crate::kind::{Makes, PooledConnection};
 use crate::listening::{Listener, Told};
 use crate::managers::{Breaks, Counts, Manager, Sevens};
+use crate::watching::comes_true;
 use r2d2::event::{AcquireEvent, CheckinEvent, CheckoutEvent, ReleaseEvent, TimeoutEvent};
 use r2d2::{Builder, ErrorKind, HandleEvent, PoolRuntime};
 use std::sync::{Arc, Mutex, Wait};
@@ -17,7 +18,7 @@ fn events(rt: HostRuntime) -> Result<(), Fail> {
     let told = Arc::new(rt.alloc(), Mutex::new(Vec::new(rt.alloc())))?;
     let pool = Builder::new()
         .max_size(1)
-        .connection_timeout(Duration::from_millis(250))
+        .connection_timeout(Duration::from_secs(20))
         .event_handler(Listener::new(rt, &told)?)
         .make(rt, Manager::new(&counts, 100, Breaks::Always)?)?;
     let wait = Duration::from_millis(123);
@@ -80,15 +81,6 @@ enum Length {
     Lived(Duration),
 }
 
-impl Length {
-    // Whether it is at least 300 ms, and less than the 2 s for which nothing happens before.
-    fn is_of_this_connection(self) -> bool {
-        let (Length::Waited(length) | Length::Held(length) | Length::Lived(length)) = self;
-        let millis = length.as_millis();
-        300 <= millis && millis < 2000
-    }
-}
-
 /// Writes down how long each event says.
 #[derive(Drop)]
 struct Watch<R> {
@@ -128,6 +120,9 @@ impl<R: PoolRuntime> HandleEvent for Watch<R> {
     }
 }
 
+// By a clock that the test moves. The pool is made at 0. At 1000 s its first connection is lent,
+// and another caller waits; at 1400 s it is closed, and the second one is opened, which is closed
+// at 1800 s.
 #[test]
 fn how_long_events_say(rt: HostRuntime) -> Result<(), Fail> {
     let counts = Counts::new(rt.alloc())?;
@@ -136,38 +131,41 @@ fn how_long_events_say(rt: HostRuntime) -> Result<(), Fail> {
         lengths: Arc::try_clone(&lengths)?,
         rt,
     };
+    let hand = Hand::new(rt)?;
     let pool = Builder::new()
         .max_size(1)
+        .connection_timeout(Duration::from_secs(10_000))
+        .max_lifetime(None)
+        .idle_timeout(None)
         .event_handler(watch)
-        .make(rt, Manager::new(&counts, 100, Breaks::Always)?)?;
-    // From here on the time since the pool was made, and that since the first admission, is too
-    // long for each length below.
-    let pause = Duration::from_millis(400);
-    thread::sleep(&rt, Duration::from_secs(2));
+        .make(hand, Manager::new(&counts, 100, Breaks::Always)?)?;
+    hand.set(1000, 0);
     let first = pool.try_get()?.ok_or("a connection")?;
-    let other = thread::spawn(&rt, move || keep(rt, pause, first))?;
+    let theirs = pool.try_clone()?;
+    let other = thread::spawn(&rt, move || {
+        let has_come = comes_true(&rt, || theirs.status().waiting == 1);
+        hand.set(1400, 0);
+        drop(first);
+        has_come
+    })?;
     let mut second = pool.get()?;
-    other.join(&rt);
-    thread::sleep(&rt, pause);
+    assert!(rt; other.join(&rt), "nobody waited");
+    hand.set(1800, 0);
     // It is held from its lending on, whatever it is used for.
     second.field = 3;
     PooledConnection::extensions_mut(&mut second).clear();
     drop(second);
 
     let lengths = lengths.lock(&rt);
+    let length = Duration::from_secs(400);
     // The first connection came at once, and was as old as the pool when it was closed; the second
-    // one is told of later.
+    // one may be lent before that is told.
     assert_eq!(rt; lengths.len(), 6);
-    assert!(rt; matches!(lengths[0], Length::Waited(waited) if waited.as_millis() < 300));
-    assert!(rt; matches!(lengths[1], Length::Held(_)) && lengths[1].is_of_this_connection());
-    assert!(rt;
-        lengths.iter().any(|length| matches!(length, Length::Lived(age) if age.as_millis() >= 2400))
-    );
-    assert!(rt;
-        lengths.iter().any(|length| matches!(length, Length::Waited(_))
-            && length.is_of_this_connection())
-    );
-    assert!(rt; matches!(lengths[4], Length::Held(_)) && lengths[4].is_of_this_connection());
-    assert!(rt; matches!(lengths[5], Length::Lived(_)) && lengths[5].is_of_this_connection());
+    assert_eq!(rt; lengths[0], Length::Waited(Duration::ZERO));
+    assert_eq!(rt; lengths[1], Length::Held(length));
+    assert!(rt; lengths.as_slice().contains(&Length::Lived(Duration::from_secs(1400))));
+    assert!(rt; lengths.as_slice().contains(&Length::Waited(length)));
+    assert_eq!(rt; lengths[4], Length::Held(length));
+    assert_eq!(rt; lengths[5], Length::Lived(length));
     Ok(())
 }

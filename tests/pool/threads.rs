@@ -1,8 +1,9 @@
 // Callers in threads of their own.
 
-use crate::callers::{checkouts, watched};
+use crate::callers::checkouts;
 use crate::kind::Makes;
 use crate::managers::{Blammo, Breaks, Counts, Manager, Sevens, Value};
+use crate::watching::{comes_true, watched};
 use r2d2::{Builder, ManageConnection, PoolRuntime};
 use std::sync::Arc;
 use std::sync::atomic::{AtomicU64, Ordering};
@@ -18,7 +19,7 @@ struct Callers {
     waited_in_vain: AtomicU64,
 }
 
-/// Its first check waits until another caller was answered, for at most five seconds.
+/// Its first check waits until another caller was answered.
 #[derive(Drop)]
 struct SlowCheck<R> {
     callers: Arc<Callers>,
@@ -39,7 +40,7 @@ impl<R: PoolRuntime> ManageConnection for SlowCheck<R> {
     fn is_valid(&self, _connection: &mut u32) -> Result<(), Blammo> {
         let callers = &self.callers;
         if callers.checks.fetch_add(1, Ordering::SeqCst) == 0
-            && watched(&self.rt, &callers.answered, 1, 500) == 0
+            && watched(&self.rt, &callers.answered, 1) == 0
         {
             callers.waited_in_vain.fetch_add(1, Ordering::SeqCst);
         }
@@ -66,7 +67,7 @@ fn test_issue_2_unlocked_during_is_valid(rt: HostRuntime) -> Result<(), Fail> {
     let pool = Builder::new().max_size(2).make(rt, manager)?;
     let theirs = pool.try_clone()?;
     let first = thread::spawn(&rt, move || checkouts(theirs, 1))?;
-    assert_eq!(rt; watched(&rt, &callers.checks, 1, 1000), 1);
+    assert_eq!(rt; watched(&rt, &callers.checks, 1), 1);
     let second = pool.get()?;
     callers.answered.store(1, Ordering::SeqCst);
     assert_eq!(rt; first.join(&rt), 1);
@@ -81,13 +82,12 @@ fn waiter_after_broken_return(rt: HostRuntime) -> Result<(), Fail> {
     let pool = Builder::new()
         .max_size(1)
         .min_idle(Some(0))
-        .connection_timeout(Duration::from_secs(10))
+        .connection_timeout(Duration::from_secs(20))
         .make(rt, Manager::new(&counts, 2, Breaks::Always)?)?;
     let lent = pool.get()?;
     let theirs = pool.try_clone()?;
     let waiter = thread::spawn(&rt, move || checkouts(theirs, 1))?;
-    // Time for the other thread to come to its wait.
-    thread::sleep(&rt, Duration::from_millis(300));
+    assert!(rt; comes_true(&rt, || pool.status().waiting == 1));
     drop(lent);
     assert_eq!(rt; waiter.join(&rt), 1);
     Ok(())

@@ -1,9 +1,10 @@
 // Whom a step wakes, it wakes at once: not only when what it closed was released, or its error was
 // told.
 
-use crate::callers::{keep, watched};
+use crate::callers::keep;
 use crate::kind::{Makes, Pool};
 use crate::managers::{Blammo, Wrong, WrongOnce};
+use crate::watching::watched;
 use r2d2::event::{AcquireEvent, CheckinEvent, CheckoutEvent, ReleaseEvent, TimeoutEvent};
 use r2d2::{
     Builder, HandleError, HandleEvent, NopConnectionCustomizer, NopErrorHandler, PoolRuntime,
@@ -40,8 +41,7 @@ impl Served {
     }
 }
 
-/// When it is told of an error or of a release it waits until a caller was served, for at most five
-/// seconds.
+/// When it is told of an error or of a release it waits until a caller was served.
 #[derive(Drop)]
 struct Patient<R> {
     served: Arc<Served>,
@@ -63,7 +63,7 @@ impl<R> Patient<R> {
 impl<R: Clock> Patient<R> {
     fn wait(&self) {
         self.served.waits.fetch_add(1, Ordering::SeqCst);
-        if watched(&self.rt, &self.served.callers, 1, 500) == 0 {
+        if watched(&self.rt, &self.served.callers, 1) == 0 {
             self.served.waited_in_vain.fetch_add(1, Ordering::SeqCst);
         }
     }
@@ -173,7 +173,7 @@ fn an_eviction_wakes_before_its_releases(rt: HostRuntime) -> Result<(), Fail> {
     let theirs = pool.try_clone()?;
     let eviction = thread::spawn(&rt, move || evicts(theirs))?;
     // While the release waits, this thread finds none, and orders none.
-    assert_eq!(rt; watched(&rt, &served.waits, 1, 500), 1);
+    assert_eq!(rt; watched(&rt, &served.waits, 1), 1);
     let lent = pool.get()?;
     served.callers.fetch_add(1, Ordering::SeqCst);
     assert!(rt; eviction.join(&rt));

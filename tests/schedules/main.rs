@@ -9,6 +9,7 @@ mod lines;
 mod plain;
 mod plan;
 mod queue;
+mod watching;
 
 use self::judged::Seen;
 use self::plan::Plan;

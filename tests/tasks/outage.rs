@@ -159,7 +159,7 @@ fn a_try_get_takes_no_more_than_were_idle(rt: HostRuntime) -> Result<(), Fail> {
     assert_eq!(rt; (pool.status().idle, play.released()), (1, 1));
     play.releases.hang(true);
     let returns = || {
-        for _ in 0..500 {
+        for _ in 0..2_000 {
             if play.released() == 2 {
                 break;
             }

@@ -440,11 +440,11 @@ impl HandleError<Sorry> for Ear {
 }
 
 impl CustomizeConnection<Line, Sorry> for Ear {
-    // It waits for ten seconds at most.
+    // It waits for a minute at most.
     fn on_release(&self, line: Line) {
         self.note(Told::Ended(line.number));
         self.play.released.fetch_add(1, Ordering::SeqCst);
-        for _ in 0..1_000 {
+        for _ in 0..6_000 {
             if !self.play.releases.do_hang() {
                 break;
             }

@@ -2,6 +2,7 @@
 
 use super::*;
 use crate::ErrorKind;
+use crate::pool::tests::watched;
 use std::sync::atomic::{AtomicU64, Ordering};
 use std::test::Fail;
 
@@ -59,14 +60,13 @@ fn ids_used_up(rt: HostRuntime) -> Result<(), Fail> {
 
     let opened = Arc::new(rt.alloc(), AtomicU64::new(0))?;
     let pool = with_one_id().build_unchecked(rt, nothings(&opened)?)?;
-    let lent = pool.get()?;
+    let lent = pool.get_timeout(Duration::from_secs(20))?;
     assert_eq!(rt; lent.lent.id, 18_446_744_073_709_551_614);
     let error = pool.get().err().ok_or("two ids")?;
     assert_eq!(rt; (error.kind(), error.message()), (ErrorKind::Timeout, None));
     for _ in 0..2 {
-        let before = opened.load(Ordering::SeqCst);
-        thread::sleep(&rt, Duration::from_secs(1));
-        assert!(rt; opened.load(Ordering::SeqCst) > before);
+        let more = opened.load(Ordering::SeqCst) + 1;
+        assert!(rt; watched(&rt, &opened, more) >= more);
         assert_eq!(rt; pool.state().connections, 1);
     }
     assert!(rt; pool.status().failed_openings > 1);

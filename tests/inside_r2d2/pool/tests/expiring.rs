@@ -1,5 +1,5 @@
-// Which connections are closed for their time. Looks beside a reap's own moment go on for up to 500
-// ms.
+// Which connections are closed for their time: by a clock that the test moves, after which the next
+// reap comes soon.
 
 use super::*;
 use crate::event::{AcquireEvent, CheckinEvent, CheckoutEvent, ReleaseEvent, TimeoutEvent};
@@ -58,21 +58,26 @@ impl ManageConnection for FiveLines {
     }
 }
 
+// The time between two reaps.
+fn soon() -> Duration {
+    Duration::from_millis(50)
+}
+
 fn no_drops(alloc: Global) -> Result<Arc<AtomicU64>, AllocError> {
     Ok(Arc::new(alloc, AtomicU64::new(0))?)
 }
 
 #[test]
 fn test_idle_timeout(rt: HostRuntime) -> Result<(), Fail> {
-    let dropped = no_drops(rt.alloc())?;
+    let (dropped, hand) = (no_drops(rt.alloc())?, Hand::new(rt)?);
     let pool = Builder::new()
         .max_size(5)
         .idle_timeout(Some(Duration::from_secs(1)))
-        .reaper_rate(Duration::from_secs(1))
-        .build(rt, FiveLines::new(&dropped)?)?;
+        .reaper_rate(soon())
+        .build(hand, FiveLines::new(&dropped)?)?;
     let lent = pool.get()?;
-    thread::sleep(&rt, Duration::from_secs(2));
-    assert_eq!(rt; watched(&rt, &dropped, 4, 50), 4);
+    hand.set(2000);
+    assert_eq!(rt; watched(&rt, &dropped, 4), 4);
     drop(lent);
     assert_eq!(rt; dropped.load(Ordering::SeqCst), 4);
     Ok(())
@@ -80,67 +85,66 @@ fn test_idle_timeout(rt: HostRuntime) -> Result<(), Fail> {
 
 #[test]
 fn idle_timeout_partial_use(rt: HostRuntime) -> Result<(), Fail> {
-    let dropped = no_drops(rt.alloc())?;
+    let (dropped, hand) = (no_drops(rt.alloc())?, Hand::new(rt)?);
     let pool = Builder::new()
         .max_size(5)
         .idle_timeout(Some(Duration::from_secs(1)))
-        .reaper_rate(Duration::from_secs(1))
-        .build(rt, FiveLines::new(&dropped)?)?;
-    for _ in 0..8 {
-        thread::sleep(&rt, Duration::from_millis(250));
+        .reaper_rate(soon())
+        .build(hand, FiveLines::new(&dropped)?)?;
+    for time in 1..9u64 {
+        hand.set(250 * time);
         drop(pool.get()?);
     }
-    assert_eq!(rt; watched(&rt, &dropped, 4, 50), 4);
+    assert_eq!(rt; watched(&rt, &dropped, 4), 4);
     assert_eq!(rt; pool.state().connections, 1);
     Ok(())
 }
 
 #[test]
 fn test_max_lifetime(rt: HostRuntime) -> Result<(), Fail> {
-    let dropped = no_drops(rt.alloc())?;
+    let (dropped, hand) = (no_drops(rt.alloc())?, Hand::new(rt)?);
     let pool = Builder::new()
         .max_size(5)
         .max_lifetime(Some(Duration::from_secs(1)))
-        .connection_timeout(Duration::from_secs(1))
-        .reaper_rate(Duration::from_secs(1))
-        .build(rt, FiveLines::new(&dropped)?)?;
+        .reaper_rate(soon())
+        .build(hand, FiveLines::new(&dropped)?)?;
     let lent = pool.get()?;
-    thread::sleep(&rt, Duration::from_secs(2));
-    assert_eq!(rt; watched(&rt, &dropped, 4, 50), 4);
+    hand.set(2000);
+    assert_eq!(rt; watched(&rt, &dropped, 4), 4);
     drop(lent);
     assert_eq!(rt; dropped.load(Ordering::SeqCst), 5);
-    thread::sleep(&rt, Duration::from_secs(2));
-    let error = pool.get().err().ok_or("a connection")?;
+    assert!(rt; comes_within(&rt, LOOKS, || pool.status().failed_openings > 0));
+    let error = pool.get_timeout(Duration::ZERO).err().ok_or("a connection")?;
     assert_eq!(rt; error.kind(), crate::ErrorKind::Timeout);
     Ok(())
 }
 
-// How many of two connections were closed while one was lent and given back all the time, for twice
-// the idle timeout.
-fn closed_amid_use<R: PoolRuntime>(rt: R, order: LendingOrder) -> Result<u64, Fail> {
-    let dropped = no_drops(rt.alloc())?;
+// Whether one of two connections was closed while one was lent and given back all the time, for
+// twice the idle timeout. After that it is looked for so often.
+fn closes_amid_use<R: PoolRuntime>(rt: R, order: LendingOrder, looks: u32) -> Result<bool, Fail> {
+    let (dropped, hand) = (no_drops(rt.alloc())?, Hand::new(rt)?);
     let pool = Builder::new()
         .max_size(2)
         .lending_order(order)
         .idle_timeout(Some(Duration::from_secs(2)))
-        .reaper_rate(Duration::from_secs(1))
-        .build(rt, FiveLines::new(&dropped)?)?;
-    for _ in 0..20 {
-        thread::sleep(&rt, Duration::from_millis(200));
+        .reaper_rate(soon())
+        .build(hand, FiveLines::new(&dropped)?)?;
+    for time in 1..21u64 {
+        hand.set(200 * time);
         drop(pool.get()?);
     }
-    Ok(dropped.load(Ordering::SeqCst))
+    Ok(comes_within(&rt, looks, || dropped.load(Ordering::SeqCst) > 0))
 }
 
 #[test]
 fn newest_first_leaves_one_to_expire(rt: HostRuntime) -> Result<(), Fail> {
-    assert!(rt; closed_amid_use(rt, LendingOrder::NewestFirst)? > 0);
+    assert!(rt; closes_amid_use(rt, LendingOrder::NewestFirst, LOOKS)?);
     Ok(())
 }
 
 #[test]
 fn oldest_first_lets_none_expire(rt: HostRuntime) -> Result<(), Fail> {
-    assert_eq!(rt; closed_amid_use(rt, LendingOrder::OldestFirst)?, 0);
+    assert!(rt; !closes_amid_use(rt, LendingOrder::OldestFirst, GLANCES)?);
     Ok(())
 }
 
@@ -175,7 +179,7 @@ impl<R: PoolRuntime> HandleEvent for Ages<R> {
 
 #[test]
 fn how_old_expired_connections_are(rt: HostRuntime) -> Result<(), Fail> {
-    let dropped = no_drops(rt.alloc())?;
+    let (dropped, hand) = (no_drops(rt.alloc())?, Hand::new(rt)?);
     let ages = Arc::new(rt.alloc(), Mutex::new(Vec::new(rt.alloc())))?;
     let handler = Ages {
         ages: Arc::try_clone(&ages)?,
@@ -185,26 +189,27 @@ fn how_old_expired_connections_are(rt: HostRuntime) -> Result<(), Fail> {
         .max_size(2)
         .min_idle(Some(0))
         .idle_timeout(Some(Duration::from_millis(500)))
-        .reaper_rate(Duration::from_millis(500))
+        .reaper_rate(soon())
         .event_handler(handler)
-        .build(rt, FiveLines::new(&dropped)?)?;
-    // From here on the time since the pool was made is too long for an age.
-    thread::sleep(&rt, Duration::from_secs(2));
+        .build(hand, FiveLines::new(&dropped)?)?;
+    // From here on the time since the pool was made is no age.
+    hand.set(2000);
     let (first, second) = (pool.get()?, pool.get()?);
     drop(first);
     drop(second);
-    assert_eq!(rt; watched(&rt, &dropped, 2, 1000), 2);
+    hand.set(2500);
+    assert_eq!(rt; watched(&rt, &dropped, 2), 2);
     // The one that was idle longest is told of first.
     let ages = ages.lock(&rt);
     assert_eq!(rt; ages.len(), 2);
     for (place, (id, age)) in ages.iter().enumerate() {
         assert_eq!(rt; *id, place as u64);
-        assert!(rt; 300 <= age.as_millis() && age.as_millis() < 2000);
+        assert_eq!(rt; *age, Duration::from_millis(500));
     }
     Ok(())
 }
 
-/// A customizer whose releases wait until the test lets them go on, for at most five seconds.
+/// A customizer whose releases wait until the test lets them go on.
 struct Holds<R: Clock + Drop> {
     /// How many releases there were, whether they may go on, and how many customizers were dropped.
     counts: Arc<[AtomicU64; 3]>,
@@ -227,13 +232,14 @@ impl<R: Clock + Drop> fmt::Debug for Holds<R> {
 impl<R: PoolRuntime> CustomizeConnection<Line, Blammo> for Holds<R> {
     fn on_release(&self, _line: Line) {
         self.counts[0].fetch_add(1, Ordering::SeqCst);
-        watched(&self.rt, &self.counts[1], 1, 500);
+        let may_go_on = || self.counts[1].load(Ordering::SeqCst) > 0;
+        comes_within(&self.rt, LOOKS_WHILE_HELD, may_go_on);
     }
 }
 
 #[test]
 fn close_amid_a_reap(rt: HostRuntime) -> Result<(), Fail> {
-    let dropped = no_drops(rt.alloc())?;
+    let (dropped, hand) = (no_drops(rt.alloc())?, Hand::new(rt)?);
     let counts = Arc::new(
         rt.alloc(),
         [AtomicU64::new(0), AtomicU64::new(0), AtomicU64::new(0)],
@@ -245,17 +251,18 @@ fn close_amid_a_reap(rt: HostRuntime) -> Result<(), Fail> {
     let pool = Builder::new()
         .max_size(1)
         .min_idle(Some(0))
-        .idle_timeout(Some(Duration::from_millis(300)))
-        .reaper_rate(Duration::from_millis(300))
+        .idle_timeout(Some(Duration::from_secs(1)))
+        .reaper_rate(soon())
         .connection_customizer(holds)
-        .build(rt, FiveLines::new(&dropped)?)?;
+        .build(hand, FiveLines::new(&dropped)?)?;
     drop(pool.get()?);
-    assert_eq!(rt; watched(&rt, &counts[0], 1, 500), 1);
+    hand.set(1000);
+    assert_eq!(rt; watched(&rt, &counts[0], 1), 1);
     drop(pool);
     assert_eq!(rt; dropped.load(Ordering::SeqCst), 0);
     counts[1].store(1, Ordering::SeqCst);
     // The worker ends with its releases, and with it the last that holds the customizer.
-    assert_eq!(rt; watched(&rt, &counts[2], 1, 500), 1);
+    assert_eq!(rt; watched(&rt, &counts[2], 1), 1);
     assert_eq!(rt; counts[0].load(Ordering::SeqCst), 1);
     assert_eq!(rt; dropped.load(Ordering::SeqCst), 1);
     Ok(())

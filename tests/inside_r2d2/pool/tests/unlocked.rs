@@ -40,12 +40,11 @@ struct Probe<R> {
 }
 
 impl<R: Clock> Probe<R> {
-    // Waits for an answer, for at most five seconds. It tells whether this is the first call of its
-    // kind.
+    // Waits for an answer. It tells whether this is the first call of its kind.
     fn ask(&self, call: Call) -> bool {
         let ticket = self.asked.fetch_add(1, Ordering::SeqCst).saturating_add(1);
         if !self.is_over.load(Ordering::SeqCst)
-            && watched(&self.rt, &self.answered, ticket, 500) < ticket
+            && watched(&self.rt, &self.answered, ticket) < ticket
         {
             self.waited_in_vain.fetch_add(1, Ordering::SeqCst);
         }
@@ -206,7 +205,7 @@ fn calls_are_made_without_the_lock(rt: HostRuntime) -> Result<(), Fail> {
     assert!(rt; pool.get_timeout(Duration::from_millis(50)).is_err());
     drop(lent);
     // One whose check failed, a broken one, and one that expired.
-    assert!(rt; watched(&rt, &probe.releases, 3, 2000) >= 3);
+    assert!(rt; watched(&rt, &probe.releases, 3) >= 3);
     assert_eq!(rt; probe.waited_in_vain.load(Ordering::SeqCst), 0);
     assert_eq!(rt; probe.called.load(Ordering::SeqCst), ALL_CALLS);
     probe.is_over.store(true, Ordering::SeqCst);
@@ -217,12 +216,7 @@ fn calls_are_made_without_the_lock(rt: HostRuntime) -> Result<(), Fail> {
 #[test]
 fn an_eviction_calls_without_the_lock(rt: HostRuntime) -> Result<(), Fail> {
     let (pool, probe, thread) = probed(rt, Builder::new())?;
-    for _ in 0..1000 {
-        if pool.state().idle_connections == 1 {
-            break;
-        }
-        thread::sleep(&rt, Duration::from_millis(10));
-    }
+    assert!(rt; comes_within(&rt, LOOKS, || pool.state().idle_connections == 1));
     assert_eq!(rt; pool.evict()?, 1);
     assert_eq!(rt; probe.releases.load(Ordering::SeqCst), 1);
     assert_eq!(rt; probe.waited_in_vain.load(Ordering::SeqCst), 0);

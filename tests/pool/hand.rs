@@ -1,6 +1,6 @@
 // A runtime whose clock its test moves and holds, and whose memory it holds back.
 
-use crate::play::watched;
+use crate::watching::{comes_true, glimpsed, held_back};
 use r2d2::PoolRuntime;
 use std::alloc::{Alloc, AllocError};
 use std::io;
@@ -23,8 +23,8 @@ struct Face {
     has_memory: AtomicU64,
 }
 
-/// A clock that shows so many seconds, and moves on by as many at each reading. Who has to wait for
-/// it, or for memory, waits for ten seconds at most.
+/// A clock that shows so many seconds, and moves on by as many at each reading. Who waits for a
+/// moment of it looks again after as much true time, and waits on where the clock stands.
 #[derive(Clone, Copy)]
 pub(crate) struct Hand<R> {
     rt: R,
@@ -90,12 +90,24 @@ impl<R> Hand<R> {
     }
 }
 
+impl<R: Clock> Hand<R> {
+    /// Looks until nobody reads it for a while. A caller is counted as waiting before it reads the
+    /// clock for its wait: by then it has.
+    pub(crate) fn come_to_rest(&self) {
+        let readings = &self.face.readings;
+        comes_true(&self.rt, || {
+            let before = readings.load(Ordering::SeqCst);
+            glimpsed(&self.rt, readings, before.saturating_add(1)) == before
+        });
+    }
+}
+
 impl<R: Clock> Clock for Hand<R> {
     fn monotonic(&self) -> io::Result<Duration> {
         let by = self.face.moves_by.load(Ordering::SeqCst);
         let shown = self.face.shows.fetch_add(by, Ordering::SeqCst);
         self.face.readings.fetch_add(1, Ordering::SeqCst);
-        watched(&self.rt, &self.face.is_read, 1, 1000);
+        held_back(&self.rt, &self.face.is_read, 1);
         Ok(Duration::from_secs(shown))
     }
 
@@ -117,7 +129,7 @@ impl<R: Alloc + Clock> Alloc for Hand<R> {
 
     fn alloc(&self) -> R::A {
         self.face.memory_asked.fetch_add(1, Ordering::SeqCst);
-        watched(&self.rt, &self.face.has_memory, 1, 1000);
+        held_back(&self.rt, &self.face.has_memory, 1);
         self.rt.alloc()
     }
 }
