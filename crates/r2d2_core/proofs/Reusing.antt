@@ -1,2 +1,3 @@
 pub mod Sorted
 pub mod Choices
+pub mod Moves

@@ -5,6 +5,9 @@ ghost use Rattle.std.specs.Bool.{OnTrue, OnFalse};
 ghost use Rattle.std.specs.Duration.{as_nanos};
 ghost use Rattle.r2d2_core.specs.Reuse.{IsSorted, moment_in, picked, after_pick, newest_list};
 ghost use Rattle.r2d2_core.specs.Reuse.{oldest_list, other_list, raised_now, expired, IsBetween};
+ghost use Rattle.r2d2_core.specs.Reuse.{order_after, other_after};
+ghost use Rattle.r2d2_core.specs.declared.schedule.limits.LendingOrder.TheVariants.{NewestFirst};
+ghost use Rattle.r2d2_core.specs.declared.schedule.limits.LendingOrder.TheVariants.{OldestFirst};
 
 use std::alloc::{AllocError, Global};
 use std::marker::Model;
@@ -95,19 +98,8 @@ pub fn compare(
     let mut seen = newest.last().copied().unwrap_or(0);
     for step in moves {
         seen = seen.max(nanos_at(step));
-        match step {
-            Move::Take(_) => {
-                newest.pop();
-                remove_first(&mut oldest);
-                if !other.take() {
-                    return Ok(None);
-                }
-            }
-            Move::Add(_) => {
-                newest.push(seen)?;
-                oldest.push(seen)?;
-                other.add(seen)?;
-            }
+        if !play(step, seen, &mut newest, &mut oldest, &mut other)? {
+            return Ok(None);
         }
     }
     let now = seen.max(now.as_nanos());
@@ -116,6 +108,38 @@ pub fn compare(
         oldest_first: count_expired(now, limit, &oldest),
         other: count_expired(now, limit, &other.kept),
     }))
+}
+
+// Makes a move at a raised moment on each list; false where the picks do not serve.
+fn play(
+    step: &Move,
+    moment: u128,
+    newest: &mut Vec<u128>,
+    oldest: &mut Vec<u128>,
+    other: &mut Picked,
+) -> Result<bool, AllocError>
+    ensures newest { OnOk result
+        (newest.new.items ≡ order_after NewestFirst moment newest.old.items step.now) }
+    ensures oldest { OnOk result
+        (oldest.new.items ≡ order_after OldestFirst moment oldest.old.items step.now) }
+    ensures served { IfOk result
+        (λ is_served. OnTrue is_served (other_after moment other.old step.now ≡ Some other.new)) }
+    ensures unserved { IfOk result
+        (λ is_served. OnFalse is_served (other_after moment other.old step.now ≡ None)) }
+{
+    match step {
+        Move::Take(_) => {
+            newest.pop();
+            remove_first(oldest);
+            Ok(other.take())
+        }
+        Move::Add(_) => {
+            newest.push(moment)?;
+            oldest.push(moment)?;
+            other.add(moment)?;
+            Ok(true)
+        }
+    }
 }
 
 // The list that lends by picks, with the picks that are left.

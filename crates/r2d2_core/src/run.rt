@@ -1,14 +1,15 @@
 // Steps as data: one step, and a list of them.
-ghost use Rattle.std.specs.Prelude.{◌≡◌, true, map, IfOk, IfErr, OnOk};
+ghost use Rattle.std.specs.Prelude.{◌≡◌, ◌≤◌, ℕ, true, map, IfOk, IfErr, OnOk};
 ghost use Rattle.std.specs.Duration.{as_nanos};
-ghost use Rattle.r2d2_core.specs.Limits.{seen_limits};
+ghost use Rattle.r2d2_core.specs.declared.schedule.limits.LimitSettings.{LimitSettings};
+ghost use Rattle.r2d2_core.specs.Limits.{seen_limits, wanted_of};
 ghost use Rattle.r2d2_core.specs.Picture.{IsSound};
 ghost use Rattle.r2d2_core.specs.History.{History, Made};
 ghost use Rattle.r2d2_core.specs.Answers.{answers_of, after_all, picture_of, HasSums};
 ghost use Rattle.r2d2_core.specs.Steps.{seen_answer, book_after};
 ghost use Rattle.r2d2_core.specs.Table.{first_picture};
 ghost use Rattle.r2d2_core.specs.Journal.{first_journal};
-ghost use Rattle.r2d2_core.specs.Book.{seen_book};
+ghost use Rattle.r2d2_core.specs.Book.{seen_book, HasFacts};
 ghost use Rattle.r2d2_core.specs.Reports.{IsReportOf, IsSoundReport, IsReportAfter};
 
 use crate::journal::{Book, Report};
@@ -110,7 +111,7 @@ pub enum Answer<T, A: Allocator = Global> {
 
 // The machine's own call for a step. What a reap's list takes of memory is taken before the call.
 macro_rules! answer_by {
-    ($machine:expr, $reap:ident, $alloc:expr, $step:expr) => {
+    ($machine:expr, $alloc:expr, $step:expr) => {
         match $step {
             Step::Take { now, or_order } => Ok(Answer::Take($machine.take(now, or_order))),
             Step::Begin { now } => Ok(Answer::Begin($machine.begin(now))),
@@ -126,12 +127,7 @@ macro_rules! answer_by {
                 value,
                 broken,
             } => Ok(Answer::PutBack($machine.put_back(now, id, value, broken))),
-            Step::Reap { now } => {
-                let room = $machine.limits().max_size() as usize;
-                let mut released = Vec::with_capacity($alloc, room)?;
-                let ordered = $machine.$reap(now, &mut released);
-                Ok(Answer::Reap { released, ordered })
-            }
+            Step::Reap { now } => $machine.answer_reap($alloc, now),
             Step::TakeError => Ok(Answer::TakeError($machine.take_error())),
             Step::Close => Ok(Answer::Close($machine.close())),
         }
@@ -141,6 +137,8 @@ macro_rules! answer_by {
 impl<T, A: Allocator> Core<T, A> {
     ghost use Rattle.r2d2_core.specs.Picture.{IsSound};
     ghost use Rattle.r2d2_core.specs.Steps.{seen_answer, step_answer, after_step, is_reap};
+    ghost use Rattle.r2d2_core.specs.Seen.{Reaped};
+    ghost use Rattle.r2d2_core.specs.Table.{reap_closed, reap_orders, after_reap};
 
     /// Takes a step by the call of its kind, and gives the answer of that call. A reap lists what
     /// it closes in memory of `alloc`, with room for `max_size`; no other step takes any. The error
@@ -153,7 +151,21 @@ impl<T, A: Allocator> Core<T, A> {
         ensures only_reaps { IfErr result (λ _. is_reap step ≡ true) }
         ensures sound { IsSound self.new }
     {
-        answer_by!(self, reap_uncounted, alloc, step)
+        answer_by!(self, alloc, step)
+    }
+
+    // The answer to a reap.
+    fn answer_reap(&mut self, alloc: Global, now: Duration) -> Result<Answer<T, A>, AllocError>
+        ensures answer { IfOk result (λ a. seen_answer a
+            ≡ Reaped (reap_closed (as_nanos now) self.old) (reap_orders (as_nanos now) self.old)) }
+        ensures after { OnOk result (self.new ≡ after_reap (as_nanos now) self.old) }
+        ensures unchanged { IfErr result (λ _. self.new ≡ self.old) }
+        ensures sound { IsSound self.new }
+    {
+        let room = self.limits().max_size() as usize;
+        let mut released = Vec::with_capacity(alloc, room)?;
+        let ordered = self.reap_uncounted(now, &mut released);
+        Ok(Answer::Reap { released, ordered })
     }
 }
 
@@ -161,6 +173,10 @@ impl<T, A: Allocator> Book<T, A> {
     ghost use Rattle.r2d2_core.specs.Picture.{IsSound};
     ghost use Rattle.r2d2_core.specs.Steps.{seen_answer, step_answer, after_step, noted_step};
     ghost use Rattle.r2d2_core.specs.Steps.{is_reap};
+    ghost use Rattle.std.specs.Prelude.{length};
+    ghost use Rattle.r2d2_core.specs.Seen.{Reaped};
+    ghost use Rattle.r2d2_core.specs.Table.{reap_closed, reap_orders, after_reap};
+    ghost use Rattle.r2d2_core.specs.Noted.{noted_reap};
 
     /// As `Core::answer`. A step is noted where the call of its kind notes it.
     pub fn answer(&mut self, alloc: Global, step: Step<T>) -> Result<Answer<T, A>, AllocError>
@@ -171,7 +187,26 @@ impl<T, A: Allocator> Book<T, A> {
         ensures only_reaps { IfErr result (λ _. is_reap step ≡ true) }
         ensures sound { IsSound self.new.picture }
     {
-        answer_by!(self, reap, alloc, step)
+        answer_by!(self, alloc, step)
+    }
+
+    // The answer to a reap.
+    fn answer_reap(&mut self, alloc: Global, now: Duration) -> Result<Answer<T, A>, AllocError>
+        ensures answer { IfOk result (λ a. seen_answer a ≡ Reaped
+            (reap_closed (as_nanos now) self.old.picture)
+            (reap_orders (as_nanos now) self.old.picture)) }
+        ensures after { OnOk result
+            (self.new.picture ≡ after_reap (as_nanos now) self.old.picture) }
+        ensures noted { OnOk result (self.new.journal ≡ noted_reap (as_nanos now)
+            (length (reap_closed (as_nanos now) self.old.picture))
+            (reap_orders (as_nanos now) self.old.picture) self.old) }
+        ensures unchanged { IfErr result (λ _. self.new ≡ self.old) }
+        ensures sound { IsSound self.new.picture }
+    {
+        let room = self.limits().max_size() as usize;
+        let mut released = Vec::with_capacity(alloc, room)?;
+        let ordered = self.reap(now, &mut released);
+        Ok(Answer::Reap { released, ordered })
     }
 }
 
@@ -194,12 +229,31 @@ pub fn run<T: Drop>(
         (HasSums (after_all (Made (seen_limits limits) (as_nanos now) 0) steps.items)) }
 {
     let mut core: Core<T> = Core::new(alloc, limits, now)?;
+    let answers = answer_all(alloc, &mut core, steps)?;
+    Ok((core, answers))
+}
+
+// Takes each step in turn, and gives one answer each.
+fn answer_all<T: Drop>(
+    alloc: Global,
+    core: &mut Core<T>,
+    steps: Vec<Step<T>>,
+) -> Result<Vec<Answer<T>>, AllocError>
+    ensures answers { IfOk result
+        (λ answers. (limits : LimitSettings) (now : ℕ) → wanted_of limits ≤ limits.max_size
+        → core.old ≡ first_picture limits now 0
+        → map seen_answer answers.items ≡ answers_of (Made limits now 0) steps.items) }
+    ensures picture { OnOk result
+        ((limits : LimitSettings) (now : ℕ) → wanted_of limits ≤ limits.max_size
+        → core.old ≡ first_picture limits now 0
+        → core.new ≡ picture_of (after_all (Made limits now 0) steps.items)) }
+{
     let mut answers = Vec::with_capacity(alloc, steps.len())?;
     for step in steps {
         let answer = core.answer(alloc, step)?;
         answers.push(answer)?;
     }
-    Ok((core, answers))
+    Ok(answers)
 }
 
 /// As `run`, on a new book made at `now`, which keeps the newest `room` records of what `steps` did:
@@ -225,6 +279,23 @@ pub fn run_and_report<T: Drop>(
         (first_journal (seen_limits limits) (as_nanos now) room))) r.0) }
 {
     let mut book: Book<T> = Book::new(alloc, limits, now, room)?;
+    answer_and_report(alloc, &mut book, steps)
+}
+
+// As `answer_all`, by a book, which reports in the end.
+fn answer_and_report<T: Drop>(
+    alloc: Global,
+    book: &mut Book<T>,
+    steps: Vec<Step<T>>,
+) -> Result<(Report, Vec<Answer<T>>), AllocError>
+    ensures answers { IfOk result
+        (λ r. (limits : LimitSettings) (now : ℕ) → wanted_of limits ≤ limits.max_size
+        → book.old.picture ≡ first_picture limits now 0
+        → map seen_answer r.1.items ≡ answers_of (Made limits now 0) steps.items) }
+    ensures facts { OnOk result (HasFacts (book_after steps.items book.old)) }
+    ensures sound { IfOk result (λ r. IsSoundReport r.0) }
+    ensures given { IfOk result (λ r. IsReportOf (book_after steps.items book.old) r.0) }
+{
     let mut answers = Vec::with_capacity(alloc, steps.len())?;
     for step in steps {
         let answer = book.answer(alloc, step)?;

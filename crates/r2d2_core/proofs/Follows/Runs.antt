@@ -1,5 +1,6 @@
 -- Histories that lists of steps make.
 use Rattle.std.proofs.Common.{◌≡◌, List, [], ◌∷◌, ◌++◌, map, refl, sym, ◌∙◌, ap, subst}
+use Rattle.std.specs.Prelude.{Result, Ok, Err, IfOk, OnOk}
 use Rattle.std.proofs.lemmas.List.{map-append}
 use Rattle.r2d2_core.specs.declared.run.Step.{Step}
 use Rattle.r2d2_core.specs.declared.run.Answer.{Answer}
@@ -12,7 +13,7 @@ use Rattle.r2d2_core.specs.Reports.{IsReportOf, IsReportAfter}
 use Rattle.r2d2_core.specs.declared.journal.report.Report.{Report}
 use Rattle.r2d2_core.proofs.Histories.Kept.{IsKept}
 use Rattle.r2d2_core.specs.Steps.{seen_answer, step_answer, after_step, noted_step, book_after}
-use Rattle.r2d2_core.proofs.Follows.Step.{follows_there}
+use Rattle.r2d2_core.proofs.Follows.Step.{follows_step, follows_there}
 use Rattle.r2d2_core.proofs.Recording.Reporting.{report_comes_to}
 
 module _ {T : Type 0} where
@@ -52,22 +53,27 @@ module _ {T A : Type 0} where
         kept = subst IsKept (sym next) f.kept;
       }
 
-  -- the same of a book, which is what the steps make of the first one
-  pub record IsBookRun (start : History T) (first : SeenBook T) (steps : List (Step T)) (answers : List (Answer T A)) (book : SeenBook T) : Type 0 where
-    pub run : IsRun start steps answers book.picture
-    pub book_is : book ≡ book_after steps first
-
-  pub book_run_more : (start : History T) (first : SeenBook T) (steps : List (Step T)) (answers more : List (Answer T A)) (book new : SeenBook T) (s : Step T) (a : Answer T A)
-      → IsBookRun start first steps answers book → more ≡ answers ++ a ∷ [] → seen_answer a ≡ step_answer s book.picture
-      → new.picture ≡ after_step s book.picture → new.journal ≡ noted_step s book
-      → IsBookRun start first (steps ++ s ∷ []) more new
-  book_run_more start first steps answers more book new s a there pushed answered went noted = record {
-    run = run_more start steps answers more book.picture new.picture s a there.run pushed answered went;
-    book_is = ap (λ p. seen_book p new.journal) went ∙ (ap (λ j. seen_book (after_step s book.picture) j) noted
-        ∙ (ap (λ b. seen_book (after_step s b.picture) (noted_step s b)) there.book_is ∙ sym (book_after-push first steps s)));
-  }
-
 module _ {T : Type 0} where
+  -- what the steps make of a book, and then one more
+  pub book_more : (first : SeenBook T) (steps : List (Step T)) (book new : SeenBook T) (s : Step T) → book ≡ book_after steps first
+      → new.picture ≡ after_step s book.picture → new.journal ≡ noted_step s book → new ≡ book_after (steps ++ s ∷ []) first
+  book_more first steps book new s is went noted =
+      ap (λ p. seen_book p new.journal) went ∙ (ap (λ j. seen_book (after_step s book.picture) j) noted
+      ∙ (ap (λ b. seen_book (after_step s b.picture) (noted_step s b)) is ∙ sym (book_after-push first steps s)))
+
+  -- what keeps with each step keeps with all
+  pub kept_after_all : (h : History T) (steps : List (Step T)) → IsKept h → IsKept (after_all h steps)
+  kept_after_all h [] kept = kept
+  kept_after_all h (s ∷ steps) kept = kept_after_all (after h s) steps (follows_step h s kept).kept
+
+  -- a book that shows a history shows it with the steps
+  pub book_shows : (h : History T) (steps : List (Step T)) (b : SeenBook T) → IsKept h → b.picture ≡ picture_of h
+      → (book_after steps b).picture ≡ picture_of (after_all h steps)
+  book_shows h [] b kept is = is
+  book_shows h (s ∷ steps) b kept is =
+      let f = follows_step h s kept in
+      book_shows (after h s) steps (seen_book (after_step s b.picture) (noted_step s b)) f.kept (ap (after_step s) is ∙ f.picture_is)
+
   -- the limits and counts of a history are those of its picture
   pub has_sums : (h : History T) → IsSound (picture_of h) → HasSums h
   unfolding picture_of on_order_of
@@ -86,3 +92,8 @@ module _ {T : Type 0} where
         pending = k.shows.pending ∙ ap (λ p. p.on_order.pending) shown;
         closed = k.shows.closed ∙ ap (λ p. p.on_order.closed) shown;
       }
+
+-- what two clauses of a result come to, where it is there
+pub if_ok : {X E : Type 0} {R : Type 0} {P Q : X → Type 0} (r : Result X E) → OnOk r R → IfOk r P → ((x : X) → R → P x → Q x) → IfOk r Q
+if_ok (Ok x) fact is so = so x fact is
+if_ok (Err e) fact is so = tt

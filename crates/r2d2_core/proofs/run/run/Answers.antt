@@ -1,58 +1,31 @@
-use Rattle.std.proofs.Common.{rules, ◌≤◌, sym, ◌∙◌, ap, map, subst}
+use Rattle.std.proofs.Common.{sym, subst}
 use Rattle.std.specs.Duration.{as_nanos}
-use Rattle.std.proofs.lemmas.List.{map-id}
-use Rattle.std.proofs.lemmas.Iterator.Consumers.{YieldsList-end}
-use Rattle.std.proofs.lemmas.Iterator.Adapters.{YieldsList-from_vec}
-use Rattle.r2d2_core.specs.Limits.{seen_limits, wanted_of}
+use Rattle.r2d2_core.specs.Limits.{seen_limits}
 use Rattle.r2d2_core.specs.Picture.{IsSound}
 use Rattle.r2d2_core.specs.History.{Made}
-use Rattle.r2d2_core.specs.Answers.{answers_of, after_all, picture_of, HasSums}
-use Rattle.r2d2_core.specs.Steps.{seen_answer}
-use Rattle.r2d2_core.proofs.Histories.Made.{kept_made, picture_of-made}
-use Rattle.r2d2_core.proofs.Follows.Runs.{run_more, has_sums}
+use Rattle.r2d2_core.specs.Answers.{after_all}
+use Rattle.r2d2_core.proofs.Facts.Legal.{legal}
+use Rattle.r2d2_core.proofs.Histories.Made.{kept_made}
+use Rattle.r2d2_core.proofs.Follows.Runs.{kept_after_all, has_sums}
 use Rattle.r2d2_core.proofs.run.run.Goals as goal
-
-pub loop-step-init : goal.loop-step-init
-loop-step-init g c =
-    let legal : wanted_of (seen_limits c.args.limits) ≤ (seen_limits c.args.limits).max_size = search rules in
-    record {
-      answers_are = ap (map seen_answer) c.in_ok-answers.ensures.items;
-      picture_is = c.in_ok-core.ensures ∙ sym (picture_of-made (seen_limits c.args.limits) (as_nanos c.args.now) 0);
-      kept = kept_made (seen_limits c.args.limits) (as_nanos c.args.now) 0 legal;
-    }
-
-pub loop-step-preserved : goal.loop-step-preserved
-loop-step-preserved g c =
-    run_more (Made (seen_limits c.args.limits) (as_nanos c.args.now) 0) c.loop-step.yielded c.loop-step.answers.items c.push.new.self.items c.loop-step.core
-    c.answer.new.self c.in-Some.step c.in_ok-answer.answer
-    c.loop-step.invariant c.in_ok-push.ensures.items c.in_ok-answer.ensures.answer c.in_ok-answer.ensures.after
 
 pub returns-clause-answers : goal.returns-clause-answers
 returns-clause-answers g c =
-    let e = c.into_iter-step-iterator.ensures.into_iter_gives in
-    let whole = YieldsList-end (YieldsList-from_vec c.args.steps.items e.0 (e.1
-    ∙ c.args.steps.ok.0)) c.loop-step.yielded c.loop-step.step-iterator c.loop-step.yielded_by c.next.result c.next.new.self c.in-None.is
-    c.next.ensures.steps in
-    c.loop-step.invariant.answers_are ∙ ap (answers_of (Made (seen_limits c.args.limits) (as_nanos c.args.now) 0)) (sym (map-id c.loop-step.yielded) ∙ whole.0)
+    c.in_ok-answers.ensures.answers (seen_limits c.args.limits) (as_nanos c.args.now) (legal c.args.limits) c.in_ok-core.ensures
 
 pub returns-clause-picture : goal.returns-clause-picture
 returns-clause-picture g c =
-    let e = c.into_iter-step-iterator.ensures.into_iter_gives in
-    let whole = YieldsList-end (YieldsList-from_vec c.args.steps.items e.0 (e.1
-    ∙ c.args.steps.ok.0)) c.loop-step.yielded c.loop-step.step-iterator c.loop-step.yielded_by c.next.result c.next.new.self c.in-None.is
-    c.next.ensures.steps in
-    c.loop-step.invariant.picture_is ∙ ap (λ l. picture_of (after_all (Made (seen_limits c.args.limits) (as_nanos c.args.now) 0) l))
-    (sym (map-id c.loop-step.yielded) ∙ whole.0)
+    c.in_ok-answers.ensures.picture (seen_limits c.args.limits) (as_nanos c.args.now) (legal c.args.limits) c.in_ok-core.ensures
 
 pub returns-clause-sound : goal.returns-clause-sound
-returns-clause-sound g c = subst IsSound (sym c.loop-step.invariant.picture_is) c.loop-step.invariant.kept.sound
+returns-clause-sound g c =
+    let limits = seen_limits c.args.limits in
+    let now = as_nanos c.args.now in
+    subst IsSound (sym (c.in_ok-answers.ensures.picture limits now (legal c.args.limits) c.in_ok-core.ensures))
+    (kept_after_all (Made limits now 0) c.args.steps.items (kept_made limits now 0 (legal c.args.limits))).sound
 
 pub returns-clause-sums : goal.returns-clause-sums
 returns-clause-sums g c =
-    let e = c.into_iter-step-iterator.ensures.into_iter_gives in
-    let whole = YieldsList-end (YieldsList-from_vec c.args.steps.items e.0 (e.1
-    ∙ c.args.steps.ok.0)) c.loop-step.yielded c.loop-step.step-iterator c.loop-step.yielded_by c.next.result c.next.new.self c.in-None.is
-    c.next.ensures.steps in
-    let start = Made (seen_limits c.args.limits) (as_nanos c.args.now) 0 in
-    subst (λ l. HasSums (after_all start l)) (sym (map-id c.loop-step.yielded) ∙ whole.0)
-    (has_sums (after_all start c.loop-step.yielded) c.loop-step.invariant.kept.sound)
+    let limits = seen_limits c.args.limits in
+    let now = as_nanos c.args.now in
+    has_sums (after_all (Made limits now 0) c.args.steps.items) (kept_after_all (Made limits now 0) c.args.steps.items (kept_made limits now 0 (legal c.args.limits))).sound

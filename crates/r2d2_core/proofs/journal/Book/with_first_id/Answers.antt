@@ -1,6 +1,6 @@
-use Rattle.std.proofs.Common.{◌≤◌, ◌∙◌, ap, rules, sym, subst}
+use Rattle.std.proofs.Common.{◌∙◌, ap, sym, subst}
 use Rattle.std.specs.Duration.{as_nanos}
-use Rattle.r2d2_core.specs.Limits.{seen_limits, wanted_of}
+use Rattle.r2d2_core.specs.Limits.{seen_limits}
 use Rattle.r2d2_core.specs.Picture.{Picture}
 use Rattle.r2d2_core.specs.Table.{first_picture}
 use Rattle.r2d2_core.specs.Journal.{SeenJournal}
@@ -8,11 +8,12 @@ use Rattle.r2d2_core.specs.Book.{seen_book}
 use Rattle.r2d2_core.specs.BookParts.{book_in, IsFaithful}
 use Rattle.r2d2_core.proofs.Facts.Sounds.{sound_first}
 use Rattle.r2d2_core.proofs.Recording.Beside.{beside_first, faithful_first}
+use Rattle.r2d2_core.proofs.Facts.Legal.{legal}
 use Rattle.r2d2_core.proofs.journal.Book.with_first_id.Goals as goal
 
 pub invariant_of-result : goal.invariant_of-result
 invariant_of-result g c =
-    let le : wanted_of (seen_limits c.args.limits) ≤ (seen_limits c.args.limits).max_size = search rules in
+    let le = legal c.args.limits in
     let first = first_picture (seen_limits c.args.limits) (as_nanos c.args.now) c.args.first_id in
     subst (λ (p : Picture _). IsFaithful (book_in p c.in_ok-journal.journal)) (sym c.in_ok-machine.ensures)
     (subst (λ (l : SeenJournal). IsFaithful (book_in first l)) (sym c.in_ok-journal.ensures)

@@ -5,7 +5,8 @@ use Rattle.r2d2_core.specs.Ids.{copies_of}
 use Rattle.r2d2_core.specs.Picture.{IsSound}
 use Rattle.r2d2_core.specs.Table.{after_admit}
 use Rattle.r2d2_core.proofs.Facts.Sounds.{sound_admit}
-use Rattle.r2d2_core.proofs.Facts.Wholes.{whole, sound_as}
+use Rattle.r2d2_core.proofs.Facts.Wholes.{whole}
+use Rattle.r2d2_core.proofs.Facts.Steps.{is_admission}
 use Rattle.r2d2_core.proofs.Facts.Apart.{numbered_once}
 use Rattle.r2d2_core.proofs.machine.Core.admit.Goals as goal
 
@@ -23,23 +24,11 @@ invariant_of-self-in-Err g c =
 
 pub returns-in-Ok : goal.returns-in-Ok
 returns-in-Ok g c =
-    let s : IsSound c.args.self.now = subst IsSound c.self.view_is c.self.invariant.sound in
-    record {
-      answer = search rules;
-      after = grind (arith, common_steps);
-      sound = sound_as (after_admit (as_nanos c.args.now) c.args.id c.args.value c.args.self.now)
-          (grind (arith, common_steps)) (sound_admit (as_nanos c.args.now) c.args.id c.args.value s);
-    }
+    is_admission _ _ _ _ _ _ (subst IsSound c.self.view_is c.self.invariant.sound) (search rules) (grind (arith, common_steps))
 
 pub returns-in-Err : goal.returns-in-Err
 returns-in-Err g c =
-    let s : IsSound c.args.self.now = subst IsSound c.self.view_is c.self.invariant.sound in
-    record {
-      answer = search rules;
-      after = search rules;
-      sound = sound_as (after_admit (as_nanos c.args.now) c.args.id c.args.value c.args.self.now)
-          (grind (arith, common_steps)) (sound_admit (as_nanos c.args.now) c.args.id c.args.value s);
-    }
+    is_admission _ _ _ _ _ _ (subst IsSound c.self.view_is c.self.invariant.sound) (search rules) (search rules)
 
 pub admit-requires : goal.admit-requires
 admit-requires g c =

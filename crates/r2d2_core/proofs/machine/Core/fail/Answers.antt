@@ -4,7 +4,8 @@ use Rattle.std.specs.Duration.{as_nanos}
 use Rattle.r2d2_core.specs.Picture.{IsSound}
 use Rattle.r2d2_core.specs.Table.{after_fail}
 use Rattle.r2d2_core.proofs.Facts.Sounds.{sound_fail}
-use Rattle.r2d2_core.proofs.Facts.Wholes.{whole, sound_as}
+use Rattle.r2d2_core.proofs.Facts.Wholes.{whole}
+use Rattle.r2d2_core.proofs.Facts.Steps.{is_failed_opening}
 use Rattle.r2d2_core.proofs.machine.Core.fail.Goals as goal
 
 pub invariant_of-self : goal.invariant_of-self
@@ -27,20 +28,8 @@ invariant_of-self-in-Err-2 g c =
 
 pub returns-in-Ok : goal.returns-in-Ok
 returns-in-Ok g c =
-    let s : IsSound c.args.self.now = subst IsSound c.self.view_is c.self.invariant.sound in
-    record {
-      answer = search rules;
-      after = search rules;
-      sound = sound_as (after_fail (as_nanos c.args.now) c.args.tries c.args.text c.args.self.now)
-          (grind (arith, common_steps)) (sound_fail (as_nanos c.args.now) c.args.tries c.args.text s);
-    }
+    is_failed_opening _ _ _ _ _ _ (subst IsSound c.self.view_is c.self.invariant.sound) (search rules) (search rules)
 
 pub returns-in-Err : goal.returns-in-Err
 returns-in-Err g c =
-    let s : IsSound c.args.self.now = subst IsSound c.self.view_is c.self.invariant.sound in
-    record {
-      answer = search rules;
-      after = search rules;
-      sound = sound_as (after_fail (as_nanos c.args.now) c.args.tries c.args.text c.args.self.now)
-          (grind (arith, common_steps)) (sound_fail (as_nanos c.args.now) c.args.tries c.args.text s);
-    }
+    is_failed_opening _ _ _ _ _ _ (subst IsSound c.self.view_is c.self.invariant.sound) (search rules) (search rules)

@@ -6,7 +6,8 @@ use Rattle.r2d2_core.specs.Connections.{id_of_lent}
 use Rattle.r2d2_core.specs.Picture.{IsSound}
 use Rattle.r2d2_core.specs.Table.{after_check}
 use Rattle.r2d2_core.proofs.Facts.Sounds.{sound_check}
-use Rattle.r2d2_core.proofs.Facts.Wholes.{whole, sound_as}
+use Rattle.r2d2_core.proofs.Facts.Wholes.{whole}
+use Rattle.r2d2_core.proofs.Facts.Steps.{is_failed_check}
 use Rattle.r2d2_core.proofs.Facts.Apart.{lent_once}
 use Rattle.r2d2_core.proofs.machine.Core.fail_check.Goals as goal
 
@@ -18,13 +19,7 @@ invariant_of-self g c =
 
 pub returns-in-Some : goal.returns-in-Some
 returns-in-Some g c =
-    let s : IsSound c.args.self.now = subst IsSound c.self.view_is c.self.invariant.sound in
-    record {
-      answer = search rules;
-      after = search rules;
-      sound = sound_as (after_check (as_nanos c.args.now) c.args.id c.args.text c.args.self.now)
-          (grind (arith, common_steps)) (sound_check (as_nanos c.args.now) c.args.id c.args.text s);
-    }
+    is_failed_check _ _ _ _ _ _ (subst IsSound c.self.view_is c.self.invariant.sound) (search rules) (search rules)
 
 pub remove-requires : goal.remove-requires
 remove-requires g c =

@@ -6,7 +6,8 @@ use Rattle.r2d2_core.specs.Connections.{id_of_lent}
 use Rattle.r2d2_core.specs.Picture.{IsSound}
 use Rattle.r2d2_core.specs.Table.{after_return}
 use Rattle.r2d2_core.proofs.Facts.Sounds.{sound_return}
-use Rattle.r2d2_core.proofs.Facts.Wholes.{whole, sound_as}
+use Rattle.r2d2_core.proofs.Facts.Wholes.{whole}
+use Rattle.r2d2_core.proofs.Facts.Steps.{is_return}
 use Rattle.r2d2_core.proofs.Facts.Apart.{lent_once}
 use Rattle.r2d2_core.proofs.machine.Core.put_back.Goals as goal
 
@@ -24,23 +25,11 @@ invariant_of-self-else-is_closed g c =
 
 pub returns-then-is_closed : goal.returns-then-is_closed
 returns-then-is_closed g c =
-    let s : IsSound c.args.self.now = subst IsSound c.self.view_is c.self.invariant.sound in
-    record {
-      answer = search rules;
-      after = search rules;
-      sound = sound_as (after_return (as_nanos c.args.now) c.args.id c.args.value c.args.broken c.args.self.now)
-          (grind (arith, common_steps)) (sound_return (as_nanos c.args.now) c.args.id c.args.value c.args.broken s);
-    }
+    is_return _ _ _ _ _ _ _ (subst IsSound c.self.view_is c.self.invariant.sound) (search rules) (search rules)
 
 pub returns-else-is_closed : goal.returns-else-is_closed
 returns-else-is_closed g c =
-    let s : IsSound c.args.self.now = subst IsSound c.self.view_is c.self.invariant.sound in
-    record {
-      answer = search rules;
-      after = grind (arith, common_steps);
-      sound = sound_as (after_return (as_nanos c.args.now) c.args.id c.args.value c.args.broken c.args.self.now)
-          (grind (arith, common_steps)) (sound_return (as_nanos c.args.now) c.args.id c.args.value c.args.broken s);
-    }
+    is_return _ _ _ _ _ _ _ (subst IsSound c.self.view_is c.self.invariant.sound) (search rules) (grind (arith, common_steps))
 
 pub remove-requires : goal.remove-requires
 remove-requires g c =

@@ -4,7 +4,8 @@ use Rattle.std.specs.Duration.{as_nanos}
 use Rattle.r2d2_core.specs.Picture.{IsSound}
 use Rattle.r2d2_core.specs.Table.{after_take}
 use Rattle.r2d2_core.proofs.Facts.Sounds.{sound_take}
-use Rattle.r2d2_core.proofs.Facts.Wholes.{whole, sound_as}
+use Rattle.r2d2_core.proofs.Facts.Wholes.{whole}
+use Rattle.r2d2_core.proofs.Facts.Steps.{is_take}
 use Rattle.r2d2_core.proofs.machine.Core.take.Goals as goal
 
 pub invariant_of-self : goal.invariant_of-self
@@ -21,20 +22,8 @@ invariant_of-self-in-None g c =
 
 pub returns-in-Some : goal.returns-in-Some
 returns-in-Some g c =
-    let s : IsSound c.args.self.now = subst IsSound c.self.view_is c.self.invariant.sound in
-    record {
-      answer = grind (arith, common_steps);
-      after = grind (arith, common_steps);
-      sound = sound_as (after_take (as_nanos c.args.now) c.args.or_order c.args.self.now)
-          (grind (arith, common_steps)) (sound_take (as_nanos c.args.now) c.args.or_order s);
-    }
+    is_take _ _ _ _ _ (subst IsSound c.self.view_is c.self.invariant.sound) (grind (arith, common_steps)) (grind (arith, common_steps))
 
 pub returns-in-None : goal.returns-in-None
 returns-in-None g c =
-    let s : IsSound c.args.self.now = subst IsSound c.self.view_is c.self.invariant.sound in
-    record {
-      answer = grind (arith, common_steps);
-      after = grind (arith, common_steps);
-      sound = sound_as (after_take (as_nanos c.args.now) c.args.or_order c.args.self.now)
-          (grind (arith, common_steps)) (sound_take (as_nanos c.args.now) c.args.or_order s);
-    }
+    is_take _ _ _ _ _ (subst IsSound c.self.view_is c.self.invariant.sound) (grind (arith, common_steps)) (grind (arith, common_steps))

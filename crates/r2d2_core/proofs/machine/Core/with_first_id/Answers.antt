@@ -1,14 +1,15 @@
-use Rattle.std.proofs.Common.{rules, ◌≤◌, arith}
+use Rattle.std.proofs.Common.{rules, arith}
 use Rattle.std.proofs.lemmas.Grind.{common_steps}
 use Rattle.std.specs.Duration.{as_nanos}
-use Rattle.r2d2_core.specs.Limits.{seen_limits, wanted_of}
+use Rattle.r2d2_core.specs.Limits.{seen_limits}
 use Rattle.r2d2_core.specs.Table.{first_picture}
 use Rattle.r2d2_core.proofs.Facts.Sounds.{sound_first}
 use Rattle.r2d2_core.proofs.Facts.Wholes.{whole}
+use Rattle.r2d2_core.proofs.Facts.Legal.{legal}
 use Rattle.r2d2_core.proofs.machine.Core.with_first_id.Goals as goal
 
 pub invariant_of-result : goal.invariant_of-result
 invariant_of-result g c =
-    let le : wanted_of (seen_limits c.args.limits) ≤ (seen_limits c.args.limits).max_size = search rules in
+    let le = legal c.args.limits in
     whole (first_picture (seen_limits c.args.limits) (as_nanos c.args.now) c.args.first_id) (grind (arith, common_steps))
     (sound_first (seen_limits c.args.limits) (as_nanos c.args.now) c.args.first_id le) (search rules)
