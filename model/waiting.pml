@@ -1,6 +1,17 @@
 /* Who waits in a pool, and who wakes whom: the code of crates/r2d2/src/pool, as Spin can look at all of its
    interleavings. Each step names the function that it stands for. `tools/model` runs it, over a table of sizes and
-   with each of the wrong bodies that stand here as switches. docs/RULES.md tells what is found.
+   with each of the wrong bodies that stand here as switches, which it has to find.
+
+   Spin finds no state
+   - where nobody can go on and a caller or a drain sleeps, unless one who stays has what it waits for; once the pool
+     is closed, no caller sleeps;
+   - where nobody can go on and a worker rests while an opening is due, or after the close;
+   - where connections and pending openings exceed `max_size`, or too few are idle or pending;
+   - where more wait than `max_waiting` allows;
+   - in line, where a caller takes while one that began to wait before it has no idle connection of its own, or where one
+     whose turn it is was not told.
+   It also finds that three wakes are not needed, the two of a reap and an eviction's of the callers: they are kept for
+   one common rule.
 
    A step under the lock is one atomic block, and the wakes that follow it are blocks of their own, since the lock is
    free by then. Callers make any number of calls, openings fail any number of times, connections come back sound or

@@ -196,5 +196,5 @@ def tried():
         with tempfile.TemporaryDirectory() as folder:
             try_a_build(folder)
         try_streams()
-        TALLY.check_runs_of("POOL-STEPS.md")
+        TALLY.check_runs_of("TOOLS.md")
     return TALLY
