@@ -8,7 +8,7 @@ use crate::outcome::Outcome;
 use crate::pools::Pools;
 use crate::spread;
 use crate::unescaping::unescaped;
-use pool_reports::{FromJsonError, Written, audit, from_json_of_pool};
+use pool_reports::{FromJsonError, Reading, Written, from_json_of_pool};
 use serde::Serialize;
 use std::alloc::{AllocError, Global};
 use std::io::{BufRead, BufReader, BufWriter, ErrorKind, Read, Write};
@@ -191,10 +191,10 @@ impl<'a, W: Write + Drop> Task<'a, W> {
         if self.asked.pool.is_some() && self.asked.pool != written.name.as_deref() {
             return Ok(self.leave_out(&written)?);
         }
-        let verdict = audit(alloc, &written.report)?;
+        let (verdict, reading) = Reading::audited(alloc, &written.report)?;
         self.tally.reports = self.tally.reports.saturating_add(1);
         let pool = self.pools.pool_of(alloc, &written)?;
-        let summary = pool.summary_of(alloc, &written, verdict)?;
+        let summary = pool.summary_of(alloc, &written, verdict, &reading)?;
         let judged = Judged {
             line,
             written,

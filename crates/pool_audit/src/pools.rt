@@ -2,7 +2,7 @@
 
 use crate::judged::Judged;
 use pool_reports::story::story_to_json;
-use pool_reports::{Calls, Summary, Verdict, Written, summarize};
+use pool_reports::{Calls, Reading, Summary, Verdict, Written};
 use serde_json::to_string;
 use std::alloc::{AllocError, Global};
 use std::time::SystemTime;
@@ -40,6 +40,7 @@ impl Pool {
         alloc: Global,
         written: &Written,
         verdict: Verdict,
+        reading: &Reading,
     ) -> Result<Option<Summary>, AllocError> {
         if matches!(
             verdict,
@@ -49,7 +50,7 @@ impl Pool {
         }
         let earlier = self.earlier(written);
         let origin = written.origin();
-        let summary = summarize(alloc, &written.report, &origin, earlier.as_ref())?;
+        let summary = reading.summary(alloc, &written.report, &origin, earlier.as_ref())?;
         self.made_at = written.made_at;
         if let Some(status) = &written.status {
             let calls = Calls::of(written.report.takes, status, summary.until);

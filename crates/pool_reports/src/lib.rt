@@ -24,7 +24,7 @@ pub use error::FromJsonError;
 pub use origin::{Origin, Written};
 pub use reading::{from_json, from_json_of_pool};
 pub use status::{PoolStatus, Waits};
-pub use summary::{Concern, Loan, State, Summary, summarize};
+pub use summary::{Concern, Loan, Reading, State, Summary, summarize};
 pub use verdict::{
     BaseReason, CountsReason, MakingReason, RecordReason, StarvedReason, Verdict, audit,
 };

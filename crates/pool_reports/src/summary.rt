@@ -1,13 +1,16 @@
 // What is asked first of a report.
-ghost use Rattle.std.specs.Prelude.{◌≡◌, ◌+◌, ◌-◌, ◌≤◌, map, IfOk, IfSome, IsSomeAnd};
+ghost use Rattle.std.specs.Prelude.{◌≡◌, ◌↔◌, ◌+◌, ◌-◌, ◌≤◌, map, IfOk, IfSome, IsSomeAnd};
 ghost use Rattle.std.specs.Duration.{as_nanos};
-ghost use Rattle.r2d2_core.specs.Reports.{seen_records};
+ghost use Rattle.r2d2_core.specs.Reports.{seen_records, IsSoundReport};
 ghost use Rattle.pool_reports.specs.Summaries.{opened_in, closed_in, FailNobody};
+ghost use Rattle.pool_reports.specs.Verdicts.{IsVerdictOn};
+ghost use Rattle.pool_reports.specs.declared.verdict.Verdict.TheVariants.{Sound};
 ghost use Rattle.pool_reports.specs.declared.summary.concern.State.TheVariants.{Well};
 
 use crate::calls::Calls;
 use crate::origin::Origin;
 use crate::status::PoolStatus;
+use crate::verdict::{Verdict, audit_on};
 use crate::walk::Walk;
 use crate::{counting, nanoseconds};
 pub use concern::{Concern, State};
@@ -107,6 +110,80 @@ impl Summary {
     }
 }
 
+/// What was read of a report on one walk, of which a summary is made.
+#[derive(Drop)]
+pub struct Reading {
+    figures: Figures,
+    walk: Walk,
+}
+
+impl Reading {
+    fn of<A: Allocator>(alloc: Global, report: &Report<A>) -> Result<Reading, AllocError> {
+        let mut figures = Figures::none();
+        let walk = Walk::through(alloc, report, &mut figures)?;
+        Ok(Reading { figures, walk })
+    }
+
+    /// What `audit` finds, and what was read on its walk.
+    pub fn audited(alloc: Global, report: &Report) -> Result<(Verdict, Reading), AllocError>
+        ensures on { IfOk result (λ found. IsVerdictOn found.0 report.now) }
+        ensures sound { IfOk result (λ found. (found.0 ≡ Sound) ↔ IsSoundReport report.now) }
+    {
+        let mut figures = Figures::none();
+        let mut walk = Walk::begun(alloc, report)?;
+        let verdict = audit_on(alloc, report, &mut walk, &mut figures)?;
+        Ok((verdict, Reading { figures, walk }))
+    }
+
+    /// As `summarize`, of the report that was read.
+    pub fn summary<A: Allocator>(
+        &self,
+        alloc: Global,
+        report: &Report<A>,
+        origin: &Origin<'_>,
+        earlier: Option<&Calls>,
+    ) -> Result<Summary, AllocError>
+        ensures opened { IfOk result (λ s. s.opened ≡ opened_in (seen_records report.now)) }
+        ensures closed { IfOk result (λ s. s.closed ≡ closed_in (seen_records report.now)) }
+        ensures reaped { IfOk result
+            (λ s. s.reaped
+            ≡ (report.now.base.connections + opened_in (seen_records report.now))
+            - (closed_in (seen_records report.now) + report.now.connections)) }
+        ensures lent { IfOk result (λ s. map (λ l. l.id) s.lent.items ≡ report.now.lent.items) }
+        ensures pending { IfOk result (λ s. s.pending ≡ report.now.pending) }
+        ensures until { IfOk result
+            (λ s. IfSome origin.now.reported_at (λ moment. as_nanos moment ≤ as_nanos s.until)) }
+        ensures status { IfOk result (λ s. s.status ≡ origin.now.status) }
+    {
+        let records = report.records.as_slice();
+        let (opened, closed) = (counting::opened(records), counting::closed(records));
+        let came = report.base.connections as u128 + opened as u128;
+        let left = closed as u128 + report.connections as u128;
+        let lent = loans(alloc, report.lent.as_slice(), &self.walk, origin.loans)?;
+        let until = self.walk.until(origin.reported_at);
+        Ok(Summary {
+            from: report.base.at,
+            until,
+            patience: patience(report, origin.status),
+            max_size: report.limits.max_size(),
+            most_lent: self.figures.most_lent,
+            exhausted: self.walk.load.exhausted_until(until),
+            longest_exhaustion: self.figures.longest_until(until),
+            exhausted_since: self.figures.exhausted_since,
+            opening_since: self.figures.opening_since,
+            pending: report.pending,
+            opened,
+            closed,
+            closed_early: self.figures.closed_early,
+            returned: self.figures.returned,
+            reaped: came.saturating_sub(left) as u64,
+            lent,
+            calls: calls(report.takes, origin.status, until, earlier),
+            status: origin.status,
+        })
+    }
+}
+
 /// What a report says of the time that it covers: up to the moment of the report, where that is
 /// known, since what was so at the last record is so until then. Of a report that does not replay
 /// it says as much as its records do. `origin` is what the service told besides; `earlier` is what
@@ -133,34 +210,7 @@ pub fn summarize<A: Allocator>(
         (λ s. IfSome origin.now.reported_at (λ moment. as_nanos moment ≤ as_nanos s.until)) }
     ensures status { IfOk result (λ s. s.status ≡ origin.now.status) }
 {
-    let mut figures = Figures::none();
-    let walk = Walk::through(alloc, report, &mut figures)?;
-    let records = report.records.as_slice();
-    let (opened, closed) = (counting::opened(records), counting::closed(records));
-    let came = report.base.connections as u128 + opened as u128;
-    let left = closed as u128 + report.connections as u128;
-    let lent = loans(alloc, report.lent.as_slice(), &walk, origin.loans)?;
-    let until = walk.until(origin.reported_at);
-    Ok(Summary {
-        from: report.base.at,
-        until,
-        patience: patience(report, origin.status),
-        max_size: report.limits.max_size(),
-        most_lent: figures.most_lent,
-        exhausted: walk.load.exhausted_until(until),
-        longest_exhaustion: figures.longest_until(until),
-        exhausted_since: figures.exhausted_since,
-        opening_since: figures.opening_since,
-        pending: report.pending,
-        opened,
-        closed,
-        closed_early: figures.closed_early,
-        returned: figures.returned,
-        reaped: came.saturating_sub(left) as u64,
-        lent,
-        calls: calls(report.takes, origin.status, until, earlier),
-        status: origin.status,
-    })
+    Reading::of(alloc, report)?.summary(alloc, report, origin, earlier)
 }
 
 // How long a caller waits at most. Under a longest delay between openings, the limits have that in

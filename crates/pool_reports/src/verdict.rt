@@ -4,10 +4,11 @@ ghost use Rattle.pool_reports.specs.declared.verdict.Verdict.TheVariants.{Sound}
 ghost use Rattle.r2d2_core.specs.Reports.{IsSoundReport};
 ghost use Rattle.pool_reports.specs.Verdicts.{IsVerdictOn};
 
+use crate::walk::{Reader, Walk};
 pub use base::BaseReason;
 pub use counts::CountsReason;
 pub use kept::{MakingReason, StarvedReason};
-use r2d2_core::{Fault, Report};
+use r2d2_core::{Fault, Record, Report};
 pub use record::RecordReason;
 use std::alloc::{AllocError, Global};
 use std::fmt;
@@ -58,16 +59,40 @@ impl fmt::Display for Verdict {
     }
 }
 
+// Who reads nothing, as where only the verdict is asked for.
+#[derive(Clone, Copy)]
+struct Nobody;
+
+impl Reader for Nobody {
+    fn read(&mut self, _: &Walk, _: Option<&Record>) -> Result<(), AllocError> {
+        Ok(())
+    }
+}
+
 /// Audits a report: whether it has all that a pool promises of each of its reports, and if it has
 /// not, what is wrong first.
 ///
-/// It takes about the time and the memory of `Report::first_fault`. The error comes only where
-/// memory is refused.
+/// It takes about the time and the memory of `Report::first_fault` and of a summary. The error
+/// comes only where memory is refused.
 pub fn audit(alloc: Global, report: &Report) -> Result<Verdict, AllocError>
     ensures on { IfOk result (λ verdict. IsVerdictOn verdict report.now) }
     ensures sound { IfOk result (λ verdict. (verdict ≡ Sound) ↔ IsSoundReport report.now) }
 {
-    let Some(fault) = report.first_fault()? else {
+    let mut walk = Walk::begun(alloc, report)?;
+    audit_on(alloc, report, &mut walk, &mut Nobody)
+}
+
+/// The same on a walk from the base, which has a reader.
+pub(crate) fn audit_on<R: Reader>(
+    alloc: Global,
+    report: &Report,
+    walk: &mut Walk,
+    reader: &mut R,
+) -> Result<Verdict, AllocError>
+    ensures on { IfOk result (λ verdict. IsVerdictOn verdict report.now) }
+    ensures sound { IfOk result (λ verdict. (verdict ≡ Sound) ↔ IsSoundReport report.now) }
+{
+    let Some(fault) = walk.audit(report, reader)? else {
         return Ok(kept::verdict(report));
     };
     Ok(match fault {

@@ -1,9 +1,11 @@
 // The one way through the records of a report: what stood before each, and what stands after it.
-ghost use Rattle.std.specs.Prelude.{◌≡◌, max, None, IfSome};
+ghost use Rattle.std.specs.Prelude.{◌≡◌, max, None, IfSome, IfOk, MatchOption};
 ghost use Rattle.std.specs.Duration.{as_nanos};
+ghost use Rattle.r2d2_core.specs.Reports.{DoesReplay};
+ghost use Rattle.r2d2_core.specs.Faults.{IsFault};
 
 use crate::story::Use;
-use r2d2_core::{Limits, Load, Record, Report};
+use r2d2_core::{Fault, Limits, Load, Record, Report};
 use std::alloc::{AllocError, Allocator, Global};
 use std::collections::BTreeMap;
 use std::time::Duration;
@@ -57,13 +59,36 @@ impl Walk {
         let mut walk = Walk::begun(alloc, report)?;
         reader.read(&walk, None)?;
         for record in &report.records {
-            walk.follow(record)?;
-            reader.read(&walk, Some(record))?;
+            walk.step(record, reader)?;
         }
         Ok(walk)
     }
 
-    fn begun<A: Allocator>(alloc: Global, report: &Report<A>) -> Result<Walk, AllocError> {
+    /// The same from the base on, where a replay goes along: what is wrong first in the report. It
+    /// takes the memory of `Report::first_fault` besides.
+    pub(crate) fn audit<R: Reader>(
+        &mut self,
+        report: &Report,
+        reader: &mut R,
+    ) -> Result<Option<Fault>, AllocError>
+        ensures { IfOk result
+            (λ found. MatchOption found (DoesReplay report.now)
+            (λ fault. IsFault fault report.now)) }
+    {
+        let mut replay = report.replay()?;
+        reader.read(self, None)?;
+        for record in &report.records {
+            replay.follow(report);
+            self.step(record, reader)?;
+        }
+        replay.fault(report)
+    }
+
+    /// What stands at the base.
+    pub(crate) fn begun<A: Allocator>(
+        alloc: Global,
+        report: &Report<A>,
+    ) -> Result<Walk, AllocError> {
         let load = Load::of(report.limits, &report.base);
         let mut walk = Walk {
             before: load,
@@ -86,6 +111,11 @@ impl Walk {
             self.come(*id, (*birth).min(self.load.at), Use::Lent, None)?;
         }
         Ok(())
+    }
+
+    fn step<R: Reader>(&mut self, record: &Record, reader: &mut R) -> Result<(), AllocError> {
+        self.follow(record)?;
+        reader.read(self, Some(record))
     }
 
     fn follow(&mut self, record: &Record) -> Result<(), AllocError> {

@@ -9,6 +9,7 @@ pub mod Moments
 pub mod Counting
 pub mod Keeping
 pub mod Auditing
+pub mod Following
 pub mod Beside
 pub mod Books
 pub mod Listing

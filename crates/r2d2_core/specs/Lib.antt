@@ -39,3 +39,4 @@ pub mod Reports
 pub mod Loads
 pub mod Auditing
 pub mod Faults
+pub mod Replays

@@ -31,7 +31,7 @@ pub mod run;
 pub mod schedule;
 pub mod steps;
 
-pub use journal::{Base, Book, Fault, Load, Record, Report};
+pub use journal::{Base, Book, Fault, Load, Record, Replay, Report};
 pub use machine::{Core, Gone, Leftover, Refusal, Released, Returned, Take};
 pub use run::{Answer, Step};
 pub use schedule::{Job, LendingOrder, LimitSettings, Limits, Schedule};

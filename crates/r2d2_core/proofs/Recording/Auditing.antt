@@ -30,6 +30,7 @@ use Rattle.r2d2_core.specs.declared.journal.running_base.Rooms.{Rooms}
 use Rattle.r2d2_core.specs.declared.journal.replaying.Wrong.{Wrong}
 use Rattle.r2d2_core.specs.declared.journal.replaying.Wrong.TheVariants as wrong
 use Rattle.r2d2_core.specs.Faults.{IsWrong, IsFirstWrong, AreApartUpTo}
+use Rattle.r2d2_core.specs.Replays.{IsFollowing}
 use Rattle.r2d2_core.proofs.Recording.Folding.{both, split, is_le, legal_folded, known_folded, known_first, replay-push, follow-push}
 use Rattle.r2d2_core.proofs.Lists.Ids.{copies_of-append}
 use Rattle.r2d2_core.proofs.Recording.Replaying.{le_is}
@@ -220,15 +221,6 @@ copies-permutation i xs ys h = IsPermutation-keeps xs (λ (l : List ℕ). copies
     (λ l p q lp lq e. copies-swap i l p q lp lq ∙ e) ys h
 
 -- RECORDS
-
--- after so many records
-pub record IsFollowing (limits : LimitSettings) (rs : List SeenRecord) (b : SeenBase) (k : ℕ) (now : SeenBase) (room : Rooms) : Type 0 where
-  pub legal : IsLegalBase limits now
-  pub apart : (i : ℕ) → copies_of i (known_in now (drop k rs)) ≤ 1
-  pub idle_room : length now.idle + made_idle_in (drop k rs) ≤ room.idle
-  pub lent_room : length now.lent + made_lent_in (drop k rs) ≤ room.lent
-  pub may : all_follow limits (take k rs) b ≡ true
-  pub folds : replay limits (take k rs) b ≡ now
 
 fewer_step : {X : Type 0} (c : Bool) (x : X) (xs ws : List X) → length ws ≤ length xs → length (cond c xs (x ∷ ws)) ≤ suc (length xs)
 fewer_step true x xs ws le = omega arith

@@ -7,7 +7,6 @@ ghost use Rattle.r2d2_core.specs.Reports.{seen_base, seen_records, DoesReplay};
 ghost use Rattle.r2d2_core.specs.Faults.{IsFault};
 
 use super::base::Base;
-use super::replaying::Wrong;
 use super::report::Report;
 use std::alloc::{AllocError, Allocator, Global};
 
@@ -35,24 +34,11 @@ impl<A: Allocator> Report<A> {
         ensures { IfOk result
             (λ found. MatchOption found (DoesReplay self.now) (λ fault. IsFault fault self.now)) }
     {
-        let Some(wrong) = self.first_wrong()? else {
-            return Ok(None);
-        };
-        let fault = match wrong {
-            Wrong::Base => Fault::Base,
-            Wrong::Record(place) => Fault::Record {
-                place,
-                before: self.after(place)?,
-            },
-            Wrong::Counts => Fault::Counts {
-                end: self.after(self.records.len())?,
-            },
-        };
-        Ok(Some(fault))
+        self.replayed()?.fault(self)
     }
 
-    // What so many records come to, where they are legal.
-    fn after(&self, count: usize) -> Result<Base<A>, AllocError>
+    /// What so many records come to, where they are legal.
+    pub(super) fn after(&self, count: usize) -> Result<Base<A>, AllocError>
     where
         A: Copy,
         requires within { count ≤ length self.now.records.items }

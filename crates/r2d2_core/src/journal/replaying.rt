@@ -57,25 +57,11 @@ impl<A: Allocator> Report<A> {
         ensures { IfOk result
             (λ found. MatchOption found (DoesReplay self.now) (λ wrong. IsWrong wrong self.now)) }
     {
-        let records = self.records.as_slice();
-        let Some(apart) = self.count_apart()? else {
-            return Ok(Some(Wrong::Base));
-        };
-        let Some(mut running_base) = self.start(&records[..apart])? else {
-            return Ok(Some(Wrong::Base));
-        };
-        let followed = running_base.follow_all(&self.limits, &records[..apart]);
-        if followed < records.len() {
-            return Ok(Some(Wrong::Record(followed)));
-        }
-        if !self.shows(&running_base) {
-            return Ok(Some(Wrong::Counts));
-        }
-        Ok(None)
+        Ok(self.replayed()?.wrong(self))
     }
 
-    // How many records admit no id that was there before. None where ids of the base are the same.
-    fn count_apart(&self) -> Result<Option<usize>, AllocError>
+    /// How many records admit no id that was there before. None where ids of the base are the same.
+    pub(super) fn count_apart(&self) -> Result<Option<usize>, AllocError>
     where
         A: Copy,
         ensures { IfOk result
@@ -134,8 +120,8 @@ impl<A: Allocator> Report<A> {
         RunningBase::of(*self.records.allocator(), &self.base, room)
     }
 
-    // Whether the ids and counts are those of what stands.
-    fn shows(&self, running_base: &RunningBase<A>) -> bool
+    /// Whether the ids and counts are those of what stands.
+    pub(super) fn shows(&self, running_base: &RunningBase<A>) -> bool
         ensures { IsTrue result ↔ ShowsCounts running_base.now.base self.now }
     {
         running_base.has_ids(self.idle.as_slice(), self.lent.as_slice())

@@ -3,7 +3,8 @@ use Rattle.r2d2_core.specs.Limits.{seen_limits}
 use Rattle.r2d2_core.specs.Records.{seen_record}
 use Rattle.r2d2_core.specs.Folding.{may_follow, all_follow}
 use Rattle.r2d2_core.specs.RunningBase.{SeenRunningBase}
-use Rattle.r2d2_core.proofs.Recording.Auditing.{IsFollowing, some_record, seen_next, seen_taken, following_fits, following_stop, following_more}
+use Rattle.r2d2_core.specs.Replays.{IsFollowing}
+use Rattle.r2d2_core.proofs.Recording.Auditing.{some_record, seen_next, seen_taken, following_fits, following_stop, following_more}
 use Rattle.r2d2_core.proofs.journal.running_base.RunningBase.follow_all.Goals as goal
 
 pub follow-requires-clause-idle_room : goal.follow-requires-clause-idle_room
