@@ -1,5 +1,5 @@
-// A manager, a customizer and handlers of which one calls back into its own pool: docs/CALLING.md
-// has the table of what may be called from where, and this judges each row of it.
+// A manager, a customizer and handlers of which one calls back into its own pool: docs/GUIDE.md,
+// "Handlers", says what may be called from where, and this judges each of it.
 
 use crate::judged::{Host, Seen, Stopwatch, add, choose, of};
 use crate::lines::Blammo;

@@ -319,5 +319,5 @@ def tried():
         try_reports()
         try_files_that_would_be_lost(read("crates", "pool_audit", "stdin").splitlines(keepends=True)[0])
         try_streams()
-        TALLY.check_runs_of("JOURNAL.md")
+        TALLY.check_runs_of("OPERATING.md")
     return TALLY
