@@ -81,6 +81,8 @@ mod telling;
 #[cfg(test)]
 mod threads;
 #[cfg(test)]
+mod timeless;
+#[cfg(test)]
 mod too_many;
 #[cfg(test)]
 mod waking;

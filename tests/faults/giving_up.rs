@@ -2,8 +2,10 @@
 // lasted, and how many waited before it in line.
 
 use crate::kind::IN_LINE;
+use crate::play::watched;
 use crate::server::{CHECK, Place, PoolOf};
 use r2d2::{Error, ErrorKind, PoolRuntime, Status};
+use std::sync::atomic::Ordering;
 use std::test::Fail;
 use std::thread;
 use std::time::Duration;
@@ -43,6 +45,36 @@ fn a_call_that_waited_tells_what_it_saw(rt: HostRuntime) -> Result<(), Fail> {
     drop(other);
     assert!(rt; patient.join(&rt).is_none());
     assert!(rt; later.join(&rt).is_none());
+    Ok(())
+}
+
+// A call with two seconds in a thread: whether its error has this text.
+fn is_told<R: PoolRuntime>(pool: PoolOf<R>, text: &'static str) -> bool {
+    match pool.get_timeout(Duration::from_secs(2)) {
+        Ok(_) => false,
+        Err(error) => error.message() == Some(text),
+    }
+}
+
+// The only connection comes back broken, and the server does not answer the opening that one caller
+// waits for. Another one, behind it, gives up.
+#[test]
+fn who_gives_up_behind_others_tells_why(rt: HostRuntime) -> Result<(), Fail> {
+    let place = Place::new(rt, 1, |settings| settings)?;
+    let lent = place.pool.get()?;
+    place.server.broken.store(1, Ordering::SeqCst);
+    let patient = place.pool.try_clone()?;
+    let patient = thread::spawn(&rt, move || told(patient, Duration::from_secs(1000)))?;
+    assert!(rt; place.once_waiting(1));
+    drop(lent);
+    assert!(rt; watched(&rt, &place.server.opened, 2, 500) >= 2);
+    let hasty = place.pool.try_clone()?;
+    let hasty = thread::spawn(&rt, move || is_told(hasty, "silence"))?;
+    assert!(rt; place.once_waiting(2));
+    place.hand.set(10, 0);
+    assert!(rt; hasty.join(&rt));
+    place.pool.close();
+    assert!(rt; patient.join(&rt).is_none());
     Ok(())
 }
 

@@ -167,8 +167,18 @@ fn three_idle<V: HandleEvent + 'static, R: PoolRuntime>(
 // What a call with so many seconds comes to, where each check takes five: its error's text, and
 // how many were checked.
 fn checked<R: PoolRuntime>(rt: R, seconds: u64, text: &str) -> Result<u64, Fail> {
+    checked_with(rt, Builder::new(), seconds, text)
+}
+
+// The same, with these settings.
+fn checked_with<R: PoolRuntime>(
+    rt: R,
+    settings: Settings<NopEventHandler, R>,
+    seconds: u64,
+    text: &str,
+) -> Result<u64, Fail> {
     let (hand, server) = (Hand::new(rt)?, server(rt, 3, u64::MAX)?);
-    let place = three_idle(hand, server, Builder::new())?;
+    let place = three_idle(hand, server, settings)?;
     let came = place.pool.get_timeout(Duration::from_secs(seconds));
     let error = came.err().ok_or("a connection")?;
     place.server.openings.store(u64::MAX, Ordering::SeqCst);
@@ -185,6 +195,15 @@ fn a_call_gives_up_after_the_check_in_which_its_time_ends(rt: HostRuntime) -> Re
     assert_eq!(rt; checked(rt, 5, "check 0")?, 1);
     assert_eq!(rt; checked(rt, 6, "check 1")?, 2);
     assert_eq!(rt; checked(rt, 10, "check 1")?, 2);
+    Ok(())
+}
+
+// The pool asks then since when each was idle.
+#[test]
+fn its_text_is_that_of_the_check_whatever_is_asked(rt: HostRuntime) -> Result<(), Fail> {
+    let all = Some(Duration::ZERO);
+    assert_eq!(rt; checked_with(rt, Builder::new().check_after_idle(all), 6, "check 1")?, 2);
+    assert_eq!(rt; checked_with(rt, Builder::new().distrust_idle(true), 4, "check 0")?, 1);
     Ok(())
 }
 

@@ -45,6 +45,8 @@ mod server;
 #[cfg(test)]
 mod since;
 #[cfg(test)]
+mod timeless;
+#[cfg(test)]
 mod too_many;
 #[cfg(test)]
 mod watching;

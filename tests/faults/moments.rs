@@ -30,7 +30,7 @@ struct Notes {
 }
 
 /// A manager and a handler of which some calls set the clock: a check to 20 s, the event of a
-/// lending to 30 s, and that of a return to 60 s.
+/// lending to 30 s, that of a return to 60 s, and a look at whether one is broken to 80 s.
 #[derive(Drop)]
 struct Mover<R> {
     hand: Hand<R>,
@@ -80,6 +80,7 @@ impl<R: PoolRuntime> ManageConnection for Mover<R> {
 
     fn has_broken(&self, _connection: &mut u32) -> bool {
         self.notes.asked_for_broken.fetch_add(1, Ordering::SeqCst);
+        self.hand.set(80, 0);
         false
     }
 }
@@ -107,6 +108,11 @@ impl<R: PoolRuntime> HandleEvent for Mover<R> {
 // A connection is opened for a call at 5 s, lent at 20 s, and detached at 45 s, of which its event
 // makes 60 s. It answers when the connection said that it was lent, and the rest.
 fn detached<R: PoolRuntime>(rt: R) -> Result<(Duration, Arc<Notes>), Fail> {
+    gone(rt, true)
+}
+
+// The same, or it is given back then.
+fn gone<R: PoolRuntime>(rt: R, is_detached: bool) -> Result<(Duration, Arc<Notes>), Fail> {
     let hand = Hand::new(rt)?;
     let notes = Notes {
         told: Mutex::new(Vec::new(rt.alloc())),
@@ -122,7 +128,11 @@ fn detached<R: PoolRuntime>(rt: R) -> Result<(Duration, Arc<Notes>), Fail> {
     let lent = pool.get()?;
     let lent_at = PooledConnection::lent_at(&lent);
     hand.set(45, 0);
-    PooledConnection::detach(lent);
+    if is_detached {
+        PooledConnection::detach(lent);
+    } else {
+        drop(lent);
+    }
     Ok((lent_at, notes))
 }
 
@@ -144,6 +154,16 @@ fn one_is_lent_before_its_event(rt: HostRuntime) -> Result<(), Fail> {
 fn a_detached_one_was_held_since_its_lending(rt: HostRuntime) -> Result<(), Fail> {
     let (_, notes) = detached(rt)?;
     assert!(rt; notes.told.lock(&rt).as_slice().contains(&Told::Held(25)));
+    Ok(())
+}
+
+// Not until it was looked at.
+#[test]
+fn a_returned_one_was_held_until_its_return(rt: HostRuntime) -> Result<(), Fail> {
+    let (_, notes) = gone(rt, false)?;
+    let told = [Told::Waited(15), Told::Held(25)];
+    assert_eq!(rt; notes.told.lock(&rt).as_slice(), told.as_slice());
+    assert_eq!(rt; notes.asked_for_broken.load(Ordering::SeqCst), 1);
     Ok(())
 }
 

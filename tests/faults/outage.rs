@@ -130,6 +130,27 @@ fn a_caller_closes_them_and_is_lent_a_new_one(rt: HostRuntime) -> Result<(), Fai
     Ok(())
 }
 
+// At 11 s the first was idle for ten seconds, and fails its check; at 16 s the second, given back at
+// 9 s, would not need one.
+#[test]
+fn one_that_needs_no_check_is_distrusted_too(rt: HostRuntime) -> Result<(), Fail> {
+    let place = Place::new(rt, 2, |settings| {
+        settings
+            .distrust_idle(true)
+            .check_after_idle(Some(Duration::from_secs(10)))
+            .lending_order(LendingOrder::OldestFirst)
+    })?;
+    place.server.answers.store(0, Ordering::SeqCst);
+    place.return_at(&[1, 9])?;
+    place.hand.set(11, 0);
+    place.dies();
+    assert!(rt; place.pool.try_get()?.is_none());
+    assert_eq!(rt; place.checks(), 1);
+    let wanted = [(0, 16, CheckFailed), (1, 16, Distrusted)];
+    assert_eq!(rt; place.released()?.as_slice(), wanted.as_slice());
+    Ok(())
+}
+
 // The check takes five seconds, and each closing two more. The call has eight.
 #[test]
 fn a_caller_looks_at_its_time_after_each_of_them(rt: HostRuntime) -> Result<(), Fail> {

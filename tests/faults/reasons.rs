@@ -2,9 +2,9 @@
 
 use crate::kind::PooledConnection;
 use crate::server::Place;
+use crate::timeless::Timeless;
 use r2d2::PoolRuntime;
 use r2d2::event::ReleaseReason;
-use std::process::Abort;
 use std::sync::atomic::Ordering;
 use std::test::Fail;
 use std::time::Duration;
@@ -177,7 +177,7 @@ fn without_a_lifetime_none_is_too_old(rt: HostRuntime) -> Result<(), Fail> {
 
 // At which ages connections are closed that all come back each second from 1,600 to 1,800 s, and
 // how many of them in the worst second.
-fn ages<R: PoolRuntime + Abort>(rt: R, jitter: Option<u64>) -> Result<(u64, u64, usize), Fail> {
+fn ages<R: PoolRuntime>(rt: R, jitter: Option<u64>) -> Result<(u64, u64, usize), Fail> {
     let released = closed_at_last(rt, jitter)?;
     let mut worst = 0;
     for second in 1600..1801 {
@@ -190,7 +190,7 @@ fn ages<R: PoolRuntime + Abort>(rt: R, jitter: Option<u64>) -> Result<(u64, u64,
 }
 
 // What is released of 64 connections that all come back each second from 1,600 to 1,800 s.
-fn closed_at_last<R: PoolRuntime + Abort>(
+fn closed_at_last<R: PoolRuntime>(
     rt: R,
     jitter: Option<u64>,
 ) -> Result<Vec<(u64, u64, ReleaseReason)>, Fail> {
@@ -209,12 +209,14 @@ fn closed_at_last<R: PoolRuntime + Abort>(
             lent.push(connection)?;
         }
     }
-    assert_eq!(rt; place.pool.state().connections, 0);
     // What a reap closed is told of later.
     place.once_released(64);
     let released = place.released()?;
     let lifetime = |(_, _, reason): &(u64, u64, ReleaseReason)| *reason == ReleaseReason::Lifetime;
-    assert!(rt; released.iter().all(lifetime) && released.len() == 64);
+    let is_any_left = place.pool.state().connections > 0;
+    if is_any_left || released.len() != 64 || !released.iter().all(lifetime) {
+        return Err(Fail::from("one that is not too old at last"));
+    }
     Ok(released)
 }
 
@@ -223,6 +225,45 @@ fn lifetimes_differ_by_at_most_the_jitter(rt: HostRuntime) -> Result<(), Fail> {
     assert_eq!(rt; ages(rt, None)?, (1800, 1800, 64));
     assert_eq!(rt; ages(rt, Some(0))?, (1800, 1800, 64));
     let (least, most, worst) = ages(rt, Some(180))?;
+    assert!(rt; 1620 <= least && least < 1680);
+    assert!(rt; 1740 < most && most <= 1800);
+    assert!(rt; worst <= 8);
+    Ok(())
+}
+
+// How many of 64 connections are left once all came back at each of these seconds, which have
+// lifetimes from 1,799.6 to 1,800.4 s.
+fn left_of_a_short_jitter<R: PoolRuntime>(rt: R) -> Result<[u32; 3], Fail> {
+    let place = Place::new(rt, 64, |settings| {
+        settings
+            .max_lifetime(Some(Duration::from_millis(1_800_400)))
+            .lifetime_jitter(Duration::from_millis(800))
+    })?;
+    place.server.answers.store(0, Ordering::SeqCst);
+    let mut left = [0; 3];
+    for (second, left) in (1799..1802).zip(left.iter_mut()) {
+        place.hand.set(second, 0);
+        let mut lent = Vec::new(rt.alloc());
+        while let Some(connection) = place.pool.try_get()? {
+            lent.push(connection)?;
+        }
+        drop(lent);
+        *left = place.pool.state().connections;
+    }
+    Ok(left)
+}
+
+#[test]
+fn a_jitter_may_be_less_than_a_second(rt: HostRuntime) -> Result<(), Fail> {
+    let [before, amid, after] = left_of_a_short_jitter(rt)?;
+    assert_eq!(rt; (before, after), (64, 0));
+    assert!(rt; 8 < amid && amid < 56, "{amid}");
+    Ok(())
+}
+
+#[test]
+fn lifetimes_differ_where_no_wall_clock_can_be_read(rt: HostRuntime) -> Result<(), Fail> {
+    let (least, most, worst) = ages(Timeless { rt }, Some(180))?;
     assert!(rt; 1620 <= least && least < 1680);
     assert!(rt; 1740 < most && most <= 1800);
     assert!(rt; worst <= 8);

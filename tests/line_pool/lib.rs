@@ -74,6 +74,8 @@ mod telling;
 #[cfg(test)]
 mod threads;
 #[cfg(test)]
+mod timeless;
+#[cfg(test)]
 mod waking;
 #[cfg(test)]
 mod watching;

@@ -36,6 +36,22 @@ fn known_traffic(rt: HostRuntime) -> Result<(), Fail> {
 }
 
 #[test]
+fn who_had_no_time_to_wait_waited_in_vain(rt: HostRuntime) -> Result<(), Fail> {
+    let metrics = Metrics::new(rt, 1)?;
+    let pool = Builder::new()
+        .max_size(1)
+        .event_handler(metrics.try_clone()?)
+        .make(rt, Sevens)?;
+    let _lent = pool.get()?;
+    assert!(rt; pool.get_timeout(Duration::ZERO).is_err());
+    assert!(rt; pool.get_timeout(Duration::ZERO).is_err());
+    let seen = metrics.snapshot();
+    assert_eq!(rt; (seen.timeouts, seen.vain_waits.count()), (2, 2));
+    assert_eq!(rt; seen.vain_waits.sum(), Duration::ZERO);
+    Ok(())
+}
+
+#[test]
 fn opened_are_closed_or_still_there(rt: HostRuntime) -> Result<(), Fail> {
     let counts = Counts::new(rt.alloc())?;
     let metrics = Metrics::new(rt, 3)?;

@@ -1,16 +1,14 @@
 // What the metrics keep of the latest error: its text, and when it came.
 
 use crate::hand::Hand;
+use crate::timeless::Timeless;
 use pool_metrics::{LatestError, Metrics};
 use r2d2::{HandleError, NopErrorHandler, PoolRuntime};
-use std::alloc::Alloc;
-use std::rt::Clock;
+use std::fmt;
+use std::sync::Arc;
 use std::sync::atomic::{AtomicU64, Ordering};
-use std::sync::{Arc, Wait};
 use std::test::Fail;
-use std::thread::Threads;
 use std::time::{Duration, SystemTime};
-use std::{fmt, io};
 
 /// So many times a text, after which it fails or not.
 #[derive(Clone, Copy)]
@@ -86,38 +84,6 @@ fn the_wall_clock_is_read_at_each_error(rt: HostRuntime) -> Result<(), Fail> {
     assert!(rt; before <= at && at <= after);
     assert_eq!(rt; latest(&metrics)?.time, Some(at));
     Ok(())
-}
-
-/// A clock that shows no time of day.
-#[derive(Clone, Copy)]
-struct Timeless<R> {
-    rt: R,
-}
-
-impl<R: Clock> Clock for Timeless<R> {
-    fn monotonic(&self) -> io::Result<Duration> {
-        self.rt.monotonic()
-    }
-
-    fn since_1970(&self) -> io::Result<Duration> {
-        Err(io::Error::from(io::ErrorKind::Other))
-    }
-
-    fn sleep(&self, duration: Duration) {
-        self.rt.sleep(duration)
-    }
-}
-
-impl<R: Wait> Wait for Timeless<R> {}
-
-impl<R: Threads> Threads for Timeless<R> {}
-
-impl<R: Alloc> Alloc for Timeless<R> {
-    type A = R::A;
-
-    fn alloc(&self) -> R::A {
-        self.rt.alloc()
-    }
 }
 
 #[test]

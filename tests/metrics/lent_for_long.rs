@@ -94,3 +94,21 @@ fn all_loans_are_listed_those_of_no_time_too(rt: HostRuntime) -> Result<(), Fail
     assert_eq!(rt; (all.len(), all[1].id), (2, PooledConnection::id(&third)));
     Ok(())
 }
+
+// Each reading of the clock shows a second more, so a call waits for some. When its connection was
+// lent it tells itself.
+#[test]
+fn what_a_caller_waited_is_no_loan(rt: HostRuntime) -> Result<(), Fail> {
+    let place = Place::new(rt, 1, |all| all)?;
+    place.hand.set(5, 1);
+    let lent = place.pool.get()?;
+    place.hand.set(50, 0);
+    let lent_at = PooledConnection::lent_at(&lent);
+    let waited = place.metrics.snapshot().waits.sum();
+    assert!(rt; waited >= Duration::from_secs(1));
+    let lent_for = place.metrics.loans()?[0].lent_for();
+    assert!(rt; lent_for <= Duration::from_secs(50) - lent_at, "{lent_for:?}");
+    assert!(rt; lent_for >= Duration::from_secs(49) - lent_at, "{lent_for:?}");
+    assert_eq!(rt; place.metrics.snapshot().longest_loan, lent_for);
+    Ok(())
+}

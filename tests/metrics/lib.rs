@@ -32,6 +32,8 @@ mod report;
 #[cfg(test)]
 mod tasks;
 #[cfg(test)]
+mod timeless;
+#[cfg(test)]
 mod timing;
 #[cfg(test)]
 mod watching;

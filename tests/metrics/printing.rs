@@ -261,6 +261,49 @@ fn errors_are_printed_where_they_are_counted(rt: HostRuntime) -> Result<(), Fail
     Ok(())
 }
 
+// Of two pools, with one handler of errors or two.
+#[test]
+fn errors_are_printed_of_each_pool_that_counts_them(rt: HostRuntime) -> Result<(), Fail> {
+    let heard = |errors: u64, nanos: u64| Snapshot {
+        errors: Some(errors),
+        latest_error: Some(Duration::from_millis(1250)),
+        latest_error_at: Some(SystemTime::UNIX_EPOCH + Duration::from_nanos(nanos)),
+        ..snapshot(None)
+    };
+    let mut readings = [
+        Reading {
+            pool: "orders",
+            status: status(),
+            snapshot: snapshot(None),
+        },
+        Reading {
+            pool: "users",
+            status: status(),
+            snapshot: heard(54, NANOS),
+        },
+    ];
+    let page = text(rt.alloc(), &readings)?;
+    assert_eq!(rt; told_of_errors(page.as_str()), 2);
+    let count = "db_client_connection_errors_total{db_client_connection_pool_name=\"users\"} 54\n";
+    assert!(rt; page.as_str().contains(count));
+    readings[0].snapshot = heard(3, 2 * NANOS);
+    let page = text(rt.alloc(), &readings)?;
+    assert_eq!(rt; told_of_errors(page.as_str()), 4);
+    let both = "db_client_connection_errors_total{db_client_connection_pool_name=\"orders\"} 3\ndb_client_connection_errors_total{db_client_connection_pool_name=\"users\"} 54\n";
+    assert!(rt; page.as_str().contains(both));
+    let first = "db_client_connection_latest_error_timestamp_seconds{db_client_connection_pool_name=\"orders\"} 3592000000.02469\n";
+    assert!(rt; page.as_str().contains(first));
+    let second = "db_client_connection_latest_error_timestamp_seconds{db_client_connection_pool_name=\"users\"} 1796000000.012345\n";
+    assert!(rt; page.as_str().contains(second));
+    Ok(())
+}
+
+// How many lines of a page tell of errors, or when the latest came.
+fn told_of_errors(page: &str) -> usize {
+    let names = ["db_client_connection_errors_total{", "db_client_connection_latest_error_timestamp_seconds{"];
+    page.lines().filter(|line| names.iter().any(|name| line.starts_with(*name))).count()
+}
+
 #[test]
 fn a_name_is_escaped(rt: HostRuntime) -> Result<(), Fail> {
     let reading = Reading {

@@ -137,6 +137,17 @@ fn each_of_them_can_be_set_anew(rt: HostRuntime) -> Result<(), Fail> {
     Ok(())
 }
 
+// Whichever is set last says how many, and a line stays one.
+#[test]
+fn a_line_and_a_limit_set_the_same_number(rt: HostRuntime) {
+    let builder = Builder::<Numbers>::new().max_waiting(5).waiting_line(7);
+    assert_eq!(rt; (builder.tuning.max_waiting, builder.tuning.in_line), (Some(7), true));
+    let builder = builder.max_waiting(9);
+    assert_eq!(rt; (builder.tuning.max_waiting, builder.tuning.in_line), (Some(9), true));
+    assert_eq!(rt; builder.tuning.room_in_line(), 9);
+    assert!(rt; !Builder::<Numbers>::new().max_waiting(5).tuning.in_line);
+}
+
 #[test]
 fn the_first_id_is_kept_by_all_other_settings(rt: HostRuntime) -> Result<(), Fail> {
     assert_eq!(rt; Builder::<Numbers>::new().first_id, 0);

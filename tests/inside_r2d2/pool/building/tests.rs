@@ -1,7 +1,8 @@
-// The last ids that there are.
+// The last ids that there are, and a long line.
 
 use super::*;
 use crate::ErrorKind;
+use crate::pool::lined_book::Look;
 use crate::pool::tests::watched;
 use std::sync::atomic::{AtomicU64, Ordering};
 use std::test::Fail;
@@ -71,4 +72,35 @@ fn ids_used_up(rt: HostRuntime) -> Result<(), Fail> {
     }
     assert!(rt; pool.status().failed_openings > 1);
     Ok(())
+}
+
+// So many callers look under one lock, and one more.
+#[test]
+fn a_line_has_room_for_thousands(rt: HostRuntime) -> Result<(), Fail> {
+    let opened = Arc::new(rt.alloc(), AtomicU64::new(0))?;
+    let pool = Builder::new()
+        .max_size(1)
+        .min_idle(Some(0))
+        .waiting_line(3000)
+        .build_unchecked(rt, nothings(&opened)?)?;
+    let shared = pool.shared();
+    assert_eq!(rt; shared.slots.len(), 3000);
+    let mut guarded = shared.guarded.lock(&rt);
+    for caller in 0..3001 {
+        let (look, to_wake) = guarded.book.look(Duration::ZERO, &mut None, true, &mut ());
+        shared.wake(to_wake);
+        assert_eq!(rt; is_full(look), caller == 3000, "{caller}");
+    }
+    Ok(())
+}
+
+fn is_full(look: Look<PayloadOf<Nothings>>) -> bool {
+    match look {
+        Look::Full => true,
+        Look::Stands(_) => false,
+        Look::Found { id: _, value } => {
+            drop(value);
+            false
+        }
+    }
 }
