@@ -16,6 +16,8 @@ pub(crate) struct Plan {
     pub(crate) bad: u64,
     pub(crate) closers: u64,
     pub(crate) drainers: u64,
+    /// How many callers, the last ones, have no time to wait.
+    pub(crate) hasty: u64,
     /// How many callers may wait; 0 for as many as come.
     pub(crate) most: u64,
     /// How many may stand in line; 0 where there is none.
@@ -23,8 +25,12 @@ pub(crate) struct Plan {
     pub(crate) fails: bool,
     pub(crate) checks: bool,
     pub(crate) distrusts: bool,
+    /// Whether only what was idle for some seconds is checked.
+    pub(crate) after_idle: bool,
     pub(crate) breaks: bool,
     pub(crate) reaps: bool,
+    /// Whether each connection has a lifetime of its own.
+    pub(crate) jitter: bool,
     pub(crate) evicts: bool,
     pub(crate) detaches: bool,
     pub(crate) tries: bool,
@@ -56,13 +62,16 @@ impl Plan {
             bad: 0,
             closers: 0,
             drainers: 0,
+            hasty: 0,
             most: 0,
             line: 0,
             fails: false,
             checks: false,
             distrusts: false,
+            after_idle: false,
             breaks: false,
             reaps: false,
+            jitter: false,
             evicts: false,
             detaches: false,
             tries: false,
@@ -96,8 +105,10 @@ impl Plan {
             "fails" => self.fails = true,
             "checks" => self.checks = true,
             "distrusts" => self.distrusts = true,
+            "after_idle" => self.after_idle = true,
             "breaks" => self.breaks = true,
             "reaps" => self.reaps = true,
+            "jitter" => self.jitter = true,
             "evicts" => self.evicts = true,
             "detaches" => self.detaches = true,
             "tries" => self.tries = true,
@@ -134,6 +145,7 @@ impl Plan {
             "bad" => self.bad = number,
             "closers" => self.closers = number,
             "drainers" => self.drainers = number,
+            "hasty" => self.hasty = number,
             "most" => self.most = number,
             "line" => self.line = number,
             _ => return false,
@@ -146,10 +158,16 @@ impl Plan {
         self.most.max(self.line)
     }
 
-    /// Whether each call of `get` begins to wait in the second in which it is made, and who waits
-    /// longer than another has to be lent the only connection first.
+    /// Whether each call of `get` begins to wait in the second in which it is made, and those who
+    /// wait longer than another have each to be lent a connection first, but for as many as hold the
+    /// others. Who takes what is distrusted looks again in a second that nobody tells.
     pub(crate) fn is_served_in_order(&self) -> bool {
-        self.line > 0 && self.size == 1 && !self.checks
+        self.line > 0 && !self.distrusts && self.seconds_of_checks(1).is_some()
+    }
+
+    /// Whether is looked at how long a connection is open, and idle.
+    pub(crate) fn is_timed(&self) -> bool {
+        self.after_idle || self.jitter
     }
 
     /// Whether somebody closes the pool while others have it.

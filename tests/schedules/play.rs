@@ -2,7 +2,7 @@
 
 use super::kind::{Makes, Pool, PooledConnection};
 use crate::judged::{Host, Seen, Stopwatch, add, choose, of, take_off};
-use crate::lines::{Handlers, Lines, STAY};
+use crate::lines::{AFTER_IDLE, Handlers, JITTER, LIFETIME, Lines, STAY};
 use crate::plan::Plan;
 use r2d2::{Builder, ErrorKind, LendingOrder, NopConnectionCustomizer, Status};
 use std::sync::Arc;
@@ -31,12 +31,22 @@ pub(crate) fn play<R: Host>(rt: R, plan: Plan, seen: &Arc<Seen<R>>) -> Result<()
         .min_idle(Some(u32::try_from(plan.wanted)?))
         .test_on_check_out(plan.checks)
         .distrust_idle(plan.distrusts)
-        .max_lifetime(None)
+        .max_lifetime(if plan.jitter {
+            Some(Duration::from_secs(LIFETIME))
+        } else {
+            None
+        })
         .idle_timeout(if plan.reaps {
             Some(Duration::from_secs(4))
         } else {
             None
         });
+    if plan.after_idle {
+        builder = builder.check_after_idle(Some(Duration::from_secs(AFTER_IDLE)));
+    }
+    if plan.jitter {
+        builder = builder.lifetime_jitter(Duration::from_secs(JITTER));
+    }
     if plan.oldest {
         builder = builder.lending_order(LendingOrder::OldestFirst);
     }
@@ -113,7 +123,7 @@ fn shared<R: Host>(rt: R, plan: Plan, seen: &Arc<Seen<R>>, pool: Watched<R>) -> 
 // What is to be where nobody calls any more.
 fn rests<R: Host>(plan: &Plan, seen: &Seen<R>, status: &Status) {
     seen.check(status);
-    let is_busy = plan.reaps || plan.error_stays || plan.release_stays;
+    let is_busy = plan.reaps || plan.jitter || plan.error_stays || plan.release_stays;
     if !is_busy && !status.closed && status.opening != 0 {
         seen.fault("an opening is left undone at the end");
     }
@@ -164,6 +174,9 @@ fn looks<R: Host>(plan: &Plan, seen: &Seen<R>, status: &Status) {
 
 fn calls<R: Host>(rt: R, pool: Watched<R>, plan: Plan, who: u64, seen: Arc<Seen<R>>) {
     for _ in 0..plan.calls {
+        if plan.is_timed() {
+            thread::sleep(&rt, Duration::from_secs([0, 3, 5][choose(&rt, 3) as usize]));
+        }
         if plan.evicts && choose(&rt, 4) == 0 {
             evicts(rt, &plan, &seen, &pool);
         }
@@ -172,6 +185,8 @@ fn calls<R: Host>(rt: R, pool: Watched<R>, plan: Plan, who: u64, seen: Arc<Seen<
         } else {
             let wait = if who < plan.impatient {
                 IMPATIENT
+            } else if who >= plan.callers.saturating_sub(plan.hasty) {
+                0
             } else {
                 PATIENT
             };
@@ -195,8 +210,8 @@ fn gets<R: Host>(rt: R, plan: &Plan, who: u64, seen: &Seen<R>, pool: &Watched<R>
     let watch = Stopwatch::begin(&rt);
     seen.queue.begins(&rt, who, wait);
     let found = pool.get_timeout(Duration::from_secs(wait));
-    if plan.is_served_in_order() && found.is_ok() && seen.queue.is_passed_by(&rt, who) {
-        seen.fault("a caller is served before one that waits for longer");
+    if plan.is_served_in_order() && found.is_ok() {
+        is_in_order(&rt, plan, who, seen);
     }
     seen.queue.ends(who);
     // It may be at its check as its time ends, or look again, and does so no other time then.
@@ -238,6 +253,19 @@ fn gets<R: Host>(rt: R, plan: &Plan, who: u64, seen: &Seen<R>, pool: &Watched<R>
             }
             _ => seen.fault("a get is told of what cannot be"),
         },
+    }
+}
+
+// Of those who wait longer than one that is served, each holds another connection. Who finds its own
+// unsound holds none, and may be passed until it looks again.
+fn is_in_order<R: Host>(rt: &R, plan: &Plan, who: u64, seen: &Seen<R>) {
+    let seconds = plan.seconds_of_checks(1).unwrap_or(0);
+    let mut most = plan.size.saturating_sub(1);
+    if plan.checks && seen.queue.may_look_again(rt, seconds) {
+        most = most.saturating_add(of(&seen.bad));
+    }
+    if seen.queue.ahead_of(rt, who) > most {
+        seen.fault("a caller is served before one that waits for longer");
     }
 }
 
@@ -289,6 +317,9 @@ fn holds<R: Host>(rt: R, plan: &Plan, seen: &Seen<R>, lent: Lent<R>, was_closed:
     }
     if was_closed {
         seen.fault("a closed pool lends");
+    }
+    if plan.is_timed() {
+        lent.judge(&rt, plan, seen);
     }
     match choose(&rt, 4) {
         0 => thread::yield_now(),

@@ -22,6 +22,8 @@ struct Call {
 #[derive(Drop)]
 pub(crate) struct Queue {
     calls: Vec<Call>,
+    /// The second in which the latest check failed, plus one; 0 where none did.
+    unsound: AtomicU64,
 }
 
 // The present second.
@@ -42,7 +44,10 @@ impl Queue {
                 jumps: AtomicU64::new(0),
             })?;
         }
-        Ok(Queue { calls })
+        Ok(Queue {
+            calls,
+            unsound: AtomicU64::new(0),
+        })
     }
 
     // The call of this caller.
@@ -68,20 +73,32 @@ impl Queue {
         }
     }
 
-    /// Whether another one, whose time is not over, calls since an earlier second than this one.
-    /// Where time went on before it had to, that other one may not have come to its wait.
-    pub(crate) fn is_passed_by<R: Clock>(&self, rt: &R, who: u64) -> bool {
+    /// How many others, whose time is not over, call since an earlier second than this one. Where
+    /// time went on before it had to, such a one may not have come to its wait.
+    pub(crate) fn ahead_of<R: Clock>(&self, rt: &R, who: u64) -> u64 {
         let Some(own) = self.call(who) else {
-            return false;
+            return 0;
         };
         let own = own.since.load(Ordering::SeqCst);
         let (now, jumps) = (second(rt), u64::from(jumps(rt)));
-        self.calls.iter().any(|other| {
+        let is_ahead = |other: &&Call| {
             let since = other.since.load(Ordering::SeqCst);
             since > 0
                 && since < own
                 && now < other.until.load(Ordering::SeqCst)
                 && other.jumps.load(Ordering::SeqCst) == jumps
-        })
+        };
+        self.calls.iter().filter(is_ahead).count() as u64
+    }
+
+    /// A check fails. Until its caller looks again others may be served before it.
+    pub(crate) fn looks_again<R: Clock>(&self, rt: &R) {
+        self.unsound.store(second(rt).saturating_add(1), Ordering::SeqCst);
+    }
+
+    /// Whether a check failed in this second, or up to so many seconds before.
+    pub(crate) fn may_look_again<R: Clock>(&self, rt: &R, seconds: u64) -> bool {
+        let latest = self.unsound.load(Ordering::SeqCst);
+        latest > 0 && second(rt) < latest.saturating_add(seconds)
     }
 }

@@ -157,6 +157,7 @@ impl<R: Host> Caller<R> {
     fn take(&mut self, mut lent: LentOf<R>, view: View) {
         let world = self.world;
         world.tell("is lent a connection");
+        lent.judge();
         lent.users = lent.users.saturating_add(1);
         if lent.users > 1 {
             world.fault("a connection is lent that is lent");
@@ -164,7 +165,7 @@ impl<R: Host> Caller<R> {
         if world.add(Count::Lent) >= world.plan.size {
             world.fault("more are lent than max_size");
         }
-        if view.is_known && !world.plan.checks {
+        if view.is_known && (!world.plan.checks || world.plan.after_idle && !lent.is_checked()) {
             self.judge(view);
         }
         self.lent = Some(lent);

@@ -1,6 +1,6 @@
 // The connections, their manager, and the timer.
 
-use crate::world::{Count, Host, Place, World};
+use crate::world::{AFTER_IDLE, Count, Host, LIFETIME, Place, World};
 use futures::Future;
 use futures::task::{Context, Poll};
 use r2d2::{NopConnectionCustomizer, NopErrorHandler, NopEventHandler};
@@ -72,7 +72,28 @@ pub(crate) struct Line<R: Host> {
     pub(crate) is_detached: bool,
     /// Since when it is idle, or was before it was lent.
     pub(crate) since: u64,
+    // When it was opened, and whether it was checked since it is idle.
+    opened: u64,
+    is_checked: bool,
     is_unsound: bool,
+}
+
+impl<R: Host> Line<R> {
+    /// Whether it was checked since it is idle.
+    pub(crate) fn is_checked(&self) -> bool {
+        self.is_checked
+    }
+
+    /// It is lent, without a check or after one.
+    pub(crate) fn judge(&self) {
+        let (world, idle) = (self.world, self.world.now().saturating_sub(self.since));
+        if world.plan.after_idle && !self.is_checked && idle >= AFTER_IDLE {
+            world.fault("what was idle for long is lent unchecked");
+        }
+        if world.plan.lifetimes && self.since.saturating_sub(self.opened) >= LIFETIME {
+            world.fault("what is too old is kept");
+        }
+    }
 }
 
 impl<R: Host> Drop for Line<R> {
@@ -82,6 +103,8 @@ impl<R: Host> Drop for Line<R> {
             users: _,
             is_detached,
             since: _,
+            opened: _,
+            is_checked: _,
             is_unsound,
         } = self;
         if !is_unsound {
@@ -133,6 +156,8 @@ impl<R: Host> Future for Opening<R> {
             users: 0,
             is_detached: false,
             since: world.now(),
+            opened: world.now(),
+            is_checked: false,
             is_unsound: false,
         }))
     }
@@ -196,9 +221,14 @@ impl<R: Host> ManageConnection for Lines<R> {
         }
     }
 
-    fn check(&self, line: Line<R>) -> Checking<R> {
+    fn check(&self, mut line: Line<R>) -> Checking<R> {
         self.world.tell("checks a connection");
         self.world.begin_check();
+        line.is_checked = true;
+        let idle = self.world.now().saturating_sub(line.since);
+        if self.world.plan.after_idle && idle < AFTER_IDLE {
+            self.world.fault("what was idle for a moment is checked");
+        }
         if self.world.is_distrusted(line.since) {
             self.world.fault("what is distrusted is checked");
         }
@@ -211,6 +241,7 @@ impl<R: Host> ManageConnection for Lines<R> {
 
     fn has_broken(&self, line: &mut Line<R>) -> bool {
         line.since = self.world.now();
+        line.is_checked = false;
         let is_broken = self.world.goes_wrong(self.world.plan.breaks);
         if is_broken {
             self.world.tell("finds a connection broken");

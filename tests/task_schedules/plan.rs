@@ -16,6 +16,8 @@ pub(crate) struct Plan {
     pub(crate) early: u64,
     /// How many callers in line may be left alone, of those with little time.
     pub(crate) leaves: u64,
+    /// How often a call may move to another executor.
+    pub(crate) moves: u64,
     pub(crate) closers: u64,
     pub(crate) drainers: u64,
     pub(crate) evictors: u64,
@@ -30,7 +32,13 @@ pub(crate) struct Plan {
     pub(crate) detaches: bool,
     pub(crate) tries: bool,
     pub(crate) last_drop: bool,
-    /// Whether a failed check tells of others. Then each step takes a millisecond.
+    /// Whether what is idle for four seconds is closed.
+    pub(crate) reaps: bool,
+    /// Whether a connection is too old after some milliseconds.
+    pub(crate) lifetimes: bool,
+    /// Whether only what was idle for some milliseconds is checked.
+    pub(crate) after_idle: bool,
+    /// Whether a failed check tells of others.
     pub(crate) distrusts: bool,
     pub(crate) oldest: bool,
 }
@@ -50,6 +58,7 @@ impl Plan {
             needless: 0,
             early: 0,
             leaves: 0,
+            moves: 0,
             closers: 0,
             drainers: 0,
             evictors: 0,
@@ -62,6 +71,9 @@ impl Plan {
             detaches: false,
             tries: false,
             last_drop: false,
+            reaps: false,
+            lifetimes: false,
+            after_idle: false,
             distrusts: false,
             oldest: false,
         }
@@ -83,6 +95,9 @@ impl Plan {
             "detaches" => self.detaches = true,
             "tries" => self.tries = true,
             "last_drop" => self.last_drop = true,
+            "reaps" => self.reaps = true,
+            "lifetimes" => self.lifetimes = true,
+            "after_idle" => self.after_idle = true,
             "distrusts" => self.distrusts = true,
             "oldest" => self.oldest = true,
             _ => return false,
@@ -104,6 +119,7 @@ impl Plan {
             "needless" => self.needless = number,
             "early" => self.early = number,
             "leaves" => self.leaves = number,
+            "moves" => self.moves = number,
             "closers" => self.closers = number,
             "drainers" => self.drainers = number,
             "evictors" => self.evictors = number,
@@ -112,6 +128,11 @@ impl Plan {
             _ => return false,
         }
         true
+    }
+
+    /// Whether each step takes a millisecond.
+    pub(crate) fn ticks(&self) -> bool {
+        self.distrusts || self.lifetimes || self.after_idle
     }
 
     /// How many tasks there are.

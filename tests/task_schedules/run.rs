@@ -4,7 +4,9 @@ use crate::caller::View;
 use crate::lines::{Lines, Naps, PoolOf};
 use crate::rest;
 use crate::seats::{Seat, seats_of};
-use crate::world::{Count, Host, LONG, PATIENT, Place, World};
+use crate::world::{
+    AFTER_IDLE, Count, Host, LIFETIME, LONG, LONGEST_DELAY, PATIENT, Place, World,
+};
 use r2d2::{LendingOrder, Status};
 use r2d2_async::Builder;
 use std::test::Fail;
@@ -20,6 +22,8 @@ enum Move {
     GiveUp(usize),
     /// It is neither polled nor dropped from now on.
     Leave(usize),
+    /// Another executor polls it from now on.
+    Move(usize),
     /// Time goes on to the next moment at which a sleep ends.
     Pass,
 }
@@ -31,6 +35,7 @@ struct Left {
     needless: u64,
     early: u64,
     leaves: u64,
+    moves: u64,
 }
 
 #[derive(Drop)]
@@ -43,6 +48,11 @@ pub(crate) struct Run<R: Host> {
     left: Left,
 }
 
+// So many milliseconds, where that is set.
+fn milliseconds(is_set: bool, count: u64) -> Option<Duration> {
+    is_set.then(|| Duration::from_millis(count))
+}
+
 pub(crate) fn pool_of<R: Host>(world: &'static World<R>) -> Result<PoolOf<R>, Fail> {
     let plan = &world.plan;
     let builder = Builder::new()
@@ -50,8 +60,9 @@ pub(crate) fn pool_of<R: Host>(world: &'static World<R>) -> Result<PoolOf<R>, Fa
         .min_idle(Some(u32::try_from(plan.wanted)?))
         .max_waiting(u32::try_from(plan.line.max(1))?)
         .test_on_check_out(plan.checks)
-        .max_lifetime(None)
-        .idle_timeout(None)
+        .max_lifetime(milliseconds(plan.lifetimes, LIFETIME))
+        .idle_timeout(milliseconds(plan.reaps, 4_000))
+        .check_after_idle(milliseconds(plan.after_idle, AFTER_IDLE))
         .distrust_idle(plan.distrusts)
         .lending_order(if plan.oldest {
             LendingOrder::OldestFirst
@@ -59,7 +70,7 @@ pub(crate) fn pool_of<R: Host>(world: &'static World<R>) -> Result<PoolOf<R>, Fa
             LendingOrder::NewestFirst
         })
         .connection_timeout(Duration::from_secs(PATIENT))
-        .retry_at_most(Duration::from_secs(1));
+        .retry_at_most(Duration::from_millis(LONGEST_DELAY));
     if builder.limits().is_none() {
         return Err(Fail::from("more are wanted than max_size"));
     }
@@ -82,6 +93,7 @@ impl<R: Host> Run<R> {
                 needless: plan.needless,
                 early: plan.early,
                 leaves: plan.leaves,
+                moves: plan.moves,
             },
         })
     }
@@ -131,6 +143,7 @@ impl<R: Host> Run<R> {
             Some(Move::Poll(place)) => self.poll(place),
             Some(Move::GiveUp(place)) => self.give_up(place),
             Some(Move::Leave(place)) => self.leave(place),
+            Some(Move::Move(place)) => self.move_on(place)?,
             Some(Move::Pass) => self.pass(rests),
             None => return Ok(false),
         }
@@ -156,6 +169,9 @@ impl<R: Host> Run<R> {
             }
             if self.left.leaves > 0 && seat.can_be_left() {
                 self.moves.push(Move::Leave(place))?;
+            }
+            if self.left.moves > 0 && seat.can_move() {
+                self.moves.push(Move::Move(place))?;
             }
         }
         if self.may_pass(rests) {
@@ -216,6 +232,14 @@ impl<R: Host> Run<R> {
         if let Some(seat) = self.seats.get_mut(place) {
             seat.leave(self.world);
         }
+    }
+
+    fn move_on(&mut self, place: usize) -> Result<(), Fail> {
+        self.left.moves = self.left.moves.saturating_sub(1);
+        if let Some(seat) = self.seats.get_mut(place) {
+            seat.move_on(self.world)?;
+        }
+        Ok(())
     }
 
     // What there is now, as long as somebody has a pool.

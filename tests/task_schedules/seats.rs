@@ -82,6 +82,18 @@ impl<R: Host> Seat<R> {
         self.is_left = true;
     }
 
+    /// Whether it may move to another executor: a call, a worker or a drain that has begun.
+    pub(crate) fn can_move(&self) -> bool {
+        self.has_begun && !self.is_left && self.can_give_up()
+    }
+
+    /// It moves to another executor, which polls it first, and whose waker is another one.
+    pub(crate) fn move_on(&mut self, world: &World<R>) -> Result<(), Fail> {
+        world.tell_of(self.who, "moves to another executor");
+        self.mock = MockTask::new(&world.rt)?;
+        Ok(())
+    }
+
     pub(crate) fn is_left(&self) -> bool {
         self.is_left
     }

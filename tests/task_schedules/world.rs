@@ -51,6 +51,15 @@ pub(crate) enum Count {
 
 const KINDS: usize = 11;
 
+/// The milliseconds after which an opening that failed is tried again, at the most.
+pub(crate) const LONGEST_DELAY: u64 = 1_000;
+
+/// The milliseconds after which a connection is too old, where some are.
+pub(crate) const LIFETIME: u64 = 5;
+
+/// For how many milliseconds a connection is idle that is checked, where not all are.
+pub(crate) const AFTER_IDLE: u64 = 3;
+
 /// The milliseconds of a long wait, at the least.
 pub(crate) const LONG: u64 = 500_000;
 
@@ -181,7 +190,7 @@ impl<R: Host> World<R> {
 
     /// A step takes no time, where nothing depends on that.
     pub(crate) fn tick(&self) {
-        if self.plan.distrusts {
+        if self.plan.ticks() {
             self.now.fetch_add(1, Ordering::SeqCst);
         }
     }
@@ -315,10 +324,12 @@ impl<R: Host> World<R> {
         }
     }
 
-    /// Whether this task sleeps until some moment.
+    /// Whether this task sleeps until some moment, which comes before an opening is tried again.
     pub(crate) fn has_sleep(&self, who: u64) -> bool {
         match self.sleep(who) {
-            Some(sleep) => sleep.load(Ordering::SeqCst) < NEVER,
+            Some(sleep) => {
+                sleep.load(Ordering::SeqCst) <= self.now().saturating_add(LONGEST_DELAY)
+            }
             None => false,
         }
     }
