@@ -95,6 +95,11 @@ def try_what_is_kept():
     check("a kept proof has no budget to meet", part.measured() == {"crate mid": 3.0}, part.measured())
     said = "".join(prove.how_many_kept([part]))
     check("how many are kept is said", "Of 2 crates, 1 proofs are kept" in said and "--anew keeps none" in said, said)
+    later = prove.Part("proofs of more", [])
+    later.meter, later.is_over = budgets.Meter(), True
+    later.lines = ["rt: mid is kept: an earlier run on this machine proved the same files\n", "rt: top proved\n", "2 passed, 0 failed\n"]
+    said = "".join(prove.how_many_kept([part, later]))
+    check("what this run proved is not said to be kept", "Of 3 crates, 1 proofs are kept" in said, said)
     check("where nothing is, that is said too", "Of 1 crates, 0 proofs" in "".join(prove.how_many_kept([without_kept(prove)])))
     words = prove.proofs(["r2d2_core"]).words
     prove.Part.is_anew = True
