@@ -1,0 +1,161 @@
+// The lengths and ages that events tell. Each pool is some seconds old before anything happens.
+
+use crate::ear::Told::{Acquire, Checkin, Checkout, Ended, Failed, Release, Shown, Timeout};
+use crate::kinds::{ALL, Pool};
+use crate::manager::Sorry;
+use crate::world::on_each;
+use r2d2::ErrorKind;
+use r2d2::event::ReleaseReason::{Broken, CheckFailed, Detached, Evicted, Idle, Lifetime};
+use std::test::Fail;
+use std::time::Duration;
+
+// The connection comes 3 s after the call, and passes its check 2 s later.
+#[test]
+fn a_wait_is_from_the_call_to_the_lending(rt: HostRuntime) -> Result<(), Fail> {
+    on_each(rt, &ALL, |world| {
+        let pool = Pool::new(rt, world, |settings| settings.is_checked = true)?;
+        world.pass(7_000);
+        world.connects.goes("~+");
+        world.checks.goes("2+");
+        let get = pool.begin(600_000)?;
+        pool.until(|_| world.connects.hung() == 1)?;
+        world.pass(3_000);
+        world.let_go(&world.connects);
+        let lent = pool.end(get)??;
+        assert_eq!(rt; lent.lent_at(), 12_000);
+        assert!(rt; world.went(&[Shown(0), Acquire(0), Checkout(0, 5_000)]));
+        Ok(())
+    })
+}
+
+// It is used for 5 s, and asking it takes 4 s more.
+#[test]
+fn a_use_ends_before_it_is_asked_whether_it_broke(rt: HostRuntime) -> Result<(), Fail> {
+    on_each(rt, &ALL, |world| {
+        let pool = Pool::new(rt, world, |_| ())?;
+        world.pass(7_000);
+        let lent = pool.get()?;
+        world.pass(5_000);
+        world.breaks.goes("4-");
+        world.forget();
+        drop(lent);
+        let gone = Release(0, 9_000, Broken);
+        assert!(rt; world.went(&[Checkin(0, 5_000), gone, Ended(0)]));
+        Ok(())
+    })
+}
+
+// The connection is 3 s old as its check begins, which takes 2 s.
+#[test]
+fn a_failed_check_tells_the_age_at_its_end(rt: HostRuntime) -> Result<(), Fail> {
+    on_each(rt, &ALL, |world| {
+        let pool = Pool::new(rt, world, |settings| settings.is_checked = true)?;
+        world.pass(7_000);
+        drop(pool.get()?);
+        world.pass(3_000);
+        world.checks.goes("2-");
+        world.connects.goes("~+");
+        world.forget();
+        let get = pool.begin(600_000)?;
+        assert!(rt; world.once_told(3));
+        let gone = Release(0, 5_000, CheckFailed);
+        assert!(rt; world.went(&[Failed(Sorry::Check(1)), gone, Ended(0)]));
+        pool.until(|_| world.connects.hung() == 1)?;
+        world.let_go(&world.connects);
+        assert_eq!(rt; pool.end(get)??.number(), 1);
+        assert!(rt; world.went(&[Shown(1), Acquire(1), Checkout(1, 2_000), Checkin(1, 0)]));
+        Ok(())
+    })
+}
+
+#[test]
+fn a_detached_one_tells_its_use_and_its_age(rt: HostRuntime) -> Result<(), Fail> {
+    on_each(rt, &ALL, |world| {
+        let pool = Pool::new(rt, world, |_| ())?;
+        world.pass(7_000);
+        drop(pool.get()?);
+        world.pass(3_000);
+        let lent = pool.get()?;
+        world.pass(4_000);
+        world.forget();
+        let wire = lent.detach();
+        assert!(rt; world.went(&[Checkin(0, 4_000), Release(0, 7_000, Detached)]));
+        assert_eq!(rt;
+            (wire.number, world.dropped(), world.breaks.asked()),
+            (0, 0, 1)
+        );
+        Ok(())
+    })
+}
+
+// One of two is idle, and the other is lent.
+#[test]
+fn evicted_ones_tell_their_ages(rt: HostRuntime) -> Result<(), Fail> {
+    on_each(rt, &ALL, |world| {
+        let pool = Pool::new(rt, world, |settings| settings.max_size = 2)?;
+        world.pass(7_000);
+        let lent = pool.get()?;
+        world.pass(2_000);
+        drop(pool.get()?);
+        world.pass(1_000);
+        world.forget();
+        assert_eq!(rt; pool.evict()?, 1);
+        world.pass(1_000);
+        drop(lent);
+        let idle = [Release(1, 1_000, Evicted), Ended(1)];
+        let back = [Checkin(0, 4_000), Release(0, 4_000, Evicted), Ended(0)];
+        assert!(rt; world.went(&[idle[0], idle[1], back[0], back[1], back[2]]));
+        Ok(())
+    })
+}
+
+// Two connections are opened 7 s after the pool was made. 200 s later one of them comes back broken,
+// which wakes the workers, and the other one is expired.
+#[test]
+fn a_reap_tells_why_and_the_age(rt: HostRuntime) -> Result<(), Fail> {
+    for (lifetime, idle, why) in [
+        (None, Some(100_000), Idle),
+        (Some(100_000), None, Lifetime),
+        (Some(200_000), Some(200_000), Lifetime),
+    ] {
+        on_each(rt, &ALL, |world| {
+            let pool = Pool::new(rt, world, |settings| {
+                settings.max_size = 2;
+                settings.min_idle = 2;
+                settings.max_lifetime = lifetime;
+                settings.idle_timeout = idle;
+            })?;
+            world.pass(7_000);
+            assert_eq!(rt; pool.evict()?, 2);
+            pool.until(|status| status.idle == 2)?;
+            let lent = pool.get()?;
+            assert_eq!(rt; lent.number(), 3);
+            world.breaks.goes("-");
+            world.pass(200_000);
+            drop(lent);
+            pool.until(|status| status.idle == 2)?;
+            let gone = [Release(3, 200_000, Broken), Release(2, 200_000, why)];
+            assert!(rt; world.once_heard(&gone));
+            Ok(())
+        })?;
+    }
+    Ok(())
+}
+
+#[test]
+fn a_timeout_tells_the_calls_own_length(rt: HostRuntime) -> Result<(), Fail> {
+    on_each(rt, &ALL, |world| {
+        let pool = Pool::new(rt, world, |_| ())?;
+        world.pass(7_000);
+        world.connects.goes("~+");
+        let get = pool.begin(50)?;
+        pool.until(|_| world.connects.hung() == 1)?;
+        world.pass(50);
+        let error = pool.end(get)?.err().ok_or("a connection")?;
+        assert_eq!(rt; error.kind(), ErrorKind::Timeout);
+        assert_eq!(rt; error.waited(), Some(Duration::from_millis(50)));
+        assert!(rt; world.went(&[Timeout(50)]));
+        world.let_go(&world.connects);
+        Ok(())
+    })
+}

@@ -1,0 +1,262 @@
+// What opens wires and checks them, for pools of both crates; and what tasks wait for.
+ghost use Rattle.stage.specs.declared.manager.Kept.TheVariants.{Number, Word};
+ghost use Rattle.stage.specs.declared.manager.KeptKind.TheVariants.{OfNumber, OfWord};
+
+use crate::ear::milliseconds;
+use crate::script::{Outcome, Script};
+use crate::world::World;
+use futures::task::{Context, Poll};
+use futures::{Future, ready};
+use r2d2::Extension;
+use r2d2_async::Timer;
+use std::fmt;
+use std::sync::atomic::Ordering;
+use std::time::Duration;
+
+/// What is kept beside a connection.
+#[derive(Clone, Copy, Debug, PartialEq)]
+pub(crate) enum Kept {
+    Number(u32),
+    Word(char),
+}
+
+#[derive(Clone, Copy, Debug, PartialEq, Eq)]
+pub(crate) enum KeptKind {
+    OfNumber,
+    OfWord,
+}
+
+impl Extension for Kept {
+    type Kind = KeptKind;
+
+    ghost kind_of = { λ v. elim v [ Number _ ↦ OfNumber | Word _ ↦ OfWord ] };
+
+    fn kind(&self) -> KeptKind {
+        match self {
+            Kept::Number(_) => KeptKind::OfNumber,
+            Kept::Word(_) => KeptKind::OfWord,
+        }
+    }
+}
+
+/// Which call failed, counted from 0.
+#[derive(Clone, Copy, Debug, PartialEq, Eq)]
+pub(crate) enum Sorry {
+    Connect(u64),
+    Check(u64),
+    Shown(u64),
+}
+
+impl fmt::Display for Sorry {
+    fn fmt<W: fmt::Write>(&self, f: &mut fmt::Formatter<W>) -> fmt::Result {
+        match self {
+            Sorry::Connect(number) => write!(f, "connect {number}"),
+            Sorry::Check(number) => write!(f, "check {number}"),
+            Sorry::Shown(number) => write!(f, "shown {number}"),
+        }
+    }
+}
+
+/// A connection, which counts its life.
+pub(crate) struct Wire {
+    /// How many were opened before it.
+    pub(crate) number: u64,
+    /// How often the customizer found it well.
+    pub(crate) shown: u64,
+    world: &'static World,
+}
+
+impl Drop for Wire {
+    fn drop(self) {
+        let Wire {
+            number: _,
+            shown: _,
+            world,
+        } = self;
+        world.dropped.fetch_add(1, Ordering::SeqCst);
+    }
+}
+
+/// Opens wires and checks them, by the scripts.
+#[derive(Clone, Copy)]
+pub(crate) struct Manager {
+    pub(crate) world: &'static World,
+}
+
+impl Manager {
+    fn opened(&self, outcome: Outcome) -> Result<Wire, Sorry> {
+        if !outcome.goes_well {
+            return Err(Sorry::Connect(outcome.number));
+        }
+        Ok(Wire {
+            number: self.world.opened.fetch_add(1, Ordering::SeqCst),
+            shown: 0,
+            world: self.world,
+        })
+    }
+
+    fn breaks(&self) -> bool {
+        !self.world.call(&self.world.breaks).goes_well
+    }
+}
+
+fn checked(outcome: Outcome) -> Result<(), Sorry> {
+    if outcome.goes_well {
+        Ok(())
+    } else {
+        Err(Sorry::Check(outcome.number))
+    }
+}
+
+impl r2d2::ManageConnection for Manager {
+    type Connection = Wire;
+
+    type Error = Sorry;
+
+    type Extension = Kept;
+
+    fn connect(&self) -> Result<Wire, Sorry> {
+        self.opened(self.world.call(&self.world.connects))
+    }
+
+    fn is_valid(&self, _wire: &mut Wire) -> Result<(), Sorry> {
+        checked(self.world.call(&self.world.checks))
+    }
+
+    fn has_broken(&self, _wire: &mut Wire) -> bool {
+        self.breaks()
+    }
+}
+
+/// A call of a script, in a task: it hangs, and takes its time.
+#[derive(Clone, Copy)]
+struct Scripted {
+    world: &'static World,
+    outcome: Outcome,
+    is_over: bool,
+}
+
+impl Scripted {
+    fn poll(&mut self, script: &Script, cx: &mut Context<'_>) -> Poll<Outcome> {
+        if let Some(hung) = self.outcome.hangs {
+            ready!(self.world.poll_until(cx, || script.goes_on(hung)));
+        }
+        if !self.is_over {
+            self.is_over = true;
+            self.world.take(self.outcome);
+        }
+        Poll::Ready(self.outcome)
+    }
+}
+
+/// An opening.
+#[derive(Drop)]
+pub(crate) struct Opening {
+    manager: Manager,
+    scripted: Scripted,
+}
+
+impl Future for Opening {
+    type Output = Result<Wire, Sorry>;
+
+    fn poll(&mut self, cx: &mut Context<'_>) -> Poll<Result<Wire, Sorry>> {
+        let script = &self.manager.world.connects;
+        let outcome = ready!(self.scripted.poll(script, cx));
+        Poll::Ready(self.manager.opened(outcome))
+    }
+}
+
+/// A check.
+#[derive(Drop)]
+pub(crate) struct Checking {
+    wire: Option<Wire>,
+    scripted: Scripted,
+}
+
+impl Future for Checking {
+    type Output = (Wire, Result<(), Sorry>);
+
+    fn poll(&mut self, cx: &mut Context<'_>) -> Poll<(Wire, Result<(), Sorry>)> {
+        let script = &self.scripted.world.checks;
+        let outcome = ready!(self.scripted.poll(script, cx));
+        match self.wire.take() {
+            Some(wire) => Poll::Ready((wire, checked(outcome))),
+            None => cx.yield_now(),
+        }
+    }
+}
+
+impl r2d2_async::ManageConnection for Manager {
+    type Connection = Wire;
+
+    type Error = Sorry;
+
+    type Extension = Kept;
+
+    type Connect = Opening;
+
+    type Check = Checking;
+
+    fn connect(&self) -> Opening {
+        Opening {
+            manager: *self,
+            scripted: self.scripted(&self.world.connects),
+        }
+    }
+
+    fn check(&self, wire: Wire) -> Checking {
+        Checking {
+            wire: Some(wire),
+            scripted: self.scripted(&self.world.checks),
+        }
+    }
+
+    fn has_broken(&self, _wire: &mut Wire) -> bool {
+        self.breaks()
+    }
+}
+
+impl Manager {
+    fn scripted(&self, script: &Script) -> Scripted {
+        self.world.stops.stop(self.world);
+        Scripted {
+            world: self.world,
+            outcome: script.next(),
+            is_over: false,
+        }
+    }
+}
+
+/// A timer by the world's clock: a task is woken as it moves.
+#[derive(Clone, Copy)]
+pub(crate) struct Hours {
+    pub(crate) world: &'static World,
+}
+
+#[derive(Drop)]
+pub(crate) struct Hour {
+    world: &'static World,
+    end: u64,
+}
+
+impl Future for Hour {
+    type Output = ();
+
+    fn poll(&mut self, cx: &mut Context<'_>) -> Poll<()> {
+        let end = self.end;
+        self.world.poll_until(cx, || self.world.now() >= end)
+    }
+}
+
+impl Timer for Hours {
+    type Sleep = Hour;
+
+    fn sleep(&self, length: Duration) -> Hour {
+        let length = milliseconds(length);
+        self.world.sleeps(length);
+        Hour {
+            world: self.world,
+            end: self.world.now().saturating_add(length),
+        }
+    }
+}
