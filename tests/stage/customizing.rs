@@ -31,6 +31,7 @@ fn one_that_it_refuses_counts_as_a_failed_opening(rt: HostRuntime) -> Result<(),
         pool.until(|status| status.failed_openings == 1)?;
         assert!(rt; world.once_told(2));
         assert!(rt; world.went(&[Shown(0), Failed(Sorry::Shown(0))]));
+        world.watch(|| world.dropped() == 1);
         assert_eq!(rt; (world.opened(), world.dropped()), (1, 1));
         world.pass(50);
         let lent = pool.end(get)??;

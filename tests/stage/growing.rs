@@ -29,12 +29,12 @@ fn those_of_several_callers_go_on_at_once(rt: HostRuntime) -> Result<(), Fail> {
     on_each(rt, &ALL, |world| {
         let pool = Pool::new(rt, world, three)?;
         world.connects.goes("~+*");
-        let calls = [
-            pool.begin(600_000)?,
-            pool.begin(600_000)?,
-            pool.begin(600_000)?,
-        ];
-        pool.until(|status| status.opening == 3 && world.connects.hung() == 3)?;
+        let mut calls = Vec::new(rt.alloc());
+        for hung in 1..4 {
+            calls.push(pool.begin(600_000)?)?;
+            pool.until(|_| world.connects.hung() == hung)?;
+        }
+        assert_eq!(rt; pool.status().opening, 3);
         world.let_go(&world.connects);
         let mut sum = 0;
         for call in calls {

@@ -2,7 +2,7 @@
 
 use crate::ear::Told::{Acquire, Checkin, Checkout, Ended, Failed, Release, Shown, Timeout};
 use crate::kinds::{ALL, Pool};
-use crate::manager::Sorry;
+use crate::manager::{Kept, Sorry};
 use crate::world::on_each;
 use r2d2::ErrorKind;
 use r2d2::event::ReleaseReason::{Broken, CheckFailed, Detached, Evicted, Idle, Lifetime};
@@ -24,6 +24,29 @@ fn a_wait_is_from_the_call_to_the_lending(rt: HostRuntime) -> Result<(), Fail> {
         let lent = pool.end(get)??;
         assert_eq!(rt; lent.lent_at(), 12_000);
         assert!(rt; world.went(&[Shown(0), Acquire(0), Checkout(0, 5_000)]));
+        Ok(())
+    })
+}
+
+// One comes at once, and the next waits for its return. It is held since its lending, whatever it is
+// used for.
+#[test]
+fn how_long_events_say(rt: HostRuntime) -> Result<(), Fail> {
+    on_each(rt, &ALL, |world| {
+        let pool = Pool::new(rt, world, |_| ())?;
+        world.pass(7_000);
+        drop(pool.get()?);
+        world.pass(2_000);
+        world.forget();
+        let mut lent = pool.try_get()?.ok_or("none")?;
+        assert!(rt; world.went(&[Checkout(0, 0)]));
+        let get = pool.begin(600_000)?;
+        world.pass(3_000);
+        lent.keep(Kept::Number(7));
+        world.pass(1_000);
+        drop(lent);
+        assert_eq!(rt; pool.end(get)??.lent_at(), 13_000);
+        assert!(rt; world.went(&[Checkin(0, 4_000), Checkout(0, 4_000), Checkin(0, 0)]));
         Ok(())
     })
 }
@@ -68,6 +91,25 @@ fn a_failed_check_tells_the_age_at_its_end(rt: HostRuntime) -> Result<(), Fail> 
     })
 }
 
+// It takes 15 s to tell something.
+#[test]
+fn one_is_lent_before_its_event(rt: HostRuntime) -> Result<(), Fail> {
+    on_each(rt, &ALL, |world| {
+        let pool = Pool::new(rt, world, |_| ())?;
+        world.pass(7_000);
+        drop(pool.get()?);
+        world.tells_for(15_000);
+        world.forget();
+        let lent = pool.get()?;
+        assert_eq!(rt; lent.lent_at(), 7_000);
+        world.pass(1_000);
+        drop(lent);
+        assert!(rt; world.went(&[Checkout(0, 0), Checkin(0, 16_000)]));
+        Ok(())
+    })
+}
+
+// It is as old as at the step after its event. Nobody asks whether it is broken.
 #[test]
 fn a_detached_one_tells_its_use_and_its_age(rt: HostRuntime) -> Result<(), Fail> {
     on_each(rt, &ALL, |world| {
@@ -77,9 +119,11 @@ fn a_detached_one_tells_its_use_and_its_age(rt: HostRuntime) -> Result<(), Fail>
         world.pass(3_000);
         let lent = pool.get()?;
         world.pass(4_000);
+        world.breaks.goes("-");
+        world.tells_for(15_000);
         world.forget();
         let wire = lent.detach();
-        assert!(rt; world.went(&[Checkin(0, 4_000), Release(0, 7_000, Detached)]));
+        assert!(rt; world.went(&[Checkin(0, 4_000), Release(0, 22_000, Detached)]));
         assert_eq!(rt;
             (wire.number, world.dropped(), world.breaks.asked()),
             (0, 0, 1)

@@ -25,6 +25,8 @@ mod script;
 #[cfg(test)]
 mod sleeping;
 #[cfg(test)]
+mod taking_turns;
+#[cfg(test)]
 mod trying;
 #[cfg(test)]
 mod unlocked;

@@ -33,6 +33,8 @@ fn lifetimes_differ_by_at_most_the_jitter(rt: HostRuntime) -> Result<(), Fail> {
         assert!(rt; 2 < left && left < 14, "{left} {:?}", world.kind);
         world.pass(250_000);
         turned(rt, &pool)?;
+        // What a reap closed is dropped later.
+        world.watch(|| world.dropped() == 16);
         assert_eq!(rt; (pool.status().connections, world.dropped()), (0, 16));
         world.let_go(&world.connects);
         Ok(())

@@ -44,10 +44,12 @@ fn a_drain_may_take_hours(rt: HostRuntime) -> Result<(), Fail> {
         assert!(rt; !pool.has_ended(&mut late) && !pool.has_ended(&mut patient));
         world.pass(1);
         let status = pool.drained(late)?.err().ok_or("drained")?;
-        assert_eq!(rt; (status.lent, status.closed), (1, true));
+        assert_eq!(rt; (status.lent, status.closed, status.timeouts), (1, true, 0));
+        assert_eq!(rt; pool.status().timeouts, 0);
         assert!(rt; !pool.has_ended(&mut patient));
         drop(lent);
         assert!(rt; pool.drained(patient)?.is_ok());
+        assert!(rt; pool.drained(pool.drain(0)?)?.is_ok());
         Ok(())
     })
 }

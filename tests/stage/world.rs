@@ -40,6 +40,8 @@ pub(crate) struct World {
     pub(crate) opened: AtomicU64,
     pub(crate) dropped: AtomicU64,
     told: Mutex<Vec<Told>>,
+    // By how many milliseconds the clock moves on as something is told.
+    telling: AtomicU64,
     // The milliseconds of each sleep that was begun.
     slept: Mutex<Vec<u64>>,
     // What wakes the tasks that sleep or hang.
@@ -64,6 +66,7 @@ impl World {
             opened: AtomicU64::new(0),
             dropped: AtomicU64::new(0),
             told: Mutex::new(Vec::new(rt.alloc())),
+            telling: AtomicU64::new(0),
             slept: Mutex::new(Vec::new(rt.alloc())),
             source: Source::new(),
             wakers: Mutex::new(Vec::new(rt.alloc())),
@@ -173,11 +176,19 @@ impl World {
         if let Some(mut notes) = lock(&self.told) {
             notes.push(told).ok();
         }
+        self.pass(self.telling.load(Ordering::SeqCst));
         self.stops.stop(self);
+    }
+
+    /// From now on it takes so many milliseconds to tell something.
+    pub(crate) fn tells_for(&self, milliseconds: u64) {
+        self.telling.store(milliseconds, Ordering::SeqCst);
     }
 
     /// Whether this is what was told since the last such question.
     pub(crate) fn went(&self, wanted: &[Told]) -> bool {
+        // A thread of the pool may tell the last of it later.
+        self.once_told(wanted.len());
         let Some(mut told) = lock(&self.told) else {
             return false;
         };
