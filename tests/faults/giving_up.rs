@@ -2,7 +2,6 @@
 // lasted, and how many waited before it in line.
 
 use crate::kind::IN_LINE;
-use crate::play::watched;
 use crate::server::{CHECK, Place, PoolOf};
 use r2d2::{Error, ErrorKind, PoolRuntime, Status};
 use std::sync::atomic::Ordering;
@@ -67,7 +66,7 @@ fn who_gives_up_behind_others_tells_why(rt: HostRuntime) -> Result<(), Fail> {
     let patient = thread::spawn(&rt, move || told(patient, Duration::from_secs(1000)))?;
     assert!(rt; place.once_waiting(1));
     drop(lent);
-    assert!(rt; watched(&rt, &place.server.opened, 2, 500) >= 2);
+    assert!(rt; place.once_failed(1));
     let hasty = place.pool.try_clone()?;
     let hasty = thread::spawn(&rt, move || is_told(hasty, "silence"))?;
     assert!(rt; place.once_waiting(2));
