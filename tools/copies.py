@@ -1,10 +1,10 @@
 """Copies of the repository in which the tests of tests/ stand as crates: `tools/run-tests`, `tools/wrong/try` and
 `tools/refuse/try` have it in common.
 
-tests/NAME/ is the source of a crate NAME, whose line tests/libraries.txt has; tests/pool_bench is a program. tests/inside_NAME/ is laid
-over the source of the crate NAME of crates/, for what only that crate can see; each `tests.rs` in it becomes a module of the file that it
-is named for. The files end in .rs here and in .rt in the copy, and those of proofs in .proof and in .antt, since `rt ci` takes each .rt
-and each .antt file for one that a check reads."""
+tests/NAME/ is the source of a crate NAME, whose line tests/libraries.txt has; tests/pool_bench and tests/schedules are programs.
+tests/inside_NAME/ is laid over the source of the crate NAME of crates/, for what only that crate can see; each `tests.rs` in it becomes
+a module of the file that it is named for. The files end in .rs here and in .rt in the copy, and those of proofs in .proof and in .antt,
+since `rt ci` takes each .rt and each .antt file for one that a check reads."""
 import collections
 import contextlib
 import os
@@ -24,14 +24,14 @@ TOP = os.path.dirname(os.path.dirname(os.path.realpath(__file__)))
 TESTS = os.path.join(TOP, "tests")
 INSIDE = "inside_"
 # Folders whose lib.rs names modules of others, where it has no such file itself: so the same bodies run over another kind of pool.
-OTHERS = {"faults": ["pool"], "counted_pool": ["pool", "faults"], "line_pool": ["pool", "faults"], "metrics": ["pool", "faults"]}
+OTHERS = {"metrics": ["pool"]}
 # Modules of the tests that stand among the crates, since they are proved there.
 LAID = {"crates/pool/src/surface/pool_uses.rt": "crates/examples/src/pool_uses.rt"}
 SECONDS = "400"
 
 
 def names():
-    """The folders of tests, those with the most tests first. (Those of tests/schedules and tests/task_schedules are programs.)"""
+    """The folders of tests, those with the most tests first."""
     folders = [name for name in os.listdir(TESTS) if count_of(files_of(name).values())]
     return sorted(folders, key=lambda name: (-count_of(files_of(name).values()), name))
 
@@ -69,9 +69,9 @@ def count_in(folder):
     return count_of(sources(folder))
 
 
-def needed_by(copy, crate, module):
-    """The modules at the top of a crate of tests that a module of it stands on, itself among them."""
-    source, needed, left = os.path.join(copy, "crates", crate, "src"), set(), [module]
+def needed_by(copy, crate, modules):
+    """The modules at the top of a crate of tests that these of it stand on, they themselves among them."""
+    source, needed, left = os.path.join(copy, "crates", crate, "src"), set(), list(modules)
     while left:
         name = left.pop()
         file = os.path.join(source, name + ".rt")
@@ -84,13 +84,13 @@ def needed_by(copy, crate, module):
 
 
 @contextlib.contextmanager
-def only_what_it_needs(copy, name, test):
-    """Leaves of a crate of tests what one test needs: the whole of it takes several times as long to compile."""
-    root, (module, _, rest) = os.path.join(copy, place_of(name, "lib.rs")), test.partition("::")
-    if name.startswith(INSIDE) or not rest or not os.path.exists(root):
+def only_what_they_need(copy, name, tests):
+    """Leaves of a crate of tests what these tests need: the whole of it takes several times as long to compile."""
+    root, modules = os.path.join(copy, place_of(name, "lib.rs")), {it.partition("::")[0] for it in tests}
+    if name.startswith(INSIDE) or not all("::" in it for it in tests) or not tests or not os.path.exists(root):
         yield
         return
-    text, needed = open(root, encoding="utf-8").read(), needed_by(copy, crate_of(name), module)
+    text, needed = open(root, encoding="utf-8").read(), needed_by(copy, crate_of(name), modules)
     write(root, re.sub(r"^#\[cfg\(test\)\]\nmod (\w+);\n", lambda it: it[0] * (it[1] in needed), text, flags=re.M))
     unused = [file for file in sources(os.path.dirname(root)) if top_of(os.path.dirname(root), file) not in needed | {"lib"}]
     for file in unused:
@@ -237,7 +237,7 @@ class Copy:
     def run_tests(self, name, flags=(), only=None):
         """The tests of a folder, or one of them, without proof: the status, and what was said."""
         words = trying.command("--test", "--seconds", SECONDS, *flags, *(["--", only] if only else []))
-        with self.locks[name], only_what_it_needs(self.folder, name, only or ""):
+        with self.locks[name], only_what_they_need(self.folder, name, [only] if only else []):
             return self.runs.run(words, cwd=self.crate(name), env={**os.environ, "TMPDIR": self.aside})
 
 

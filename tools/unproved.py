@@ -86,11 +86,11 @@ def caught(folder, module):
     return False
 
 
-def catch_module(group, crate, folder, module):
-    """Tries the crate until the module of its program is there."""
+def catch_module(group, crate, folder, module, *flags):
+    """Tries the crate until the module of its program is there, or with `--test` that of its tests."""
     aside = os.path.join(folder, "aside")
     os.mkdir(aside)
-    tried = group.start(command(), crate, env={**os.environ, "TMPDIR": aside})
+    tried = group.start(command(*flags), crate, env={**os.environ, "TMPDIR": aside})
     while not caught(aside, module):
         if tried.poll() is not None:
             raise Failed(tried.stdout.read().decode(errors="replace").strip() or "the compiler left no module")
@@ -118,17 +118,22 @@ def as_proved(group, crate, folder, code):
     group.run([*clang, *unchecked.FLAGS, *flags, "-c", "-x", "ir", text, "-o", code], folder)
 
 
+def link(group, code, program, folder):
+    """Makes a program of what was compiled."""
+    tools = kit()
+    group.run([f"{tools}/bin/rattle-link", "--target", TARGET, "--toolchain", f"{tools}/toolchain", "-o", program, code,
+               f"{tools}/c/libos_c.a", f"{tools}/c/liblibc_c.a"], folder)
+
+
 def compile_program(crate, path, compiled=with_checks):
     """Compiles the program of a crate into a file, which is there only once it is whole. Others may do the same beside it."""
     kept = os.path.dirname(path)
     os.makedirs(kept, exist_ok=True)
     with tempfile.TemporaryDirectory(prefix="half-", dir=kept) as folder, Group() as group:
         module, code, program = (os.path.join(folder, name) for name in (MODULE, "program.o", "program"))
-        tools = kit()
         catch_module(group, crate, folder, module)
         compiled(group, crate, folder, code)
-        group.run([f"{tools}/bin/rattle-link", "--target", TARGET, "--toolchain", f"{tools}/toolchain", "-o", program, code,
-                   f"{tools}/c/libos_c.a", f"{tools}/c/liblibc_c.a"], folder)
+        link(group, code, program, folder)
         os.replace(program, path)
     for other in os.listdir(kept):
         if other != os.path.basename(path) and not other.startswith("half-"):

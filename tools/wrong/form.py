@@ -6,7 +6,7 @@
     old: words of the function
     new: what stands in their place
 
-`seen by: test FOLDER NAME` names a test of tests/FOLDER, `seen by: refusal NAME` one of tests/faults where something is refused, and
+`seen by: test FOLDER NAME` names a test of tests/FOLDER, `seen by: refusal NAME` one of tests/stage where something is refused, and
 `seen by: schedule NAME` a scenario: one or several such lines. `in:`, `old:` and `new:` may come again; without an `in:` of its own a
 change is in the function of the one before. `in: mod pool::in_line` is outside of all functions. A text of several lines begins on the
 next line and is set in by four spaces.

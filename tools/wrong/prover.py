@@ -45,6 +45,9 @@ SEVERAL = re.compile(r"several functions are named `([^`]*)`: help: (.*)")
 # What a type means to a clause.
 MODEL = re.compile(r"^impl\b[^{;]*\bModel for (\w+)[^{]*\{.*?^\}", re.M | re.S)
 WORD = re.compile(r"\w+")
+TYPE = re.compile(r"^(?:pub(?:\([^)]*\))? )?(?:struct|enum) (\w+)", re.M)
+ALIAS = re.compile(r"^(?:pub(?:\([^)]*\))? )?type (\w+)<", re.M)
+IMPL = re.compile(r"^impl\b[^{;]*?\b(\w+)<([^<>]*)> (?:where[^{]*)?\{", re.M)
 DEFINED = re.compile(r"\bRattle\.(\w+)\.specs((?:\.\w+)+)")
 # A proof file that names what an edit took away.
 NAMES = re.compile(r"has no field|is not in scope|has no `|was not admitted")
@@ -322,7 +325,9 @@ class Bench:
     def __init__(self, room, crate):
         self.room, self.crate = room, crate
         self.folder, are_built = room.bench_of(crate)
-        self.ends, self.names, self.crates = {}, {}, form.Crates(os.path.join(room.folder, crate))
+        self.ends, self.crates = {}, form.Crates(os.path.join(room.folder, crate))
+        # The functions that the prover knows by another name than edits ask for: each that it does not know costs a reading of all.
+        self.names = {**dict(names_by_type(crate, self.crates.of(crate))), **dict(names_by_alias(self.crates.of(crate)))}
         crate = rtlib().Crate(self.folder, rtlib().root_above(self.folder), {})
         self.words_of = lambda jobs: crate.words(["--jobs", jobs], as_source=not are_built)
 
@@ -386,6 +391,27 @@ class Bench:
         for file, text in texts.items():
             with open(os.path.join(self.folder, file), "w", encoding="utf-8") as it:
                 it.write(text)
+
+
+def names_by_type(crate, texts):
+    """The functions of a type of the crate, which the prover names by where that stands, or where an impl for some types alone does: another
+    crate may have one of the same name."""
+    homes = {name: form.module_of(file) for file, text in texts.items() for name in TYPE.findall(text)}
+    for file, text in texts.items():
+        for it in form.functions_of(file, text):
+            if it.owner in homes:
+                home = form.module_of(file) if it.types else homes[it.owner]
+                yield "::".join(it.path), ["::".join([crate, *home, it.owner + it.types, it.name])]
+
+
+def names_by_alias(texts):
+    """The functions of an impl for an alias of a type, which the prover names with all that the alias is given."""
+    aliases = {name for text in texts.values() for name in ALIAS.findall(text)}
+    for file, text in texts.items():
+        given = {name: "".join(f"+{it}" for it in WORD.findall(found)) for name, found in IMPL.findall(text) if name in aliases}
+        for it in form.functions_of(file, text):
+            if it.owner in given and not it.types:
+                yield "::".join(it.path), ["::".join([it.owner + given[it.owner], it.name])]
 
 
 def smaller(left, batch, said):

@@ -1,15 +1,17 @@
-"""The wrong bodies that tests refuse: each is made in a copy of the repository, and its tests are run there, without proof. A body passes
-where each test that it names saw it. A run takes about a minute for each test.
-
-They are compiled as many at once as can be made in one copy, in a minute or two for all."""
+"""The wrong bodies that tests refuse: they are made in a copy of the repository, and their tests are run there, without proof. A body
+passes where each test that it names saw it, and passes with the right bodies. Most are tried over one program for each folder of tests
+(batch.py); one that is no body of a function is compiled alone, for each of its tests."""
+import collections
 import os
 import re
-import subprocess
 import sys
+import tempfile
+import time
 from concurrent.futures import ThreadPoolExecutor
 
 HERE = os.path.dirname(os.path.realpath(__file__))
 sys.path.insert(0, os.path.dirname(HERE))
+import batch
 import copies
 import form
 import refusals
@@ -31,6 +33,8 @@ fn drops_twice(dropped_twice: String) {
     drop(dropped_twice);
 }
 """
+# Tests look at the clock: so no more of them run at once than half of the processors.
+AT_ONCE = max(len(os.sched_getaffinity(0)) // 2, 1)
 # What `rt try` ends with.
 ENDS = {6: "did not end", 4: "stopped at a fault"}
 
@@ -75,30 +79,77 @@ def ran_refused(copy, test):
     return "failed" if broken or built.memory(case) else "passed"
 
 
-def try_body(copy, body):
-    """Whether each of its tests saw it."""
-    print(f"{body.name}: {body.what}", flush=True)
+def try_alone(copy, body):
+    """Whether each of its tests saw it, where it is compiled for each of them."""
     spots, why = body.spots(form.Crates(copy.folder))
     if why:
-        print(f"    {why}")
+        print(f"{body.name}: {why}", flush=True)
         return False
-    tests = [(ran, *it) for it in body.names("test")] + [(ran_refused, it[0]) for it in body.names("refusal")]
-    seen = 0
     with Made(copy, spots):
-        for run, *test in tests:
-            came = run(copy, *test)
-            seen += came in ("failed", *ENDS.values())
-            print(f"    {' '.join(test)}: {came}", flush=True)
-    print(f"{body.name}: {seen} of {len(tests)} tests saw it", flush=True)
-    return seen == len(tests)
+        came = [(it, ran(copy, *it)) for it in body.names("test")] + [(it, ran_refused(copy, *it)) for it in body.names("refusal")]
+    return told_of(body, came)
 
 
-def try_apart(body):
-    """The same in a process of its own, whose words are shown once it ended."""
-    words = [os.path.join(HERE, "try"), "tests", body.name]
-    done = subprocess.run(words, stdout=subprocess.PIPE, stderr=subprocess.STDOUT, text=True)
-    print("\n".join(done.stdout.splitlines()[:-1]) if done.returncode == 0 else done.stdout.strip(), flush=True)
-    return done.returncode == 0
+def told_of(body, came):
+    """Whether all of its tests saw it, of which this became; one that did not is told."""
+    unseen = [(test, what) for test, what in came if what not in ("failed", *ENDS.values())]
+    print(f"{body.name}: {len(came) - len(unseen)} of {len(came)} tests saw it", flush=True)
+    for test, what in unseen:
+        print(f"    {' '.join(test)}: {what}", flush=True)
+    return not unseen
+
+
+class Trial:
+    """Bodies that are tried together, over one program for each folder of tests."""
+
+    def __init__(self, copy, made):
+        self.copy, self.made, self.programs = copy, made, {}
+
+    def compile(self, kept, bodies):
+        """A program for each folder that these name; those of which there is none are said."""
+        put(self.copy, {place: text for place, text in self.made.texts().items()})
+        tests = collections.defaultdict(set)
+        for body in bodies:
+            for folder, test in body.names("test"):
+                tests[folder].add(test)
+        for folder in sorted(tests, key=lambda it: -len(tests[it])):
+            begun, path = time.monotonic(), os.path.join(kept, folder)
+            with copies.only_what_they_need(self.copy.folder, folder, tests[folder]):
+                said = batch.compile_tests(self.copy, folder, path, kept)
+            if said:
+                print(f"{folder}: not compiled with all bodies in it:\n{said[-3000:]}", flush=True)
+                continue
+            self.programs[folder] = batch.Program(path)
+            print(f"{folder}: compiled, {time.monotonic() - begun:.0f} s", flush=True)
+        return tests
+
+    def run_right(self, folder, test):
+        """Whether the test passes with the right bodies; how long it takes then is known from now on."""
+        came, seconds = self.programs[folder].run(0, test)
+        self.programs[folder].seconds[test] = seconds
+        if came != "passed":
+            print(f"{folder} {test}: {came} with the right bodies", flush=True)
+        return came == "passed"
+
+    def run(self, body):
+        """What became of each of its tests."""
+        return [(it, self.programs[it[0]].run(self.made.numbers[body.name], it[1])[0]) for it in body.names("test")]
+
+
+def try_together(copy, bodies):
+    """Those of the bodies that not each of their tests saw, and those that are to be tried alone."""
+    made = batch.Bodies(form.Crates(copy.folder), bodies)
+    alone, together = list(made.alone), [it for it in bodies if it.name in made.numbers]
+    trial = Trial(copy, made)
+    with tempfile.TemporaryDirectory(prefix="bodies-") as kept, ThreadPoolExecutor(AT_ONCE) as workers:
+        tests = trial.compile(kept, together)
+        compiled = [it for it in together if all(test[0] in trial.programs for test in it.names("test"))]
+        alone += [it for it in together if it not in compiled]
+        named = sorted({tuple(test) for it in compiled for test in it.names("test")})
+        right = dict(zip(named, workers.map(lambda it: trial.run_right(*it), named)))
+        seen = list(workers.map(lambda it: told_of(it, trial.run(it)), compiled))
+    wrong = {" ".join(it) for it, is_right in right.items() if not is_right}
+    return [it.name for it, is_seen in zip(compiled, seen) if not is_seen or any(" ".join(test) in wrong for test in it.names("test"))], alone
 
 
 def of_tests(names=()):
@@ -113,12 +164,12 @@ def of_tests(names=()):
 def try_tests(names):
     """How many passed, and which did not."""
     bodies = [it for it in of_tests(names) if it.names("test") or it.names("refusal")]
-    if names:
-        with copies.copied() as copy:
-            return len(bodies), [it.name for it in bodies if not try_body(copy, it)]
-    with ThreadPoolExecutor(max(len(os.sched_getaffinity(0)) // 2, 1)) as workers:
-        seen = list(workers.map(try_apart, bodies))
-    return len(bodies), [it.name for it, is_seen in zip(bodies, seen) if not is_seen]
+    with copies.copied() as copy:
+        refusals_of = [it for it in bodies if it.names("refusal")]
+        failed, alone = try_together(copy, [it for it in bodies if it not in refusals_of])
+    with copies.copied() as copy:
+        failed += [it.name for it in alone + refusals_of if not try_alone(copy, it)]
+    return len(bodies), failed
 
 
 def said_of(copy, group):
