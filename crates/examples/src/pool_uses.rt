@@ -77,8 +77,9 @@ pub fn build_checked<M: ManageConnection, R: PoolRuntime>(
     manager: M,
 ) -> Result<Option<PlainPool<M, R>>, Error>
     ensures legal { IfOk result
-        (λ built. IsSome built ↔ ForSome builder.min_idle (λ n. n ≤ builder.max_size)) }
-    ensures kept { IfOk result (λ built. IfSome built (λ pool. pool ≡ builder)) }
+        (λ built. IsSome built
+        ↔ ForSome builder.config.min_idle (λ n. n ≤ builder.config.max_size)) }
+    ensures kept { IfOk result (λ built. IfSome built (λ pool. pool ≡ builder.config)) }
 {
     if builder.limits().is_none() {
         return Ok(None);

@@ -1,12 +1,13 @@
 -- The settings of a pool. Lengths of time are compared in nanoseconds.
-use Rattle.std.specs.Prelude.{◌≡◌, ℕ, ◌*◌, ◌<◌, Bool, true, false, if◌then◌else◌, Option, Some, None, option_map}
+use Rattle.std.specs.Prelude.{◌≡◌, ℕ, ◌*◌, ◌<◌, Bool, true, false, if◌then◌else◌, Option, Some, None, option_map, MatchOption, min}
 use Rattle.std.specs.Option.{ForSome}
-use Rattle.std.specs.Duration.{as_nanos}
+use Rattle.std.specs.Duration.{as_nanos, max_nanos}
 use Rattle.std.specs.declared.time.Duration.{Duration}
 use Rattle.r2d2_core.specs.declared.schedule.limits.LendingOrder.TheVariants.{NewestFirst}
 use Rattle.r2d2_core.specs.declared.schedule.limits.LimitSettings.{LimitSettings}
 use Rattle.r2d2_core.specs.Limits.{settings, with_order}
 use Rattle.r2d2.specs.declared.config.Config.{Config}
+use Rattle.r2d2.specs.declared.config.Settings.{Settings}
 use Rattle.r2d2.specs.declared.tuning.Tuning.{Tuning}
 
 -- a number of seconds, in nanoseconds
@@ -35,6 +36,22 @@ pub record IsOff (tuning : Tuning) : Type 0 where
   pub max_waiting : tuning.max_waiting ≡ None
   pub in_line : tuning.in_line ≡ false
 
+-- all that a builder begins with
+pub record AreNew {H V Z : Type 0} (settings : Settings H V Z) : Type 0 where
+  pub config : AreDefaults settings.config
+  pub tuning : IsOff settings.tuning
+  pub first_id : settings.first_id ≡ 0
+  pub listens : settings.listens ≡ false
+
+-- all settings of a builder where those that r2d2 has, or its handlers, are others
+abbrev pub changed : {G W Y H V Z : Type 0} → Config G W Y → Settings H V Z → Settings G W Y
+changed config s = record { config = config; tuning = s.tuning; first_id = s.first_id; listens = s.listens }
+
+-- how long the limits of a pool's book say that callers wait: as long as they do, or twice the longest delay of an opening where that is set
+abbrev pub IsTimeoutOfBook : {H V Z : Type 0} → Config H V Z → Tuning → Duration → Type 0
+IsTimeoutOfBook config tuning timeout = MatchOption tuning.retry_at_most (timeout ≡ config.connection_timeout)
+    (λ longest. as_nanos timeout ≡ min (as_nanos longest * 2) max_nanos)
+
 -- how many callers a line has room for, where they wait in line
 abbrev pub room_in_line : Option ℕ → Bool → ℕ
 room_in_line None in_line = 0
@@ -48,6 +65,11 @@ pub record ArePositive {H V Z : Type 0} (config : Config H V Z) : Type 0 where
   pub idles : ForSome config.idle_timeout (λ d. 0 < as_nanos d)
   pub waits : 0 < as_nanos config.connection_timeout
   pub reaps : 0 < as_nanos config.reaper_rate
+
+-- and all settings of a builder
+pub record AreAllPositive {H V Z : Type 0} (settings : Settings H V Z) : Type 0 where
+  pub config : ArePositive settings.config
+  pub retries : ForSome settings.tuning.retry_at_most (λ d. 0 < as_nanos d)
 
 -- the limits among the settings, with this connection timeout, and with the settings' own
 abbrev pub limits_within : {H V Z : Type 0} → Duration → Config H V Z → LimitSettings

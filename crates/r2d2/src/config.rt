@@ -144,92 +144,91 @@ impl<H: fmt::Debug, V: fmt::Debug, Z: fmt::Debug> fmt::Debug for Config<H, V, Z>
 /// says how.
 #[derive(Drop)]
 pub struct Builder<M, H = NopErrorHandler, V = NopEventHandler, Z = NopConnectionCustomizer> {
-    config: Config<H, V, Z>,
-    // The settings that r2d2 has not.
-    tuning: Tuning,
-    // The id of the first connection. It matters to the book that the pool begins with, and to
-    // nothing later.
-    first_id: u64,
-    // Whether a handler of events was set.
-    listens: bool,
+    settings: Settings<H, V, Z>,
     manager: PhantomData<M>,
+}
+
+/// All that is set at a builder.
+#[derive(Drop)]
+pub struct Settings<H, V, Z> {
+    /// What a pool keeps as r2d2 does, and its handlers.
+    pub config: Config<H, V, Z>,
+    /// The settings that r2d2 has not.
+    pub tuning: Tuning,
+    /// The id of the first connection. It matters to the book that the pool begins with, and to
+    /// nothing later.
+    pub first_id: u64,
+    /// Whether a handler of events was set.
+    pub listens: bool,
 }
 
 // Contracts see a builder as its settings.
 impl<M, H, V, Z> Model for Builder<M, H, V, Z> {
-    ghost use Rattle.r2d2.specs.declared.config.Config.{Config};
-    ghost use Rattle.r2d2.specs.Settings.{ArePositive};
+    ghost use Rattle.r2d2.specs.declared.config.Settings.{Settings};
+    ghost use Rattle.r2d2.specs.Settings.{AreAllPositive};
 
-    ghost Value = { Config H V Z };
+    ghost Value = { Settings H V Z };
 
-    ghost view = { λ b. b.config };
+    ghost view = { λ b. b.settings };
 
-    ghost invariant = { λ b. ArePositive b.config };
+    ghost invariant = { λ b. AreAllPositive b.settings };
 }
 
 impl<M, H, V, Z> Builder<M, H, V, Z> {
-    ghost use Rattle.r2d2.specs.Settings.{ArePositive};
+    ghost use Rattle.r2d2.specs.Settings.{AreAllPositive};
 
     // A builder with these settings.
-    fn over(
-        config: Config<H, V, Z>,
-        tuning: Tuning,
-        first_id: u64,
-        listens: bool,
-    ) -> Builder<M, H, V, Z>
-        requires { ArePositive config }
-        ensures { result ≡ config }
+    fn over(settings: Settings<H, V, Z>) -> Builder<M, H, V, Z>
+        requires { AreAllPositive settings }
+        ensures { result ≡ settings }
     {
         Builder {
-            config,
-            tuning,
-            first_id,
-            listens,
+            settings,
             manager: PhantomData,
         }
     }
 }
 
 impl<M: ManageConnection> Builder<M> {
-    ghost use Rattle.r2d2.specs.Settings.{AreDefaults};
+    ghost use Rattle.r2d2.specs.Settings.{AreNew};
 
     /// A builder with the default of each setting, and with handlers and a customizer that do
     /// nothing.
     pub fn new() -> Self
-        ensures { AreDefaults result }
+        ensures { AreNew result }
     {
         Self::default()
     }
 }
 
 impl<M: ManageConnection> Default for Builder<M> {
-    ghost use Rattle.r2d2.specs.Settings.{AreDefaults};
+    ghost use Rattle.r2d2.specs.Settings.{AreNew};
 
-    ghost is_default = { AreDefaults };
+    ghost is_default = { AreNew };
 
     /// The same as `new`.
     fn default() -> Self {
-        Builder {
-            config: Config {
-                max_size: 10,
-                min_idle: None,
-                thread_pool: 3,
-                test_on_check_out: true,
-                max_lifetime: Some(Duration::from_secs(1800)),
-                idle_timeout: Some(Duration::from_secs(600)),
-                connection_timeout: Duration::from_secs(30),
-                journal_room: 0,
-                reaper_rate: Duration::from_secs(30),
-                lending_order: LendingOrder::NewestFirst,
-                error_handler: NopErrorHandler,
-                event_handler: NopEventHandler,
-                connection_customizer: NopConnectionCustomizer,
-            },
+        let config = Config {
+            max_size: 10,
+            min_idle: None,
+            thread_pool: 3,
+            test_on_check_out: true,
+            max_lifetime: Some(Duration::from_secs(1800)),
+            idle_timeout: Some(Duration::from_secs(600)),
+            connection_timeout: Duration::from_secs(30),
+            journal_room: 0,
+            reaper_rate: Duration::from_secs(30),
+            lending_order: LendingOrder::NewestFirst,
+            error_handler: NopErrorHandler,
+            event_handler: NopEventHandler,
+            connection_customizer: NopConnectionCustomizer,
+        };
+        Builder::over(Settings {
+            config,
             tuning: Tuning::off(),
             first_id: 0,
             listens: false,
-            manager: PhantomData,
-        }
+        })
     }
 }
 
@@ -239,8 +238,10 @@ impl<
     V: HandleEvent + 'static,
     Z: CustomizeConnection<M::Connection, M::Error>,
 > Builder<M, H, V, Z> {
+    ghost use Rattle.std.specs.Prelude.{Some, true};
     ghost use Rattle.r2d2.specs.Settings.{limits_in, limits_within, with_error_handler};
-    ghost use Rattle.r2d2.specs.Settings.{with_event_handler, with_customizer};
+    ghost use Rattle.r2d2.specs.Settings.{with_event_handler, with_customizer, changed};
+    ghost use Rattle.r2d2.specs.Settings.{IsTimeoutOfBook};
 
     /// How many connections there are at most: idle ones, lent ones and those that are being opened
     /// together. The default is 10. A pool takes the memory for that many when it is built.
@@ -251,10 +252,10 @@ impl<
     /// It may not be 0. The test for a number from outside: `max_size > 0`.
     pub fn max_size(mut self, max_size: u32) -> Self
         requires { 0 < max_size }
-        ensures { result ≡ record self { max_size = max_size } }
+        ensures { result ≡ record self { config = record self.config { max_size = max_size } } }
     {
         prove!(max_size > 0);
-        self.config.max_size = max_size;
+        self.settings.config.max_size = max_size;
         self
     }
 
@@ -265,9 +266,9 @@ impl<
     /// It may not be above `max_size` when the pool is built. The test: `limits().is_some()` on the
     /// finished builder.
     pub fn min_idle(mut self, min_idle: Option<u32>) -> Self
-        ensures { result ≡ record self { min_idle = min_idle } }
+        ensures { result ≡ record self { config = record self.config { min_idle = min_idle } } }
     {
-        self.config.min_idle = min_idle;
+        self.settings.config.min_idle = min_idle;
         self
     }
 
@@ -277,19 +278,19 @@ impl<
     /// It may not be 0. The test for a number from outside: `workers > 0`.
     pub fn thread_pool(mut self, workers: usize) -> Self
         requires { 0 < workers }
-        ensures { result ≡ record self { thread_pool = workers } }
+        ensures { result ≡ record self { config = record self.config { thread_pool = workers } } }
     {
         prove!(workers > 0);
-        self.config.thread_pool = workers;
+        self.settings.config.thread_pool = workers;
         self
     }
 
     /// Whether a connection is checked by `ManageConnection::is_valid` each time before it is lent.
     /// The default is true.
     pub fn test_on_check_out(mut self, test_on_check_out: bool) -> Self
-        ensures { result ≡ record self { test_on_check_out = test_on_check_out } }
+        ensures { result ≡ record self { config = record self.config { test_on_check_out = test_on_check_out } } }
     {
-        self.config.test_on_check_out = test_on_check_out;
+        self.settings.config.test_on_check_out = test_on_check_out;
         self
     }
 
@@ -302,12 +303,12 @@ impl<
     /// It may not be a length of zero. The test for one from outside: None, or `!age.is_zero()`.
     pub fn max_lifetime(mut self, max_lifetime: Option<Duration>) -> Self
         requires { ForSome max_lifetime (λ d. 0 < as_nanos d) }
-        ensures { result ≡ record self { max_lifetime = max_lifetime } }
+        ensures { result ≡ record self { config = record self.config { max_lifetime = max_lifetime } } }
     {
         if let Some(age) = max_lifetime {
             prove!(!age.is_zero());
         }
-        self.config.max_lifetime = max_lifetime;
+        self.settings.config.max_lifetime = max_lifetime;
         self
     }
 
@@ -321,12 +322,12 @@ impl<
     /// It may not be a length of zero. The test for one from outside: None, or `!length.is_zero()`.
     pub fn idle_timeout(mut self, idle_timeout: Option<Duration>) -> Self
         requires { ForSome idle_timeout (λ d. 0 < as_nanos d) }
-        ensures { result ≡ record self { idle_timeout = idle_timeout } }
+        ensures { result ≡ record self { config = record self.config { idle_timeout = idle_timeout } } }
     {
         if let Some(length) = idle_timeout {
             prove!(!length.is_zero());
         }
-        self.config.idle_timeout = idle_timeout;
+        self.settings.config.idle_timeout = idle_timeout;
         self
     }
 
@@ -340,10 +341,10 @@ impl<
     /// It may not be a length of zero. The test for one from outside: `!length.is_zero()`.
     pub fn connection_timeout(mut self, connection_timeout: Duration) -> Self
         requires { 0 < as_nanos connection_timeout }
-        ensures { result ≡ record self { connection_timeout = connection_timeout } }
+        ensures { result ≡ record self { config = record self.config { connection_timeout = connection_timeout } } }
     {
         prove!(!connection_timeout.is_zero());
-        self.config.connection_timeout = connection_timeout;
+        self.settings.config.connection_timeout = connection_timeout;
         self
     }
 
@@ -351,9 +352,9 @@ impl<
     /// default is 0: none. The memory is taken when the pool is built, 40 bytes for each record,
     /// and building is refused where there is not as much.
     pub fn journal_room(mut self, records: usize) -> Self
-        ensures { result ≡ record self { journal_room = records } }
+        ensures { result ≡ record self { config = record self.config { journal_room = records } } }
     {
-        self.config.journal_room = records;
+        self.settings.config.journal_room = records;
         self
     }
 
@@ -363,18 +364,18 @@ impl<
     /// It may not be a length of zero.
     pub(crate) fn reaper_rate(mut self, reaper_rate: Duration) -> Self
         requires { 0 < as_nanos reaper_rate }
-        ensures { result ≡ record self { reaper_rate = reaper_rate } }
+        ensures { result ≡ record self { config = record self.config { reaper_rate = reaper_rate } } }
     {
-        self.config.reaper_rate = reaper_rate;
+        self.settings.config.reaper_rate = reaper_rate;
         self
     }
 
     /// The id of the first connection; each later one has the next. The default is 0. Tests of this
     /// crate alone set it.
     pub(crate) fn first_id(mut self, first_id: u64) -> Self
-        ensures { result ≡ self }
+        ensures { result ≡ record self { first_id = first_id } }
     {
-        self.first_id = first_id;
+        self.settings.first_id = first_id;
         self
     }
 
@@ -383,9 +384,9 @@ impl<
     /// `OldestFirst` each connection is used in its turn, so none is idle for long while the pool
     /// is busy, and few are closed. r2d2 always lends the newest first.
     pub fn lending_order(mut self, order: LendingOrder) -> Self
-        ensures { result ≡ record self { lending_order = order } }
+        ensures { result ≡ record self { config = record self.config { lending_order = order } } }
     {
-        self.config.lending_order = order;
+        self.settings.config.lending_order = order;
         self
     }
 
@@ -396,9 +397,9 @@ impl<
     /// Half a second spares a busy pool nearly all checks; a caller may then get a connection whose
     /// server went away within it.
     pub fn check_after_idle(mut self, idle: Option<Duration>) -> Self
-        ensures { result ≡ self }
+        ensures { result ≡ record self { tuning = record self.tuning { check_after_idle = idle } } }
     {
-        self.tuning.check_after_idle = idle;
+        self.settings.tuning.check_after_idle = idle;
         self
     }
 
@@ -407,9 +408,9 @@ impl<
     /// went away, a caller waits for one check, and not for one for each idle connection, whichever
     /// is lent first. The default is false, as r2d2.
     pub fn distrust_idle(mut self, distrust_idle: bool) -> Self
-        ensures { result ≡ self }
+        ensures { result ≡ record self { tuning = record self.tuning { distrust_idle = distrust_idle } } }
     {
-        self.tuning.distrust_idle = distrust_idle;
+        self.settings.tuning.distrust_idle = distrust_idle;
         self
     }
 
@@ -423,10 +424,10 @@ impl<
     /// It may not be a length of zero. The test for one from outside: `!length.is_zero()`.
     pub fn retry_at_most(mut self, longest: Duration) -> Self
         requires { 0 < as_nanos longest }
-        ensures { result ≡ self }
+        ensures { result ≡ record self { tuning = record self.tuning { retry_at_most = Some longest } } }
     {
         prove!(!longest.is_zero());
-        self.tuning.retry_at_most = Some(longest);
+        self.settings.tuning.retry_at_most = Some(longest);
         self
     }
 
@@ -439,9 +440,9 @@ impl<
     /// It is enforced when a lent connection comes back. An idle one is closed by the common limits
     /// alone.
     pub fn lifetime_jitter(mut self, jitter: Duration) -> Self
-        ensures { result ≡ self }
+        ensures { result ≡ record self { tuning = record self.tuning { lifetime_jitter = Some jitter } } }
     {
-        self.tuning.lifetime_jitter = Some(jitter);
+        self.settings.tuning.lifetime_jitter = Some(jitter);
         self
     }
 
@@ -452,10 +453,10 @@ impl<
     /// It may not be 0. The test for a number from outside: `callers > 0`.
     pub fn max_waiting(mut self, callers: u32) -> Self
         requires { 0 < callers }
-        ensures { result ≡ self }
+        ensures { result ≡ record self { tuning = record self.tuning { max_waiting = Some callers } } }
     {
         prove!(callers > 0);
-        self.tuning.max_waiting = Some(callers);
+        self.settings.tuning.max_waiting = Some(callers);
         self
     }
 
@@ -471,11 +472,11 @@ impl<
     /// It may not be 0. The test for a number from outside: `callers > 0`.
     pub fn waiting_line(mut self, callers: u32) -> Self
         requires { 0 < callers }
-        ensures { result ≡ self }
+        ensures { result ≡ record self { tuning = record self.tuning { max_waiting = Some callers; in_line = true } } }
     {
         prove!(callers > 0);
-        self.tuning.max_waiting = Some(callers);
-        self.tuning.in_line = true;
+        self.settings.tuning.max_waiting = Some(callers);
+        self.settings.tuning.in_line = true;
         self
     }
 
@@ -483,19 +484,30 @@ impl<
     /// `NopErrorHandler`, drops each in silence, so that only a caller's timeout tells why no
     /// connection opens. `LoggingErrorHandler` writes each to a log.
     pub fn error_handler<G: HandleError<M::Error>>(self, handler: G) -> Builder<M, G, V, Z>
-        ensures { result ≡ with_error_handler handler self }
+        ensures { result ≡ changed (with_error_handler handler self.config) self }
     {
-        let config = self.config.with_error_handler(handler);
-        Builder::over(config, self.tuning, self.first_id, self.listens)
+        let config = self.settings.config.with_error_handler(handler);
+        Builder::over(Settings {
+            config,
+            tuning: self.settings.tuning,
+            first_id: self.settings.first_id,
+            listens: self.settings.listens,
+        })
     }
 
     /// What is told of each event. The default, `NopEventHandler`, ignores them. A pool where none
     /// was set reads the clock less often, since nobody sees when a call began or ended.
     pub fn event_handler<W: HandleEvent + 'static>(self, handler: W) -> Builder<M, H, W, Z>
-        ensures { result ≡ with_event_handler handler self }
+        ensures { result
+            ≡ record (changed (with_event_handler handler self.config) self) { listens = true } }
     {
-        let config = self.config.with_event_handler(handler);
-        Builder::over(config, self.tuning, self.first_id, true)
+        let config = self.settings.config.with_event_handler(handler);
+        Builder::over(Settings {
+            config,
+            tuning: self.settings.tuning,
+            first_id: self.settings.first_id,
+            listens: true,
+        })
     }
 
     /// What changes connections as they come and go. The default, `NopConnectionCustomizer`, leaves
@@ -504,33 +516,44 @@ impl<
         self,
         customizer: Y,
     ) -> Builder<M, H, V, Y>
-        ensures { result ≡ with_customizer customizer self }
+        ensures { result ≡ changed (with_customizer customizer self.config) self }
     {
-        let config = self.config.with_customizer(customizer);
-        Builder::over(config, self.tuning, self.first_id, self.listens)
+        let config = self.settings.config.with_customizer(customizer);
+        Builder::over(Settings {
+            config,
+            tuning: self.settings.tuning,
+            first_id: self.settings.first_id,
+            listens: self.settings.listens,
+        })
     }
 
     /// The id that the first connection gets.
-    pub(crate) fn id_of_the_first(&self) -> u64 {
-        self.first_id
+    pub(crate) fn id_of_the_first(&self) -> u64
+        ensures { result ≡ self.now.first_id }
+    {
+        self.settings.first_id
     }
 
     /// Whether a handler of events was set.
-    pub(crate) fn listens(&self) -> bool {
-        self.listens
+    pub(crate) fn listens(&self) -> bool
+        ensures { result ≡ self.now.listens }
+    {
+        self.settings.listens
     }
 
     /// Whether a handler of events was set, and the settings that r2d2 has not.
-    pub(crate) fn beside_config(&self) -> (bool, Tuning) {
-        (self.listens, self.tuning)
+    pub(crate) fn beside_config(&self) -> (bool, Tuning)
+        ensures { result ≡ (self.now.listens, self.now.tuning) }
+    {
+        (self.settings.listens, self.settings.tuning)
     }
 
-    /// The settings alone.
+    /// The settings that r2d2 has, and the handlers.
     pub(crate) fn into_config(self) -> Config<H, V, Z>
-        ensures { result ≡ self }
+        ensures { result ≡ self.config }
     {
-        let Builder { config, .. } = self;
-        config
+        let Builder { settings, .. } = self;
+        settings.config
     }
 
     /// The limits that building would use, with the lending order; None exactly where `min_idle` is
@@ -538,28 +561,32 @@ impl<
     /// from outside. Where `retry_at_most` is set they have `connection_timeout` all the same, and
     /// the pool's own have twice that length in its place.
     pub fn limits(&self) -> Option<Limits>
-        ensures legal { IsSome result ↔ ForSome self.now.min_idle (λ n. n ≤ self.now.max_size) }
-        ensures given { IfSome result (λ limits. seen_limits limits ≡ limits_in self.now) }
+        ensures legal { IsSome result ↔ ForSome self.now.config.min_idle
+            (λ n. n ≤ self.now.config.max_size) }
+        ensures given { IfSome result (λ limits. seen_limits limits ≡ limits_in self.now.config) }
     {
-        self.limits_within(self.config.connection_timeout)
+        self.limits_within(self.settings.config.connection_timeout)
     }
 
     /// The connection timeout of a pool's book, to half of which its delays grow.
     pub(crate) fn timeout_of_book(&self) -> Duration
-        ensures { 0 < as_nanos result }
+        ensures given { IsTimeoutOfBook self.now.config self.now.tuning result }
+        ensures positive { 0 < as_nanos result }
     {
-        self.tuning
-            .connection_timeout(self.config.connection_timeout)
+        self.settings
+            .tuning
+            .connection_timeout(self.settings.config.connection_timeout)
     }
 
     /// The limits with this connection timeout.
     pub(crate) fn limits_within(&self, connection_timeout: Duration) -> Option<Limits>
         requires { 0 < as_nanos connection_timeout }
-        ensures legal { IsSome result ↔ ForSome self.now.min_idle (λ n. n ≤ self.now.max_size) }
+        ensures legal { IsSome result ↔ ForSome self.now.config.min_idle
+            (λ n. n ≤ self.now.config.max_size) }
         ensures given { IfSome result
-            (λ limits. seen_limits limits ≡ limits_within connection_timeout self.now) }
+            (λ limits. seen_limits limits ≡ limits_within connection_timeout self.now.config) }
     {
-        let config = &self.config;
+        let config = &self.settings.config;
         LimitSettings {
             max_size: config.max_size,
             min_idle: config.min_idle,
@@ -575,7 +602,7 @@ impl<
 
 impl<M, H: fmt::Debug, V: fmt::Debug, Z: fmt::Debug> fmt::Debug for Builder<M, H, V, Z> {
     fn fmt<W: fmt::Write>(&self, f: &mut fmt::Formatter<W>) -> fmt::Result {
-        let config = &self.config;
+        let config = &self.settings.config;
         f.debug_struct("Builder")
             .field("max_size", &config.max_size)
             .field("min_idle", &config.min_idle)

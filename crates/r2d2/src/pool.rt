@@ -246,12 +246,12 @@ impl<
     R: PoolRuntime,
 > Pool<M, H, V, Z, R> {
     ghost use Rattle.r2d2.specs.Failures.{IsOfMemory, IsOfAGet};
-    ghost use Rattle.r2d2.specs.Settings.{AreDefaults};
+    ghost use Rattle.r2d2.specs.Settings.{AreNew};
 
     /// A builder with the default of each setting. `Builder::new()` is the same, and shorter: here
     /// the pool's types have to be written out.
     pub fn builder() -> Builder<M>
-        ensures { AreDefaults result }
+        ensures { AreNew result }
     {
         Builder::new()
     }

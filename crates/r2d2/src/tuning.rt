@@ -26,7 +26,6 @@ pub struct Tuning {
     pub max_waiting: Option<u32>,
     /// Whether they wait in line, and are served in order.
     pub in_line: bool,
-    pub ghost retries: { ForSome retry_at_most (λ d. 0 < as_nanos d) },
 }
 
 impl Tuning {
@@ -61,7 +60,8 @@ impl Tuning {
     /// The connection timeout of the limits of a pool's book: so long that delays grow to
     /// `retry_at_most`, or else the one that callers have.
     pub fn connection_timeout(&self, of_callers: Duration) -> Duration
-        requires { 0 < as_nanos of_callers }
+        requires callers { 0 < as_nanos of_callers }
+        requires retries { ForSome self.now.retry_at_most (λ d. 0 < as_nanos d) }
         ensures given { MatchOption self.now.retry_at_most (result ≡ of_callers)
             (λ longest. as_nanos result ≡ min (as_nanos longest * 2) max_nanos) }
         ensures positive { 0 < as_nanos result }

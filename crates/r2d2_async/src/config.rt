@@ -57,59 +57,86 @@ pub struct Config {
 /// says how.
 #[derive(Drop)]
 pub struct Builder<H = NopErrorHandler, V = NopEventHandler, Z = NopConnectionCustomizer> {
-    config: Config,
-    tuning: Tuning,
-    handlers: Handlers<H, V, Z>,
-    // Whether a handler of events was set.
-    listens: bool,
+    settings: Settings<H, V, Z>,
+}
+
+/// All that is set at a builder.
+#[derive(Drop)]
+pub struct Settings<H, V, Z> {
+    /// What a pool shows.
+    pub config: Config,
+    /// What it does in an outage, and how lifetimes differ.
+    pub tuning: Tuning,
+    /// What is told, and what changes connections.
+    pub handlers: Handlers<H, V, Z>,
+    /// Whether a handler of events was set.
+    pub listens: bool,
 }
 
 // Contracts see a builder as its settings.
 impl<H, V, Z> Model for Builder<H, V, Z> {
-    ghost use Rattle.r2d2_async.specs.declared.config.Config.{Config};
-    ghost use Rattle.r2d2_async.specs.Settings.{ArePositive};
+    ghost use Rattle.r2d2_async.specs.declared.config.Settings.{Settings};
+    ghost use Rattle.r2d2_async.specs.Settings.{AreAllPositive};
 
-    ghost Value = { Config };
+    ghost Value = { Settings H V Z };
 
-    ghost view = { λ b. b.config };
+    ghost view = { λ b. b.settings };
 
-    ghost invariant = { λ b. ArePositive b.config };
+    ghost invariant = { λ b. AreAllPositive b.settings };
 }
 
 impl Builder {
-    ghost use Rattle.r2d2_async.specs.Settings.{AreDefaults};
+    ghost use Rattle.r2d2_async.specs.Settings.{AreNew};
 
     /// A builder with the default of each setting, and with handlers and a customizer that do
     /// nothing.
     pub fn new() -> Builder
-        ensures { AreDefaults result }
+        ensures { AreNew result }
     {
-        Builder {
-            config: Config {
-                max_size: 10,
-                min_idle: None,
-                max_waiting: 1000,
-                test_on_check_out: true,
-                max_lifetime: Some(Duration::from_secs(1800)),
-                idle_timeout: Some(Duration::from_secs(600)),
-                connection_timeout: Duration::from_secs(30),
-                journal_room: 0,
-                reaper_rate: Duration::from_secs(30),
-                lending_order: LendingOrder::NewestFirst,
-            },
+        let config = Config {
+            max_size: 10,
+            min_idle: None,
+            max_waiting: 1000,
+            test_on_check_out: true,
+            max_lifetime: Some(Duration::from_secs(1800)),
+            idle_timeout: Some(Duration::from_secs(600)),
+            connection_timeout: Duration::from_secs(30),
+            journal_room: 0,
+            reaper_rate: Duration::from_secs(30),
+            lending_order: LendingOrder::NewestFirst,
+        };
+        let handlers = Handlers {
+            error_handler: NopErrorHandler,
+            event_handler: NopEventHandler,
+            connection_customizer: NopConnectionCustomizer,
+        };
+        let settings = Settings {
+            config,
             tuning: Tuning::off(),
-            handlers: Handlers {
-                error_handler: NopErrorHandler,
-                event_handler: NopEventHandler,
-                connection_customizer: NopConnectionCustomizer,
-            },
+            handlers,
             listens: false,
-        }
+        };
+        Builder { settings }
     }
 }
 
 impl<H, V, Z> Builder<H, V, Z> {
+    ghost use Rattle.r2d2_async.specs.Settings.{AreAllPositive};
+
+    // A builder with these settings.
+    fn over(settings: Settings<H, V, Z>) -> Builder<H, V, Z>
+        requires { AreAllPositive settings }
+        ensures { result ≡ settings }
+    {
+        Builder { settings }
+    }
+}
+
+impl<H, V, Z> Builder<H, V, Z> {
+    ghost use Rattle.std.specs.Prelude.{Some, true};
     ghost use Rattle.r2d2_async.specs.Settings.{limits_in, limits_within};
+    ghost use Rattle.r2d2_async.specs.Settings.{with_error_handler, with_event_handler};
+    ghost use Rattle.r2d2_async.specs.Settings.{with_customizer};
 
     /// How many connections there are at most: idle ones, lent ones and those that are being opened
     /// together. The default is 10. A pool takes the memory for that many when it is built.
@@ -117,9 +144,9 @@ impl<H, V, Z> Builder<H, V, Z> {
     /// It may not be 0. The test for a number from outside: `max_size > 0`.
     pub fn max_size(mut self, max_size: u32) -> Self
         requires { 0 < max_size }
-        ensures { result ≡ record self { max_size = max_size } }
+        ensures { result ≡ record self { config = record self.config { max_size = max_size } } }
     {
-        self.config.max_size = max_size;
+        self.settings.config.max_size = max_size;
         self
     }
 
@@ -130,9 +157,9 @@ impl<H, V, Z> Builder<H, V, Z> {
     /// It may not be above `max_size` when the pool is built. The test: `limits().is_some()` on the
     /// finished builder.
     pub fn min_idle(mut self, min_idle: Option<u32>) -> Self
-        ensures { result ≡ record self { min_idle = min_idle } }
+        ensures { result ≡ record self { config = record self.config { min_idle = min_idle } } }
     {
-        self.config.min_idle = min_idle;
+        self.settings.config.min_idle = min_idle;
         self
     }
 
@@ -143,18 +170,18 @@ impl<H, V, Z> Builder<H, V, Z> {
     /// It may not be 0. The test for a number from outside: `callers > 0`.
     pub fn max_waiting(mut self, callers: u32) -> Self
         requires { 0 < callers }
-        ensures { result ≡ record self { max_waiting = callers } }
+        ensures { result ≡ record self { config = record self.config { max_waiting = callers } } }
     {
-        self.config.max_waiting = callers;
+        self.settings.config.max_waiting = callers;
         self
     }
 
     /// Whether a connection is checked by `ManageConnection::check` each time before a `Get` lends
     /// it. The default is true. `try_get`, which waits for nothing, checks none.
     pub fn test_on_check_out(mut self, test_on_check_out: bool) -> Self
-        ensures { result ≡ record self { test_on_check_out = test_on_check_out } }
+        ensures { result ≡ record self { config = record self.config { test_on_check_out = test_on_check_out } } }
     {
-        self.config.test_on_check_out = test_on_check_out;
+        self.settings.config.test_on_check_out = test_on_check_out;
         self
     }
 
@@ -166,9 +193,9 @@ impl<H, V, Z> Builder<H, V, Z> {
     /// It may not be a length of zero. The test for one from outside: None, or `!age.is_zero()`.
     pub fn max_lifetime(mut self, max_lifetime: Option<Duration>) -> Self
         requires { ForSome max_lifetime (λ d. 0 < as_nanos d) }
-        ensures { result ≡ record self { max_lifetime = max_lifetime } }
+        ensures { result ≡ record self { config = record self.config { max_lifetime = max_lifetime } } }
     {
-        self.config.max_lifetime = max_lifetime;
+        self.settings.config.max_lifetime = max_lifetime;
         self
     }
 
@@ -178,9 +205,9 @@ impl<H, V, Z> Builder<H, V, Z> {
     /// It may not be a length of zero. The test for one from outside: None, or `!length.is_zero()`.
     pub fn idle_timeout(mut self, idle_timeout: Option<Duration>) -> Self
         requires { ForSome idle_timeout (λ d. 0 < as_nanos d) }
-        ensures { result ≡ record self { idle_timeout = idle_timeout } }
+        ensures { result ≡ record self { config = record self.config { idle_timeout = idle_timeout } } }
     {
-        self.config.idle_timeout = idle_timeout;
+        self.settings.config.idle_timeout = idle_timeout;
         self
     }
 
@@ -191,18 +218,18 @@ impl<H, V, Z> Builder<H, V, Z> {
     /// It may not be a length of zero. The test for one from outside: `!length.is_zero()`.
     pub fn connection_timeout(mut self, connection_timeout: Duration) -> Self
         requires { 0 < as_nanos connection_timeout }
-        ensures { result ≡ record self { connection_timeout = connection_timeout } }
+        ensures { result ≡ record self { config = record self.config { connection_timeout = connection_timeout } } }
     {
-        self.config.connection_timeout = connection_timeout;
+        self.settings.config.connection_timeout = connection_timeout;
         self
     }
 
     /// How many records of what happened the pool keeps for `Pool::journal`, the latest ones. The
     /// default is 0: none. The memory is taken when the pool is built, 40 bytes for each record.
     pub fn journal_room(mut self, records: usize) -> Self
-        ensures { result ≡ record self { journal_room = records } }
+        ensures { result ≡ record self { config = record self.config { journal_room = records } } }
     {
-        self.config.journal_room = records;
+        self.settings.config.journal_room = records;
         self
     }
 
@@ -211,17 +238,17 @@ impl<H, V, Z> Builder<H, V, Z> {
     /// It may not be a length of zero. The test for one from outside: `!length.is_zero()`.
     pub fn reaper_rate(mut self, reaper_rate: Duration) -> Self
         requires { 0 < as_nanos reaper_rate }
-        ensures { result ≡ record self { reaper_rate = reaper_rate } }
+        ensures { result ≡ record self { config = record self.config { reaper_rate = reaper_rate } } }
     {
-        self.config.reaper_rate = reaper_rate;
+        self.settings.config.reaper_rate = reaper_rate;
         self
     }
 
     /// Which of the idle connections is lent next. The default is `NewestFirst`.
     pub fn lending_order(mut self, order: LendingOrder) -> Self
-        ensures { result ≡ record self { lending_order = order } }
+        ensures { result ≡ record self { config = record self.config { lending_order = order } } }
     {
-        self.config.lending_order = order;
+        self.settings.config.lending_order = order;
         self
     }
 
@@ -229,9 +256,9 @@ impl<H, V, Z> Builder<H, V, Z> {
     /// default is None: each is checked. See the setting of `r2d2::Builder` of this name, also for
     /// the next three.
     pub fn check_after_idle(mut self, idle: Option<Duration>) -> Self
-        ensures { result ≡ self }
+        ensures { result ≡ record self { tuning = record self.tuning { check_after_idle = idle } } }
     {
-        self.tuning.check_after_idle = idle;
+        self.settings.tuning.check_after_idle = idle;
         self
     }
 
@@ -239,9 +266,9 @@ impl<H, V, Z> Builder<H, V, Z> {
     /// closed too, each as a caller comes to it. A check that was given up with its caller's time
     /// has failed; one whose `Get` was dropped tells nothing. The default is false.
     pub fn distrust_idle(mut self, distrust_idle: bool) -> Self
-        ensures { result ≡ self }
+        ensures { result ≡ record self { tuning = record self.tuning { distrust_idle = distrust_idle } } }
     {
-        self.tuning.distrust_idle = distrust_idle;
+        self.settings.tuning.distrust_idle = distrust_idle;
         self
     }
 
@@ -251,18 +278,18 @@ impl<H, V, Z> Builder<H, V, Z> {
     /// It may not be a length of zero. The test for one from outside: `!length.is_zero()`.
     pub fn retry_at_most(mut self, longest: Duration) -> Self
         requires { 0 < as_nanos longest }
-        ensures { result ≡ self }
+        ensures { result ≡ record self { tuning = record self.tuning { retry_at_most = Some longest } } }
     {
-        self.tuning.retry_at_most = Some(longest);
+        self.settings.tuning.retry_at_most = Some(longest);
         self
     }
 
     /// By how much at most the lifetimes of connections differ, so that those that were opened
     /// together are not closed together. The default is none.
     pub fn lifetime_jitter(mut self, jitter: Duration) -> Self
-        ensures { result ≡ self }
+        ensures { result ≡ record self { tuning = record self.tuning { lifetime_jitter = Some jitter } } }
     {
-        self.tuning.lifetime_jitter = Some(jitter);
+        self.settings.tuning.lifetime_jitter = Some(jitter);
         self
     }
 
@@ -271,58 +298,60 @@ impl<H, V, Z> Builder<H, V, Z> {
     pub fn error_handler<G>(self, handler: G) -> Builder<G, V, Z>
     where
         H: Drop,
-        ensures { result ≡ self }
+        ensures { result ≡ with_error_handler handler self }
     {
-        let Builder {
+        let Settings {
             config,
             tuning,
             handlers,
             listens,
-        } = self;
+        } = self.settings;
         let Handlers {
             error_handler: _,
             event_handler,
             connection_customizer,
         } = handlers;
-        Builder {
+        let handlers = Handlers {
+            error_handler: handler,
+            event_handler,
+            connection_customizer,
+        };
+        Builder::over(Settings {
             config,
             tuning,
-            handlers: Handlers {
-                error_handler: handler,
-                event_handler,
-                connection_customizer,
-            },
+            handlers,
             listens,
-        }
+        })
     }
 
     /// What is told of each event. The default, `NopEventHandler`, ignores them.
     pub fn event_handler<W>(self, handler: W) -> Builder<H, W, Z>
     where
         V: Drop,
-        ensures { result ≡ self }
+        ensures { result ≡ with_event_handler handler self }
     {
-        let Builder {
+        let Settings {
             config,
             tuning,
             handlers,
             listens: _,
-        } = self;
+        } = self.settings;
         let Handlers {
             error_handler,
             event_handler: _,
             connection_customizer,
         } = handlers;
-        Builder {
+        let handlers = Handlers {
+            error_handler,
+            event_handler: handler,
+            connection_customizer,
+        };
+        Builder::over(Settings {
             config,
             tuning,
-            handlers: Handlers {
-                error_handler,
-                event_handler: handler,
-                connection_customizer,
-            },
+            handlers,
             listens: true,
-        }
+        })
     }
 
     /// What changes connections as they come and go. The default, `NopConnectionCustomizer`, leaves
@@ -330,29 +359,30 @@ impl<H, V, Z> Builder<H, V, Z> {
     pub fn connection_customizer<Y>(self, customizer: Y) -> Builder<H, V, Y>
     where
         Z: Drop,
-        ensures { result ≡ self }
+        ensures { result ≡ with_customizer customizer self }
     {
-        let Builder {
+        let Settings {
             config,
             tuning,
             handlers,
             listens,
-        } = self;
+        } = self.settings;
         let Handlers {
             error_handler,
             event_handler,
             connection_customizer: _,
         } = handlers;
-        Builder {
+        let handlers = Handlers {
+            error_handler,
+            event_handler,
+            connection_customizer: customizer,
+        };
+        Builder::over(Settings {
             config,
             tuning,
-            handlers: Handlers {
-                error_handler,
-                event_handler,
-                connection_customizer: customizer,
-            },
+            handlers,
             listens,
-        }
+        })
     }
 
     /// The limits that building would use; None exactly where `min_idle` is above `max_size`. It is
@@ -360,20 +390,22 @@ impl<H, V, Z> Builder<H, V, Z> {
     /// `retry_at_most` is set they have `connection_timeout` all the same, and the pool's own have
     /// twice that length in its place.
     pub fn limits(&self) -> Option<Limits>
-        ensures legal { IsSome result ↔ ForSome self.now.min_idle (λ n. n ≤ self.now.max_size) }
-        ensures given { IfSome result (λ limits. seen_limits limits ≡ limits_in self.now) }
+        ensures legal { IsSome result ↔ ForSome self.now.config.min_idle
+            (λ n. n ≤ self.now.config.max_size) }
+        ensures given { IfSome result (λ limits. seen_limits limits ≡ limits_in self.now.config) }
     {
-        self.limits_within(self.config.connection_timeout)
+        self.limits_within(self.settings.config.connection_timeout)
     }
 
     // The limits with this connection timeout.
     fn limits_within(&self, connection_timeout: Duration) -> Option<Limits>
         requires { 0 < as_nanos connection_timeout }
-        ensures legal { IsSome result ↔ ForSome self.now.min_idle (λ n. n ≤ self.now.max_size) }
+        ensures legal { IsSome result ↔ ForSome self.now.config.min_idle
+            (λ n. n ≤ self.now.config.max_size) }
         ensures given { IfSome result
-            (λ limits. seen_limits limits ≡ limits_within connection_timeout self.now) }
+            (λ limits. seen_limits limits ≡ limits_within connection_timeout self.now.config) }
     {
-        let config = &self.config;
+        let config = &self.settings.config;
         LimitSettings {
             max_size: config.max_size,
             min_idle: config.min_idle,
@@ -402,22 +434,23 @@ impl<H, V, Z> Builder<H, V, Z> {
         H: HandleError<M::Error>,
         V: HandleEvent,
         Z: CustomizeConnection<M::Connection, M::Error>,
-        requires { ForSome self.min_idle (λ n. n ≤ self.max_size) }
-        ensures settings { IfOk result (λ pool. pool ≡ self) }
+        requires { ForSome self.config.min_idle (λ n. n ≤ self.config.max_size) }
+        ensures settings { IfOk result (λ pool. pool ≡ self.config) }
         ensures refused { IfErr result IsOfMemory }
     {
         let timeout = self
+            .settings
             .tuning
-            .connection_timeout(self.config.connection_timeout);
+            .connection_timeout(self.settings.config.connection_timeout);
         let Some(limits) = self.limits_within(timeout) else {
             unreachable!()
         };
-        let Builder {
+        let Settings {
             config,
             tuning,
             handlers,
             listens,
-        } = self;
+        } = self.settings;
         let made = shared_state(
             rt, limits, config, tuning, handlers, listens, manager, timer,
         );
@@ -437,7 +470,10 @@ fn shared_state<P: Drop, M: Drop, T: Drop, K: Drop, R: AsyncRuntime>(
     manager: M,
     timer: T,
 ) -> Result<Arc<Closer<P, M, T, K, R>>, AllocError>
-    ensures { IfOk result (λ closer. (arc_value (arc_value closer).shared).config ≡ config) }
+    ensures config { IfOk result (λ closer. (arc_value (arc_value closer).shared).config ≡ config) }
+    ensures tuning { IfOk result (λ closer. (arc_value (arc_value closer).shared).tuning ≡ tuning) }
+    ensures listens { IfOk result
+        (λ closer. (arc_value (arc_value closer).shared).listens ≡ listens) }
 {
     let made = Instant::now(&rt).ok();
     let made_at = SystemTime::now(&rt).ok();

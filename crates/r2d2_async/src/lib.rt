@@ -30,12 +30,20 @@ pub use get::Get;
 pub use hooks::{Handlers, Hooks};
 pub use lent::PooledConnection;
 pub use pool::{Pool, State};
-use r2d2::Extension;
+use r2d2::event::NopEventHandler;
+use r2d2::{Extension, NopConnectionCustomizer, NopErrorHandler};
 use std::alloc::AllocGlobal;
 use std::fmt;
 use std::rt::Clock;
 use std::time::Duration;
 pub use work::Work;
+
+/// Handlers and a customizer that do nothing: those of a `Builder` where none of them is set.
+pub type NoHandlers = Handlers<NopErrorHandler, NopEventHandler, NopConnectionCustomizer>;
+
+/// A pool with such handlers: what `Builder::new()` builds. What it gives has `NoHandlers` as well:
+/// its `get` is a `Get<M, T, NoHandlers, R>`.
+pub type PlainPool<M, T, R> = Pool<M, T, NoHandlers, R>;
 
 /// Opens connections and checks them, by futures. Nothing is asked of what they answer, nor of how
 /// long they take: no lock of the pool is held while they are polled or dropped.

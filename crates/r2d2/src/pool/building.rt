@@ -6,7 +6,7 @@ ghost use Rattle.r2d2_core.specs.Table.{first_picture};
 ghost use Rattle.r2d2_core.specs.Journal.{first_journal};
 ghost use Rattle.r2d2_core.specs.Limits.{seen_limits};
 ghost use Rattle.r2d2_core.specs.Book.{seen_book};
-ghost use Rattle.r2d2.specs.Settings.{limits_within};
+ghost use Rattle.r2d2.specs.Settings.{limits_within, IsTimeoutOfBook};
 ghost use Rattle.r2d2.specs.Room.{HasRoom};
 ghost use Rattle.r2d2.specs.Failures.{IsOfMemoryOrThreads, IsOfABuild};
 
@@ -42,8 +42,8 @@ impl<
     /// opening if there was one; otherwise it is that of `build_unchecked`. After an error the pool
     /// is closed.
     pub fn build<R: PoolRuntime>(self, rt: R, manager: M) -> Result<Pool<M, H, V, Z, R>, Error>
-        requires { ForSome self.min_idle (λ n. n ≤ self.max_size) }
-        ensures settings { IfOk result (λ pool. pool ≡ self) }
+        requires { ForSome self.config.min_idle (λ n. n ≤ self.config.max_size) }
+        ensures settings { IfOk result (λ pool. pool ≡ self.config) }
         ensures refused { IfErr result IsOfABuild }
     {
         let pool = self.build_unchecked(rt, manager)?;
@@ -63,8 +63,8 @@ impl<
         rt: R,
         manager: M,
     ) -> Result<Pool<M, H, V, Z, R>, Error>
-        requires { ForSome self.min_idle (λ n. n ≤ self.max_size) }
-        ensures settings { IfOk result (λ pool. pool ≡ self) }
+        requires { ForSome self.config.min_idle (λ n. n ≤ self.config.max_size) }
+        ensures settings { IfOk result (λ pool. pool ≡ self.config) }
         ensures refused { IfErr result IsOfMemoryOrThreads }
     {
         let (listens, tuning) = self.beside_config();
@@ -84,9 +84,9 @@ impl<
         manager: M,
         total: ledger::Book<L>,
     ) -> Result<CountedPool<M, H, V, Z, R, L>, Error>
-        requires size { ForSome self.min_idle (λ n. n ≤ self.max_size) }
+        requires size { ForSome self.config.min_idle (λ n. n ≤ self.config.max_size) }
         requires total { total.total ≡ 0 }
-        ensures settings { IfOk result (λ pool. pool ≡ self) }
+        ensures settings { IfOk result (λ pool. pool ≡ self.config) }
         ensures refused { IfErr result IsOfMemoryOrThreads }
     {
         let (listens, tuning) = self.beside_config();
@@ -97,14 +97,15 @@ impl<
 
     // The settings, a book in which nothing has happened, and a list for each worker.
     fn prepare(self, alloc: Global) -> Result<Prepared<M, H, V, Z>, AllocError>
-        requires { ForSome self.min_idle (λ n. n ≤ self.max_size) }
-        ensures settings { IfOk result (λ made. made.0 ≡ self) }
+        requires { ForSome self.config.min_idle (λ n. n ≤ self.config.max_size) }
+        ensures settings { IfOk result (λ made. made.0 ≡ self.config) }
         ensures takes { IfOk result (λ made. made.1.journal.takes ≡ 0) }
-        ensures book { IfOk result (λ made. (first_id : _) × (timeout : _) × (made.1
-            ≡ seen_book (first_picture (limits_within timeout self) 0 first_id)
-            (first_journal (limits_within timeout self) 0 self.journal_room))) }
-        ensures workers { IfOk result (λ made. length made.2.items ≡ self.thread_pool) }
-        ensures room { IfOk result (λ made. All (HasRoom self.max_size) made.2.items) }
+        ensures book { IfOk result (λ made. (timeout : _) × IsTimeoutOfBook self.config self.tuning timeout
+            × (made.1
+            ≡ seen_book (first_picture (limits_within timeout self.config) 0 self.first_id)
+            (first_journal (limits_within timeout self.config) 0 self.config.journal_room))) }
+        ensures workers { IfOk result (λ made. length made.2.items ≡ self.config.thread_pool) }
+        ensures room { IfOk result (λ made. All (HasRoom self.config.max_size) made.2.items) }
     {
         let limits = self.limits_with_min_idle_up_to_max_size();
         let first_id = self.id_of_the_first();
@@ -118,8 +119,9 @@ impl<
     // The limits of the book. Its name says what a run without proof has found not to hold where it
     // stops here.
     fn limits_with_min_idle_up_to_max_size(&self) -> Limits
-        requires { ForSome self.now.min_idle (λ n. n ≤ self.now.max_size) }
-        ensures { (timeout : _) × (seen_limits result ≡ limits_within timeout self.now) }
+        requires { ForSome self.now.config.min_idle (λ n. n ≤ self.now.config.max_size) }
+        ensures { (timeout : _) × IsTimeoutOfBook self.now.config self.now.tuning timeout
+            × (seen_limits result ≡ limits_within timeout self.now.config) }
     {
         let Some(limits) = self.limits_within(self.timeout_of_book()) else {
             unreachable!()
