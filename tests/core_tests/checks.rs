@@ -26,13 +26,17 @@ pub(crate) fn legal<R: Abort>(rt: &R, limits: Option<Limits>) -> Limits {
     limits.expect(rt, "limits")
 }
 
-pub(crate) fn core_of<R: Abort + AllocGlobal>(rt: &R, limits: Limits) -> Core<u64> {
-    core_in(rt.alloc(), limits).expect(rt, "a core")
+pub(crate) fn core_of<R: Abort + AllocGlobal>(rt: &R, limits: Option<Limits>) -> Core<u64> {
+    core_in(rt.alloc(), legal(rt, limits)).expect(rt, "a core")
 }
 
 // A book that keeps so many records.
-pub(crate) fn book_of<R: Abort + AllocGlobal>(rt: &R, limits: Limits, room: usize) -> Book<u64> {
-    book_in(rt.alloc(), limits, Duration::ZERO, room).expect(rt, "a book")
+pub(crate) fn book_of<R: Abort + AllocGlobal>(
+    rt: &R,
+    limits: Option<Limits>,
+    room: usize,
+) -> Book<u64> {
+    book_in(rt.alloc(), legal(rt, limits), Duration::ZERO, room).expect(rt, "a book")
 }
 
 pub(crate) fn heap_of<R: Abort + AllocGlobal>(rt: &R, size: usize) -> LocalHeap {
@@ -52,25 +56,11 @@ pub(crate) fn rest_of<'a, R: Abort>(
     Vec::with_capacity(heap, heap.free().saturating_sub(spared)).expect(rt, "the rest")
 }
 
-// What the book reports at last.
-pub(crate) fn last_report<R: Abort>(rt: &R, book: Book<u64>) -> Report {
-    let report = report_of(rt, &book);
-    drop(book);
-    report
-}
-
-pub(crate) fn listed<R: Abort + AllocGlobal, const N: usize>(
-    rt: &R,
-    steps: [Step<u64>; N],
-) -> Vec<Step<u64>> {
-    Vec::from_array(rt.alloc(), steps).expect(rt, "a list")
-}
-
 // Takes the steps by a book.
-pub(crate) fn take_all<R: Abort + AllocGlobal, A: Allocator>(
+pub(crate) fn take_all<R: Abort + AllocGlobal, A: Allocator, const N: usize>(
     rt: &R,
     book: &mut Book<u64, A>,
-    steps: Vec<Step<u64>>,
+    steps: [Step<u64>; N],
 ) {
     for step in steps {
         drop(answered(rt.alloc(), book, step).expect(rt, "an answer"));

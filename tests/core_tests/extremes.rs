@@ -1,14 +1,14 @@
 // What no line of a script can say: the greatest moment, which is no whole number of milliseconds,
 // and the last ids.
 
-use crate::checks::{legal, listed, same};
+use crate::checks::{legal, same};
 use core_uses::machine::{Machine, lines_of};
 use core_uses::makers::{book_from_id_in, core_from_id_in};
 use core_uses::steps::{admit, begin, fail, ms, number, put_back, sized, take};
 use pool_lines::program::line::Line;
 use r2d2_core::run::run;
 use r2d2_core::schedule::delay;
-use r2d2_core::{Book, Core, LendingOrder, LimitSettings, Limits, Step};
+use r2d2_core::{LendingOrder, LimitSettings, Limits, Step};
 use std::alloc::{AllocError, Global};
 use std::process::Abort;
 use std::str;
@@ -37,76 +37,49 @@ fn lines(alloc: Global, steps: Vec<Step<u64>>) -> Result<Vec<Line>, AllocError> 
     Ok(lines)
 }
 
-fn written_by<R: Abort + AllocGlobal, M: Machine + Drop>(
-    rt: &R,
-    machine: M,
-    steps: Vec<Step<u64>>,
-) -> Vec<u8> {
-    let mut machine = machine;
-    let lines = lines(rt.alloc(), steps).expect(rt, "lines");
-    lines_of(rt.alloc(), &mut machine, lines).expect(rt, "answers")
-}
-
-fn by_a_core<R: Abort + AllocGlobal>(
-    rt: &R,
-    limits: Limits,
-    first_id: u64,
-    steps: Vec<Step<u64>>,
-) -> Vec<u8> {
-    let core = core_from_id_in(rt.alloc(), limits, first_id);
-    written_by(rt, core.expect(rt, "a core"), steps)
-}
-
-fn by_a_book<R: Abort + AllocGlobal>(
-    rt: &R,
-    limits: Limits,
-    first_id: u64,
-    steps: Vec<Step<u64>>,
-) -> Vec<u8> {
-    let book = book_from_id_in(rt.alloc(), limits, first_id, 0);
-    written_by(rt, book.expect(rt, "a book"), steps)
-}
-
 // A core and a book of those limits, whose ids begin at the first one, answer the steps so.
-fn answers<R: Abort + AllocGlobal>(
+fn answers<R: Abort + AllocGlobal, const N: usize>(
     rt: &R,
     limits: Option<Limits>,
     first_id: u64,
-    steps: Vec<Step<u64>>,
+    steps: [Step<u64>; N],
     wanted: &str,
 ) {
-    let limits = legal(rt, limits);
-    let again = steps.clone().expect(rt, "a list");
-    says(rt, by_a_core(rt, limits, first_id, steps), wanted);
-    says(rt, by_a_book(rt, limits, first_id, again), wanted);
-}
-
-fn says<R: Abort>(rt: &R, written: Vec<u8>, wanted: &str) {
-    same(
-        rt,
-        str::from_utf8(written.as_slice()).expect(rt, "a text"),
-        wanted,
-    );
+    let (alloc, limits) = (rt.alloc(), legal(rt, limits));
+    let steps = Vec::from_array(alloc, steps).expect(rt, "a list");
+    let again = lines(alloc, steps.clone().expect(rt, "a list")).expect(rt, "lines");
+    let steps = lines(alloc, steps).expect(rt, "lines");
+    let mut core = core_from_id_in(alloc, limits, first_id).expect(rt, "a core");
+    let mut book = book_from_id_in(alloc, limits, first_id, 0).expect(rt, "a book");
+    for written in [
+        lines_of(alloc, &mut core, steps),
+        lines_of(alloc, &mut book, again),
+    ] {
+        let written = written.expect(rt, "answers");
+        same(
+            rt,
+            str::from_utf8(written.as_slice()).expect(rt, "a text"),
+            wanted,
+        );
+    }
 }
 
 #[test]
 fn uses_ids_up(rt: HostRuntime) {
-    let steps = [
-        begin(0),
-        begin(0),
-        number(0),
-        number(0),
-        fail(0, 0),
-        begin(0),
-    ];
-    answers(
-        &rt,
-        sized(2),
+    let (last, steps) = (
         u64::MAX - 1,
-        listed(&rt, steps),
-        "open 0\nopen 0\nnumbered 18446744073709551614\nrefused IdsUsedUp\nretry 400\nwait 400\n\
-         state 0 0 2\n",
+        [
+            begin(0),
+            begin(0),
+            number(0),
+            number(0),
+            fail(0, 0),
+            begin(0),
+        ],
     );
+    let wanted = "open 0\nopen 0\nnumbered 18446744073709551614\nrefused IdsUsedUp\nretry 400\n\
+        wait 400\nstate 0 0 2\n";
+    answers(&rt, sized(2), last, steps, wanted);
 }
 
 #[test]
@@ -117,24 +90,27 @@ fn stops_at_the_greatest_moment(rt: HostRuntime) {
         tries: 0,
         text: None,
     };
+    let wanted = "open 0\nretry 18446744073709551615999.999999\nopen 1\nstate 0 0 1\n";
     answers(
         &rt,
         sized(1),
         0,
-        listed(&rt, [Step::Begin { now }, failing, Step::Begin { now }]),
-        "open 0\nretry 18446744073709551615999.999999\nopen 1\nstate 0 0 1\n",
+        [Step::Begin { now }, failing, Step::Begin { now }],
+        wanted,
     );
+    let limits = LimitSettings {
+        max_lifetime: Some(ms(1)),
+        reap_every: now,
+        ..brief()
+    }
+    .limits();
+    let wanted = "open 0\nreap\nreap\nstate 0 0 1\n";
     answers(
         &rt,
-        LimitSettings {
-            max_lifetime: Some(ms(1)),
-            reap_every: now,
-            ..brief()
-        }
-        .limits(),
+        limits,
         0,
-        listed(&rt, [Step::Begin { now }, begin(0), begin(0)]),
-        "open 0\nreap\nreap\nstate 0 0 1\n",
+        [Step::Begin { now }, begin(0), begin(0)],
+        wanted,
     );
 }
 
@@ -147,58 +123,38 @@ fn lengths_up_to_the_greatest_moment(rt: HostRuntime) {
         value: 7,
         broken: false,
     };
+    let limits = LimitSettings {
+        max_lifetime: Some(now),
+        ..brief()
+    }
+    .limits();
+    let wanted = "open 0\nnumbered 0\nadmitted\ntaken 0 7 ordered 0\n\
+        gone 0 age 18446744073709551615999.999999 ordered 1\nstate 0 0 1\n";
     answers(
         &rt,
-        LimitSettings {
-            max_lifetime: Some(now),
-            ..brief()
-        }
-        .limits(),
+        limits,
         0,
-        listed(&rt, [begin(0), number(0), admit(0, 0, 7), take(0), back]),
-        "open 0\nnumbered 0\nadmitted\ntaken 0 7 ordered 0\n\
-         gone 0 age 18446744073709551615999.999999 ordered 1\nstate 0 0 1\n",
+        [begin(0), number(0), admit(0, 0, 7), take(0), back],
+        wanted,
     );
-    answers(
-        &rt,
-        LimitSettings {
+    let kept = "reaped ordered 0\ntaken 0 7 ordered 0\nstate 1 0 0\n";
+    let reaped = "reaped 0 ordered 1\nempty ordered 0\nstate 0 0 1\n";
+    for (admitted, wanted) in [(1, kept), (0, reaped)] {
+        let limits = LimitSettings {
             idle_timeout: Some(now),
             ..brief()
         }
-        .limits(),
-        0,
-        listed(
-            &rt,
-            [
-                begin(0),
-                number(0),
-                admit(1, 0, 7),
-                Step::Reap { now },
-                take(0),
-            ],
-        ),
-        "open 0\nnumbered 0\nadmitted\nreaped ordered 0\ntaken 0 7 ordered 0\nstate 1 0 0\n",
-    );
-    answers(
-        &rt,
-        LimitSettings {
-            idle_timeout: Some(now),
-            ..brief()
-        }
-        .limits(),
-        0,
-        listed(
-            &rt,
-            [
-                begin(0),
-                number(0),
-                admit(0, 0, 7),
-                Step::Reap { now },
-                take(0),
-            ],
-        ),
-        "open 0\nnumbered 0\nadmitted\nreaped 0 ordered 1\nempty ordered 0\nstate 0 0 1\n",
-    );
+        .limits();
+        let steps = [
+            begin(0),
+            number(0),
+            admit(admitted, 0, 7),
+            Step::Reap { now },
+            take(0),
+        ];
+        let wanted = format!(in rt.alloc(); "open 0\nnumbered 0\nadmitted\n{wanted}");
+        answers(&rt, limits, 0, steps, wanted.expect(&rt, "a text").as_str());
+    }
 }
 
 #[test]
@@ -217,27 +173,17 @@ fn the_greatest_numbers_of_strangers(rt: HostRuntime) {
         bad,
         put_back(0, u64::MAX, 7),
     ];
-    answers(
-        &rt,
-        sized(1),
-        0,
-        listed(&rt, steps),
-        "open 0\nrefused NoOpening\nrefused NoOpening\nnumbered 0\nrefused NotNumbered\n\
-         refused NotLent\nrefused NotLent\nstate 0 0 1\n",
-    );
-}
-
-// How many answers there are to no steps at all, and what is connected, idle and pending.
-fn without_steps<R: Abort + AllocGlobal>(rt: &R) -> (usize, (u32, u32, u32)) {
-    let limits = legal(rt, sized(3));
-    let ran = run::<u64>(rt.alloc(), limits, ms(5), Vec::new(rt.alloc()));
-    let (core, answers) = ran.expect(rt, "a run");
-    (answers.len(), core.state())
+    let wanted = "open 0\nrefused NoOpening\nrefused NoOpening\nnumbered 0\nrefused NotNumbered\n\
+        refused NotLent\nrefused NotLent\nstate 0 0 1\n";
+    answers(&rt, sized(1), 0, steps, wanted);
 }
 
 #[test]
 fn no_steps_at_all(rt: HostRuntime) {
-    same(&rt, without_steps(&rt), (0, (0, 0, 3)));
+    let steps = Vec::new(rt.alloc());
+    let ran = run::<u64>(rt.alloc(), legal(&rt, sized(3)), ms(5), steps);
+    let (core, answers) = ran.expect(&rt, "a run");
+    same(&rt, (answers.len(), core.state()), (0, (0, 0, 3)));
 }
 
 #[test]

@@ -1,21 +1,19 @@
-// The journal of a book, and what it reports.
+// The journal of a book, what it reports, and the base of that: what stood before its records.
 
 use crate::checks::{
-    book_of, does_replay, heap_of, is_made, last_report, legal, listed, rest_of, same, same_at,
-    take_all,
+    book_of, does_replay, heap_of, is_made, legal, report_of, rest_of, same, same_at, take_all,
 };
 use core_uses::makers::{book_from_id_in, book_in, report_in};
 use core_uses::steps::{
     admit, begin, close, limits, ms, number, put_back, reap, sized, take, want,
 };
-use linked_list_allocator::LocalHeap;
-use r2d2_core::{Book, Limits, Record, Report, Step};
+use r2d2_core::{Book, LendingOrder, Limits, Record, Report, Step};
 use std::alloc::Allocator;
 use std::process::Abort;
 use std::time::Duration;
 
 // One connection comes in, is taken, and comes back.
-pub(crate) fn one_kept() -> [Step<u64>; 5] {
+fn one_kept() -> [Step<u64>; 5] {
     [
         begin(0),
         number(0),
@@ -26,12 +24,21 @@ pub(crate) fn one_kept() -> [Step<u64>; 5] {
 }
 
 // What a book with room for so many records reports of it.
-fn report_of_one_kept<R: Abort + AllocGlobal>(rt: &R, room: usize) -> Report {
-    let mut book = book_of(rt, legal(rt, sized(1)), room);
-    take_all(rt, &mut book, listed(rt, one_kept()));
-    last_report(rt, book)
+fn report_of_one_kept<R: Abort + AllocGlobal>(rt: &R, order: LendingOrder, room: usize) -> Report {
+    let mut book = book_of(rt, Some(legal(rt, sized(1)).with_order(order)), room);
+    take_all(rt, &mut book, one_kept());
+    report_of(rt, &book)
 }
 
+// How many a report shows as idle and lent, how many records were lost, and how many are connected
+// and pending. Its records come to that.
+fn standing<R: Abort + AllocGlobal>(rt: &R, report: &Report) -> (usize, usize, u64, u32, u32) {
+    assert!(rt; does_replay(rt, report));
+    let (idle, lent) = (report.idle.len(), report.lent.len());
+    (idle, lent, report.lost, report.connections, report.pending)
+}
+
+// The base is that of the making where no record was dropped.
 #[test]
 fn keeps_the_newest_records(rt: HostRuntime) {
     let all = [
@@ -43,63 +50,67 @@ fn keeps_the_newest_records(rt: HostRuntime) {
         },
         Record::Kept { at: ms(3), id: 0 },
     ];
-    for (room, lost) in [(4usize, 0u64), (3, 0), (2, 1), (1, 2), (0, 3)] {
-        let report = report_of_one_kept(&rt, room);
-        let first = all.len() - all.len().min(room);
-        same_at(&rt, room, report.records.as_slice(), &all[first..]);
-        same_at(&rt, room, report.lost, lost);
-        same_at(&rt, room, report.idle.as_slice(), &[0u64][..]);
-        drop(report);
+    for order in [LendingOrder::NewestFirst, LendingOrder::OldestFirst] {
+        for (room, lost, idle, lent) in [
+            (4, 0, 0, 0),
+            (3, 0, 0, 0),
+            (2, 1, 1, 0),
+            (1, 2, 0, 1),
+            (0, 3, 1, 0),
+        ] {
+            let report = report_of_one_kept(&rt, order, room);
+            same_at(&rt, room, report.records.as_slice(), &all[lost..]);
+            same_at(&rt, room, report.idle.as_slice(), &[0u64][..]);
+            same_at(&rt, room, standing(&rt, &report), (1, 0, lost as u64, 1, 0));
+            let (base, since) = (&report.base, ms(lost as u64));
+            same_at(&rt, room, (base.at, base.lent.len()), (since, lent));
+            same_at(
+                &rt,
+                room,
+                base.idle.as_slice(),
+                &[(0u64, ms(1), since)][..idle],
+            );
+            let (connections, pending) = if lost == 0 { (0, 1) } else { (1, 0) };
+            same_at(
+                &rt,
+                room,
+                (base.connections, base.pending),
+                (connections, pending),
+            );
+            assert!(rt; !report.closed && !base.closed);
+        }
     }
-    stands(
-        &rt,
-        report_of_one_kept(&rt, 3),
-        (1, 0, 0),
-        (1, 0, false, true),
-    );
+}
+
+#[test]
+fn a_base_with_a_connection_too_many_is_found_out(rt: HostRuntime) {
+    let mut report = report_of_one_kept(&rt, LendingOrder::NewestFirst, 2);
+    report.base.connections = 2;
+    assert!(rt; !does_replay(&rt, &report));
 }
 
 // Two connections come in and are closed by a reap; then there is one miss.
 fn two_reaped<R: Abort + AllocGlobal>(rt: &R) -> Book<u64> {
-    let limits = legal(rt, limits(2, None, None, Some(1000), 30_000, 30_000));
-    let mut book = book_of(rt, limits, 4);
-    let opening = [begin(0), begin(0), number(0), number(0)];
-    let admitting = [admit(0, 0, 70), admit(0, 1, 71)];
-    let reaping = [reap(999), reap(1000), want(1001)];
-    take_all(rt, &mut book, listed(rt, opening));
-    take_all(rt, &mut book, listed(rt, admitting));
-    take_all(rt, &mut book, listed(rt, reaping));
+    let mut book = book_of(rt, limits(2, None, None, Some(1000), 30_000, 30_000), 4);
+    take_all(rt, &mut book, [begin(0), begin(0), number(0), number(0)]);
+    take_all(
+        rt,
+        &mut book,
+        [
+            admit(0, 0, 70),
+            admit(0, 1, 71),
+            reap(999),
+            reap(1000),
+            want(1001),
+        ],
+    );
     book
 }
 
-// How many a report shows as idle and lent, and how many records were lost.
-fn standing(report: &Report) -> (usize, usize, u64) {
-    let (idle, lent) = (report.idle.len(), report.lent.len());
-    (idle, lent, report.lost)
-}
-
-// How many it shows as connected and pending, whether it is closed, and whether its records come to
-// what it shows.
-fn counts<R: Abort>(rt: &R, report: &Report) -> (u32, u32, bool, bool) {
-    let (connections, pending) = (report.connections, report.pending);
-    (connections, pending, report.closed, does_replay(rt, report))
-}
-
-// The report shows so many as idle and lent, so many lost, and these counts.
-fn stands<R: Abort>(
-    rt: &R,
-    report: Report,
-    its_standing: (usize, usize, u64),
-    its_counts: (u32, u32, bool, bool),
-) {
-    same(rt, standing(&report), its_standing);
-    same(rt, counts(rt, &report), its_counts);
-    drop(report);
-}
-
 #[test]
-fn reports_what_a_reap_did(rt: HostRuntime) {
-    let report = last_report(&rt, two_reaped(&rt));
+fn reports_what_a_reap_and_a_close_did(rt: HostRuntime) {
+    let mut book = two_reaped(&rt);
+    let report = report_of(&rt, &book);
     let all = [
         Record::Admitted { at: ms(0), id: 0 },
         Record::Admitted { at: ms(0), id: 1 },
@@ -107,60 +118,38 @@ fn reports_what_a_reap_did(rt: HostRuntime) {
             at: ms(1000),
             ordered: 2,
         },
+        Record::ClosedAll { at: ms(1001) },
     ];
+    same(&rt, report.records.as_slice(), &all[..3]);
+    same(
+        &rt,
+        (standing(&rt, &report), report.closed),
+        ((0, 0, 0, 0, 2), false),
+    );
+    // It is closed, and closed again.
+    take_all(&rt, &mut book, [close(), close()]);
+    let report = report_of(&rt, &book);
     same(&rt, report.records.as_slice(), &all[..]);
-    stands(&rt, report, (0, 0, 0), (0, 2, false, true));
-}
-
-// What the book reports when it is closed, and closed again.
-fn closed_twice<R: Abort + AllocGlobal>(rt: &R, mut book: Book<u64>) -> Report {
-    take_all(rt, &mut book, listed(rt, [close(), close()]));
-    last_report(rt, book)
-}
-
-#[test]
-fn reports_what_a_close_did(rt: HostRuntime) {
-    let report = closed_twice(&rt, two_reaped(&rt));
-    let last = Record::ClosedAll { at: ms(1001) };
-    same(&rt, report.records.len(), 4);
-    same(&rt, report.records.last(), Some(&last));
-    stands(&rt, report, (0, 0, 0), (0, 0, true, true));
-}
-
-// A book with all that it left of its heap.
-fn beside_all<'a, R: Abort>(
-    rt: &R,
-    heap: &'a LocalHeap,
-    limits: Limits,
-) -> (Book<u64, &'a LocalHeap>, Vec<u8, &'a LocalHeap>) {
-    let book = book_in(heap, limits, Duration::ZERO, 16).expect(rt, "a book");
-    (book, rest_of(rt, heap, 0))
-}
-
-// What the book reports in other memory, where it can't be in its own.
-fn report_elsewhere<R: Abort + AllocGlobal>(rt: &R, book: &Book<u64, &LocalHeap>) -> Report {
-    assert!(rt; !is_made(book.report()));
-    report_in(book, rt.alloc()).expect(rt, "a report")
-}
-
-// The same of a book that is beside all that it left of the heap.
-fn report_of_a_full_heap<R: Abort + AllocGlobal>(rt: &R, heap: &LocalHeap) -> Report {
-    let (mut book, rest) = beside_all(rt, heap, legal(rt, sized(1)));
-    take_all(rt, &mut book, listed(rt, one_kept()));
-    let report = report_elsewhere(rt, &book);
-    drop((rest, book));
-    report
+    same(
+        &rt,
+        (standing(&rt, &report), report.closed),
+        ((0, 0, 0, 0, 0), true),
+    );
 }
 
 // Where the heap has no more room, a report is refused; with other memory it is made.
 #[test]
 fn a_report_takes_memory(rt: HostRuntime) {
     let heap = heap_of(&rt, 8192);
-    let report = report_of_a_full_heap(&rt, &heap);
-    drop(heap);
+    let book = book_in(&heap, legal(&rt, sized(1)), Duration::ZERO, 16);
+    let mut book = book.expect(&rt, "a book");
+    let rest = rest_of(&rt, &heap, 0);
+    take_all(&rt, &mut book, one_kept());
+    assert!(rt; !is_made(book.report()));
+    let report = report_in(&book, rt.alloc()).expect(&rt, "a report");
     same(&rt, report.records.len(), 3);
     assert!(rt; does_replay(&rt, &report));
-    drop(report);
+    drop((rest, book));
 }
 
 fn is_refused<A: Allocator + Copy>(alloc: A, limits: Limits, room: usize) -> bool {

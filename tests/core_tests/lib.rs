@@ -3,17 +3,9 @@
 #![tactic(auto)]
 
 #[cfg(test)]
-mod bases;
-#[cfg(test)]
-mod caller;
-#[cfg(test)]
 mod checks;
 #[cfg(test)]
-mod closing;
-#[cfg(test)]
 mod extremes;
-#[cfg(test)]
-mod greatest;
 #[cfg(test)]
 mod journal;
 #[cfg(test)]
@@ -26,8 +18,6 @@ mod plain;
 mod random;
 #[cfg(test)]
 mod random_steps;
-#[cfg(test)]
-mod refused;
 #[cfg(test)]
 mod reuse;
 #[cfg(test)]

@@ -22,15 +22,10 @@ fn compared<R: Abort + AllocGlobal>(
     limit: u64,
 ) -> Expired {
     assert!(rt; is_in_order(idle));
-    let answer = compare(rt.alloc(), idle, moves, picks, ms(now), ms(limit)).expect(
-        rt,
-        "an answer",
-    );
-    answer.map(|c| (c.newest_first, c.oldest_first, c.other))
-}
-
-fn same<R: Abort>(rt: &R, expired: Expired, wanted: Expired) {
-    assert_eq!(rt; expired, wanted);
+    let answer = compare(rt.alloc(), idle, moves, picks, ms(now), ms(limit));
+    answer
+        .expect(rt, "an answer")
+        .map(|c| (c.newest_first, c.oldest_first, c.other))
 }
 
 #[test]
@@ -43,75 +38,31 @@ fn a_list_in_order_never_falls(rt: HostRuntime) {
 
 #[test]
 fn worked_rows(rt: HostRuntime) {
-    let idle = [ms(0), ms(10), ms(20)];
-    let moves = [Move::Take(ms(25)), Move::Add(ms(26))];
-    same(
-        &rt,
-        compared(&rt, &idle, &moves, &[0], 110, 100),
-        Some((2, 1, 1)),
-    );
-    same(&rt, compared(&rt, &idle, &moves, &[], 110, 100), None);
-    same(&rt, compared(&rt, &idle, &moves, &[3], 110, 100), None);
-
-    // A take on an empty list uses no pick.
-    same(
-        &rt,
-        compared(&rt, &[], &[Move::Take(ms(5))], &[], 10, 1),
-        Some((0, 0, 0)),
-    );
-
-    // Moments that run backwards count as the latest so far, and a pick that is left over is
-    // ignored.
-    let idle = [ms(0), ms(100)];
-    same(
-        &rt,
-        compared(&rt, &idle, &[Move::Add(ms(50))], &[9], 150, 50),
-        Some((3, 3, 3)),
-    );
-    same(
-        &rt,
-        compared(&rt, &idle, &[], &[], 40, 100),
-        Some((1, 1, 1)),
-    );
-}
-
-// Two of three are lent. Whether the oldest of all stays is for the picks to say.
-#[test]
-fn other_choices_lie_between(rt: HostRuntime) {
-    let idle = [ms(0), ms(10), ms(20)];
-    let moves = [Move::Take(ms(25)), Move::Take(ms(25))];
-    same(
-        &rt,
-        compared(&rt, &idle, &moves, &[0, 1], 110, 100),
-        Some((1, 0, 1)),
-    );
-    same(
-        &rt,
-        compared(&rt, &idle, &moves, &[1, 0], 110, 100),
-        Some((1, 0, 0)),
-    );
-}
-
-#[test]
-fn the_oldest_first_is_strictly_behind(rt: HostRuntime) {
-    let idle = [ms(0), ms(10), ms(20), ms(30), ms(40)];
-    let moves = [
-        Move::Take(ms(50)),
-        Move::Add(ms(60)),
-        Move::Take(ms(70)),
-        Move::Add(ms(80)),
-    ];
-    // To pick the first place each time is to lend the oldest.
-    same(
-        &rt,
-        compared(&rt, &idle, &moves, &[0, 0], 110, 80),
-        Some((4, 2, 2)),
-    );
-    same(
-        &rt,
-        compared(&rt, &idle, &moves, &[0, 3], 110, 80),
-        Some((4, 2, 3)),
-    );
+    let take = |moment: u64| Move::Take(ms(moment));
+    let add = |moment: u64| Move::Add(ms(moment));
+    let (five, two) = ([ms(0), ms(10), ms(20), ms(30), ms(40)], [ms(0), ms(100)]);
+    let (mixed, twice) = ([take(25), add(26)], [take(25), take(25)]);
+    let turns = [take(50), add(60), take(70), add(80)];
+    for (idle, moves, picks, now, limit, wanted) in [
+        (&five[..3], &mixed[..], &[0][..], 110, 100, Some((2, 1, 1))),
+        (&five[..3], &mixed, &[], 110, 100, None),
+        (&five[..3], &mixed, &[3], 110, 100, None),
+        // A take on an empty list uses no pick.
+        (&[], &[take(5)], &[], 10, 1, Some((0, 0, 0))),
+        // Moments that run backwards count as the latest so far, and a pick that is left over is
+        // ignored.
+        (&two, &[add(50)], &[9], 150, 50, Some((3, 3, 3))),
+        (&two, &[], &[], 40, 100, Some((1, 1, 1))),
+        // Two of three are lent. Whether the oldest of all stays is for the picks to say.
+        (&five[..3], &twice, &[0, 1], 110, 100, Some((1, 0, 1))),
+        (&five[..3], &twice, &[1, 0], 110, 100, Some((1, 0, 0))),
+        // The oldest first is strictly behind; to pick the first place each time is to lend it.
+        (&five, &turns, &[0, 0], 110, 80, Some((4, 2, 2))),
+        (&five, &turns, &[0, 3], 110, 80, Some((4, 2, 3))),
+    ] {
+        let expired = compared(&rt, idle, moves, picks, now, limit);
+        assert_eq!(rt; expired, wanted, "{picks:?} at {now}");
+    }
 }
 
 // The first `size` of five moments.
@@ -142,47 +93,27 @@ fn moves_of(alloc: Global, code: u32) -> Result<Vec<Move>, AllocError> {
     Ok(moves)
 }
 
-// In how many ways the takes can pick.
-fn ways_of(size: usize, moves: &[Move]) -> usize {
-    let mut idle = size;
-    let mut ways: usize = 1;
-    for step in moves {
-        match step {
-            Move::Take(_) => {
-                if idle > 0 {
-                    ways = ways.saturating_mul(idle);
-                    idle -= 1;
-                }
-            }
-            Move::Add(_) => idle = idle.saturating_add(1),
-        }
-    }
-    ways
-}
-
-// The picks of one of these ways.
+// The picks of one of the ways in which the takes can pick, and how many ways there are.
 fn picks_of(
     alloc: Global,
     size: usize,
     moves: &[Move],
     way: usize,
-) -> Result<Vec<usize>, AllocError> {
-    let mut picks = Vec::new(alloc);
-    let mut idle = size;
-    let mut rest = way;
+) -> Result<(Vec<usize>, usize), AllocError> {
+    let (mut picks, mut idle, mut rest, mut ways) = (Vec::new(alloc), size, way, 1usize);
     for step in moves {
         match step {
-            Move::Take(_) => {
-                if idle > 0 {
-                    picks.push(rest % idle)?;
-                    rest /= idle;
-                    idle -= 1;
-                }
+            Move::Take(_) if idle > 0 => {
+                picks.push(rest % idle)?;
+                rest /= idle;
+                ways = ways.saturating_mul(idle);
+                idle -= 1;
             }
+            Move::Take(_) => {}
             Move::Add(_) => idle = idle.saturating_add(1),
         }
     }
-    Ok(picks)
+    Ok((picks, ways))
 }
 
 // How often the three came to the same, and how often the picks lay between the two.
@@ -197,8 +128,9 @@ impl Tally {
     fn count<R: Abort + AllocGlobal>(&mut self, rt: &R, size: usize, code: u32) {
         let idle = idle_of(rt.alloc(), size).expect(rt, "idle ones");
         let moves = moves_of(rt.alloc(), code).expect(rt, "moves");
-        for way in 0..ways_of(size, &moves) {
-            let picks = picks_of(rt.alloc(), size, &moves, way).expect(rt, "picks");
+        let ways = picks_of(rt.alloc(), size, &moves, 0).expect(rt, "picks").1;
+        for way in 0..ways {
+            let (picks, _) = picks_of(rt.alloc(), size, &moves, way).expect(rt, "picks");
             let beyond = self.limit_beyond(rt, &idle, &moves, &picks);
             assert_eq!(rt; beyond, None, "at {size} idle, moves {code}, way {way}");
         }

@@ -4,27 +4,15 @@ use crate::checks::{legal, same};
 use core_uses::steps::ms;
 use r2d2_core::{Job, LendingOrder, LimitSettings, Limits, Schedule};
 use std::process::Abort;
+use std::time::Duration;
 
-fn idling() -> Option<Limits> {
-    LimitSettings {
-        max_size: 2,
-        min_idle: None,
-        max_lifetime: None,
-        idle_timeout: Some(ms(1000)),
-        connection_timeout: ms(30_000),
-        reap_every: ms(400),
-        order: LendingOrder::NewestFirst,
-    }
-    .limits()
-}
-
-// No reap is ever due.
-fn sized(max_size: u32) -> Option<Limits> {
+// Without an idle timeout no reap is ever due.
+fn limits(max_size: u32, idle_timeout: Option<Duration>) -> Option<Limits> {
     LimitSettings {
         max_size,
         min_idle: None,
         max_lifetime: None,
-        idle_timeout: None,
+        idle_timeout,
         connection_timeout: ms(30_000),
         reap_every: ms(400),
         order: LendingOrder::NewestFirst,
@@ -56,7 +44,7 @@ fn next(schedule: &mut Schedule, now: u64) -> Job {
 
 #[test]
 fn hands_out_what_is_due_first(rt: HostRuntime) {
-    let mut schedule = schedule_of(&rt, idling(), &[(500, 1), (300, 2)]);
+    let mut schedule = schedule_of(&rt, limits(2, Some(ms(1000))), &[(500, 1), (300, 2)]);
     same(&rt, schedule.len(), 2);
     same(&rt, next(&mut schedule, 299), Job::Wait(ms(300)));
     same(&rt, next(&mut schedule, 600), Job::Open { tries: 2 });
@@ -77,7 +65,7 @@ fn backwards() -> [(u64, u32); 100] {
 
 #[test]
 fn hands_out_what_was_ordered_backwards(rt: HostRuntime) {
-    let mut schedule = schedule_of(&rt, sized(100), &backwards());
+    let mut schedule = schedule_of(&rt, limits(100, None), &backwards());
     same(&rt, schedule.len(), 100);
     same(&rt, next(&mut schedule, 900), Job::Wait(ms(901)));
     for i in 0..100u32 {
@@ -100,7 +88,7 @@ fn hands_out_the_least_tries_of_one_moment_first(rt: HostRuntime) {
         (5, 4),
         (7, 2),
     ];
-    let mut schedule = schedule_of(&rt, sized(9), &ordered);
+    let mut schedule = schedule_of(&rt, limits(9, None), &ordered);
     for tries in [4, 8, 9, 0, 1, 1, 2, 2, 3] {
         same(&rt, next(&mut schedule, 7), Job::Open { tries });
     }
@@ -109,7 +97,7 @@ fn hands_out_the_least_tries_of_one_moment_first(rt: HostRuntime) {
 
 #[test]
 fn forgets_all_at_a_clear(rt: HostRuntime) {
-    let mut schedule = schedule_of(&rt, idling(), &[(300, 0)]);
+    let mut schedule = schedule_of(&rt, limits(2, Some(ms(1000))), &[(300, 0)]);
     schedule.clear();
     same(&rt, schedule.len(), 0);
     same(&rt, next(&mut schedule, 1000), Job::Nothing);

@@ -1,6 +1,6 @@
 // Reaps after the idle connections have turned round and round.
 
-use crate::checks::{book_of, legal, listed, report_of, same, take_all};
+use crate::checks::{book_of, report_of, same, take_all};
 use core_uses::steps::{admit, begin, limits, ms, number};
 use r2d2_core::{Book, Released, Take};
 use std::alloc::{AllocError, Global};
@@ -45,19 +45,24 @@ fn closed_by_a_reap<R: Abort + AllocGlobal>(rt: &R, book: &mut Book<u64>, now: u
 }
 
 fn three<R: Abort + AllocGlobal>(rt: &R) -> Book<u64> {
-    let limits = legal(rt, limits(3, None, None, Some(600), 30_000, 30_000));
-    let mut book = book_of(rt, limits, 0);
-    let opening = [
-        begin(0),
-        begin(0),
-        begin(0),
-        number(0),
-        number(0),
-        number(0),
-    ];
-    let admitting = [admit(0, 0, 70), admit(0, 1, 71), admit(0, 2, 72)];
-    take_all(rt, &mut book, listed(rt, opening));
-    take_all(rt, &mut book, listed(rt, admitting));
+    let mut book = book_of(rt, limits(3, None, None, Some(600), 30_000, 30_000), 0);
+    take_all(
+        rt,
+        &mut book,
+        [
+            begin(0),
+            begin(0),
+            begin(0),
+            number(0),
+            number(0),
+            number(0),
+        ],
+    );
+    take_all(
+        rt,
+        &mut book,
+        [admit(0, 0, 70), admit(0, 1, 71), admit(0, 2, 72)],
+    );
     book
 }
 
@@ -72,34 +77,29 @@ fn return_a_thousand<R: Abort + AllocGlobal>(rt: &R, book: &mut Book<u64>) {
     assert_eq!(rt; left, 0);
 }
 
-// These are idle, in this order.
-fn are_idle<R: Abort>(rt: &R, book: &Book<u64>, ids: &[u64]) {
-    let report = report_of(rt, book);
-    same(rt, report.idle.as_slice(), ids);
-    drop(report);
-}
-
-// A reap closes these, in this order.
-fn are_closed<R: Abort + AllocGlobal>(rt: &R, book: &mut Book<u64>, now: u64, ids: &[u64]) {
-    same(rt, closed_by_a_reap(rt, book, now).as_slice(), ids);
-}
-
-fn idle_and_pending(book: &Book<u64>) -> (u32, u32) {
-    (book.idle(), book.pending())
-}
-
 // The newest is lent first, and a return is the newest: so 1 is idle since 497, and 0 and then 2
 // since 500.
 #[test]
 fn reaps_after_a_thousand_returns(rt: HostRuntime) {
     let mut book = three(&rt);
     return_a_thousand(&rt, &mut book);
-    are_idle(&rt, &book, &[1, 0, 2]);
-    are_closed(&rt, &mut book, 1096, &[]);
-    are_idle(&rt, &book, &[1, 0, 2]);
-    are_closed(&rt, &mut book, 1097, &[1]);
-    are_idle(&rt, &book, &[0, 2]);
-    are_closed(&rt, &mut book, 1100, &[0, 2]);
-    same(&rt, idle_and_pending(&book), (0, 3));
-    drop(book);
+    same(
+        &rt,
+        report_of(&rt, &book).idle.as_slice(),
+        &[1u64, 0, 2][..],
+    );
+    let none: &[u64] = &[];
+    for (now, closed, idle) in [
+        (1096, none, &[1u64, 0, 2][..]),
+        (1097, &[1], &[0, 2]),
+        (1100, &[0, 2], none),
+    ] {
+        same(
+            &rt,
+            closed_by_a_reap(&rt, &mut book, now).as_slice(),
+            closed,
+        );
+        same(&rt, report_of(&rt, &book).idle.as_slice(), idle);
+    }
+    same(&rt, (book.idle(), book.pending()), (0, 3));
 }

@@ -53,34 +53,55 @@ const WRONG: &str = concat!(
     r#""why":"connection 4 is kept, but it is not lent","answers":[],"takes":0,"lost":0}"#,
 );
 
+// The text with another part in the place of the first such one.
+fn with(alloc: Global, text: &str, part: &str, other: &str) -> Result<String, Fail> {
+    let (front, back) = text.split_once(part).ok_or("there is no such part")?;
+    Ok(format!(in alloc; "{front}{other}{back}")?)
+}
+
 // The same, with a record that can't be.
 pub(crate) fn wrong(alloc: Global) -> Result<String, Fail> {
-    let (front, back) = NEW.split_once(r#""records":["#).ok_or("records")?;
-    Ok(format!(in alloc; r#"{front}"records":[{{"kind":"kept","at":1,"id":4}}{back}"#)?)
+    with(alloc, NEW, r#""records":["#, r#""records":[{"kind":"kept","at":1,"id":4}"#)
 }
 
 // All reports, one on each line.
 pub(crate) fn all(form: Form) -> Asked<'static> {
-    Asked {
-        form,
-        lines: Lines::Reports,
-        pool: None,
-    }
+    Asked { form, lines: Lines::Reports, pool: None }
+}
+
+const WORDS: Asked<'static> = Asked { form: Form::Words, lines: Lines::Reports, pool: None };
+
+const JSON: Asked<'static> = Asked { form: Form::Json, lines: Lines::Reports, pool: None };
+
+// Those within the lines of a log.
+const LOG: Asked<'static> = Asked { form: Form::Words, lines: Lines::Log, pool: None };
+
+const JSON_LOG: Asked<'static> = Asked { form: Form::Json, lines: Lines::Log, pool: None };
+
+fn of_pool(pool: &str) -> Asked<'_> {
+    Asked { pool: Some(pool), ..WORDS }
 }
 
 // Serves an input, and compares the output and the outcome.
 fn serves<R: AllocGlobal + Abort>(
     rt: &R,
-    form: Form,
+    asked: Asked<'_>,
     input: &str,
     output: &str,
     outcome: Result<Outcome, Fault>,
 ) -> Result<(), Fail> {
     let mut written = Vec::new(rt.alloc());
-    let got = serve(rt.alloc(), all(form), input.as_bytes(), &mut written);
+    let got = serve(rt.alloc(), asked, input.as_bytes(), &mut written);
     assert_eq!(rt; str::from_utf8(written.as_slice())?, output);
     assert_eq!(rt; got, outcome, "after {output}");
     Ok(())
+}
+
+// What is told of an input that ends in a fault.
+fn fault(alloc: Global, asked: Asked<'_>, input: &[u8]) -> Result<(String, u8), Fail> {
+    let got = serve(alloc, asked, input, Vec::new(alloc));
+    let fault = got.err().ok_or("a fault")?;
+    Ok((fault.to_string(alloc)?, fault.status()))
 }
 
 #[test]
@@ -89,29 +110,28 @@ fn says_of_each_line_what_it_is(rt: HostRuntime) -> Result<(), Fail> {
     let good = format!(in rt.alloc(); "\n{NEW}\r\n \t\n{NEW}")?;
     let input = format!(in rt.alloc(); "{good}\n{wrong}\n")?;
     let all = format!(in rt.alloc(); "line 2: sound\n{ANSWERS}line 4: sound\n{ANSWERS}")?;
-    serves(&rt, Form::Words, good.as_str(), all.as_str(), Ok(Outcome::Sound))?;
+    serves(&rt, WORDS, good.as_str(), all.as_str(), Ok(Outcome::Sound))?;
     let why = "connection 4 is kept, but it is not lent";
     let words = format!(in rt.alloc(); "{all}line 5: record 0: {why}\n")?;
-    serves(&rt, Form::Words, input.as_str(), words.as_str(), Ok(Outcome::Unsound))?;
+    serves(&rt, WORDS, input.as_str(), words.as_str(), Ok(Outcome::Unsound))?;
     let json = format!(in rt.alloc();
         "{{\"line\":2,{UNKNOWN},{SUMMARY}}}\n{{\"line\":4,{UNKNOWN},{SUMMARY}}}\n{{\"line\":5,{WRONG}\n")?;
-    serves(&rt, Form::Json, input.as_str(), json.as_str(), Ok(Outcome::Unsound))?;
-    serves(&rt, Form::Words, "", "no report\n", Ok(Outcome::Sound))?;
-    serves(&rt, Form::Json, "\n\n", "", Ok(Outcome::Sound))
+    serves(&rt, JSON, input.as_str(), json.as_str(), Ok(Outcome::Unsound))?;
+    serves(&rt, WORDS, "", "no report\n", Ok(Outcome::Sound))?;
+    serves(&rt, JSON, "\n\n", "", Ok(Outcome::Sound))
 }
 
 #[test]
 fn arguments_ask_for_a_form_and_a_pool(rt: HostRuntime) -> Result<(), Fail> {
-    let (words, log) = (all(Form::Words), Asked { lines: Lines::Log, ..all(Form::Words) });
     let none: &[&str] = &[];
     for (arguments, asked) in [
-        (none, Some(words)),
-        (&["--json"], Some(all(Form::Json))),
+        (none, Some(WORDS)),
+        (&["--json"], Some(JSON)),
         (&["--html"], Some(all(Form::Html))),
-        (&["--find"], Some(log)),
+        (&["--find"], Some(LOG)),
         (&["--pool", "a"], Some(of_pool("a"))),
         (&["--pool", "--json"], Some(of_pool("--json"))),
-        (&["--find", "--pool", "a", "--json"], Some(Asked { pool: Some("a"), form: Form::Json, ..log })),
+        (&["--find", "--pool", "a", "--json"], Some(Asked { pool: Some("a"), ..JSON_LOG })),
         (&["--text"], None),
         (&["a"], None),
         (&["--pool"], None),
@@ -128,107 +148,65 @@ fn arguments_ask_for_a_form_and_a_pool(rt: HostRuntime) -> Result<(), Fail> {
 
 #[test]
 fn says_what_is_wrong_beside_the_records_in_json(rt: HostRuntime) -> Result<(), Fail> {
-    let (front, back) = NEW.split_once(r#""pending":1"#).ok_or("pending")?;
-    let input = format!(in rt.alloc(); r#"{front}"pending":2{back}"#)?;
+    let input = with(rt.alloc(), NEW, r#""pending":1"#, r#""pending":2"#)?;
     let json = concat!(
         r#"{"line":1,"sound":false,"state":"unsound","why":"the base: connections and pending "#,
         r#"are 2 together, but max_size is 1","answers":[],"takes":0,"lost":0}"#,
         "\n",
     );
-    serves(&rt, Form::Json, input.as_str(), json, Ok(Outcome::Unsound))
+    serves(&rt, JSON, input.as_str(), json, Ok(Outcome::Unsound))
 }
 
 #[test]
 fn stops_at_a_line_that_is_no_report(rt: HostRuntime) -> Result<(), Fail> {
-    let input = format!(in rt.alloc(); "{NEW}\n\n{{}}\n{NEW}\n")?;
-    let (front, back) = NEW.split_once(r#""lost":0"#).ok_or("lost")?;
-    let missing = format!(in rt.alloc(); r#"{front}"lost":-1{back}"#)?;
-    let fault = concat!(
-        "line 3: version: missing ",
-        "(--find looks for reports within the lines of a log)",
-    );
-    let words = format!(in rt.alloc(); "line 1: sound\n{ANSWERS}")?;
-    let json = format!(in rt.alloc(); "{{\"line\":1,{UNKNOWN},{SUMMARY}}}\n")?;
-    for (form, first) in [
-        (Form::Words, words.as_str()),
-        (Form::Json, json.as_str()),
-    ] {
-        let mut written = Vec::new(rt.alloc());
-        let got = serve(rt.alloc(), all(form), input.as_bytes(), &mut written);
+    let alloc = rt.alloc();
+    let input = format!(in alloc; "{NEW}\n\n{{}}\n{NEW}\n")?;
+    let why = "line 3: version: missing (--find looks for reports within the lines of a log)";
+    let words = format!(in alloc; "line 1: sound\n{ANSWERS}")?;
+    let json = format!(in alloc; "{{\"line\":1,{UNKNOWN},{SUMMARY}}}\n")?;
+    for (asked, first) in [(WORDS, words.as_str()), (JSON, json.as_str())] {
+        let mut written = Vec::new(alloc);
+        drop(serve(alloc, asked, input.as_bytes(), &mut written));
         assert_eq!(rt; str::from_utf8(written.as_slice())?, first);
-        let told = got.err().ok_or("a fault")?;
-        assert_eq!(rt;
-            (told.to_string(rt.alloc())?.as_str(), told.status()),
-            (fault, 6)
-        );
+        let told = fault(alloc, asked, input.as_bytes())?;
+        assert_eq!(rt; (told.0.as_str(), told.1), (why, 6));
     }
-    let told = serve(rt.alloc(), all(Form::Words), missing.as_bytes(), Vec::new(rt.alloc()))
-        .err()
-        .ok_or("a fault")?;
-    let column = front.len() + r#""lost":"#.len() + 1;
-    let lost = format!(in rt.alloc(); "line 1: invalid value at column {column}: -1")?;
-    assert_eq!(rt; told.to_string(rt.alloc())?.as_str(), lost.as_str());
     Ok(())
 }
 
 #[test]
 fn each_fault_has_a_text_and_a_status(rt: HostRuntime) -> Result<(), Fail> {
-    let (asked, others) = (text_of(rt.alloc(), "db")?, text_of(rt.alloc(), "\"db2\"")?);
-    for (fault, text, status) in [
-        (
-            Fault::NotOfReports { line: 7, why: FromJsonError::Version(2) },
-            concat!(
-                "line 7: version: 2 is not one that can be read ",
-                "(--find looks for reports within the lines of a log)",
-            ),
-            6,
-        ),
-        (
-            Fault::NoReport { line: 7, why: FromJsonError::Version(2) },
-            "line 7: version: 2 is not one that can be read",
-            6,
-        ),
-        (
-            Fault::Open(7),
-            concat!(
-                "line 7: an object that does not end there: ",
-                "write each report on one line (jq -c . FILE)",
-            ),
-            6,
-        ),
-        (Fault::NotUtf8(3), "line 3: not UTF-8", 6),
-        (Fault::Compressed, "the input is compressed: gzip -dc FILE | pool-audit", 6),
-        (Fault::OtherPools { asked, others }, "no report of pool \"db\"; there are \"db2\"", 6),
-        (Fault::Damaged(4), "damaged reports: 4", 6),
-        (Fault::NotUnderstood, "pool_audit [--find] [--pool NAME] [--json | --html]", 5),
-        (Fault::Memory(AllocError), "out of memory", 2),
-        (Fault::Read, "read failed", 3),
-        (Fault::Write, "write failed", 3),
+    let text_of = |text: &str| String::from_str(rt.alloc(), text);
+    let others = Fault::OtherPools { asked: text_of("db")?, others: text_of("\"db2\"")? };
+    let version = "line 7: version: 2 is not one that can be read";
+    let find = " (--find looks for reports within the lines of a log)";
+    let open = "line 7: an object that does not end there: ";
+    for (fault, text, more, status) in [
+        (Fault::NotOfReports { line: 7, why: FromJsonError::Version(2) }, version, find, 6),
+        (Fault::NoReport { line: 7, why: FromJsonError::Version(2) }, version, "", 6),
+        (Fault::Open(7), open, "write each report on one line (jq -c . FILE)", 6),
+        (Fault::NotUtf8(3), "line 3: not UTF-8", "", 6),
+        (Fault::Compressed, "the input is compressed: gzip -dc FILE | pool-audit", "", 6),
+        (others, "no report of pool \"db\"; there are \"db2\"", "", 6),
+        (Fault::Damaged(4), "damaged reports: 4", "", 6),
+        (Fault::NotUnderstood, "pool_audit [--find] [--pool NAME] [--json | --html]", "", 5),
+        (Fault::Memory(AllocError), "out of memory", "", 2),
+        (Fault::Read, "read failed", "", 3),
+        (Fault::Write, "write failed", "", 3),
     ] {
-        assert_eq!(rt; fault.to_string(rt.alloc())?.as_str(), text);
+        let said = fault.to_string(rt.alloc())?;
+        assert_eq!(rt; said.as_str().split_once(text), Some(("", more)));
         assert_eq!(rt; fault.status(), status, "of {text}");
     }
     Ok(())
-}
-
-fn text_of(alloc: Global, text: &str) -> Result<String, Fail> {
-    Ok(String::from_str(alloc, text)?)
-}
-
-// What is told of an input that ends in a fault.
-fn fault(alloc: Global, asked: Asked<'_>, input: &[u8]) -> Result<(String, u8), Fail> {
-    let got = serve(alloc, asked, input, Vec::new(alloc));
-    let fault = got.err().ok_or("a fault")?;
-    Ok((fault.to_string(alloc)?, fault.status()))
 }
 
 // Each line that is no report is told for itself, and `--find` only where it may help.
 #[test]
 fn says_what_a_line_is_that_is_no_report(rt: HostRuntime) -> Result<(), Fail> {
     let alloc = rt.alloc();
-    let version = NEW.replace(alloc, "\"version\":1", "\"version\":2")?;
-    let (front, back) = NEW.split_once(r#""lost":0,"#).ok_or("lost")?;
-    let missing = format!(in alloc; "{front}{back}")?;
+    let version = with(alloc, NEW, "\"version\":1", "\"version\":2")?;
+    let missing = with(alloc, NEW, r#""lost":0,"#, "")?;
     let (_, sorted) = NEW.split_once(r#""order":"newest_first"},"#).ok_or("order")?;
     let sorted = format!(in alloc; "{{{sorted}")?;
     let (cut, _) = NEW.split_once(r#""base""#).ok_or("base")?;
@@ -237,7 +215,11 @@ fn says_what_a_line_is_that_is_no_report(rt: HostRuntime) -> Result<(), Fail> {
     let open = format!(in alloc; "{{\n{half}\n")?;
     let find = " (--find looks for reports within the lines of a log)";
     let jq = "an object that does not end there: write each report on one line (jq -c . FILE)";
+    let negative = with(alloc, NEW, r#""lost":0"#, r#""lost":-1"#)?;
+    let column = negative.as_str().find("-1").ok_or("-1")? + 1;
+    let lost = format!(in alloc; "invalid value at column {column}: -1")?;
     for (input, why, is_helped) in [
+        (negative.as_str(), lost.as_str(), false),
         (version.as_str(), "version: 2 is not one that can be read", false),
         (missing.as_str(), "missing field `lost` at column ", false),
         (sorted.as_str(), "version: missing", false),
@@ -253,7 +235,7 @@ fn says_what_a_line_is_that_is_no_report(rt: HostRuntime) -> Result<(), Fail> {
         ("[1,", "invalid type at column 1: [1", true),
         ("7", "invalid type at column 1: 7", true),
     ] {
-        let (told, status) = fault(alloc, all(Form::Words), input.as_bytes())?;
+        let (told, status) = fault(alloc, WORDS, input.as_bytes())?;
         let wanted = format!(in alloc; "line 1: {why}")?;
         assert!(rt; told.as_str().starts_with(wanted.as_str()), "{told} is not {wanted}");
         assert_eq!(rt; (told.as_str().ends_with(find), status), (is_helped, 6), "{told}");
@@ -261,13 +243,14 @@ fn says_what_a_line_is_that_is_no_report(rt: HostRuntime) -> Result<(), Fail> {
         assert!(rt; ends || why.ends_with(' '), "{told}");
     }
     let gzip: &[u8] = b"\x1f\x8b\x08\n";
-    for lines in [Lines::Reports, Lines::Log] {
-        let asked = Asked { lines, ..all(Form::Words) };
+    for asked in [WORDS, LOG] {
         let told = fault(alloc, asked, gzip)?;
         assert_eq!(rt; told.0.as_str(), "the input is compressed: gzip -dc FILE | pool-audit");
     }
     let second: &[u8] = b"\n\x1f\x8b\x08\n";
-    assert_eq!(rt; fault(alloc, all(Form::Words), second)?.0.as_str(), "line 2: not UTF-8");
+    for input in [second, b"\n{\"a\xff\":1}\n"] {
+        assert_eq!(rt; fault(alloc, WORDS, input)?.0.as_str(), "line 2: not UTF-8");
+    }
     Ok(())
 }
 
@@ -287,29 +270,21 @@ fn reads_a_report_over_several_lines(rt: HostRuntime) -> Result<(), Fail> {
     let input = format!(in alloc; "\n{report}\r\n{NEW}\n")?;
     let last = count + 2;
     let words = format!(in alloc; "line 2: sound\n{ANSWERS}line {last}: sound\n{ANSWERS}")?;
-    serves(&rt, Form::Words, input.as_str(), words.as_str(), Ok(Outcome::Sound))?;
+    serves(&rt, WORDS, input.as_str(), words.as_str(), Ok(Outcome::Sound))?;
     let log = format!(in alloc; "INFO\n{{\"log\": [\n{report}\nINFO {NEW}\n")?;
     let last = count + 3;
     let words = format!(in alloc; "line 3: sound\n{ANSWERS}line {last}: sound\n{ANSWERS}{}",
         "lines without a report: 2\n")?;
-    finds(&rt, Form::Words, log.as_str(), words.as_str(), Ok(Outcome::Sound))?;
+    serves(&rt, LOG, log.as_str(), words.as_str(), Ok(Outcome::Sound))?;
     let log = format!(in alloc; "{{\nINFO {NEW}\n{NEW}\n")?;
     let words = format!(in alloc; "line 1: sound\n{ANSWERS}line 3: sound\n{ANSWERS}{}",
         "lines without a report: 0\n")?;
-    finds(&rt, Form::Words, log.as_str(), words.as_str(), Ok(Outcome::Sound))?;
+    serves(&rt, LOG, log.as_str(), words.as_str(), Ok(Outcome::Sound))?;
     let (last, others) = (count + 1, count - 1);
     let log = format!(in alloc; "INFO report: {report}\n{NEW}\n")?;
     let words = format!(in alloc; "{}line {last}: sound\n{ANSWERS}lines without a report: {others}\n",
         "line 3: damaged: a report over several lines behind other text: write it on one line\n")?;
-    finds(&rt, Form::Words, log.as_str(), words.as_str(), Err(Fault::Damaged(1)))
-}
-
-#[test]
-fn bytes_that_are_no_text_are_told(rt: HostRuntime) -> Result<(), Fail> {
-    let input: &[u8] = b"\n{\"a\xff\":1}\n";
-    let got = serve(rt.alloc(), all(Form::Words), input, Vec::new(rt.alloc()));
-    assert_eq!(rt; got, Err(Fault::NotUtf8(2)));
-    Ok(())
+    serves(&rt, LOG, log.as_str(), words.as_str(), Err(Fault::Damaged(1)))
 }
 
 /// A reader that gives a text and then fails.
@@ -355,12 +330,12 @@ fn failed_reads_and_writes_are_told(rt: HostRuntime) -> Result<(), Fail> {
     ] {
         let mut written = Vec::new(rt.alloc());
         let cut = Cut { text: input.as_bytes(), error };
-        let got = serve(rt.alloc(), all(Form::Words), cut, &mut written);
+        let got = serve(rt.alloc(), WORDS, cut, &mut written);
         let first = format!(in rt.alloc(); "line 1: sound\n{ANSWERS}")?;
         assert_eq!(rt; str::from_utf8(written.as_slice())?, first.as_str());
         assert_eq!(rt; got, Err(fault));
     }
-    let got = serve(rt.alloc(), all(Form::Words), input.as_bytes(), Full);
+    let got = serve(rt.alloc(), WORDS, input.as_bytes(), Full);
     assert_eq!(rt; got, Err(Fault::Write));
     Ok(())
 }
@@ -401,7 +376,7 @@ const WHO: &str = concat!(
 #[test]
 fn answers_who_is_lent_and_how_long_all_were(rt: HostRuntime) -> Result<(), Fail> {
     let words = format!(in rt.alloc(); "line 1: sound\n{WHO}")?;
-    serves(&rt, Form::Words, LENT, words.as_str(), Ok(Outcome::Concerned))?;
+    serves(&rt, WORDS, LENT, words.as_str(), Ok(Outcome::Concerned))?;
     let json = concat!(
         r#"{"line":1,"sound":true,"state":"concerned","concerns":[{"kind":"lent_for_long","#,
         r#""says":"1 lent for at least 9 ns: connection 0 for "#,
@@ -425,7 +400,7 @@ fn answers_who_is_lent_and_how_long_all_were(rt: HostRuntime) -> Result<(), Fail
         r#""lent":[{"id":0,"since":104000000},{"id":2,"since":7804000000}],"calls":null}}"#,
         "\n",
     );
-    serves(&rt, Form::Json, LENT, json, Ok(Outcome::Concerned))?;
+    serves(&rt, JSON, LENT, json, Ok(Outcome::Concerned))?;
     let (front, _) = LENT.split_once(r#",{"kind":"closed""#).ok_or("closed")?;
     let back = r#"],"lost":9,"takes":4,"idle":[],"lent":[1,0],"connections":2,"pending":0,"closed":false}"#;
     let early = format!(in rt.alloc(); "{front}{back}")?;
@@ -441,38 +416,29 @@ fn answers_who_is_lent_and_how_long_all_were(rt: HostRuntime) -> Result<(), Fail
         "  lent at the end: connection 0, for 0.000 s, ",
         "since 2026-01-31T12:00:00.104Z (0.104 s after the making)\n",
     );
-    serves(&rt, Form::Words, early.as_str(), words, Ok(Outcome::Concerned))
+    serves(&rt, WORDS, early.as_str(), words, Ok(Outcome::Concerned))
 }
 
 // What is wrong with a report that replays hides none of the answers.
 #[test]
 fn answers_what_a_report_that_replays_is_asked(rt: HostRuntime) -> Result<(), Fail> {
     let alloc = rt.alloc();
-    let (front, rest) = NEW.split_once(r#""pending":1"#).ok_or("pending")?;
-    let (middle, back) = rest.split_once(r#""pending":1"#).ok_or("pending")?;
-    let none = format!(in alloc; r#"{front}"pending":0{middle}"pending":0{back}"#)?;
-    let (front, back) = none.as_str().split_once(r#""lost":0"#).ok_or("lost")?;
-    let starved = format!(in alloc; r#"{front}"lost":9{back}"#)?;
-    let (front, back) = NEW.split_once(r#""takes":0"#).ok_or("takes")?;
-    let takes = format!(in alloc; r#"{front}"takes":5{back}"#)?;
+    let none = NEW.replace(alloc, r#""pending":1"#, r#""pending":0"#)?;
+    let starved = with(alloc, none.as_str(), r#""lost":0"#, r#""lost":9"#)?;
+    let takes = with(alloc, NEW, r#""takes":0"#, r#""takes":5"#)?;
     // Nothing is opening in two of them, so they are not exhausted either.
     let opening = r#""exhausted_since":0,"opening_since":0,"pending":1"#;
-    let (front, back) = SUMMARY.split_once(opening).ok_or("opening")?;
-    let still = format!(in alloc;
-        r#"{front}"exhausted_since":null,"opening_since":null,"pending":0{back}"#)?;
-    let lost = still.as_str().replace(alloc, r#""lost":0"#, r#""lost":9"#)?;
-    let five = SUMMARY.replace(alloc, r#""takes":0"#, r#""takes":5"#)?;
+    let none_opens = r#""exhausted_since":null,"opening_since":null,"pending":0"#;
+    let still = with(alloc, SUMMARY, opening, none_opens)?;
+    let lost = with(alloc, still.as_str(), r#""lost":0"#, r#""lost":9"#)?;
+    let five = with(alloc, SUMMARY, r#""takes":0"#, r#""takes":5"#)?;
     for (input, why, summary) in [
         (
             none.as_str(),
             "the base: lost is 0, so it is that of the making, but pending is 0 where 1 are wanted",
             still.as_str(),
         ),
-        (
-            takes.as_str(),
-            "the counts: takes is 5, but the records tell of 0",
-            five.as_str(),
-        ),
+        (takes.as_str(), "the counts: takes is 5, but the records tell of 0", five.as_str()),
         (
             starved.as_str(),
             "the counts: wanted are 1, and there is room, but idle has 0, and pending is 0",
@@ -480,10 +446,10 @@ fn answers_what_a_report_that_replays_is_asked(rt: HostRuntime) -> Result<(), Fa
         ),
     ] {
         let words = format!(in alloc; "line 1: {why}\n{ANSWERS}")?;
-        serves(&rt, Form::Words, input, words.as_str(), Ok(Outcome::Unsound))?;
+        serves(&rt, WORDS, input, words.as_str(), Ok(Outcome::Unsound))?;
         let json = format!(in alloc;
             "{{\"line\":1,\"sound\":false,\"state\":\"unsound\",\"why\":\"{why}\",{summary}}}\n")?;
-        serves(&rt, Form::Json, input, json.as_str(), Ok(Outcome::Unsound))?;
+        serves(&rt, JSON, input, json.as_str(), Ok(Outcome::Unsound))?;
     }
     Ok(())
 }
@@ -511,7 +477,7 @@ fn the_exhausted_part_is_of_what_the_report_covers(rt: HostRuntime) -> Result<()
         "  at most 1 of 1 lent at once; all of them lent or opening for 0.500 s, ",
         "50 % of the time\n",
     );
-    serves(&rt, Form::Words, LATE, words, Ok(Outcome::Concerned))
+    serves(&rt, WORDS, LATE, words, Ok(Outcome::Concerned))
 }
 
 // A report of a pool whose connections, so many, are all lent since before the base.
@@ -550,27 +516,8 @@ fn names_twenty_and_counts_the_others(rt: HostRuntime) -> Result<(), Fail> {
             write!(words, "  lent at the end: connection {id}, since before the base\n")?;
         }
         words.push_str(more)?;
-        serves(&rt, Form::Words, all_lent(alloc, count)?.as_str(), words.as_str(), Ok(Outcome::Sound))?;
+        serves(&rt, WORDS, all_lent(alloc, count)?.as_str(), words.as_str(), Ok(Outcome::Sound))?;
     }
-    Ok(())
-}
-
-// Serves the lines of a log, and compares.
-fn finds<R: AllocGlobal + Abort>(
-    rt: &R,
-    form: Form,
-    log: &str,
-    output: &str,
-    outcome: Result<Outcome, Fault>,
-) -> Result<(), Fail> {
-    let mut written = Vec::new(rt.alloc());
-    let asked = Asked {
-        lines: Lines::Log,
-        ..all(form)
-    };
-    let got = serve(rt.alloc(), asked, log.as_bytes(), &mut written);
-    assert_eq!(rt; str::from_utf8(written.as_slice())?, output);
-    assert_eq!(rt; got, outcome);
     Ok(())
 }
 
@@ -587,19 +534,10 @@ fn finds_reports_in_the_lines_of_a_log(rt: HostRuntime) -> Result<(), Fail> {
     )?;
     let why = "connection 4 is kept, but it is not lent";
     let words = format!(in alloc; "line 4: sound\n{ANSWERS}line 5: sound\n{ANSWERS}line 5: record 0: {why}\nline 7: sound\n{ANSWERS}lines without a report: 3\n")?;
-    finds(&rt, Form::Words, log.as_str(), words.as_str(), Ok(Outcome::Unsound))?;
+    serves(&rt, LOG, log.as_str(), words.as_str(), Ok(Outcome::Unsound))?;
     let none = "no report\nlines without a report: 2\n";
-    finds(&rt, Form::Words, "a\nb", none, Ok(Outcome::Sound))?;
-    finds(&rt, Form::Json, "a\n\nb", "{\"lines_without_a_report\":2}\n", Ok(Outcome::Sound))
-}
-
-// A part of a line that stands in it so often.
-fn often(alloc: Global, part: &str, count: usize) -> Result<String, Fail> {
-    let mut line = String::new(alloc);
-    for _ in 0..count {
-        line.push_str(part)?;
-    }
-    Ok(line)
+    serves(&rt, LOG, "a\nb", none, Ok(Outcome::Sound))?;
+    serves(&rt, JSON_LOG, "a\n\nb", "{\"lines_without_a_report\":2}\n", Ok(Outcome::Sound))
 }
 
 // Each of these lines would take long if it were searched anew from each brace to its end.
@@ -611,19 +549,19 @@ fn a_line_of_many_objects_takes_no_longer_than_its_length(rt: HostRuntime) -> Re
         "no report\nlines without a report: 0\n",
     );
     for part in ["{\"a\":", "{\"records\":", "{\"records\":[", "{\"a\":\"{"] {
-        let open = often(alloc, part, count)?;
+        let open = part.repeat(alloc, count)?;
         let line = format!(in alloc; "{open}{NEW}\n")?;
-        finds(&rt, Form::Words, line.as_str(), none, Err(Fault::Damaged(1)))?;
+        serves(&rt, LOG, line.as_str(), none, Err(Fault::Damaged(1)))?;
     }
-    let (open, close) = (often(alloc, "{\"records\":", count)?, often(alloc, "}", count)?);
+    let (open, close) = ("{\"records\":".repeat(alloc, count)?, "}".repeat(alloc, count)?);
     let line = format!(in alloc; "{open}{NEW}{close}\n")?;
     let too_deep = "line 1: damaged: not JSON at column 1399\nno report\nlines without a report: 0\n";
-    finds(&rt, Form::Words, line.as_str(), too_deep, Err(Fault::Damaged(1)))?;
+    serves(&rt, LOG, line.as_str(), too_deep, Err(Fault::Damaged(1)))?;
     let found = format!(in alloc; "line 1: sound\n{ANSWERS}lines without a report: 0\n")?;
     for part in ["{", "{}", "{\"a\":1}, ", "{\"records\":1} "] {
-        let small = often(alloc, part, count)?;
+        let small = part.repeat(alloc, count)?;
         let line = format!(in alloc; "{small}{NEW}\n")?;
-        finds(&rt, Form::Words, line.as_str(), found.as_str(), Ok(Outcome::Sound))?;
+        serves(&rt, LOG, line.as_str(), found.as_str(), Ok(Outcome::Sound))?;
     }
     Ok(())
 }
@@ -634,11 +572,11 @@ fn finds_a_report_within_others(rt: HostRuntime) -> Result<(), Fail> {
     let alloc = rt.alloc();
     let found = format!(in alloc; "line 1: sound\n{ANSWERS}lines without a report: 0\n")?;
     for depth in [0usize, 1, 20, 60] {
-        let (open, close) = (often(alloc, "{\"a\": ", depth)?, often(alloc, "}", depth)?);
+        let (open, close) = ("{\"a\": ".repeat(alloc, depth)?, "}".repeat(alloc, depth)?);
         let line = format!(in alloc; "INFO {open}{NEW}{close}\n")?;
-        finds(&rt, Form::Words, line.as_str(), found.as_str(), Ok(Outcome::Sound))?;
+        serves(&rt, LOG, line.as_str(), found.as_str(), Ok(Outcome::Sound))?;
         let line = format!(in alloc; "INFO {open}{NEW}\n")?;
-        finds(&rt, Form::Words, line.as_str(), found.as_str(), Ok(Outcome::Sound))?;
+        serves(&rt, LOG, line.as_str(), found.as_str(), Ok(Outcome::Sound))?;
     }
     Ok(())
 }
@@ -647,25 +585,24 @@ fn finds_a_report_within_others(rt: HostRuntime) -> Result<(), Fail> {
 #[test]
 fn tells_what_is_damaged_in_a_log(rt: HostRuntime) -> Result<(), Fail> {
     let alloc = rt.alloc();
-    let (front, back) = NEW.split_once(r#""lost":0"#).ok_or("lost")?;
-    let bad = format!(in alloc; r#"{front}"lost":-1{back}"#)?;
+    let bad = with(alloc, NEW, r#""lost":0"#, r#""lost":-1"#)?;
     let (head, tail) = NEW.split_once(r#""base""#).ok_or("base")?;
     let log = format!(in alloc; "{}{}{}",
         format!(in alloc; "INFO {bad}\nINFO {head}\nINFO {tail}\n")?.as_str(),
         format!(in alloc; "{{\"version\":7,\"report\":{bad}}} {NEW}\n{NEW} {head}\n")?.as_str(),
         "INFO the limits are \"limits\": 7, no \"records\"\n",
     )?;
-    let column = front.len() + r#""lost":"#.len() + 1;
+    let column = bad.as_str().find("-1").ok_or("-1")? + 1;
     let why = format!(in alloc; "damaged: invalid value at column {column}: -1\n")?;
     let cut = "damaged: a part of it is missing, or it stands in too many others\n";
     let words = format!(in alloc; "line 1: {why}line 2: {cut}line 3: {cut}line 4: {why}{}{}",
         format!(in alloc; "line 4: sound\n{ANSWERS}line 5: sound\n{ANSWERS}")?.as_str(),
         format!(in alloc; "line 5: {cut}lines without a report: 1\n")?.as_str(),
     )?;
-    finds(&rt, Form::Words, log.as_str(), words.as_str(), Err(Fault::Damaged(5)))?;
+    serves(&rt, LOG, log.as_str(), words.as_str(), Err(Fault::Damaged(5)))?;
     let line = "{\"line\":1,\"damaged\":\"a part of it is missing, or it stands in too many others\"}\n";
     let json = format!(in alloc; "{line}{{\"lines_without_a_report\":0}}\n")?;
-    finds(&rt, Form::Json, head, json.as_str(), Err(Fault::Damaged(1)))
+    serves(&rt, JSON_LOG, head, json.as_str(), Err(Fault::Damaged(1)))
 }
 
 // A container's log has a service's line as a string of JSON, and a collector may put that into
@@ -679,16 +616,15 @@ fn finds_a_report_in_a_string(rt: HostRuntime) -> Result<(), Fail> {
         let inner = line.as_str().replace(alloc, "\\", "\\\\")?;
         let inner = inner.as_str().replace(alloc, "\"", "\\\"")?;
         line = format!(in alloc; "{{\"log\":\"{}\\n\\u00e9\",\"stream\":\"stdout\"}}", inner.as_str())?;
-        finds(&rt, Form::Words, line.as_str(), found.as_str(), Ok(Outcome::Sound))?;
+        serves(&rt, LOG, line.as_str(), found.as_str(), Ok(Outcome::Sound))?;
     }
     let none = "{\"log\":\"a \\\"b\\\" \\ud800\"}";
-    finds(&rt, Form::Words, none, "no report\nlines without a report: 1\n", Ok(Outcome::Sound))
+    serves(&rt, LOG, none, "no report\nlines without a report: 1\n", Ok(Outcome::Sound))
 }
 
 // The same report, of a pool that is called so.
 pub(crate) fn named(alloc: Global, name: &str) -> Result<String, Fail> {
-    let (front, back) = NEW.split_once(r#""limits""#).ok_or("limits")?;
-    Ok(format!(in alloc; r#"{front}"name":"{name}","limits"{back}"#)?)
+    with(alloc, NEW, r#""limits""#, format!(in alloc; r#""name":"{name}","limits""#)?.as_str())
 }
 
 #[test]
@@ -700,28 +636,12 @@ fn says_which_pool_a_report_is_of(rt: HostRuntime) -> Result<(), Fail> {
         format!(in alloc; "line 2, pool \"users\": sound\n{ANSWERS}line 3: sound\n{ANSWERS}")?
             .as_str(),
     )?;
-    serves(&rt, Form::Words, log.as_str(), words.as_str(), Ok(Outcome::Sound))?;
-    let json = format!(in alloc;
-        "{{\"line\":1,\"pool\":\"orders\",{UNKNOWN},{SUMMARY}}}\n")?;
-    serves(&rt, Form::Json, orders.as_str(), json.as_str(), Ok(Outcome::Sound))?;
-    let mut written = Vec::new(alloc);
-    let asked = Asked {
-        pool: Some("users"),
-        ..all(Form::Words)
-    };
-    let got = serve(alloc, asked, log.as_bytes(), &mut written);
-    assert_eq!(rt; got, Ok(Outcome::Sound));
+    serves(&rt, WORDS, log.as_str(), words.as_str(), Ok(Outcome::Sound))?;
+    let json = format!(in alloc; "{{\"line\":1,\"pool\":\"orders\",{UNKNOWN},{SUMMARY}}}\n")?;
+    serves(&rt, JSON, orders.as_str(), json.as_str(), Ok(Outcome::Sound))?;
     let words = format!(in alloc;
         "line 2, pool \"users\": sound\n{ANSWERS}reports of other pools: 2\n")?;
-    assert_eq!(rt; str::from_utf8(written.as_slice())?, words.as_str());
-    Ok(())
-}
-
-fn of_pool(pool: &str) -> Asked<'_> {
-    Asked {
-        pool: Some(pool),
-        ..all(Form::Words)
-    }
+    serves(&rt, of_pool("users"), log.as_str(), words.as_str(), Ok(Outcome::Sound))
 }
 
 // A pool is asked for by its whole name. Where no report is of it, the fault says which there are.
@@ -749,9 +669,8 @@ fn says_which_pools_there_are(rt: HostRuntime) -> Result<(), Fail> {
 // A pool that stands still since its last record is reckoned up to its report.
 #[test]
 fn reckons_up_to_the_report(rt: HostRuntime) -> Result<(), Fail> {
-    let alloc = rt.alloc();
-    let (front, back) = LENT.split_once(r#""limits""#).ok_or("limits")?;
-    let late = format!(in alloc; r#"{front}"reported_at":3607804000000,"limits"{back}"#)?;
+    let at = r#""reported_at":3607804000000,"limits""#;
+    let late = with(rt.alloc(), LENT, r#""limits""#, at)?;
     let words = concat!(
         "line 1: sound\n",
         "  ! 2 lent for at least 9 ns: ",
@@ -770,5 +689,5 @@ fn reckons_up_to_the_report(rt: HostRuntime) -> Result<(), Fail> {
         "  lent at the end: connection 2, for 3600.000 s, ",
         "since 2026-01-31T12:00:07.804Z (7.804 s after the making)\n",
     );
-    serves(&rt, Form::Words, late.as_str(), words, Ok(Outcome::Concerned))
+    serves(&rt, WORDS, late.as_str(), words, Ok(Outcome::Concerned))
 }

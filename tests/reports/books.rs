@@ -11,23 +11,31 @@ pub(crate) fn ms(n: u64) -> Duration {
     Duration::from_millis(n)
 }
 
-// Limits of a pool of so many, with so many wanted idle, and lengths of time in milliseconds.
-pub(crate) fn limits(
-    max_size: u32,
-    min_idle: u32,
-    max_lifetime: Option<u64>,
-    idle_timeout: Option<u64>,
-) -> Option<Limits> {
+/// The largest size, how many are wanted idle, the lifetime, and the idle timeout.
+type Sizes = (u32, u32, Option<u64>, Option<u64>);
+
+fn limits((max_size, min_idle, max_lifetime, idle_timeout): Sizes) -> Option<Limits> {
     LimitSettings {
         max_size,
         min_idle: Some(min_idle),
-        max_lifetime: max_lifetime.map(|n| Duration::from_millis(n)),
-        idle_timeout: idle_timeout.map(|n| Duration::from_millis(n)),
+        max_lifetime: max_lifetime.map(|n| ms(n)),
+        idle_timeout: idle_timeout.map(|n| ms(n)),
         connection_timeout: ms(30_000),
         reap_every: ms(30_000),
         order: LendingOrder::NewestFirst,
     }
     .limits()
+}
+
+/// What is done to a book at so many milliseconds. Of the lent ones the first comes back.
+#[derive(Clone, Copy)]
+pub(crate) enum Deed {
+    Open(u64),
+    Take(u64),
+    Keep(u64),
+    Break(u64),
+    Reap(u64),
+    Close,
 }
 
 /// A book with the ids that were numbered and not admitted, and those that it lent.
@@ -49,8 +57,35 @@ fn pick(list: &mut Vec<u64>, place: u32) -> Option<u64> {
 }
 
 impl Driven {
+    /// A book with room for so many records, to which this was done.
+    pub(crate) fn of(
+        alloc: Global,
+        sizes: Sizes,
+        room: usize,
+        deeds: &[Deed],
+    ) -> Result<Driven, Fail> {
+        let limits = limits(sizes).ok_or("limits")?;
+        let mut driven = Driven::new(alloc, limits, ms(0), 0, room)?;
+        driven.go_on(deeds)?;
+        Ok(driven)
+    }
+
+    pub(crate) fn go_on(&mut self, deeds: &[Deed]) -> Result<(), AllocError> {
+        for deed in deeds {
+            match *deed {
+                Deed::Open(at) => self.open(ms(at)),
+                Deed::Take(at) => self.take(ms(at), true)?,
+                Deed::Keep(at) => self.put_back(ms(at), 0, false),
+                Deed::Break(at) => self.put_back(ms(at), 0, true),
+                Deed::Reap(at) => self.reap(ms(at))?,
+                Deed::Close => drop(self.book.close()),
+            }
+        }
+        Ok(())
+    }
+
     // A book whose first id is this one.
-    pub(crate) fn new(
+    fn new(
         alloc: Global,
         limits: Limits,
         now: Duration,
@@ -109,10 +144,6 @@ impl Driven {
         Ok(())
     }
 
-    pub(crate) fn close(&mut self) {
-        let _left = self.book.close();
-    }
-
     pub(crate) fn report(&self) -> Result<Report, AllocError> {
         self.book.report()
     }
@@ -135,7 +166,7 @@ impl Driven {
             290..360 => self.put_back(now, place, place % 4 == 0),
             360..370 => self.fail_check(now, place),
             370..399 => self.reap(now)?,
-            _ => self.close(),
+            _ => drop(self.book.close()),
         }
         Ok(())
     }

@@ -1,104 +1,75 @@
 // Each number of a report's text, changed by itself: what is said of it is true, whatever it was.
 
 use crate::books::seeded_report;
-use crate::kept::replays;
+use crate::reasons::replays;
 use pool_reports::{RecordReason, Verdict, audit, from_json, to_json};
-use r2d2_core::{Record, Report};
-use std::alloc::{AllocError, Global};
+use r2d2_core::Record;
+use std::alloc::Global;
 use std::test::Fail;
 
-// A text, with a number in it that can be changed.
-#[derive(Clone, Copy)]
-struct Part<'a> {
-    front: &'a str,
-    part: &'a str,
-    back: &'a str,
+// Where the first number of the text from the place on begins, and where it ends.
+fn number_from(text: &str, from: usize) -> Option<(usize, usize)> {
+    let digits = |byte: &u8| byte.is_ascii_digit();
+    let begin = from.checked_add(text.get(from..)?.bytes().position(|byte| digits(&byte))?)?;
+    let len = text.get(begin..)?.bytes().take_while(digits).count();
+    Some((begin, begin.checked_add(len)?))
 }
 
-fn is_digit(byte: u8) -> bool {
-    byte.is_ascii_digit()
-}
-
-// The first number of the text from the place on.
-fn part_from(text: &str, from: usize) -> Option<Part<'_>> {
-    let rest = text.get(from..)?;
-    let begin = rest.find(|c: char| c.is_ascii_digit())?;
-    let number = rest.get(begin..)?;
-    let len = number.bytes().take_while(|byte| is_digit(*byte)).count();
-    Some(Part {
-        front: text.get(..from.checked_add(begin)?)?,
-        part: number.get(..len)?,
-        back: number.get(len..)?,
-    })
-}
-
-impl Part<'_> {
-    // The text with one more there, or one less.
-    fn changed(&self, alloc: Global, is_more: bool) -> Result<String, AllocError> {
-        let number = self.part.parse::<u128>().unwrap_or(0);
-        let number = if is_more {
-            number.saturating_add(1)
-        } else {
-            number.saturating_sub(1)
-        };
-        format!(in alloc; "{}{number}{}", self.front, self.back)
-    }
+// The text with one more in that number's place, or one less.
+fn changed(
+    alloc: Global,
+    text: &str,
+    (begin, end): (usize, usize),
+    is_more: bool,
+) -> Result<String, Fail> {
+    let (front, back) = (
+        text.get(..begin).ok_or("front")?,
+        text.get(end..).ok_or("back")?,
+    );
+    let number = text
+        .get(begin..end)
+        .ok_or("a number")?
+        .parse::<u128>()
+        .unwrap_or(0);
+    let number = if is_more {
+        number.saturating_add(1)
+    } else {
+        number.saturating_sub(1)
+    };
+    Ok(format!(in alloc; "{front}{number}{back}")?)
 }
 
 // The record as the reason would have it, where it says how.
 fn corrected(record: Record, reason: RecordReason) -> Option<Record> {
-    match (record, reason) {
-        (Record::Taken { at, id, .. }, RecordReason::Ordered { due, .. }) => {
-            Some(Record::Taken {
-                at,
-                id,
-                ordered: due,
-            })
+    Some(match (record, reason) {
+        (Record::Taken { at, id, .. }, RecordReason::Ordered { due: ordered, .. }) => {
+            Record::Taken { at, id, ordered }
         }
-        (Record::Taken { at, ordered, .. }, RecordReason::NotNext { next, .. }) => {
-            Some(Record::Taken {
-                at,
-                id: next,
-                ordered,
-            })
+        (Record::Taken { at, ordered, .. }, RecordReason::NotNext { next: id, .. }) => {
+            Record::Taken { at, id, ordered }
         }
-        (Record::Closed { at, id, .. }, RecordReason::Ordered { due, .. }) => {
-            Some(Record::Closed {
-                at,
-                id,
-                ordered: due,
-            })
+        (Record::Closed { at, id, .. }, RecordReason::Ordered { due: ordered, .. }) => {
+            Record::Closed { at, id, ordered }
         }
-        (Record::Reaped { at, .. }, RecordReason::Ordered { due, .. }) if due > 0 => {
-            Some(Record::Reaped { at, ordered: due })
+        (Record::Reaped { at, .. }, RecordReason::Ordered { due: ordered, .. }) if ordered > 0 => {
+            Record::Reaped { at, ordered }
         }
-        _ => None,
-    }
-}
-
-// The report with that record corrected.
-fn with_corrected(mut report: Report, place: usize, reason: RecordReason) -> Option<Report> {
-    let record = report.records.get(place).copied()?;
-    report.records[place] = corrected(record, reason)?;
-    Some(report)
+        _ => return None,
+    })
 }
 
 // Whether the verdict is past the reason at that place.
 fn is_past(verdict: Verdict, place: usize, reason: RecordReason) -> bool {
-    match verdict {
-        Verdict::Record {
-            place: now,
-            reason: then,
-        } => {
-            now > place
-                || (now == place
-                    && matches!(
-                        (reason, then),
-                        (RecordReason::NotNext { .. }, RecordReason::Ordered { .. })
-                    ))
-        }
-        Verdict::Base(_) => false,
-        _ => true,
+    match (verdict, reason) {
+        (
+            Verdict::Record {
+                place: now,
+                reason: RecordReason::Ordered { .. },
+            },
+            RecordReason::NotNext { .. },
+        ) => now >= place,
+        (Verdict::Record { place: now, .. }, _) => now > place,
+        (verdict, _) => !matches!(verdict, Verdict::Base(_)),
     }
 }
 
@@ -114,7 +85,7 @@ struct Tally {
 impl Tally {
     // Whether what is said of the text is true.
     fn is_true(&mut self, alloc: Global, text: &str) -> Result<bool, Fail> {
-        let Ok(report) = from_json(alloc, text) else {
+        let Ok(mut report) = from_json(alloc, text) else {
             return Ok(true);
         };
         self.read = self.read.saturating_add(1);
@@ -129,9 +100,10 @@ impl Tally {
         let Verdict::Record { place, reason } = verdict else {
             return Ok(true);
         };
-        let Some(report) = with_corrected(report, place, reason) else {
+        let Some(right) = corrected(report.records[place], reason) else {
             return Ok(true);
         };
+        report.records[place] = right;
         self.corrected = self.corrected.saturating_add(1);
         Ok(is_past(audit(alloc, &report)?, place, reason))
     }
@@ -139,19 +111,15 @@ impl Tally {
     // The place of the first change of the text of which something else is said.
     fn first_lie(&mut self, alloc: Global, text: &str) -> Result<Option<usize>, Fail> {
         let mut from = 0;
-        for _ in 0..text.len() {
-            let Some(part) = part_from(text, from) else {
-                return Ok(None);
-            };
+        while let Some(number) = number_from(text, from) {
             for is_more in [true, false] {
-                let changed = part.changed(alloc, is_more)?;
-                if !self.is_true(alloc, changed.as_str())? {
+                if !self.is_true(alloc, changed(alloc, text, number, is_more)?.as_str())? {
                     return Ok(Some(from));
                 }
             }
-            from = part.front.len().saturating_add(part.part.len());
+            from = number.1;
         }
-        Ok(Some(from))
+        Ok(None)
     }
 }
 

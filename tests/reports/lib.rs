@@ -11,16 +11,10 @@ mod concerns;
 #[cfg(test)]
 mod errors;
 #[cfg(test)]
-mod kept;
-#[cfg(test)]
 mod reasons;
-#[cfg(test)]
-mod round_trips;
-#[cfg(test)]
-mod same;
-#[cfg(test)]
-mod shown;
 #[cfg(test)]
 mod stories;
 #[cfg(test)]
 mod summaries;
+#[cfg(test)]
+mod texts;

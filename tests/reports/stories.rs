@@ -1,8 +1,10 @@
 // What a story says, against the report that it tells.
 
-use crate::books::{Driven, below, limits, ms, random_report};
-use pool_reports::story::{Cause, Coming, Counts, Ending, Life, Story, Stretch, Use};
-use pool_reports::story::story_to_json;
+use crate::books::Deed::{Break, Close, Keep, Open, Reap, Take};
+use crate::books::{Driven, below, ms, random_report};
+use pool_reports::story::{
+    Cause, Coming, Counts, Ending, Life, Story, Stretch, Use, story_to_json,
+};
 use r2d2_core::Report;
 use rand_core::SeedableRng;
 use rand_pcg::Pcg32;
@@ -10,43 +12,30 @@ use std::alloc::{AllocError, Global};
 use std::test::Fail;
 use std::time::Duration;
 
-// The ids of the connections that are still idle, or lent, in order.
-fn still(alloc: Global, story: &Story, what: Use) -> Result<Vec<u64>, AllocError> {
-    let mut ids = Vec::new(alloc);
-    for life in story.lives.iter() {
-        if life.is_still(what) {
-            ids.push(life.id)?;
-        }
-    }
+// Whether these connections are still idle, or lent, whatever their order.
+fn are_still(alloc: Global, story: &Story, what: Use, ids: &[u64]) -> Result<bool, AllocError> {
+    let still = story.lives.iter().filter(|life| life.is_still(what));
+    let mut still: Vec<u64> = still.map(|life| life.id).collect(alloc)?;
+    let mut ids = Vec::from_slice(alloc, ids)?;
+    still.sort_unstable();
     ids.sort_unstable();
-    Ok(ids)
-}
-
-fn in_order(alloc: Global, ids: &[u64]) -> Result<Vec<u64>, AllocError> {
-    let mut sorted = Vec::from_slice(alloc, ids)?;
-    sorted.sort_unstable();
-    Ok(sorted)
-}
-
-fn is_exhausted(report: &Report) -> bool {
-    let lent = u32::try_from(report.lent.len()).unwrap_or(u32::MAX);
-    !report.closed && lent.saturating_add(report.pending) >= report.limits.max_size()
+    Ok(still == ids)
 }
 
 // Whether the story ends with what the report shows.
 fn ends_as(alloc: Global, story: &Story, report: &Report) -> Result<bool, AllocError> {
-    let idle = still(alloc, story, Use::Idle)?;
-    let lent = still(alloc, story, Use::Lent)?;
+    let lent = u32::try_from(report.lent.len()).unwrap_or(u32::MAX);
+    let is_full = lent.saturating_add(report.pending) >= report.limits.max_size();
     let counts = Counts {
         at: story.to,
         idle: u32::try_from(report.idle.len()).unwrap_or(u32::MAX),
         connections: report.connections,
         pending: report.pending,
-        is_exhausted: is_exhausted(report),
+        is_exhausted: is_full && !report.closed,
     };
     Ok(
-        idle == in_order(alloc, report.idle.as_slice())?
-            && lent == in_order(alloc, report.lent.as_slice())?
+        are_still(alloc, story, Use::Idle, report.idle.as_slice())?
+            && are_still(alloc, story, Use::Lent, report.lent.as_slice())?
             && story.last_counts() == Some(counts)
             && story.closed == report.closed,
     )
@@ -86,10 +75,7 @@ fn each_story_ends_as_its_report(rt: HostRuntime) -> Result<(), Fail> {
             for life in story.lives.iter() {
                 assert!(rt; is_whole(life, story.to), "{seed} at {room}: {}", life.id);
             }
-            assert_eq!(rt;
-                story.counts.len(),
-                report.records.len().saturating_add(1)
-            );
+            assert_eq!(rt; story.counts.len(), report.records.len().saturating_add(1));
         }
     }
     Ok(())
@@ -127,23 +113,6 @@ fn a_report_that_does_not_replay_is_told_as_far_as_it_goes(rt: HostRuntime) -> R
     Ok(())
 }
 
-// Two connections come in; the newer one is lent and kept, and lent and closed; a reap closes the
-// other.
-pub(crate) fn one_of_each(alloc: Global) -> Result<Report, Fail> {
-    let limits = limits(2, 1, None, Some(100)).ok_or("limits")?;
-    let mut driven = Driven::new(alloc, limits, ms(0), 0, 100)?;
-    driven.open(ms(10));
-    driven.take(ms(20), true)?;
-    driven.open(ms(30));
-    driven.put_back(ms(40), 0, false);
-    driven.take(ms(50), true)?;
-    driven.put_back(ms(60), 0, true);
-    driven.reap(ms(130))?;
-    driven.open(ms(140));
-    driven.close();
-    Ok(driven.report()?)
-}
-
 fn stretch(what: Use, from: u64, to: u64) -> Stretch {
     Stretch {
         what,
@@ -156,11 +125,15 @@ fn ended(at: u64, cause: Cause) -> Option<Ending> {
     Some(Ending { at: ms(at), cause })
 }
 
+// Two connections come in; the newer one is lent and kept, and lent and closed; a reap closes the
+// other.
 #[test]
 fn tells_what_became_of_each(rt: HostRuntime) -> Result<(), Fail> {
     let alloc = rt.alloc();
-    let report = one_of_each(alloc)?;
-    let story = Story::of(alloc, &report, None)?;
+    let coming = [Open(10), Take(20), Open(30), Keep(40), Take(50), Break(60)];
+    let mut driven = Driven::of(alloc, (2, 1, None, Some(100)), 100, &coming)?;
+    driven.go_on(&[Reap(130), Open(140), Close])?;
+    let story = Story::of(alloc, &driven.report()?, None)?;
     assert_eq!(rt;
         (story.from, story.to, story.length()),
         (ms(0), ms(140), ms(140))
@@ -194,12 +167,8 @@ fn tells_what_became_of_each(rt: HostRuntime) -> Result<(), Fail> {
 #[test]
 fn a_story_has_this_text(rt: HostRuntime) -> Result<(), Fail> {
     let alloc = rt.alloc();
-    let limits = limits(1, 1, None, None).ok_or("limits")?;
-    let mut driven = Driven::new(alloc, limits, ms(0), 0, 9)?;
-    driven.open(ms(10));
-    driven.take(ms(20), true)?;
-    driven.put_back(ms(30), 0, true);
-    let report = driven.report()?;
+    let deeds = [Open(10), Take(20), Break(30)];
+    let report = Driven::of(alloc, (1, 1, None, None), 9, &deeds)?.report()?;
     let text = concat!(
         r#"{"limits":{"max_size":1,"min_idle":1,"max_lifetime":null,"idle_timeout":null,"#,
         r#""connection_timeout":30000000000,"reap_every":30000000000,"order":"newest_first"},"#,
@@ -218,12 +187,9 @@ fn a_story_has_this_text(rt: HostRuntime) -> Result<(), Fail> {
 #[test]
 fn the_oldest_lanes_are_left_out(rt: HostRuntime) -> Result<(), Fail> {
     let alloc = rt.alloc();
-    let limits = limits(1, 1, None, None).ok_or("limits")?;
-    let mut driven = Driven::new(alloc, limits, ms(0), 0, 9000)?;
+    let mut driven = Driven::of(alloc, (1, 1, None, None), 9000, &[])?;
     for turn in 0..1003 {
-        driven.open(ms(turn * 10));
-        driven.take(ms(turn * 10 + 1), true)?;
-        driven.put_back(ms(turn * 10 + 2), 0, true);
+        driven.go_on(&[Open(turn * 10), Take(turn * 10 + 1), Break(turn * 10 + 2)])?;
     }
     let report = driven.report()?;
     let text = story_to_json(alloc, &report, None)?;

@@ -106,7 +106,7 @@ fn is_taken(answer: Take<u64>, due: (Option<Idle>, u32)) -> bool {
                 ordered,
             },
             (Some(one), due),
-        ) => (id, birth, value, ordered) == (one.id, one.birth, one.value, due),
+        ) => { (id, birth, value, ordered) == (one.id, one.birth, one.value, due) }
         (Take::Empty { ordered }, (None, due)) => ordered == due,
         _ => false,
     }
@@ -128,7 +128,7 @@ fn is_put_back(
                 },
             ),
             Ok(Some(due)),
-        ) => its == value && (age, ordered) == due,
+        ) => { its == value && (age, ordered) == due }
         (Err(refused), Err(why)) => refused == (why, value),
         _ => false,
     }

@@ -9,7 +9,6 @@ use std::str;
 use std::test::Fail;
 
 mod lines;
-mod strangers;
 mod streams;
 
 // Serves an input to a writer, through a buffer as the program does.
@@ -60,11 +59,7 @@ fn tells<R: AllocGlobal + Abort>(
 fn each_fault_has_a_text_and_a_status(rt: HostRuntime) -> Result<(), Fail> {
     let faults = [
         (Fault::NotAStep(7), "line 7: not a step", 1),
-        (
-            Fault::NotAStep(u64::MAX),
-            "line 18446744073709551615: not a step",
-            1,
-        ),
+        (Fault::NotAStep(u64::MAX), "line 18446744073709551615: not a step", 1),
         (Fault::LimitsRefused, "line 1: limits refused", 1),
         (Fault::Memory, "out of memory", 2),
         (Fault::Read, "read failed", 3),

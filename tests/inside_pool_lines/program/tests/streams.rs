@@ -1,4 +1,4 @@
-// Reads and writes that fail.
+// Reads and writes that fail, and long ones.
 
 use super::{Fault, serve};
 use std::cell::Cell;
@@ -6,9 +6,9 @@ use std::io::{self, ErrorKind, Read, Write};
 use std::str;
 use std::test::Fail;
 
-pub(super) const SCRIPT: &str = "limits 1 - - - 30000 30000\nstate\nbegin 0\njump\n";
+const SCRIPT: &str = "limits 1 - - - 30000 30000\nstate\nbegin 0\njump\n";
 
-pub(super) const ANSWERS: &str = "state 0 0 1\nopen 0\n";
+const ANSWERS: &str = "state 0 0 1\nopen 0\n";
 
 /// A reader that gives one byte at a time and fails once, before the byte at `cut`.
 #[derive(Drop)]
@@ -49,12 +49,7 @@ fn a_failed_read_is_told_after_the_answers_before_it(rt: HostRuntime) -> Result<
         (44, ErrorKind::Interrupted, ANSWERS, Fault::NotAStep(4)),
     ];
     for (cut, error, output, fault) in cuts {
-        let reader = Cut {
-            text: SCRIPT.as_bytes(),
-            at: 0,
-            cut,
-            error: Some(error),
-        };
+        let reader = Cut { text: SCRIPT.as_bytes(), at: 0, cut, error: Some(error) };
         let mut written = Vec::new(rt.alloc());
         let got = serve(rt.alloc(), reader, &mut written);
         assert_eq!(rt; str::from_utf8(written.as_slice())?, output, "cut at {cut}");
@@ -65,9 +60,9 @@ fn a_failed_read_is_told_after_the_answers_before_it(rt: HostRuntime) -> Result<
 
 /// A writer that takes three bytes at a time, keeps `room` more bytes and then fails.
 #[derive(Drop)]
-pub(super) struct Full {
-    pub(super) kept: Vec<u8>,
-    pub(super) room: usize,
+struct Full {
+    kept: Vec<u8>,
+    room: usize,
 }
 
 impl Write for Full {
@@ -86,27 +81,40 @@ impl Write for Full {
     }
 }
 
+// A writer fails at each byte in turn.
 #[test]
 fn a_failed_write_comes_before_a_later_fault(rt: HostRuntime) -> Result<(), Fail> {
-    let rooms = [
-        (0, "", Fault::Write),
-        (5, "state", Fault::Write),
-        (12, "state 0 0 1\n", Fault::Write),
-        (18, "state 0 0 1\nopen 0", Fault::Write),
-        (19, ANSWERS, Fault::NotAStep(4)),
-    ];
-    for (room, output, fault) in rooms {
-        let mut full = Full {
-            kept: Vec::new(rt.alloc()),
-            room,
-        };
+    for room in 0..=ANSWERS.len() {
+        let mut full = Full { kept: Vec::new(rt.alloc()), room };
         let got = serve(rt.alloc(), SCRIPT.as_bytes(), &mut full);
-        assert_eq!(rt;
-            str::from_utf8(full.kept.as_slice())?,
-            output,
-            "with room {room}"
-        );
+        let kept = Some(full.kept.as_slice());
+        assert_eq!(rt; kept, ANSWERS.as_bytes().get(..room), "with room {room}");
+        let fault = if room < ANSWERS.len() { Fault::Write } else { Fault::NotAStep(4) };
         assert_eq!(rt; got, Err(fault), "with room {room}");
+    }
+    Ok(())
+}
+
+#[test]
+fn lines_and_texts_of_ten_megabytes(rt: HostRuntime) -> Result<(), Fail> {
+    let before = "limits 1 - - - 30000 30000\nbegin 0\n";
+    for (front, back, fault) in
+        [("", "\nstate\n", Err(Fault::NotAStep(3))), ("fail 0 0 ", "\nerror\nerror\n", Ok(()))]
+    {
+        let long = io::repeat(b'x').take(10_000_000);
+        let input = before.as_bytes().chain(front.as_bytes()).chain(long).chain(back.as_bytes());
+        let mut written = Vec::new(rt.alloc());
+        assert_eq!(rt; serve(rt.alloc(), input, &mut written), fault);
+        let text = str::from_utf8(written.as_slice())?;
+        let rest = text.strip_prefix("open 0\n").ok_or("the answer before")?;
+        if fault.is_err() {
+            assert_eq!(rt; rest, "");
+            continue;
+        }
+        let rest = rest.strip_prefix("retry 400\nerror ").ok_or("the answers before")?;
+        let told = rest.strip_suffix("\nerror none\n").ok_or("the answer after")?;
+        assert_eq!(rt; told.len(), 10_000_000);
+        assert!(rt; told.bytes().all(|byte| byte == b'x'));
     }
     Ok(())
 }
@@ -141,8 +149,7 @@ impl Read for Speaker<'_> {
 
 impl Write for Listener<'_> {
     fn write(&mut self, buf: &[u8]) -> io::Result<usize> {
-        self.answered
-            .set(self.answered.get().saturating_add(buf.len()));
+        self.answered.set(self.answered.get().saturating_add(buf.len()));
         Ok(buf.len())
     }
 
@@ -155,19 +162,12 @@ impl Write for Listener<'_> {
 fn answers_go_out_before_a_read_that_may_wait(rt: HostRuntime) -> Result<(), Fail> {
     let answered = Cell::new(0);
     let mut speaker = Speaker {
-        pieces: &[
-            "limits 1 - - - 30000 30000\n",
-            "state\n",
-            "begin 0\nsta",
-            "te\nbegin 0\n",
-        ],
+        pieces: &["limits 1 - - - 30000 30000\n", "state\n", "begin 0\nsta", "te\nbegin 0\n"],
         said: 0,
         answered: &answered,
         notes: Vec::new(rt.alloc()),
     };
-    let listener = Listener {
-        answered: &answered,
-    };
+    let listener = Listener { answered: &answered };
     assert_eq!(rt; serve(rt.alloc(), &mut speaker, listener), Ok(()));
     assert_eq!(rt; speaker.notes.as_slice(), [0, 0, 12, 19, 39].as_slice());
     Ok(())
