@@ -1,20 +1,30 @@
-//! Small pools for a scheduler that plays many schedules (tools/schedules): each run is one. The
-//! words are a kind of pool and a scenario; with one word it writes itself to that place.
+//! Small pools, of which each run plays one schedule or one order: the words are a kind of pool
+//! (`plain`, `counted` or `tasks`) and those of a scenario (tools/schedules/scenarios.txt). A
+//! scheduler plays threads; on one thread all orders of the polls of tasks are played, or the one
+//! whose choices `way=` names. With one word the program writes itself to that place.
 #![tactic(auto)]
 
-mod callbacks;
-mod counted;
-mod judged;
-mod lines;
-mod plain;
+mod caller;
+mod choices;
+mod ear;
+mod judge;
+mod line;
+mod nap;
+mod orders;
 mod plan;
+mod pools;
 mod queue;
-mod watching;
+mod rows;
+mod task;
+mod threads;
+mod within;
+mod world;
 
-use self::judged::Seen;
+use self::choices::Choices;
 use self::plan::Plan;
+use self::world::{Count, World};
+use r2d2::PoolRuntime;
 use std::process::ExitCode;
-use std::sync::Arc;
 use std::test::Fail;
 use std::{env, fs};
 
@@ -23,29 +33,56 @@ fn main(rt: HostRuntime) -> Result<ExitCode, Fail> {
     for word in env::args(&rt)?.skip(1) {
         words.push(word)?;
     }
-    let words = words.as_slice();
-    if let [place] = words {
+    let [kind, named @ ..] = words.as_slice() else {
+        return Ok(ExitCode::from(2));
+    };
+    if named.is_empty() {
         // What `rt try` runs lies there under this name.
         let program = fs::read(&rt, "program")?;
-        fs::write(&rt, place.as_str(), program.as_slice())?;
+        fs::write(&rt, kind.as_str(), program.as_slice())?;
         return Ok(ExitCode::from(0));
     }
-    let mut plan = Plan::new();
-    let mut kind = "";
-    for word in words {
-        if kind.is_empty() {
-            kind = word.as_str();
-        } else if !plan.take(word.as_str()) {
+    let (mut plan, mut choices) = (Plan::new(kind.as_str()), Choices::new(rt.alloc()));
+    let mut is_told = false;
+    for word in named.iter() {
+        let way = word.as_str().strip_prefix("way=");
+        is_told |= way.is_some();
+        let is_known = match way {
+            Some(way) => choices.follow(way),
+            None => plan.take(word.as_str()),
+        };
+        if !is_known {
             eprintln!(rt; "{word}: no word of a scenario")?;
             return Ok(ExitCode::from(2));
         }
     }
-    let seen = Seen::new(rt)?;
-    match (plan.within, kind) {
-        (Some(within), _) => callbacks::play(rt, plan, within, &seen)?,
-        (None, "plain") => plain::play::play(rt, plan, &seen)?,
-        (None, _) => counted::play::play(rt, plan, &seen)?,
+    if plan.within.is_some() {
+        within::draw(&rt, &mut plan);
     }
-    judged::ends(rt, &seen);
-    Ok(ExitCode::from(if seen.has_faults() { 1 } else { 0 }))
+    let world = World::new(rt, plan, choices, is_told)?;
+    let went = play(rt, Box::leak(Box::new(rt.alloc(), world)?))?;
+    Ok(ExitCode::from(if went { 0 } else { 1 }))
+}
+
+// Whether the run went well, or all did.
+fn play<R: PoolRuntime>(rt: R, world: &'static World) -> Result<bool, Fail> {
+    if !world.plan.is_drawn() {
+        return orders::play(world);
+    }
+    if world.plan.is_of_tasks {
+        rows::play(rt, world)?;
+    } else if world.plan.within.is_some() {
+        within::play(rt, world)?;
+    } else {
+        threads::play(rt, world)?;
+    }
+    // The manager is dropped with the last worker.
+    for _ in 0..1_000 {
+        if world.count(Count::Ended) == 1 {
+            break;
+        }
+        threads::sleep(world, 10);
+    }
+    judge::ends(world);
+    Ok(!world.has_faults())
 }

@@ -1,0 +1,93 @@
+// What is judged of pools of both crates.
+
+use crate::world::{Count, World};
+use r2d2::{Error, ErrorKind, Status};
+
+/// How long a call took. It tells nothing where time went on meanwhile before it had to, since then
+/// the caller itself was slow.
+#[derive(Clone, Copy)]
+pub(crate) struct Stopwatch {
+    pub(crate) jumps: u64,
+    pub(crate) begun: u64,
+}
+
+impl Stopwatch {
+    pub(crate) fn begin(world: &World) -> Stopwatch {
+        Stopwatch { jumps: world.jumps(), begun: world.now() }
+    }
+
+    /// How many milliseconds passed.
+    pub(crate) fn passed(&self, world: &World) -> Option<u64> {
+        let passed = world.now() - self.begun;
+        (world.jumps() == self.jumps).then_some(passed)
+    }
+
+    /// How many seconds it took: each deadline is a whole one.
+    pub(crate) fn seconds(&self, world: &World) -> Option<u64> {
+        self.passed(world).map(|passed| passed / 1_000)
+    }
+
+    /// The call took so long at least, and at most; where that is None it cannot be told.
+    pub(crate) fn check(&self, world: &World, what: &'static str, least: u64, most: Option<u64>) {
+        let Some(taken) = self.seconds(world) else {
+            return;
+        };
+        if taken < least || most.is_some_and(|most| taken > most) {
+            world.tell_number("it ends after seconds:", taken);
+            world.fault(what);
+        }
+    }
+}
+
+/// The sums of a status.
+pub(crate) fn sums(world: &World, status: &Status) {
+    let held = status.connections + status.opening;
+    let is_sum = status.idle + status.lent == status.connections;
+    world.fault_if(!is_sum, "idle and lent are not the connections");
+    world.fault_if(held > status.max_size, "more are open or pending than max_size");
+    let is_short = status.idle + status.opening < status.wanted && held < status.max_size;
+    world.fault_if(!status.closed && is_short, "too few are idle or pending");
+}
+
+/// Nobody can go on: so nobody may wait for what is there. So many callers wait, and drains; for
+/// some, who are left alone, what is idle may be kept.
+pub(crate) fn at_rest(world: &World, status: &Status, callers: u64, drains: u64, left: u64) {
+    let waits = callers > 0 && !status.closed;
+    let is_idle = u64::from(status.idle) > left;
+    let has_room = status.opening == 0 && status.connections < status.max_size;
+    world.fault_if(callers > 0 && status.closed, "somebody waits at a closed pool");
+    world.fault_if(waits && is_idle, "somebody waits beside an idle connection");
+    world
+        .fault_if(waits && has_room, "somebody waits, and nothing is ordered though there is room");
+    let is_drained = drains > 0 && status.lent == 0;
+    world.fault_if(is_drained, "somebody waits at a closed pool of which nothing is lent");
+}
+
+/// A `get` for so many seconds is told of an error.
+pub(crate) fn refused(world: &World, error: &Error, watch: &Stopwatch, seconds: u64) {
+    match error.kind() {
+        ErrorKind::Timeout => {
+            world.tell("is told of a timeout");
+            watch.check(world, "a get is told of a timeout before it", seconds, None);
+        }
+        ErrorKind::Closed => {
+            world.tell("is told that the pool is closed");
+            world.fault_if(!world.plan.closes(), "a get is told of a close that was not");
+        }
+        ErrorKind::Full => {
+            world.tell("is told that as many wait as may");
+            let may_all = world.plan.may_wait() == 0;
+            world.fault_if(may_all, "a get is refused where as many may wait as come");
+        }
+        _ => world.fault("a get is told of what cannot be"),
+    }
+}
+
+/// Everything is to be gone.
+pub(crate) fn ends(world: &World) {
+    world.fault_if(world.count(Count::Ended) != 1, "a worker does not end, or a pool is left");
+    let gone = world.count(Count::Dropped) + world.count(Count::Detached);
+    let is_all = world.count(Count::Opened) == gone;
+    world.fault_if(!is_all, "what was opened is not what was dropped and detached");
+    world.fault_if(world.count(Count::Opening) != 0, "an opening is left");
+}

@@ -1,0 +1,188 @@
+// The pools of a run, and their settings.
+
+use crate::ear::Ear;
+use crate::line::{Line, Manager, JITTER};
+use crate::nap::Place;
+use crate::plan::{Plan, PATIENT};
+use crate::world::{World, LONGEST_DELAY};
+use r2d2::{Error, LendingOrder, PoolRuntime, Status};
+use r2d2_async::NoHandlers;
+use std::marker::Brand;
+use std::sync::ledger::{Blank, Share};
+use std::sync::{Arc, Mutex};
+use std::test::Fail;
+use std::time::Duration;
+
+/// More than there are calls at once.
+const PARTS: u64 = 1_000_000;
+
+pub(crate) type TaskPool = r2d2_async::Pool<Manager, Place, NoHandlers, Place>;
+pub(crate) type TaskGet = r2d2_async::Get<Manager, Place, NoHandlers, Place>;
+pub(crate) type TaskLent = r2d2_async::PooledConnection<Manager, Place, NoHandlers, Place>;
+pub(crate) type TaskWork = r2d2_async::Work<Manager, Place, NoHandlers, Place>;
+pub(crate) type TaskDrain = r2d2_async::Drain<Manager, Place, NoHandlers, Place>;
+type Counted<R> = r2d2::CountedPool<Manager, Ear, Ear, Ear, R, Brand>;
+
+/// A pool for threads. A counted one lends each call a part of its ledger.
+#[derive(Drop)]
+pub(crate) enum Pool<R: PoolRuntime> {
+    Plain(r2d2::Pool<Manager, Ear, Ear, Ear, R>),
+    Counted(Counted<R>, Arc<Mutex<Share<Brand>>>, R),
+}
+
+#[derive(Drop)]
+pub(crate) enum Lent<R: PoolRuntime> {
+    Plain(r2d2::PooledConnection<Manager, Ear, Ear, Ear, R>),
+    Counted(r2d2::CountedConnection<Manager, Ear, Ear, Ear, R, Brand>),
+}
+
+impl<R: PoolRuntime> Lent<R> {
+    pub(crate) fn line(&self) -> &Line {
+        match self {
+            Lent::Plain(lent) => lent.itself(),
+            Lent::Counted(lent) => lent.itself(),
+        }
+    }
+
+    pub(crate) fn detach(self) -> Line {
+        match self {
+            Lent::Plain(lent) => r2d2::PooledConnection::detach(lent),
+            Lent::Counted(lent) => r2d2::CountedConnection::detach(lent),
+        }
+    }
+}
+
+// The same of a pool of any kind.
+macro_rules! of_any {
+    ($pool:expr, $it:ident, $what:expr) => {
+        match $pool {
+            Pool::Plain($it) => $what,
+            Pool::Counted($it, ..) => $what,
+        }
+    };
+}
+
+// A call that is counted.
+macro_rules! counted {
+    ($parts:expr, $rt:expr, $part:ident, $call:expr) => {{
+        let mut part = $parts.lock($rt).split_off(1, 0);
+        let $part = &mut part;
+        let answer = $call;
+        $parts.lock($rt).merge(part);
+        answer
+    }};
+}
+
+impl<R: PoolRuntime> Pool<R> {
+    pub(crate) fn try_clone(&self) -> Result<Pool<R>, Error> {
+        Ok(match self {
+            Pool::Plain(pool) => Pool::Plain(pool.try_clone()?),
+            Pool::Counted(pool, parts, rt) => {
+                let theirs = Arc::try_clone(parts).map_err(|_| Error::memory())?;
+                Pool::Counted(pool.try_clone()?, theirs, *rt)
+            }
+        })
+    }
+
+    pub(crate) fn status(&self) -> Status {
+        of_any!(self, pool, pool.status())
+    }
+
+    /// A `get` for so many seconds.
+    pub(crate) fn get(&self, seconds: u64) -> Result<Lent<R>, Error> {
+        let length = Duration::from_secs(seconds);
+        match self {
+            Pool::Plain(pool) => Ok(Lent::Plain(pool.get_timeout(length)?)),
+            Pool::Counted(pool, parts, rt) => {
+                let lent = counted!(parts, rt, part, pool.get_timeout(length, part));
+                Ok(Lent::Counted(lent?))
+            }
+        }
+    }
+
+    pub(crate) fn try_get(&self) -> Result<Option<Lent<R>>, Error> {
+        Ok(match self {
+            Pool::Plain(pool) => pool.try_get()?.map(Lent::Plain),
+            Pool::Counted(pool, parts, rt) => {
+                counted!(parts, rt, part, pool.try_get(part))?.map(Lent::Counted)
+            }
+        })
+    }
+
+    pub(crate) fn evict(&self) -> Result<usize, Error> {
+        match self {
+            Pool::Plain(pool) => pool.evict(),
+            Pool::Counted(pool, parts, rt) => counted!(parts, rt, part, pool.evict(part)),
+        }
+    }
+
+    /// A drain for so many seconds.
+    pub(crate) fn drain(&self, seconds: u64) -> Result<(), Status> {
+        of_any!(self, pool, pool.drain(Duration::from_secs(seconds)))
+    }
+
+    pub(crate) fn close(&self) {
+        of_any!(self, pool, pool.close())
+    }
+}
+
+// Sets what builders of both crates have.
+macro_rules! set {
+    ($builder:expr, $world:expr) => {{
+        let (world, plan): (&World, &Plan) = ($world, &$world.plan);
+        let length = |is_set: bool, length| is_set.then(|| Duration::from_millis(length));
+        let builder = $builder
+            .max_size(plan.size as u32)
+            .min_idle(Some(plan.wanted as u32))
+            .test_on_check_out(plan.checks)
+            .distrust_idle(plan.distrusts)
+            .max_lifetime(length(plan.lifetimes || plan.jitter, world.lifetime()))
+            .idle_timeout(length(plan.reaps, 4_000))
+            .check_after_idle(length(plan.after_idle, world.after_idle()));
+        if plan.oldest {
+            builder.lending_order(LendingOrder::OldestFirst)
+        } else {
+            builder
+        }
+    }};
+}
+
+/// The settings of a pool for threads.
+pub(crate) fn builder_of(world: &'static World) -> r2d2::Builder<Manager, Ear, Ear, Ear> {
+    let (plan, ear) = (&world.plan, Ear { world });
+    let mut builder = set!(r2d2::Builder::<Manager>::new(), world)
+        .thread_pool(plan.workers as usize)
+        .error_handler(ear)
+        .event_handler(ear)
+        .connection_customizer(ear);
+    if plan.jitter {
+        builder = builder.lifetime_jitter(Duration::from_secs(JITTER));
+    }
+    if plan.most > 0 {
+        builder = builder.max_waiting(plan.most as u32);
+    }
+    if plan.line > 0 {
+        builder = builder.waiting_line(plan.line as u32);
+    }
+    builder
+}
+
+/// A pool for threads, with no connection yet.
+pub(crate) fn thread_pool<R: PoolRuntime>(rt: R, world: &'static World) -> Result<Pool<R>, Fail> {
+    let (builder, manager) = (builder_of(world), Manager { world });
+    if !world.plan.is_counted {
+        return Ok(Pool::Plain(builder.build_unchecked(rt, manager)?));
+    }
+    let (total, all) = Blank::new(PARTS).open::<Brand>();
+    let pool = builder.build_counted(rt, manager, total)?;
+    Ok(Pool::Counted(pool, Arc::new(rt.alloc(), Mutex::new(all))?, rt))
+}
+
+/// A pool for tasks.
+pub(crate) fn task_pool(world: &'static World) -> Result<TaskPool, Fail> {
+    let builder = set!(r2d2_async::Builder::new(), world)
+        .max_waiting(world.plan.line as u32)
+        .connection_timeout(Duration::from_secs(PATIENT))
+        .retry_at_most(Duration::from_millis(LONGEST_DELAY));
+    Ok(builder.build(Place { world }, Manager { world }, Place { world })?)
+}

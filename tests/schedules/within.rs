@@ -1,0 +1,171 @@
+// A callback that calls into its own pool: docs/GUIDE.md, "Handlers", says what may be called from
+// where, and this judges each of it.
+
+use crate::judge::Stopwatch;
+use crate::plan::{Plan, PATIENT};
+use crate::pools::{thread_pool, Lent, Pool};
+use crate::threads::sleep;
+use crate::world::{drawn, Count, World};
+use futures::spin::lock;
+use r2d2::PoolRuntime;
+use std::rt::Clock;
+use std::test::Fail;
+
+/// The callbacks: of an opening, of what is lent, and others.
+const OF_OPENINGS: [&str; 4] = ["connect", "on_acquire", "handle_acquire", "handle_error"];
+const OF_LOANS: [&str; 4] = ["is_valid", "handle_checkout", "has_broken", "handle_checkin"];
+const OTHERS: [&str; 3] = ["handle_release", "on_release", "handle_timeout"];
+
+/// The callback with this name.
+pub(crate) fn named(word: &str) -> Option<&'static str> {
+    let mut all = OF_OPENINGS.iter().chain(OF_LOANS.iter()).chain(OTHERS.iter());
+    all.find(|it| **it == word).copied()
+}
+
+/// The calls, of which the schedule draws one.
+const CALLS: [&str; 7] = ["try_get", "get", "get and detach", "evict", "close", "drain", "drop"];
+
+/// Openings without an end are this many at least.
+const ENOUGH: u64 = 50;
+
+/// What the schedule draws of such a run: the call, and whether there is one connection and one
+/// worker, or two. Without end it is an eviction.
+pub(crate) fn draw<R: Clock>(rt: &R, plan: &mut Plan) {
+    plan.checks = true;
+    plan.size = if plan.endless { 2 } else { 1 + drawn(rt, 2) };
+    plan.workers = if plan.endless { 1 } else { plan.size };
+    plan.wanted = if plan.endless { 2 } else { 0 };
+    plan.call = Some(if plan.endless { "evict" } else { CALLS[drawn(rt, 12) as usize % 7] });
+}
+
+/// The pool that a callback calls.
+pub(crate) trait Own: Drop + Send {
+    fn another(&self, world: &World) -> Option<Box<dyn Own>>;
+
+    /// Whether the call, for a second, is met as it is to be.
+    fn call_once(&self, world: &World, call: &str, waits_out: bool) -> bool;
+}
+
+impl<R: PoolRuntime> Own for Pool<R> {
+    fn another(&self, world: &World) -> Option<Box<dyn Own>> {
+        let another: Box<dyn Own> = Box::new(world.rt.alloc(), self.try_clone().ok()?).ok()?;
+        Some(another)
+    }
+
+    fn call_once(&self, world: &World, call: &str, waits_out: bool) -> bool {
+        match call {
+            "get" => self.get(1).is_ok() != waits_out,
+            "get and detach" => self.get(1).map(Lent::detach).is_ok() != waits_out,
+            "drain" => self.drain(1).is_ok() != waits_out,
+            "try_get" => self.try_get().is_ok(),
+            "evict" if world.count(Count::Opened) <= ENOUGH => self.evict().is_ok(),
+            // Nothing else ends evictions without an end.
+            _ => {
+                self.close();
+                true
+            }
+        }
+    }
+}
+
+impl World {
+    /// This callback is called, which calls into its own pool where the run is about it, and it has
+    /// not often enough.
+    pub(crate) fn calls(&self, callback: &str) {
+        let (Some(within), Some(call)) = (self.plan.within, self.plan.call) else {
+            return;
+        };
+        if callback != within || (self.add(Count::Called) > 0 && !self.plan.endless) {
+            return;
+        }
+        let Some(pool) = self.own_pool(call == "drop") else {
+            return;
+        };
+        if call == "drop" {
+            return;
+        }
+        self.tell(call);
+        let watch = Stopwatch::begin(self);
+        let waits_out = self.waits_out(within, call);
+        let is_met = pool.call_once(self, call, waits_out);
+        // Nothing is said where time went on meanwhile before it had to.
+        if let Some(taken) = watch.seconds(self) {
+            if taken != u64::from(waits_out) {
+                self.fault("a call within a callback takes another time");
+            }
+            self.fault_if(!is_met, "a call within a callback answers otherwise");
+        }
+    }
+
+    // The pool itself, or another one.
+    fn own_pool(&self, takes_it: bool) -> Option<Box<dyn Own>> {
+        let mut held = lock(&self.own)?;
+        if takes_it {
+            return held.take();
+        }
+        held.as_ref()?.another(self)
+    }
+
+    // The table: whether such a call waits for what its own callback keeps.
+    fn waits_out(&self, within: &str, call: &str) -> bool {
+        let is_lent = OF_LOANS.contains(&within);
+        let is_opening = OF_OPENINGS.contains(&within);
+        // Where a caller gives up, all is lent, as this program has it.
+        let gives_up = within == "handle_timeout";
+        match call {
+            "get" | "get and detach" => gives_up || self.plan.size == 1 && (is_lent || is_opening),
+            "drain" => gives_up || is_lent,
+            _ => false,
+        }
+    }
+}
+
+/// Plays the callback with the call that was drawn; without end, if the plan says so.
+pub(crate) fn play<R: PoolRuntime>(rt: R, world: &'static World) -> Result<(), Fail> {
+    let pool = thread_pool(rt, world)?;
+    if let Some(mut held) = lock(&world.own) {
+        *held = pool.another(world);
+    }
+    if world.plan.endless {
+        opens_for_ever(world, &pool);
+    } else {
+        uses(world, pool.try_clone()?);
+    }
+    drop(pool);
+    drop(world.own_pool(true));
+    world.fault_if(world.count(Count::Called) == 0, "the callback is never called");
+    Ok(())
+}
+
+// A get and a return, and as many as there are with one more that waits in vain, so that each
+// callback is called. The pool that is handed in may be the last one.
+fn uses<R: PoolRuntime>(world: &World, pool: Pool<R>) {
+    let gives_up = world.plan.within == Some("handle_timeout");
+    let first = pool.get(PATIENT).ok();
+    let second = if gives_up && world.plan.size > 1 { pool.get(PATIENT).ok() } else { None };
+    if gives_up {
+        drop(pool.get(1).ok());
+    }
+    let is_last = world.plan.call == Some("drop") && world.choose(2) == 0;
+    let kept = if is_last { None } else { Some(pool) };
+    drop(first);
+    drop(second);
+    // Time for a worker's callback.
+    sleep(world, 10);
+    drop(kept);
+}
+
+// Each opening evicts what the last one opened, so there are never as many as are wanted.
+fn opens_for_ever<R: PoolRuntime>(world: &World, pool: &Pool<R>) {
+    // The first ones may have been opened before the manager had its pool.
+    drop(pool.evict().ok());
+    for _ in 0..1_000 {
+        if pool.status().closed {
+            break;
+        }
+        sleep(world, 1);
+    }
+    if world.count(Count::Opened) <= ENOUGH {
+        world.fault("an eviction in `connect` comes to an end");
+    }
+}
