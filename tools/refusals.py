@@ -1,6 +1,6 @@
 """Refuses one request in a run: for memory, or the start of a thread. `tools/refuse/try` and `tools/wrong/try` have it in common.
 
-The cases are the tests of tests/faults/in_turn.rs. For memory each becomes as many tests as there are requests to refuse, in a crate of a
+The cases are the rows of tests/stage/in_turn.rs. For memory each becomes as many tests as there are requests to refuse, in a crate of a
 copy that is built once, so that `rt try --fail-alloc` refuses another one in each. A thread, and memory of a program that is
 built, is refused by refuse.c, which is put before the C library: it wants a C compiler, as `cc` or $CC."""
 import os
@@ -10,7 +10,8 @@ import subprocess
 import copies
 
 REFUSE = os.path.join(copies.TOP, "tools", "refuse")
-FAULTS = os.path.join(copies.TESTS, "faults")
+STAGE = "stage"
+MODULE = "in_turn"
 CRATE = "refusing"
 # The request of a process that is refused, as refusing.rs has it too.
 AT = "1000"
@@ -22,7 +23,7 @@ CASE = re.compile(r"#\[test\]\nfn (\w+)\(rt: HostRuntime\)")
 
 
 def in_turn():
-    return open(os.path.join(FAULTS, "in_turn.rs"), encoding="utf-8").read()
+    return open(os.path.join(copies.TESTS, STAGE, MODULE + ".rs"), encoding="utf-8").read()
 
 
 def cases():
@@ -34,10 +35,10 @@ def tests_of(case):
     """For each of its requests a test in which that one is refused. By the first and the last, each one between them is refused
     within the case: with the first nothing is left to be refused after it, with the last it still is."""
     def test(name, number, more=""):
-        body = f"    refuse(&rt, {number});\n    super::{case}(rt)?;\n{more}    Ok(())\n"
+        body = f"    refuse(&rt, {number});\n    super::{case}(rt, rt).report(&rt);\n{more}    Ok(())\n"
         return f"\n#[test]\nfn {case}_{name}(rt: HostRuntime) -> Result<(), Fail> {{\n{body}}}\n"
 
-    yield f"\n#[test]\nfn {case}_alone(rt: HostRuntime) -> Result<(), Fail> {{\n    super::{case}(rt)\n}}\n"
+    yield f"\n#[test]\nfn {case}_alone(rt: HostRuntime) {{\n    super::{case}(rt, rt).report(&rt);\n}}\n"
     yield test("begins", 1, "    assert_eq!(rt; granted(rt.alloc(), AT), AT);\n")
     for number in range(2, MOST):
         yield test(number, number)
@@ -55,23 +56,24 @@ class Refusals:
         self.outcomes = copies.outcomes(self.said)
 
     def write(self, chosen):
+        below = copies.needed_by(self.copy.folder, STAGE, [MODULE])
+        stage, source = (os.path.join(self.copy.crate(name), "src") for name in (STAGE, CRATE))
+        for file in copies.sources(stage):
+            if copies.top_of(stage, file) in below:
+                copies.put(file, source, os.path.relpath(file, stage))
+        # A test can't be called, so each case becomes a function, and its runtime that of any world's pools.
+        cases = CASE.sub(r"fn \1<R: Host + Abort>(_host: HostRuntime, rt: R)", in_turn()).replace("on_each(rt, ", "on_each(_host, ")
+        tests = "".join(test for case in chosen for test in tests_of(case))
         texts = {
-            "lib.rt": "//! Cases in which something is refused.\n#![tactic(auto)]\n\n#[cfg(test)]\nmod in_turn;\n#[cfg(test)]\nmod play;\n#[cfg(test)]\nmod watching;\n",
-            # A test can't be called, so each case becomes a function.
-            "in_turn.rt": CASE.sub(r"fn \1<R: PoolRuntime + Abort>(rt: R)", in_turn()) + "\nmod refusing;\n",
-            "play.rt": open(os.path.join(FAULTS, "play.rs"), encoding="utf-8").read(),
-            "watching.rt": open(os.path.join(copies.TESTS, "pool", "watching.rs"), encoding="utf-8").read(),
-            "in_turn/refusing.rt": open(os.path.join(REFUSE, "refusing.rs"), encoding="utf-8").read()
-            + f'\nconst PROGRAM: &str = "{self.program}";\n'
-            + "".join(test for case in chosen for test in tests_of(case)),
+            "lib.rt": "//! Cases in which something is refused.\n#![tactic(auto)]\n" + "".join(f"\n#[cfg(test)]\nmod {it};" for it in sorted(below)) + "\n",
+            f"{MODULE}.rt": cases + "\nmod refusing;\n",
+            f"{MODULE}/refusing.rt": open(os.path.join(REFUSE, "refusing.rs"), encoding="utf-8").read() + f'\nconst PROGRAM: &str = "{self.program}";\n' + tests,
         }
+        os.makedirs(os.path.join(source, MODULE), exist_ok=True)
         for file, text in texts.items():
-            path = os.path.join(self.copy.crate(CRATE), "src", file)
-            os.makedirs(os.path.dirname(path), exist_ok=True)
-            with open(path, "w", encoding="utf-8") as it:
-                it.write(text)
+            copies.write(os.path.join(source, file), text)
         with open(os.path.join(self.copy.folder, "crates.txt"), "a", encoding="utf-8") as it:
-            it.write(f"{CRATE}: r2d2 r2d2_core log\n")
+            it.write(f"{CRATE}: r2d2_async r2d2 r2d2_core futures log\n")
 
     def is_built(self):
         """Whether a request is refused at all, and the program was handed out."""

@@ -1,7 +1,7 @@
 // What is counted over real pools.
 
 use crate::kind::Makes;
-use crate::managers::{Breaks, Counts, Manager, Sevens};
+use crate::managers::{BreaksOnce, Sevens};
 use pool_metrics::{Distribution, Metrics, Scale, Scales, Snapshot, Timed, UpTo};
 use r2d2::Builder;
 use std::test::Fail;
@@ -53,12 +53,11 @@ fn who_had_no_time_to_wait_waited_in_vain(rt: HostRuntime) -> Result<(), Fail> {
 
 #[test]
 fn opened_are_closed_or_still_there(rt: HostRuntime) -> Result<(), Fail> {
-    let counts = Counts::new(rt.alloc())?;
     let metrics = Metrics::new(rt, 3)?;
     let pool = Builder::new()
         .max_size(3)
         .event_handler(metrics.try_clone()?)
-        .make(rt, Manager::new(&counts, 100, Breaks::AtTheSecondReturn)?)?;
+        .make(rt, BreaksOnce::new())?;
     for _ in 0..9 {
         drop(pool.get()?);
     }

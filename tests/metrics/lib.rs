@@ -22,8 +22,6 @@ mod outage;
 #[cfg(test)]
 mod place;
 #[cfg(test)]
-mod play;
-#[cfg(test)]
 mod printing;
 #[cfg(test)]
 mod reasons;

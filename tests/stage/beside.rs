@@ -3,7 +3,40 @@
 use crate::kinds::{ALL, Pool};
 use crate::manager::{Kept, KeptKind};
 use crate::world::on_each;
+use r2d2::Extensions;
 use std::test::Fail;
+
+#[test]
+fn one_value_of_each_kind(rt: HostRuntime) -> Result<(), Fail> {
+    let (number, word) = (KeptKind::OfNumber, KeptKind::OfWord);
+    let mut kept = Extensions::new(rt.alloc());
+    assert!(rt; kept.insert(Kept::Number(1)) == Ok(None));
+    assert!(rt; kept.insert(Kept::Number(2)) == Ok(Some(Kept::Number(1))));
+    assert!(rt; kept.get(&number) == Some(&Kept::Number(2)));
+    if let Some(value) = kept.get_mut(&number) {
+        *value = Kept::Word('w');
+    }
+    assert!(rt; kept.get(&number) == Some(&Kept::Word('w')) && kept.get(&word).is_none());
+    assert!(rt; kept.insert(Kept::Word('x')) == Ok(None));
+    assert!(rt; kept.remove(&number) == Some(Kept::Word('w')));
+    assert!(rt; kept.get(&number).is_none() && kept.get(&word) == Some(&Kept::Word('x')));
+    kept.clear();
+    assert!(rt; kept.get(&word).is_none());
+    Ok(())
+}
+
+#[test]
+fn extensions(rt: HostRuntime) -> Result<(), Fail> {
+    on_each(rt, &ALL, |world| {
+        let pool = Pool::new(rt, world, |settings| settings.max_size = 2)?;
+        let (mut first, mut second) = (pool.get()?, pool.get()?);
+        first.keep(Kept::Number(1));
+        second.keep(Kept::Number(2));
+        drop(first);
+        assert_eq!(rt; pool.get()?.kept(KeptKind::OfNumber), Some(Kept::Number(1)));
+        Ok(())
+    })
+}
 
 #[test]
 fn it_stays_over_a_check_and_a_return(rt: HostRuntime) -> Result<(), Fail> {

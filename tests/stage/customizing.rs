@@ -1,9 +1,10 @@
 // What the customizer is asked, and what becomes of connections that it refuses.
 
-use crate::ear::Told::{Acquire, Checkin, Checkout, Failed, Shown, Timeout};
+use crate::ear::Told::{Acquire, Checkin, Checkout, Ended, Failed, Release, Shown, Timeout};
 use crate::kinds::{ALL, Pool};
 use crate::manager::Sorry;
 use crate::world::on_each;
+use r2d2::event::ReleaseReason::Broken;
 use std::test::Fail;
 
 #[test]
@@ -20,9 +21,10 @@ fn it_is_shown_each_connection_once(rt: HostRuntime) -> Result<(), Fail> {
     })
 }
 
-// What it refuses never was the pool's: it is dropped, and another is opened when that is due.
+// What it refuses never was the pool's: it is dropped, and another is opened when that is due. What
+// comes back broken is given to it.
 #[test]
-fn one_that_it_refuses_counts_as_a_failed_opening(rt: HostRuntime) -> Result<(), Fail> {
+fn test_connection_customizer(rt: HostRuntime) -> Result<(), Fail> {
     on_each(rt, &ALL, |world| {
         let pool = Pool::new(rt, world, |settings| settings.retry_at_most = Some(50))?;
         world.pass(7_000);
@@ -37,6 +39,9 @@ fn one_that_it_refuses_counts_as_a_failed_opening(rt: HostRuntime) -> Result<(),
         let lent = pool.end(get)??;
         assert_eq!(rt; (lent.number(), lent.shown()), (1, 1));
         assert!(rt; world.went(&[Shown(1), Acquire(0), Checkout(0, 50)]));
+        world.breaks.goes("-");
+        drop(lent);
+        assert!(rt; world.went(&[Checkin(0, 0), Release(0, 0, Broken), Ended(1)]));
         Ok(())
     })
 }

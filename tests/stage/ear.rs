@@ -8,6 +8,7 @@ use r2d2::event::{
 };
 use r2d2::{CustomizeConnection, HandleError};
 use std::fmt;
+use std::sync::atomic::Ordering;
 use std::time::Duration;
 
 /// What was told, or asked of the customizer. Connections go by their ids, and before and after
@@ -27,12 +28,27 @@ pub(crate) enum Told {
     Shown(u64),
     /// The customizer was given it.
     Ended(u64),
+    /// It is told only where the row asked for that.
+    Dropped(u64),
 }
 
-/// The handlers of a pool, and its customizer.
-#[derive(Clone, Copy)]
+/// A handler of a pool, or its customizer.
 pub(crate) struct Ear {
-    pub(crate) world: &'static World,
+    world: &'static World,
+}
+
+impl Ear {
+    pub(crate) fn new(world: &'static World) -> Ear {
+        world.ears.fetch_add(1, Ordering::SeqCst);
+        Ear { world }
+    }
+}
+
+impl Drop for Ear {
+    fn drop(self) {
+        let Ear { world } = self;
+        world.ears.fetch_sub(1, Ordering::SeqCst);
+    }
 }
 
 impl fmt::Debug for Ear {

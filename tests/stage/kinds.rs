@@ -1,23 +1,32 @@
 // The kinds of pools, and what all of them can do.
 
-use crate::ear::Ear;
-use crate::manager::{Hours, Kept, KeptKind, Manager, Wire};
-use crate::world::{Host, Place, World};
+mod ends;
+mod hand;
+mod lent;
+mod making;
+mod turns;
+
+use crate::clock::Place;
+use crate::ear::{Ear, milliseconds};
+use crate::manager::{Hours, Manager};
+use crate::world::{Host, PATIENCE, World};
 use futures::Future;
 use futures::executor::block_on;
-use futures::task::Poll;
-use futures::test::MockTask;
-use r2d2::event::{HandleEvent, NopEventHandler};
-use r2d2::{Error, Extensions, LendingOrder, Status};
+pub(crate) use hand::{Call, Hand};
+pub(crate) use lent::Lent;
+pub(crate) use making::{Building, made, threads};
+use r2d2::event::NopEventHandler;
+use r2d2::{Error, LendingOrder, Status};
 use r2d2_async::Handlers;
+use r2d2_core::Report;
 use std::marker::Brand;
 use std::sync::atomic::{AtomicBool, Ordering};
-use std::sync::ledger::{Blank, Share};
+use std::sync::ledger::Share;
 use std::sync::{Arc, Mutex};
 use std::test::Fail;
 use std::thread;
 use std::thread::JoinHandle;
-use std::time::Duration;
+use std::time::{Duration, SystemTime};
 
 /// A kind of pool: those of threads, and that for tasks.
 #[derive(Clone, Copy, PartialEq, Debug)]
@@ -27,7 +36,7 @@ pub(crate) enum Kind {
     Limited,
     /// Callers wait in line.
     InLine,
-    /// The takes are counted.
+    /// The takes are counted, and so many callers may wait.
     Counted,
     /// Tasks, which the row polls by hand.
     Polled,
@@ -38,9 +47,48 @@ pub(crate) enum Kind {
 /// For a pool whose events nobody is told of.
 pub(crate) const QUIET: [Kind; 4] = [Kind::Plain, Kind::Limited, Kind::InLine, Kind::Spawned];
 
+/// Those that are made by `build`, which waits for the connections that are wanted idle.
+pub(crate) const BUILT: [Kind; 3] = [Kind::Plain, Kind::Limited, Kind::InLine];
+
 pub(crate) const THREADS: [Kind; 4] = [Kind::Plain, Kind::Limited, Kind::InLine, Kind::Counted];
 
+/// Those who came first are served first.
+pub(crate) const ORDERED: [Kind; 3] = [Kind::InLine, Kind::Polled, Kind::Spawned];
+
+/// Their workers are in threads of their own.
+pub(crate) const BESIDE: [Kind; 5] = [
+    Kind::Plain,
+    Kind::Limited,
+    Kind::InLine,
+    Kind::Counted,
+    Kind::Spawned,
+];
+
 pub(crate) const TASKS: [Kind; 2] = [Kind::Polled, Kind::Spawned];
+
+/// Whose callers do not stand in line.
+pub(crate) const OUT_OF_LINE: [Kind; 3] = [Kind::Plain, Kind::Limited, Kind::Counted];
+
+/// That have a limit to how many wait.
+pub(crate) const BOUNDED: [Kind; 5] = [
+    Kind::Limited,
+    Kind::InLine,
+    Kind::Counted,
+    Kind::Polled,
+    Kind::Spawned,
+];
+
+/// Those whose workers go on by themselves, in threads.
+pub(crate) const ON_THREADS: [Kind; 5] = [
+    Kind::Plain,
+    Kind::Limited,
+    Kind::InLine,
+    Kind::Counted,
+    Kind::Spawned,
+];
+
+/// Tasks whose polls a row makes one by one.
+pub(crate) const BY_HAND: [Kind; 1] = [Kind::Polled];
 
 pub(crate) const ALL: [Kind; 6] = [
     Kind::Plain,
@@ -57,15 +105,17 @@ impl Kind {
     }
 }
 
-/// More than wait in any row.
+/// More than wait in most rows.
 const ROOM: u32 = 100;
 
 /// More than there are calls at once.
 const PARTS: u64 = 1_000_000;
 
-/// The settings of a pool of any kind. Lengths are in milliseconds.
+/// The settings of a pool of any kind. Lengths are in milliseconds, or in another unit.
 #[derive(Clone, Copy)]
 pub(crate) struct Settings {
+    /// So many nanoseconds.
+    pub(crate) unit: u64,
     pub(crate) max_size: u32,
     pub(crate) min_idle: u32,
     pub(crate) workers: usize,
@@ -78,12 +128,46 @@ pub(crate) struct Settings {
     pub(crate) distrust_idle: bool,
     pub(crate) retry_at_most: Option<u64>,
     pub(crate) lifetime_jitter: Option<u64>,
+    /// How many callers may wait, where that is limited by the kind or in the row.
+    pub(crate) room: u32,
+    /// How many records its journal keeps.
+    pub(crate) journal_room: usize,
     /// Whether the customizer is set first, and the handler of errors last.
     pub(crate) is_backwards: bool,
+    /// Whether nobody waits for the connections that are wanted idle.
+    pub(crate) is_unchecked: bool,
+}
+
+impl Settings {
+    /// Those of a small pool, with a change.
+    pub(crate) fn small<F: FnOnce(&mut Settings)>(change: F) -> Settings {
+        let mut settings = SMALL;
+        change(&mut settings);
+        settings
+    }
+
+    /// At most so many, and so many of them kept idle.
+    pub(crate) fn sized(&mut self, max_size: u32, min_idle: u32) {
+        self.max_size = max_size;
+        self.min_idle = min_idle;
+    }
+
+    // The greatest stands for the longest length.
+    fn length(&self, count: u64) -> Duration {
+        if count == u64::MAX {
+            return Duration::MAX;
+        }
+        Duration::from_nanos(count.saturating_mul(self.unit))
+    }
+
+    fn length_if(&self, count: Option<u64>) -> Option<Duration> {
+        count.map(|count| self.length(count))
+    }
 }
 
 /// One connection, opened for its first caller, which stays as it is.
 const SMALL: Settings = Settings {
+    unit: 1_000_000,
     max_size: 1,
     min_idle: 0,
     workers: 1,
@@ -96,54 +180,18 @@ const SMALL: Settings = Settings {
     distrust_idle: false,
     retry_at_most: None,
     lifetime_jitter: None,
+    room: ROOM,
+    journal_room: 0,
     is_backwards: false,
+    is_unchecked: false,
 };
 
-/// A length in milliseconds.
+/// A length in milliseconds; the greatest stands for the longest length.
 pub(crate) fn length(milliseconds: u64) -> Duration {
+    if milliseconds == u64::MAX {
+        return Duration::MAX;
+    }
     Duration::from_millis(milliseconds)
-}
-
-// Sets what builders of both crates have.
-macro_rules! set {
-    ($builder:expr, $settings:expr) => {{
-        let settings: Settings = $settings;
-        let builder = $builder
-            .max_size(settings.max_size)
-            .min_idle(Some(settings.min_idle))
-            .test_on_check_out(settings.is_checked)
-            .max_lifetime(settings.max_lifetime.map(length))
-            .idle_timeout(settings.idle_timeout.map(length))
-            .connection_timeout(length(settings.connection_timeout))
-            .lending_order(settings.order)
-            .check_after_idle(settings.check_after_idle.map(length))
-            .distrust_idle(settings.distrust_idle);
-        let builder = match settings.retry_at_most {
-            Some(longest) => builder.retry_at_most(length(longest)),
-            None => builder,
-        };
-        match settings.lifetime_jitter {
-            Some(jitter) => builder.lifetime_jitter(length(jitter)),
-            None => builder,
-        }
-    }};
-}
-
-// Has an ear listen to a pool of either crate.
-macro_rules! hear {
-    ($builder:expr, $ear:expr, $is_backwards:expr) => {
-        if $is_backwards {
-            $builder
-                .connection_customizer($ear)
-                .event_handler($ear)
-                .error_handler($ear)
-        } else {
-            $builder
-                .error_handler($ear)
-                .event_handler($ear)
-                .connection_customizer($ear)
-        }
-    };
 }
 
 type ThreadPool<R> = r2d2::Pool<Manager, Ear, Ear, Ear, Place<R>>;
@@ -165,125 +213,21 @@ type TaskDrain<R> = r2d2_async::Drain<Manager, Hours, Handlers<Ear, Ear, Ear>, P
 
 type TaskWork<R> = r2d2_async::Work<Manager, Hours, Handlers<Ear, Ear, Ear>, Place<R>>;
 
-/// What a pool of any kind lent.
-#[derive(Drop)]
-pub(crate) enum Lent<R: Host> {
-    Thread(r2d2::PooledConnection<Manager, Ear, Ear, Ear, Place<R>>),
-    Counted(r2d2::CountedConnection<Manager, Ear, Ear, Ear, Place<R>, Brand>),
-    Task(r2d2_async::PooledConnection<Manager, Hours, Handlers<Ear, Ear, Ear>, Place<R>>),
-    QuietThread(r2d2::PooledConnection<Manager, Ear, NopEventHandler, Ear, Place<R>>),
-    QuietTask(r2d2_async::PooledConnection<Manager, Hours, Quiet, Place<R>>),
-}
-
-// The same of what a pool of any kind lent.
-macro_rules! of_lent {
-    ($lent:expr, $it:ident, $what:expr) => {
-        match $lent {
-            Lent::Thread($it) => $what,
-            Lent::Counted($it) => $what,
-            Lent::Task($it) => $what,
-            Lent::QuietThread($it) => $what,
-            Lent::QuietTask($it) => $what,
-        }
-    };
-}
-
-impl<R: Host> Lent<R> {
-    /// How many were opened before it.
-    pub(crate) fn number(&self) -> u64 {
-        of_lent!(self, it, it.number)
+/// What the first of these calls ends with that does. No worker is polled by hand meanwhile.
+pub(crate) fn first_ended<R: Host>(
+    world: &World,
+    rt: R,
+    calls: &mut Vec<Get<R>>,
+) -> Result<Result<Lent<R>, Error>, Fail> {
+    let mut ended = None;
+    world.watch(|| {
+        ended = calls.iter_mut().position(|call| call.has_ended());
+        ended.is_some()
+    });
+    match calls.remove(ended.ok_or("none of them ends")?) {
+        Call::Thread(handle, _) => Ok(handle.join(&rt)),
+        Call::Hand(hand) => Ok(hand.output.ok_or("it is pending")?.map(Lent::Task)),
     }
-
-    /// How often the customizer found it well.
-    pub(crate) fn shown(&self) -> u64 {
-        of_lent!(self, it, it.shown)
-    }
-
-    /// When it was lent, in milliseconds since the pool was made.
-    pub(crate) fn lent_at(&self) -> u64 {
-        let at = match self {
-            Lent::Thread(it) => r2d2::PooledConnection::lent_at(it),
-            Lent::Counted(it) => r2d2::CountedConnection::lent_at(it),
-            Lent::Task(it) => r2d2_async::PooledConnection::lent_at(it),
-            Lent::QuietThread(it) => r2d2::PooledConnection::lent_at(it),
-            Lent::QuietTask(it) => r2d2_async::PooledConnection::lent_at(it),
-        };
-        crate::ear::milliseconds(at)
-    }
-
-    fn extensions(&self) -> &Extensions<Kept> {
-        match self {
-            Lent::Thread(it) => r2d2::PooledConnection::extensions(it),
-            Lent::Counted(it) => r2d2::CountedConnection::extensions(it),
-            Lent::Task(it) => r2d2_async::PooledConnection::extensions(it),
-            Lent::QuietThread(it) => r2d2::PooledConnection::extensions(it),
-            Lent::QuietTask(it) => r2d2_async::PooledConnection::extensions(it),
-        }
-    }
-
-    /// What is kept beside it of this kind.
-    pub(crate) fn kept(&self, kind: KeptKind) -> Option<Kept> {
-        self.extensions().get(&kind).copied()
-    }
-
-    /// Keeps it beside the connection.
-    pub(crate) fn keep(&mut self, kept: Kept) {
-        let extensions = match self {
-            Lent::Thread(it) => r2d2::PooledConnection::extensions_mut(it),
-            Lent::Counted(it) => r2d2::CountedConnection::extensions_mut(it),
-            Lent::Task(it) => r2d2_async::PooledConnection::extensions_mut(it),
-            Lent::QuietThread(it) => r2d2::PooledConnection::extensions_mut(it),
-            Lent::QuietTask(it) => r2d2_async::PooledConnection::extensions_mut(it),
-        };
-        extensions.insert(kept).ok();
-    }
-
-    /// Takes it out of the pool for good.
-    pub(crate) fn detach(self) -> Wire {
-        match self {
-            Lent::Thread(it) => r2d2::PooledConnection::detach(it),
-            Lent::Counted(it) => r2d2::CountedConnection::detach(it),
-            Lent::Task(it) => r2d2_async::PooledConnection::detach(it),
-            Lent::QuietThread(it) => r2d2::PooledConnection::detach(it),
-            Lent::QuietTask(it) => r2d2_async::PooledConnection::detach(it),
-        }
-    }
-}
-
-/// A task that is polled by hand, for as long as it is woken.
-#[derive(Drop)]
-pub(crate) struct Hand<F: Future<Output: Drop>> {
-    task: MockTask,
-    future: F,
-    output: Option<F::Output>,
-}
-
-impl<F: Future<Output: Drop>> Hand<F> {
-    fn new<R: Host>(rt: R, future: F) -> Result<Hand<F>, Fail> {
-        Ok(Hand {
-            task: MockTask::new(&rt)?,
-            future,
-            output: None,
-        })
-    }
-
-    fn run(&mut self) {
-        for _ in 0..1_000 {
-            if self.output.is_some() || !self.task.is_woken() {
-                break;
-            }
-            if let Poll::Ready(output) = self.task.poll(&mut self.future) {
-                self.output = Some(output);
-            }
-        }
-    }
-}
-
-/// A call that waits: in a thread, or in a task that is polled by hand.
-#[derive(Drop)]
-pub(crate) enum Call<T, F: Future<Output: Drop>> {
-    Thread(JoinHandle<T>, Arc<AtomicBool>),
-    Hand(Hand<F>),
 }
 
 /// A `get` that waits.
@@ -292,14 +236,16 @@ pub(crate) type Get<R> = Call<Result<Lent<R>, Error>, TaskGet<R>>;
 /// A drain that waits.
 pub(crate) type Drain<R> = Call<Result<(), Status>, TaskDrain<R>>;
 
-// The calls of a pool. A counted one lends each call a part of its ledger.
+/// The calls of a pool. A counted one lends each call a part of its ledger.
 #[derive(Drop)]
-enum Calls<R: Host> {
+pub(crate) enum Calls<R: Host> {
     Thread(ThreadPool<R>),
     Counted(CountedPool<R>, Arc<Mutex<Share<Brand>>>),
     Task(TaskPool<R>),
     QuietThread(QuietThreadPool<R>),
     QuietTask(QuietTaskPool<R>),
+    /// The pool is gone.
+    Gone,
 }
 
 // The same of a pool of any kind.
@@ -311,6 +257,7 @@ macro_rules! of_pool {
             Calls::Task($it) => $what,
             Calls::QuietThread($it) => $what,
             Calls::QuietTask($it) => $what,
+            Calls::Gone => unreachable!(),
         }
     };
 }
@@ -326,6 +273,16 @@ macro_rules! counted {
     }};
 }
 
+// A `get` with a timeout of its own, or with the pool's.
+macro_rules! ask {
+    ($pool:expr, $timeout:expr $(, $part:expr)?) => {
+        match $timeout {
+            Some(length) => $pool.get_timeout(length $(, $part)?),
+            None => $pool.get($($part)?),
+        }
+    };
+}
+
 // What a call of a task ends with, in a thread.
 fn blocked<R: Host, T, F: Future<Output = Result<T, Error>>>(rt: R, call: F) -> Result<T, Error> {
     match block_on(&rt, call) {
@@ -335,36 +292,54 @@ fn blocked<R: Host, T, F: Future<Output = Result<T, Error>>>(rt: R, call: F) -> 
 }
 
 impl<R: Host> Calls<R> {
-    fn try_clone(&self) -> Result<Calls<R>, Fail> {
+    pub(crate) fn try_clone(&self) -> Result<Calls<R>, Error> {
         Ok(match self {
             Calls::Thread(pool) => Calls::Thread(pool.try_clone()?),
             Calls::Counted(pool, parts) => {
-                Calls::Counted(pool.try_clone()?, Arc::try_clone(parts)?)
+                let parts = Arc::try_clone(parts).map_err(|_| Error::memory())?;
+                Calls::Counted(pool.try_clone()?, parts)
             }
             Calls::Task(pool) => Calls::Task(pool.try_clone()?),
             Calls::QuietThread(pool) => Calls::QuietThread(pool.try_clone()?),
             Calls::QuietTask(pool) => Calls::QuietTask(pool.try_clone()?),
+            Calls::Gone => Calls::Gone,
         })
     }
 
-    fn status(&self) -> Status {
+    pub(crate) fn status(&self) -> Status {
         of_pool!(self, pool, pool.status())
     }
 
+    pub(crate) fn close(&self) {
+        of_pool!(self, pool, pool.close())
+    }
+
+    pub(crate) fn journal(&self) -> Result<Report, Error> {
+        of_pool!(self, pool, pool.journal())
+    }
+
     // In a thread.
-    fn get(&self, rt: R, timeout: Duration) -> Result<Lent<R>, Error> {
-        match self {
-            Calls::Thread(pool) => Ok(Lent::Thread(pool.get_timeout(timeout)?)),
+    fn ask(&self, rt: R, timeout: Option<Duration>) -> Result<Lent<R>, Error> {
+        Ok(match self {
+            Calls::Thread(pool) => Lent::Thread(ask!(pool, timeout)?),
             Calls::Counted(pool, parts) => {
-                let lent = counted!(parts, rt, part, pool.get_timeout(timeout, part));
-                Ok(Lent::Counted(lent?))
+                Lent::Counted(counted!(parts, rt, part, ask!(pool, timeout, part))?)
             }
-            Calls::QuietThread(pool) => Ok(Lent::QuietThread(pool.get_timeout(timeout)?)),
-            Calls::Task(pool) => Ok(Lent::Task(blocked(rt, pool.get_timeout(timeout)?)?)),
-            Calls::QuietTask(pool) => {
-                Ok(Lent::QuietTask(blocked(rt, pool.get_timeout(timeout)?)?))
-            }
-        }
+            Calls::QuietThread(pool) => Lent::QuietThread(ask!(pool, timeout)?),
+            Calls::Task(pool) => Lent::Task(blocked(rt, ask!(pool, timeout)?)?),
+            Calls::QuietTask(pool) => Lent::QuietTask(blocked(rt, ask!(pool, timeout)?)?),
+            Calls::Gone => return Err(Error::closed()),
+        })
+    }
+
+    /// In a thread, for as long as the pool's own timeout says.
+    pub(crate) fn get(&self, rt: R) -> Result<Lent<R>, Error> {
+        self.ask(rt, None)
+    }
+
+    // The same with a timeout of its own.
+    fn get_timeout(&self, rt: R, timeout: Duration) -> Result<Lent<R>, Error> {
+        self.ask(rt, Some(timeout))
     }
 
     fn try_get(&self, rt: R) -> Result<Option<Lent<R>>, Error> {
@@ -376,16 +351,18 @@ impl<R: Host> Calls<R> {
             Calls::Task(pool) => pool.try_get()?.map(Lent::Task),
             Calls::QuietThread(pool) => pool.try_get()?.map(Lent::QuietThread),
             Calls::QuietTask(pool) => pool.try_get()?.map(Lent::QuietTask),
+            Calls::Gone => None,
         })
     }
 
-    fn evict(&self, rt: R) -> Result<usize, Error> {
+    pub(crate) fn evict(&self, rt: R) -> Result<usize, Error> {
         match self {
             Calls::Thread(pool) => pool.evict(),
             Calls::Counted(pool, parts) => counted!(parts, rt, part, pool.evict(part)),
             Calls::Task(pool) => pool.evict(),
             Calls::QuietThread(pool) => pool.evict(),
             Calls::QuietTask(pool) => pool.evict(),
+            Calls::Gone => Ok(0),
         }
     }
 
@@ -399,133 +376,35 @@ impl<R: Host> Calls<R> {
                 Err(_) => Ok(()),
             },
             Calls::QuietThread(pool) => pool.drain(timeout),
-            Calls::QuietTask(_) => Ok(()),
+            Calls::QuietTask(_) | Calls::Gone => Ok(()),
         }
     }
 }
 
-// With what makes it a pool of threads of this kind.
-fn of_kind<V: HandleEvent + 'static>(
-    builder: r2d2::Builder<Manager, Ear, V, Ear>,
-    kind: Kind,
-    workers: usize,
-) -> r2d2::Builder<Manager, Ear, V, Ear> {
-    let builder = builder.thread_pool(workers);
-    match kind {
-        Kind::Limited => builder.max_waiting(ROOM),
-        Kind::InLine => builder.waiting_line(ROOM),
-        _ => builder,
-    }
-}
-
-// A task begins in a thread of its own.
-fn spawned<R: Host, F: Future<Output: Drop> + Send + Drop + 'static>(
+// What a thread ends with that is to end now.
+fn joined<T: Drop, R: Host>(
     rt: R,
-    task: F,
-) -> Result<(), Fail> {
-    thread::spawn(&rt, move || {
-        block_on(&rt, task).ok();
-    })?;
-    Ok(())
+    world: &World,
+    handle: JoinHandle<T>,
+    is_over: &AtomicBool,
+) -> Result<T, Fail> {
+    if !world.watch(|| is_over.load(Ordering::SeqCst)) {
+        return Err(Fail::from("it does not end"));
+    }
+    Ok(handle.join(&rt))
 }
 
 /// A pool of one of the kinds.
 #[derive(Drop)]
 pub(crate) struct Pool<R: Host> {
-    world: &'static World,
+    pub(crate) world: &'static World,
     rt: R,
-    calls: Calls<R>,
+    pub(crate) calls: Calls<R>,
     // The workers that are polled by hand.
     hands: Mutex<Vec<Hand<TaskWork<R>>>>,
 }
 
 impl<R: Host> Pool<R> {
-    /// One that an ear listens to.
-    pub(crate) fn new<F: FnOnce(&mut Settings)>(
-        rt: R,
-        world: &'static World,
-        change: F,
-    ) -> Result<Pool<R>, Fail> {
-        let mut settings = SMALL;
-        change(&mut settings);
-        let (place, ear) = (Place { world, rt }, Ear { world });
-        let manager = Manager { world };
-        if world.kind.is_of_tasks() {
-            let tasks = set!(r2d2_async::Builder::new(), settings).max_waiting(ROOM);
-            let tasks = hear!(tasks, ear, settings.is_backwards);
-            let tasks = tasks.build(place, manager, Hours { world })?;
-            return Pool::over(rt, world, settings, Calls::Task(tasks));
-        }
-        let threads = set!(r2d2::Builder::<Manager>::new(), settings);
-        let threads = hear!(threads, ear, settings.is_backwards);
-        let threads = of_kind(threads, world.kind, settings.workers);
-        let calls = if world.kind == Kind::Counted {
-            let (total, all) = Blank::new(PARTS).open::<Brand>();
-            let pool = threads.build_counted(place, manager, total)?;
-            Calls::Counted(pool, Arc::new(rt.alloc(), Mutex::new(all))?)
-        } else {
-            Calls::Thread(threads.build_unchecked(place, manager)?)
-        };
-        Pool::over(rt, world, settings, calls)
-    }
-
-    /// One whose events nobody is told of, and whose tasks are in threads of their own.
-    pub(crate) fn quiet<F: FnOnce(&mut Settings)>(
-        rt: R,
-        world: &'static World,
-        change: F,
-    ) -> Result<Pool<R>, Fail> {
-        let mut settings = SMALL;
-        change(&mut settings);
-        let (place, ear) = (Place { world, rt }, Ear { world });
-        let manager = Manager { world };
-        let calls = if world.kind.is_of_tasks() {
-            let tasks = set!(r2d2_async::Builder::new(), settings);
-            let tasks = tasks.error_handler(ear).connection_customizer(ear);
-            Calls::QuietTask(tasks.build(place, manager, Hours { world })?)
-        } else {
-            let threads = set!(r2d2::Builder::<Manager>::new(), settings);
-            let threads = threads.error_handler(ear).connection_customizer(ear);
-            let threads = of_kind(threads, world.kind, settings.workers);
-            Calls::QuietThread(threads.build_unchecked(place, manager)?)
-        };
-        Pool::over(rt, world, settings, calls)
-    }
-
-    // Over the calls, with the connections that are wanted idle.
-    fn over(
-        rt: R,
-        world: &'static World,
-        settings: Settings,
-        calls: Calls<R>,
-    ) -> Result<Pool<R>, Fail> {
-        let pool = Pool {
-            world,
-            rt,
-            calls,
-            hands: Mutex::new(Vec::new(rt.alloc())),
-        };
-        for _ in 0..settings.workers {
-            match &pool.calls {
-                Calls::Task(tasks) => pool.employ(tasks.work()?)?,
-                Calls::QuietTask(tasks) => spawned(rt, tasks.work()?)?,
-                _ => break,
-            }
-        }
-        pool.until(|status| status.idle >= status.wanted)?;
-        Ok(pool)
-    }
-
-    // A worker begins.
-    fn employ(&self, work: TaskWork<R>) -> Result<(), Fail> {
-        let rt = self.rt;
-        if self.world.kind == Kind::Polled {
-            self.hands.lock(&rt).push(Hand::new(rt, work)?)?;
-            return Ok(());
-        }
-        spawned(rt, work)
-    }
-
     /// The workers that are polled by hand do what they were woken for.
     pub(crate) fn work(&self) {
         for hand in self.hands.lock(&self.rt).iter_mut() {
@@ -535,6 +414,33 @@ impl<R: Host> Pool<R> {
 
     pub(crate) fn status(&self) -> Status {
         self.calls.status()
+    }
+
+    /// For how long a `get` waits.
+    pub(crate) fn connection_timeout(&self) -> Duration {
+        of_pool!(&self.calls, pool, pool.connection_timeout())
+    }
+
+    pub(crate) fn journal(&self) -> Result<Report, Fail> {
+        Ok(self.calls.journal()?)
+    }
+
+    /// The journal, beside all parts of the ledger where takes are counted.
+    pub(crate) fn audit(&self) -> Result<Report, Fail> {
+        match &self.calls {
+            Calls::Counted(pool, parts) => Ok(pool.audit(&mut *parts.lock(&self.rt))?),
+            _ => self.journal(),
+        }
+    }
+
+    /// When it was made.
+    pub(crate) fn made_at(&self) -> Option<SystemTime> {
+        of_pool!(&self.calls, pool, pool.made_at())
+    }
+
+    /// How many milliseconds old it is.
+    pub(crate) fn moment(&self) -> u64 {
+        milliseconds(of_pool!(&self.calls, pool, pool.moment()))
     }
 
     /// Waits until the status is so.
@@ -553,28 +459,72 @@ impl<R: Host> Pool<R> {
         Err(Fail::from("the status did not come to that"))
     }
 
+    /// The same beside a call, which goes on where it is polled by hand.
+    pub(crate) fn until_beside<T, F: Future<Output: Drop>, G: Fn(&Status) -> bool>(
+        &self,
+        call: &mut Call<T, F>,
+        is_so: G,
+    ) -> Result<(), Fail> {
+        for _ in 0..10 {
+            if self.world.kind != Kind::Polled || is_so(&self.status()) {
+                break;
+            }
+            self.has_ended(call);
+            self.work();
+        }
+        self.until(is_so)
+    }
+
     /// Lends a connection that comes with no move of the clock.
     pub(crate) fn get(&self) -> Result<Lent<R>, Fail> {
-        self.end(self.begin(600_000)?)?.map_err(Fail::from)
+        self.end(self.begin_plainly()?)?.map_err(Fail::from)
     }
 
     pub(crate) fn try_get(&self) -> Result<Option<Lent<R>>, Fail> {
         Ok(self.calls.try_get(self.rt)?)
     }
 
+    /// Whether a `try_get` finds none.
+    pub(crate) fn finds_none(&self) -> bool {
+        matches!(self.calls.try_get(self.rt), Ok(None))
+    }
+
     /// A `get` begins that waits for so many milliseconds: it came to wait, or hangs in its check,
     /// or has ended.
     pub(crate) fn begin(&self, timeout: u64) -> Result<Get<R>, Fail> {
+        self.ask(Some(length(timeout)))
+    }
+
+    /// The same, for as long as the pool's own timeout says.
+    pub(crate) fn begin_plainly(&self) -> Result<Get<R>, Fail> {
+        self.ask(None)
+    }
+
+    fn ask(&self, timeout: Option<Duration>) -> Result<Get<R>, Fail> {
         let rt = self.rt;
         if self.world.kind == Kind::Polled {
             if let Calls::Task(tasks) = &self.calls {
-                let mut hand = Hand::new(rt, tasks.get_timeout(length(timeout))?)?;
+                let mut hand = Hand::new(rt, ask!(tasks, timeout)?)?;
                 hand.run();
                 return Ok(Call::Hand(hand));
             }
         }
         let calls = self.calls.try_clone()?;
-        self.beside(move || calls.get(rt, length(timeout)))
+        self.beside(move || calls.ask(rt, timeout))
+    }
+
+    /// Lends a connection as the clock moves on, since its opening may be due later.
+    pub(crate) fn get_in_time(&self) -> Result<Lent<R>, Fail> {
+        let mut get = self.begin(600_000)?;
+        for _ in 0..PATIENCE {
+            if self.has_ended(&mut get) {
+                break;
+            }
+            thread::sleep(&self.rt, length(1));
+            self.world.pass(50);
+            self.work();
+        }
+        self.end(get)?.map_err(Fail::from)
     }
 
     // Begins it in a thread of its own, and waits until it came to rest.
@@ -583,31 +533,44 @@ impl<R: Host> Pool<R> {
         F: Future<Output: Drop>,
         C: FnOnce() -> T + Send + Drop + 'static,
     {
-        let rt = self.rt;
-        let is_over = Arc::new(rt.alloc(), AtomicBool::new(false))?;
+        let hung = || self.world.checks.hung() + self.world.hears.hung();
+        let (waiting, before) = (self.status().waiting, hung());
+        let mut call = self.started(call)?;
+        let came = self.world.watch(|| {
+            self.has_ended(&mut call) || self.has_come_or_sent_away(waiting) || hung() > before
+        });
+        if !came {
+            return Err(Fail::from("it did not come to rest"));
+        }
+        Ok(call)
+    }
+
+    // Whether one more waits than these; or fewer, since a drain sends them away.
+    fn has_come_or_sent_away(&self, waiting: u64) -> bool {
+        let status = self.status();
+        status.waiting > waiting || status.closed && status.waiting < waiting
+    }
+
+    // Begins it in a thread of its own.
+    fn started<T: Send + Drop + 'static, F, C>(&self, call: C) -> Result<Call<T, F>, Fail>
+    where
+        F: Future<Output: Drop>,
+        C: FnOnce() -> T + Send + Drop + 'static,
+    {
+        let is_over = Arc::new(self.rt.alloc(), AtomicBool::new(false))?;
         let theirs = Arc::try_clone(&is_over)?;
-        let (waiting, hung) = (self.status().waiting, self.world.checks.hung());
         let call = move || {
             let answer = call();
             theirs.store(true, Ordering::SeqCst);
             answer
         };
-        let handle = thread::spawn(&rt, call)?;
-        let came = self.world.watch(|| {
-            is_over.load(Ordering::SeqCst)
-                || self.status().waiting > waiting
-                || self.world.checks.hung() > hung
-        });
-        if !came {
-            return Err(Fail::from("it did not come to rest"));
-        }
-        Ok(Call::Thread(handle, is_over))
+        Ok(Call::Thread(thread::spawn(&self.rt, call)?, is_over))
     }
 
     /// What a `get` ends with.
     pub(crate) fn end(&self, call: Get<R>) -> Result<Result<Lent<R>, Error>, Fail> {
         match call {
-            Call::Thread(handle, _) => Ok(handle.join(&self.rt)),
+            Call::Thread(handle, is_over) => joined(self.rt, self.world, handle, &is_over),
             Call::Hand(hand) => Ok(self.led(hand)?.map(Lent::Task)),
         }
     }
@@ -615,8 +578,7 @@ impl<R: Host> Pool<R> {
     // What a task that is polled by hand ends with, as the workers go on.
     fn led<F: Future<Output: Drop>>(&self, mut hand: Hand<F>) -> Result<F::Output, Fail> {
         for _ in 0..10 {
-            hand.run();
-            if hand.output.is_some() {
+            if hand.run() {
                 break;
             }
             self.work();
@@ -630,7 +592,7 @@ impl<R: Host> Pool<R> {
     }
 
     pub(crate) fn close(&self) {
-        of_pool!(&self.calls, pool, pool.close())
+        self.calls.close()
     }
 
     /// A drain begins.
@@ -650,20 +612,23 @@ impl<R: Host> Pool<R> {
     /// What it ends with.
     pub(crate) fn drained(&self, call: Drain<R>) -> Result<Result<(), Status>, Fail> {
         match call {
-            Call::Thread(handle, _) => Ok(handle.join(&self.rt)),
+            Call::Thread(handle, is_over) => joined(self.rt, self.world, handle, &is_over),
             Call::Hand(hand) => self.led(hand),
         }
     }
 
     /// Whether a call has ended: where it is polled by hand, if it was woken for that.
     pub(crate) fn has_ended<T, F: Future<Output: Drop>>(&self, call: &mut Call<T, F>) -> bool {
-        match call {
-            Call::Thread(_, is_over) => is_over.load(Ordering::SeqCst),
-            Call::Hand(hand) => {
-                hand.run();
-                hand.output.is_some()
-            }
-        }
+        call.has_ended()
+    }
+
+    /// A call in a thread of its own, which is not waited for.
+    pub(crate) fn aside<T: Send + Drop + 'static, F>(&self, call: F) -> Result<JoinHandle<T>, Fail>
+    where
+        F: FnOnce(&Calls<R>) -> T + Send + Drop + 'static,
+    {
+        let calls = self.calls.try_clone()?;
+        Ok(thread::spawn(&self.rt, move || call(&calls))?)
     }
 
     /// How many calls out of the pool there are in this act, and during how many of them it could

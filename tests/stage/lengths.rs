@@ -1,13 +1,11 @@
 // The lengths and ages that events tell. Each pool is some seconds old before anything happens.
 
-use crate::ear::Told::{Acquire, Checkin, Checkout, Ended, Failed, Release, Shown, Timeout};
+use crate::ear::Told::{Acquire, Checkin, Checkout, Ended, Failed, Release, Shown};
 use crate::kinds::{ALL, Pool};
 use crate::manager::{Kept, Sorry};
 use crate::world::on_each;
-use r2d2::ErrorKind;
 use r2d2::event::ReleaseReason::{Broken, CheckFailed, Detached, Evicted, Idle, Lifetime};
 use std::test::Fail;
-use std::time::Duration;
 
 // The connection comes 3 s after the call, and passes its check 2 s later.
 #[test]
@@ -68,7 +66,8 @@ fn a_use_ends_before_it_is_asked_whether_it_broke(rt: HostRuntime) -> Result<(),
     })
 }
 
-// The connection is 3 s old as its check begins, which takes 2 s.
+// The connection is 3 s old as its check begins, which takes 2 s. That of the next one takes 3 s, and
+// asking whether it broke 4 s.
 #[test]
 fn a_failed_check_tells_the_age_at_its_end(rt: HostRuntime) -> Result<(), Fail> {
     on_each(rt, &ALL, |world| {
@@ -76,7 +75,8 @@ fn a_failed_check_tells_the_age_at_its_end(rt: HostRuntime) -> Result<(), Fail> 
         world.pass(7_000);
         drop(pool.get()?);
         world.pass(3_000);
-        world.checks.goes("2-");
+        world.checks.goes("2-3+");
+        world.breaks.goes("4-");
         world.connects.goes("~+");
         world.forget();
         let get = pool.begin(600_000)?;
@@ -85,8 +85,10 @@ fn a_failed_check_tells_the_age_at_its_end(rt: HostRuntime) -> Result<(), Fail> 
         assert!(rt; world.went(&[Failed(Sorry::Check(1)), gone, Ended(0)]));
         pool.until(|_| world.connects.hung() == 1)?;
         world.let_go(&world.connects);
-        assert_eq!(rt; pool.end(get)??.number(), 1);
-        assert!(rt; world.went(&[Shown(1), Acquire(1), Checkout(1, 2_000), Checkin(1, 0)]));
+        drop(pool.end(get)??);
+        let lent = [Shown(1), Acquire(1), Checkout(1, 5_000), Checkin(1, 0)];
+        let gone = [Release(1, 7_000, Broken), Ended(1)];
+        assert!(rt; world.went(&[lent[0], lent[1], lent[2], lent[3], gone[0], gone[1]]));
         Ok(())
     })
 }
@@ -98,7 +100,7 @@ fn one_is_lent_before_its_event(rt: HostRuntime) -> Result<(), Fail> {
         let pool = Pool::new(rt, world, |_| ())?;
         world.pass(7_000);
         drop(pool.get()?);
-        world.tells_for(15_000);
+        world.hears.goes("15+*");
         world.forget();
         let lent = pool.get()?;
         assert_eq!(rt; lent.lent_at(), 7_000);
@@ -120,7 +122,7 @@ fn a_detached_one_tells_its_use_and_its_age(rt: HostRuntime) -> Result<(), Fail>
         let lent = pool.get()?;
         world.pass(4_000);
         world.breaks.goes("-");
-        world.tells_for(15_000);
+        world.hears.goes("15+*");
         world.forget();
         let wire = lent.detach();
         assert!(rt; world.went(&[Checkin(0, 4_000), Release(0, 22_000, Detached)]));
@@ -161,6 +163,8 @@ fn a_reap_tells_why_and_the_age(rt: HostRuntime) -> Result<(), Fail> {
         (None, Some(100_000), Idle),
         (Some(100_000), None, Lifetime),
         (Some(200_000), Some(200_000), Lifetime),
+        (Some(200_001), Some(200_000), Idle),
+        (Some(200_000), Some(200_001), Lifetime),
     ] {
         on_each(rt, &ALL, |world| {
             let pool = Pool::new(rt, world, |settings| {
@@ -184,22 +188,4 @@ fn a_reap_tells_why_and_the_age(rt: HostRuntime) -> Result<(), Fail> {
         })?;
     }
     Ok(())
-}
-
-#[test]
-fn a_timeout_tells_the_calls_own_length(rt: HostRuntime) -> Result<(), Fail> {
-    on_each(rt, &ALL, |world| {
-        let pool = Pool::new(rt, world, |_| ())?;
-        world.pass(7_000);
-        world.connects.goes("~+");
-        let get = pool.begin(50)?;
-        pool.until(|_| world.connects.hung() == 1)?;
-        world.pass(50);
-        let error = pool.end(get)?.err().ok_or("a connection")?;
-        assert_eq!(rt; error.kind(), ErrorKind::Timeout);
-        assert_eq!(rt; error.waited(), Some(Duration::from_millis(50)));
-        assert!(rt; world.went(&[Timeout(50)]));
-        world.let_go(&world.connects);
-        Ok(())
-    })
 }

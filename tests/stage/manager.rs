@@ -63,49 +63,76 @@ pub(crate) struct Wire {
     pub(crate) number: u64,
     /// How often the customizer found it well.
     pub(crate) shown: u64,
+    /// What its callers wrote on it.
+    pub(crate) mark: u64,
     world: &'static World,
 }
 
 impl Drop for Wire {
     fn drop(self) {
         let Wire {
-            number: _,
+            number,
             shown: _,
+            mark: _,
             world,
         } = self;
-        world.dropped.fetch_add(1, Ordering::SeqCst);
+        world.drop_one(number);
     }
 }
 
-/// Opens wires and checks them, by the scripts.
-#[derive(Clone, Copy)]
+impl fmt::Debug for Wire {
+    fn fmt<W: fmt::Write>(&self, f: &mut fmt::Formatter<W>) -> fmt::Result {
+        write!(f, "wire {} shown {}", self.number, self.shown)
+    }
+}
+
+fn opened(world: &'static World, outcome: Outcome) -> Result<Wire, Sorry> {
+    if !outcome.goes_well {
+        return Err(Sorry::Connect(outcome.number));
+    }
+    world.is_sound();
+    Ok(Wire {
+        number: world.opened.fetch_add(1, Ordering::SeqCst),
+        shown: 0,
+        mark: 0,
+        world,
+    })
+}
+
+/// Opens wires and checks them, by the scripts. It counts its drop.
 pub(crate) struct Manager {
     pub(crate) world: &'static World,
 }
 
-impl Manager {
-    fn opened(&self, outcome: Outcome) -> Result<Wire, Sorry> {
-        if !outcome.goes_well {
-            return Err(Sorry::Connect(outcome.number));
-        }
-        Ok(Wire {
-            number: self.world.opened.fetch_add(1, Ordering::SeqCst),
-            shown: 0,
-            world: self.world,
-        })
-    }
-
-    fn breaks(&self) -> bool {
-        !self.world.call(&self.world.breaks).goes_well
+impl Drop for Manager {
+    fn drop(self) {
+        let Manager { world } = self;
+        world.ended.fetch_add(1, Ordering::SeqCst);
     }
 }
 
-fn checked(outcome: Outcome) -> Result<(), Sorry> {
-    if outcome.goes_well {
-        Ok(())
-    } else {
-        Err(Sorry::Check(outcome.number))
+impl fmt::Debug for Manager {
+    fn fmt<W: fmt::Write>(&self, f: &mut fmt::Formatter<W>) -> fmt::Result {
+        f.write_str("Manager")
     }
+}
+
+impl Manager {
+    fn breaks(&self) -> bool {
+        let goes_well = self.world.call(&self.world.breaks).goes_well;
+        if !goes_well {
+            self.world.is_unsound();
+        }
+        !goes_well
+    }
+}
+
+fn checked(world: &World, outcome: Outcome) -> Result<(), Sorry> {
+    if outcome.goes_well {
+        return Ok(());
+    }
+    world.is_unsound();
+    Err(Sorry::Check(outcome.number))
 }
 
 impl r2d2::ManageConnection for Manager {
@@ -116,11 +143,11 @@ impl r2d2::ManageConnection for Manager {
     type Extension = Kept;
 
     fn connect(&self) -> Result<Wire, Sorry> {
-        self.opened(self.world.call(&self.world.connects))
+        opened(self.world, self.world.call(&self.world.connects))
     }
 
     fn is_valid(&self, _wire: &mut Wire) -> Result<(), Sorry> {
-        checked(self.world.call(&self.world.checks))
+        checked(self.world, self.world.call(&self.world.checks))
     }
 
     fn has_broken(&self, _wire: &mut Wire) -> bool {
@@ -139,7 +166,7 @@ struct Scripted {
 impl Scripted {
     fn poll(&mut self, script: &Script, cx: &mut Context<'_>) -> Poll<Outcome> {
         if let Some(hung) = self.outcome.hangs {
-            ready!(self.world.poll_until(cx, || script.goes_on(hung)));
+            ready!(self.world.poll_until(cx, None, || script.goes_on(hung)));
         }
         if !self.is_over {
             self.is_over = true;
@@ -150,19 +177,26 @@ impl Scripted {
 }
 
 /// An opening.
-#[derive(Drop)]
 pub(crate) struct Opening {
-    manager: Manager,
     scripted: Scripted,
+}
+
+impl Drop for Opening {
+    fn drop(self) {
+        let Opening { scripted } = self;
+        if !scripted.is_over {
+            scripted.world.given_up.fetch_add(1, Ordering::SeqCst);
+        }
+    }
 }
 
 impl Future for Opening {
     type Output = Result<Wire, Sorry>;
 
     fn poll(&mut self, cx: &mut Context<'_>) -> Poll<Result<Wire, Sorry>> {
-        let script = &self.manager.world.connects;
-        let outcome = ready!(self.scripted.poll(script, cx));
-        Poll::Ready(self.manager.opened(outcome))
+        let world = self.scripted.world;
+        let outcome = ready!(self.scripted.poll(&world.connects, cx));
+        Poll::Ready(opened(world, outcome))
     }
 }
 
@@ -180,7 +214,7 @@ impl Future for Checking {
         let script = &self.scripted.world.checks;
         let outcome = ready!(self.scripted.poll(script, cx));
         match self.wire.take() {
-            Some(wire) => Poll::Ready((wire, checked(outcome))),
+            Some(wire) => Poll::Ready((wire, checked(self.scripted.world, outcome))),
             None => cx.yield_now(),
         }
     }
@@ -199,7 +233,6 @@ impl r2d2_async::ManageConnection for Manager {
 
     fn connect(&self) -> Opening {
         Opening {
-            manager: *self,
             scripted: self.scripted(&self.world.connects),
         }
     }
@@ -244,7 +277,8 @@ impl Future for Hour {
 
     fn poll(&mut self, cx: &mut Context<'_>) -> Poll<()> {
         let end = self.end;
-        self.world.poll_until(cx, || self.world.now() >= end)
+        self.world
+            .poll_until(cx, Some(end), || self.world.now() >= end)
     }
 }
 
@@ -252,11 +286,12 @@ impl Timer for Hours {
     type Sleep = Hour;
 
     fn sleep(&self, length: Duration) -> Hour {
-        let length = milliseconds(length);
-        self.world.sleeps(length);
+        let whole = milliseconds(length);
+        self.world.sleeps(whole);
+        let begun = u64::from(Duration::from_millis(whole) < length);
         Hour {
             world: self.world,
-            end: self.world.now().saturating_add(length),
+            end: self.world.now().saturating_add(whole).saturating_add(begun),
         }
     }
 }

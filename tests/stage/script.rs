@@ -12,13 +12,16 @@ pub(crate) struct Outcome {
     pub(crate) seconds: u64,
     /// Where it waits to be let go first: which it is of those that do.
     pub(crate) hangs: Option<u64>,
+    // Where it is random: one of so many fails.
+    odds: u64,
     /// Which call it is, counted from 0.
     pub(crate) number: u64,
 }
 
 /// The outcomes of calls of one kind. `+` stands for one that goes well, and `-` for one that fails.
-/// Before it may stand how many seconds it takes, and `~` where it hangs until it is let go. A last
-/// `*` repeats the outcome before it for ever; else each call after the last sign goes well.
+/// Before it may stand how many seconds it takes, and `~` where it hangs until it is let go. `9?`
+/// fails at random, once in nine calls. A last `*` repeats the outcome before it for ever; else each
+/// call after the last sign goes well.
 #[derive(Drop)]
 pub(crate) struct Script {
     // The signs, and how many calls there were as they were set.
@@ -56,6 +59,17 @@ impl Script {
         self.hung.load(Ordering::SeqCst)
     }
 
+    /// How many there were since the signs were set.
+    pub(crate) fn asked_since(&self) -> u64 {
+        let before = lock(&self.signs).map_or(0, |set| set.1);
+        self.asked() - before
+    }
+
+    /// Whether one hangs now.
+    pub(crate) fn hangs(&self) -> bool {
+        self.hung() > self.let_go.load(Ordering::SeqCst)
+    }
+
     /// All that hang now go on.
     pub(crate) fn let_go(&self) {
         self.let_go.store(self.hung(), Ordering::SeqCst);
@@ -77,6 +91,9 @@ impl Script {
         if outcome.hangs.is_some() {
             outcome.hangs = Some(self.hung.fetch_add(1, Ordering::SeqCst));
         }
+        if outcome.odds > 0 {
+            outcome.goes_well = mixed(number) % outcome.odds > 0;
+        }
         outcome.number = number;
         outcome
     }
@@ -86,8 +103,17 @@ const WELL: Outcome = Outcome {
     goes_well: true,
     seconds: 0,
     hangs: None,
+    odds: 0,
     number: 0,
 };
+
+// A number that looks random, the same for each call in each run.
+fn mixed(number: u64) -> u64 {
+    let roll = number.wrapping_add(1).wrapping_mul(0x9e37_79b9_7f4a_7c15);
+    let mixed = (roll ^ (roll >> 30)).wrapping_mul(0xbf58_476d_1ce4_e5b9);
+    let mixed = (mixed ^ (mixed >> 27)).wrapping_mul(0x94d0_49bb_1331_11eb);
+    mixed ^ (mixed >> 31)
+}
 
 // The outcome at this place.
 fn nth(signs: &str, place: u64) -> Outcome {
@@ -98,8 +124,12 @@ fn nth(signs: &str, place: u64) -> Outcome {
         match sign {
             b'~' => outcome.hangs = Some(0),
             b'*' => return latest,
-            b'+' | b'-' => {
+            b'+' | b'-' | b'?' => {
                 outcome.goes_well = sign == b'+';
+                if sign == b'?' {
+                    outcome.odds = outcome.seconds;
+                    outcome.seconds = 0;
+                }
                 if left == 0 {
                     return outcome;
                 }

@@ -1,27 +1,44 @@
 // When what failed is tried again, and what is checked.
 
-use crate::kinds::{ALL, Pool, THREADS};
+use crate::kinds::{ALL, Kind, Pool, THREADS};
 use crate::world::on_each;
 use r2d2::ErrorKind;
 use std::test::Fail;
 use std::time::Duration;
 
+// As soon as it was set to, or after half of the time that callers wait. Ten openings fail.
 #[test]
-fn an_opening_is_tried_again_as_soon_as_it_was_set(rt: HostRuntime) -> Result<(), Fail> {
-    on_each(rt, &ALL, |world| {
-        let pool = Pool::new(rt, world, |settings| settings.retry_at_most = Some(50))?;
-        world.connects.goes("-*");
-        let get = pool.begin(600_000)?;
-        for failed in 1..6 {
-            pool.until(|status| status.failed_openings == failed)?;
-            world.pass(50);
-        }
-        pool.until(|status| status.failed_openings == 6)?;
-        world.connects.goes("");
-        world.pass(50);
-        assert!(rt; pool.end(get)?.is_ok());
-        Ok(())
-    })
+fn an_opening_is_tried_again_soon(rt: HostRuntime) -> Result<(), Fail> {
+    for (timeout, longest, delay) in [(30_000, Some(50), 50), (200, None, 100)] {
+        on_each(rt, &ALL, |world| {
+            let pool = Pool::new(rt, world, |settings| {
+                settings.connection_timeout = timeout;
+                settings.retry_at_most = longest;
+            })?;
+            world.connects.goes("----------");
+            let get = pool.begin(600_000)?;
+            for failed in 1..11 {
+                pool.until(|status| status.failed_openings == failed)?;
+                world.pass(delay);
+                // A worker in a thread of its own may begin its sleep after that.
+                let goes_on = || {
+                    let status = pool.status();
+                    status.failed_openings > failed || status.connections == 1
+                };
+                for _ in 0..100 {
+                    if world.kind != Kind::Spawned || world.glimpse(goes_on) {
+                        break;
+                    }
+                    world.pass(delay);
+                }
+            }
+            assert!(rt; pool.end(get)?.is_ok());
+            let status = pool.status();
+            assert_eq!(rt; (status.failed_openings, status.failed_checks), (10, 0));
+            Ok(())
+        })?;
+    }
+    Ok(())
 }
 
 #[test]

@@ -1,52 +1,70 @@
 // The world of a row: its scripts, its clock, and what was told in it.
 
+use crate::clock::BEGIN;
 use crate::ear::Told;
 use crate::kinds::Kind;
 use crate::script::{Outcome, Script};
+use crate::stops::Stops;
 use futures::spin::lock;
 use futures::task::{Context, Poll, Source, Waker};
 use r2d2::PoolRuntime;
 use r2d2_async::AsyncRuntime;
-use std::alloc::{Alloc, AllocError};
-use std::io::{self, Print};
+use std::alloc::AllocError;
+use std::io::Print;
 use std::random::RandomSource;
-use std::rt::Clock;
+use std::sync::Mutex;
 use std::sync::atomic::{AtomicBool, AtomicU64, Ordering};
-use std::sync::{Mutex, Wait};
 use std::test::Fail;
-use std::thread::Threads;
 use std::time::Duration;
 use std::{mem, thread};
 
-/// What the clock shows at the beginning, in milliseconds.
-const BEGIN: u64 = 1_000_003;
-
 /// How long a thread looks for what is to come, in milliseconds.
-const PATIENCE: u64 = 10_000;
+pub(crate) const PATIENCE: u64 = 10_000;
+
+/// The same for what is not to come.
+const GLANCES: u64 = 200;
 
 /// What a row sets, and what it can count and read.
 #[derive(Drop)]
 pub(crate) struct World {
     pub(crate) rt: HostRuntime,
     pub(crate) kind: Kind,
-    // The milliseconds of the clock, and how often it was read.
-    now: AtomicU64,
-    readings: AtomicU64,
+    // What the clock shows.
+    pub(crate) nanoseconds: AtomicU64,
+    /// Of the clock: one that fails is an error, and after one that takes its time it has moved on.
+    pub(crate) readings: Script,
+    /// The same of the time of day.
+    pub(crate) days: Script,
     pub(crate) connects: Script,
     pub(crate) checks: Script,
     pub(crate) breaks: Script,
     /// Of the customizer, as it is shown a connection.
     pub(crate) shows: Script,
+    /// Of the handlers and the customizer, as each thing is told.
+    pub(crate) hears: Script,
+    /// Of requests for memory: each is granted.
+    pub(crate) allocs: Script,
     pub(crate) opened: AtomicU64,
     pub(crate) dropped: AtomicU64,
+    pub(crate) given_up: AtomicU64,
+    /// Managers that were dropped.
+    pub(crate) ended: AtomicU64,
+    /// Handlers and customizers that there are.
+    pub(crate) ears: AtomicU64,
+    // Whether drops of connections are told too.
+    tells_drops: AtomicBool,
+    // How many connections are open and were not found broken or unsound, and how many were at most.
+    sound: AtomicU64,
+    most_sound: AtomicU64,
     told: Mutex<Vec<Told>>,
-    // By how many milliseconds the clock moves on as something is told.
-    telling: AtomicU64,
+    // What hangs as it is told, and the script by which it does.
+    held: Mutex<Option<Told>>,
+    pub(crate) tells: Script,
     // The milliseconds of each sleep that was begun.
     slept: Mutex<Vec<u64>>,
-    // What wakes the tasks that sleep or hang.
+    // What wakes the tasks that sleep, at which moment, or hang.
     source: Source,
-    wakers: Mutex<Vec<Option<Waker>>>,
+    wakers: Mutex<Vec<(Option<u64>, Option<Waker>)>>,
     /// The calls out of a pool that wait for a look at it.
     pub(crate) stops: Stops,
 }
@@ -57,16 +75,26 @@ impl World {
         let world = World {
             rt,
             kind,
-            now: AtomicU64::new(BEGIN),
-            readings: AtomicU64::new(0),
+            nanoseconds: AtomicU64::new(BEGIN),
+            readings: Script::good(),
+            days: Script::good(),
             connects: Script::good(),
             checks: Script::good(),
             breaks: Script::good(),
             shows: Script::good(),
+            hears: Script::good(),
+            allocs: Script::good(),
             opened: AtomicU64::new(0),
             dropped: AtomicU64::new(0),
+            given_up: AtomicU64::new(0),
+            ended: AtomicU64::new(0),
+            ears: AtomicU64::new(0),
+            tells_drops: AtomicBool::new(false),
+            sound: AtomicU64::new(0),
+            most_sound: AtomicU64::new(0),
             told: Mutex::new(Vec::new(rt.alloc())),
-            telling: AtomicU64::new(0),
+            held: Mutex::new(None),
+            tells: Script::good(),
             slept: Mutex::new(Vec::new(rt.alloc())),
             source: Source::new(),
             wakers: Mutex::new(Vec::new(rt.alloc())),
@@ -75,25 +103,10 @@ impl World {
         Ok(Box::leak(Box::new(rt.alloc(), world)?))
     }
 
-    /// Moves the clock on.
-    pub(crate) fn pass(&self, milliseconds: u64) {
-        self.now.fetch_add(milliseconds, Ordering::SeqCst);
-        self.ring();
-    }
-
     /// What hangs by this script goes on.
     pub(crate) fn let_go(&self, script: &Script) {
         script.let_go();
-        self.ring();
-    }
-
-    pub(crate) fn now(&self) -> u64 {
-        self.now.load(Ordering::SeqCst)
-    }
-
-    /// How often the clock was read.
-    pub(crate) fn readings(&self) -> u64 {
-        self.readings.load(Ordering::SeqCst)
+        self.ring(|end| end.is_none());
     }
 
     /// How many connections were opened.
@@ -106,17 +119,59 @@ impl World {
         self.dropped.load(Ordering::SeqCst)
     }
 
-    // A waker wakes its task as it is dropped, outside of the lock.
-    fn ring(&self) {
-        let mut rung = Vec::new(self.rt.alloc());
+    /// How many openings of tasks were dropped before their end.
+    pub(crate) fn given_up(&self) -> u64 {
+        self.given_up.load(Ordering::SeqCst)
+    }
+
+    /// How many managers were dropped.
+    pub(crate) fn ended(&self) -> u64 {
+        self.ended.load(Ordering::SeqCst)
+    }
+
+    /// Whether nothing is left that a pool was made of, at last.
+    pub(crate) fn once_ended(&self) -> bool {
+        self.watch(|| self.ended() == 1 && self.ears.load(Ordering::SeqCst) == 0)
+    }
+
+    /// One more is sound.
+    pub(crate) fn is_sound(&self) {
+        let before = self.sound.fetch_add(1, Ordering::SeqCst);
+        self.most_sound.fetch_max(before + 1, Ordering::SeqCst);
+    }
+
+    /// One less is.
+    pub(crate) fn is_unsound(&self) {
+        self.sound.fetch_sub(1, Ordering::SeqCst);
+    }
+
+    /// How many were sound at once, at most.
+    pub(crate) fn most_sound(&self) -> u64 {
+        self.most_sound.load(Ordering::SeqCst)
+    }
+
+    // Of those who sleep until this moment, or hang. A waker wakes its task as it is dropped, outside
+    // of the lock.
+    pub(crate) fn ring<F: Fn(Option<u64>) -> bool>(&self, is_due: F) {
+        let (mut all, mut rung) = (Vec::new(self.rt.alloc()), Vec::new(self.rt.alloc()));
         if let Some(mut wakers) = lock(&self.wakers) {
-            mem::swap(&mut *wakers, &mut rung);
+            mem::swap(&mut *wakers, &mut all);
+            for (end, waker) in all {
+                let to = if is_due(end) { &mut rung } else { &mut *wakers };
+                to.push((end, waker)).ok();
+            }
         }
         drop(rung);
     }
 
-    /// One poll of a task that waits until something is so.
-    pub(crate) fn poll_until<F: Fn() -> bool>(&self, cx: &mut Context<'_>, is_so: F) -> Poll<()> {
+    /// One poll of a task that waits until something is so: from this moment on, or once it is let
+    /// go.
+    pub(crate) fn poll_until<F: Fn() -> bool>(
+        &self,
+        cx: &mut Context<'_>,
+        end: Option<u64>,
+        is_so: F,
+    ) -> Poll<()> {
         let Some(mut wakers) = lock(&self.wakers) else {
             return cx.yield_now();
         };
@@ -124,15 +179,27 @@ impl World {
             return Poll::Ready(());
         }
         let place = wakers.len();
-        if wakers.push(None).is_err() {
+        if wakers.push((end, None)).is_err() {
             return cx.yield_now();
         }
-        cx.register(&self.source, &mut wakers[place])
+        cx.register(&self.source, &mut wakers[place].1)
     }
 
     /// Waits, in a thread, until something is so; whether it came to be so.
-    pub(crate) fn watch<F: Fn() -> bool>(&self, is_so: F) -> bool {
+    pub(crate) fn watch<F: FnMut() -> bool>(&self, mut is_so: F) -> bool {
         for _ in 0..PATIENCE {
+            if is_so() {
+                return true;
+            }
+            thread::sleep(&self.rt, Duration::from_millis(1));
+        }
+        is_so()
+    }
+
+    /// Looks, for a while, for what is not to come; whether it came. A busy machine can only hide
+    /// it.
+    pub(crate) fn glimpse<F: FnMut() -> bool>(&self, mut is_so: F) -> bool {
+        for _ in 0..GLANCES {
             if is_so() {
                 return true;
             }
@@ -144,11 +211,18 @@ impl World {
     /// The next call of a script, in a thread: it hangs, and takes its time.
     pub(crate) fn call(&self, script: &Script) -> Outcome {
         self.stops.stop(self);
+        let outcome = self.hang(script);
+        self.take(outcome);
+        outcome
+    }
+
+    /// The same, of what is no call out of a pool, and takes no time. It hangs for longer than
+    /// anybody looks.
+    pub(crate) fn hang(&self, script: &Script) -> Outcome {
         let outcome = script.next();
         if let Some(hung) = outcome.hangs {
-            self.watch(|| script.goes_on(hung));
+            (0..3).any(|_| self.watch(|| script.goes_on(hung)));
         }
-        self.take(outcome);
         outcome
     }
 
@@ -171,18 +245,46 @@ impl World {
         lock(&self.slept)?.last().copied()
     }
 
+    /// How many sleeps were begun.
+    pub(crate) fn sleeps_begun(&self) -> usize {
+        lock(&self.slept).map_or(0, |slept| slept.len())
+    }
+
     /// Where memory is refused it is missing in the list, and the row that reads it fails.
     pub(crate) fn note(&self, told: Told) {
         if let Some(mut notes) = lock(&self.told) {
             notes.push(told).ok();
         }
-        self.pass(self.telling.load(Ordering::SeqCst));
-        self.stops.stop(self);
+        if lock(&self.held).is_some_and(|held| *held == Some(told)) {
+            self.hang(&self.tells);
+        }
+        self.call(&self.hears);
     }
 
-    /// From now on it takes so many milliseconds to tell something.
-    pub(crate) fn tells_for(&self, milliseconds: u64) {
-        self.telling.store(milliseconds, Ordering::SeqCst);
+    /// From now on drops of connections are told too.
+    pub(crate) fn tell_drops(&self) {
+        self.tells_drops.store(true, Ordering::SeqCst);
+    }
+
+    /// A connection is dropped.
+    pub(crate) fn drop_one(&self, number: u64) {
+        self.dropped.fetch_add(1, Ordering::SeqCst);
+        if self.tells_drops.load(Ordering::SeqCst) {
+            self.note(Told::Dropped(number));
+        }
+    }
+
+    /// From now on a thread that tells this hangs, until `tells` is let go.
+    pub(crate) fn hang_at(&self, told: Told) {
+        if let Some(mut held) = lock(&self.held) {
+            *held = Some(told);
+        }
+        self.tells.goes("~+*");
+    }
+
+    /// Whether one hangs there, at last.
+    pub(crate) fn once_hung(&self) -> bool {
+        self.watch(|| self.tells.hangs())
     }
 
     /// Whether this is what was told since the last such question.
@@ -220,6 +322,12 @@ impl World {
         heard
     }
 
+    /// What comes of all that was told since then.
+    pub(crate) fn of_told<T, F: FnOnce(&[Told]) -> T>(&self, make: F) -> Option<T> {
+        let told = lock(&self.told)?;
+        Some(make(told.as_slice()))
+    }
+
     /// What was told so far is asked for no more.
     pub(crate) fn forget(&self) {
         if let Some(mut told) = lock(&self.told) {
@@ -228,97 +336,10 @@ impl World {
     }
 }
 
-/// Calls out of a pool that stop, one after the other, until somebody has looked at the pool.
-#[derive(Drop)]
-pub(crate) struct Stops {
-    do_stop: AtomicBool,
-    stopped: AtomicU64,
-    gone_on: AtomicU64,
-    unseen: AtomicU64,
-}
-
-impl Stops {
-    fn new() -> Stops {
-        Stops {
-            do_stop: AtomicBool::new(false),
-            stopped: AtomicU64::new(0),
-            gone_on: AtomicU64::new(0),
-            unseen: AtomicU64::new(0),
-        }
-    }
-
-    /// Whether calls stop from now on.
-    pub(crate) fn set(&self, do_stop: bool) {
-        self.do_stop.store(do_stop, Ordering::SeqCst);
-    }
-
-    /// One call stops here, if it is to, until it is let go or was not for long.
-    pub(crate) fn stop(&self, world: &World) {
-        if self.do_stop.load(Ordering::SeqCst) {
-            let number = self.stopped.fetch_add(1, Ordering::SeqCst);
-            if !world.watch(|| self.gone_on.load(Ordering::SeqCst) > number) {
-                self.unseen.fetch_add(1, Ordering::SeqCst);
-            }
-        }
-    }
-
-    /// Lets calls go on, each after a look, until they stop no more.
-    pub(crate) fn look<F: Fn()>(&self, world: &World, look: F) {
-        world.watch(|| {
-            if self.stopped.load(Ordering::SeqCst) > self.gone_on.load(Ordering::SeqCst) {
-                look();
-                self.gone_on.fetch_add(1, Ordering::SeqCst);
-            }
-            !self.do_stop.load(Ordering::SeqCst)
-        });
-    }
-
-    /// How many stopped, and how many of them while nobody could look.
-    pub(crate) fn counts(&self) -> (u64, u64) {
-        let stopped = self.stopped.load(Ordering::SeqCst);
-        (stopped, self.unseen.load(Ordering::SeqCst))
-    }
-}
-
 /// What the rows need of the runtime.
 pub(crate) trait Host: PoolRuntime + AsyncRuntime + RandomSource + Print {}
 
 impl<R: PoolRuntime + AsyncRuntime + RandomSource + Print> Host for R {}
-
-/// The runtime of a pool: its clock is the world's.
-#[derive(Clone, Copy)]
-pub(crate) struct Place<R> {
-    pub(crate) world: &'static World,
-    pub(crate) rt: R,
-}
-
-impl<R: Host> Clock for Place<R> {
-    fn monotonic(&self) -> io::Result<Duration> {
-        self.world.readings.fetch_add(1, Ordering::SeqCst);
-        Ok(Duration::from_millis(self.world.now()))
-    }
-
-    // Since a time of day that is no whole second.
-    fn since_1970(&self) -> io::Result<Duration> {
-        Ok(Duration::from_millis(self.world.now()).saturating_add(Duration::new(1_000_000, 17)))
-    }
-
-    fn sleep(&self, duration: Duration) {
-        self.rt.sleep(duration)
-    }
-}
-
-impl<R: Host> Wait for Place<R> {}
-
-impl<R: Host> Threads for Place<R> {}
-
-impl<R: Host> Alloc for Place<R> {
-    type A = R::A;
-
-    fn alloc(&self) -> R::A {
-        self.rt.alloc()
-    }
-}
 
 /// Plays a row in a world of its own for each of these kinds.
 pub(crate) fn on_each<F: Fn(&'static World) -> Result<(), Fail>>(

@@ -1,8 +1,11 @@
 // Tests in which one request for memory is refused: the run refuses the request that has the number `AT` in its process, and each
-// test asks so often before its case that this is the one which it means. The cases stand in the module above.
+// test asks so often before its case that this is the one which it means. The cases stand in the module above. One may end early where
+// its request is refused; an assertion that fails ends the process.
 
 use super::*;
+use std::alloc::{AllocError, Global};
 use std::fs;
+use std::process::Termination;
 
 const AT: u64 = 1000;
 

@@ -77,7 +77,7 @@ def try_settings():
 
 def try_builders():
     threads, path = documents.BUILDERS["threads"], documents.SETTINGS
-    finds("a default that the code changed", threads, "                max_size: 10,", "                max_size: 12,",
+    finds("a default that the code changed", threads, "            max_size: 10,", "            max_size: 12,",
           [f"{path}: the default of `max_size` is 12; tasks: 10, and its row says 10"])
     finds("a setter that became public", threads, "    pub(crate) fn reaper_rate(", "    pub fn reaper_rate(",
           [f"{path}: `reaper_rate` is a setting of both, and its row says tasks"])

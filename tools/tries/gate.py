@@ -25,13 +25,13 @@ RT = """#!/usr/bin/env python3
 import os, signal, subprocess, sys, threading, time
 if sys.argv[1] != "ci":
     sys.exit(0)
+seen = []
+signal.signal(signal.SIGINT, lambda *_: seen.append(1))
 os.rename("out", "aside")
 print("rt: low is kept: an earlier run on this machine proved the same files over the same libraries", flush=True)
 print("rt: mid proved", flush=True)
 check = [sys.executable, "-c", "while True: pass", "build", "--crate-name", "top"]
 threading.Thread(target=subprocess.call, args=[check], daemon=True).start()
-seen = []
-signal.signal(signal.SIGINT, lambda *_: seen.append(1))
 while len(seen) < (1000 if "STUBBORN" in os.environ else 2):
     time.sleep(0.05)
 os.rename("aside", "out")
@@ -131,13 +131,15 @@ def without_kept(prove):
 
 
 def interrupted(place, seconds, **settings):
-    """What a run says that is interrupted after some seconds, and whether it ended within five."""
+    """What a run says that is interrupted some seconds after its proofs began, and whether it ended within five."""
     os.makedirs(os.path.join(place, "out"))
     os.makedirs(os.path.join(place, "bin"))
     set_up.put_program(RT, os.path.join(place, "bin", "rt"))
     tools = os.path.join(TOP, "tools")
     how = {"cwd": place, "env": {**os.environ, "PATH": f"{place}/bin:{os.environ['PATH']}", **settings}, "stdout": subprocess.PIPE, "text": True}
     running = subprocess.Popen([sys.executable, "-c", RUN.format(tools=tools, tries=os.path.join(tools, "tries"))], **how)
+    while running.poll() is None and not os.path.exists(os.path.join(place, "aside")):
+        time.sleep(0.05)
     time.sleep(seconds)
     begun = time.monotonic()
     running.send_signal(signal.SIGINT)
