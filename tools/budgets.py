@@ -2,7 +2,9 @@
 fails what is above its budget by a third, so that growth is decided and not met. `tools/budget` prints the file from a log.
 
 Machines differ, and a processor that two programs share is slower for both. So a fixed loop is timed by the processor's own clock each
-minute of a run; the file says how long it took where the figures come from, and what was measured is scaled by the ratio of the two."""
+minute of a run; the file says how long it took where the figures come from, and what was measured is scaled by the ratio of the two. One
+machine may be twice as fast at the loop and no faster at proofs: so what was measured is above its budget only if it is both as it is
+and scaled."""
 import os
 import re
 import statistics
@@ -130,7 +132,7 @@ class Row:
 
     def __init__(self, name, minutes, scale, budget):
         self.name, self.minutes, self.scaled, self.budget = name, minutes, minutes / scale, budget
-        self.is_above = budget is not None and self.scaled > max(budget * SPARE, LEAST)
+        self.is_above = budget is not None and min(self.minutes, self.scaled) > max(budget * SPARE, LEAST)
 
     def line(self):
         budget = UNKNOWN if self.budget is None else f"{self.budget:.1f}"

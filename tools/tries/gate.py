@@ -60,6 +60,8 @@ def try_the_budget():
     found = {it.name: it for it in budgets.rows(measured, 0.2, BUDGET)}
     check("what is scaled", round(found["part a long one"].scaled, 3) == 4.1, found["part a long one"].scaled)
     check("only what is above by a third fails", [it.name for it in found.values() if it.is_above] == ["part a long one"])
+    fast = budgets.rows({"part a long one": 3.9}, 0.05, BUDGET)
+    check("nor does what is above only as it is scaled", round(fast[0].scaled, 3) == 7.8 and not fast[0].is_above, fast[0].line())
     said = found["part a long one"].line(), found["part new"].line()
     check("its line says so", said == ("| part a long one | 8.2 | 4.1 | 3.0 | ABOVE", "| part new | 50.0 | 25.0 | ? |"), said)
     log = "anything\n| part the blocks of code | 8.2 | 4.1 | 3.0 | ABOVE\n| crate anew | 1.0 | 2.0 | ? |\n"
