@@ -5,3 +5,7 @@ pub mod Waiting
 pub mod Lined
 pub mod Order
 pub mod Standing
+pub mod Rings
+pub mod Walks
+pub mod Rows
+pub mod Loops

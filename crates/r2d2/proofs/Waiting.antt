@@ -6,7 +6,7 @@ use Rattle.std.proofs.lemmas.Bool.Decides.{nat_tests}
 use Rattle.r2d2.specs.declared.line.place.Place.{Place}
 use Rattle.r2d2.specs.declared.line.place.Standing.{Standing}
 use Rattle.r2d2.specs.declared.line.place.Standing.TheVariants.{Quiet, Told, Aside}
-use Rattle.r2d2.specs.Waiting.{place, is_told, weight, waiting_in, told_ahead, ahead, index_of, told_at, weight_at, without, with_standing, quiet_index, first_quiet, told_first, copies_in, copies_of}
+use Rattle.r2d2.specs.Waiting.{place, is_told, weight, waiting_in, told_ahead, ahead, told_at, weight_at, without, with_standing, first_quiet, told_first, copies_in, copies_of}
 
 -- a join: who is told nothing at the end changes nothing for those before it
 pub told_ahead-join : (ps : List Place) (s : ℕ) → told_ahead (ps ++ place s Quiet ∷ []) ≡ told_ahead ps
@@ -16,15 +16,6 @@ told_ahead-join (p ∷ ps) s = grind (arith, told_ahead-join ps s)
 pub waiting_in-join : (ps : List Place) (s : ℕ) → waiting_in (ps ++ place s Quiet ∷ []) ≡ waiting_in ps + 1
 waiting_in-join [] s = refl
 waiting_in-join (p ∷ ps) s = omega (arith, waiting_in-join ps s)
-
-pub copies_in-join : (ps : List Place) (s i : ℕ) → copies_in i (ps ++ place s Quiet ∷ []) ≡ copies_in i ps + (cond (s == i) 1 0)
-copies_in-join [] s i = omega arith
-copies_in-join (p ∷ ps) s i = omega (arith, copies_in-join ps s i)
-
--- no more are told before the first quiet one than wait
-pub told_ahead-le : (ps : List Place) → told_ahead ps ≤ waiting_in ps
-told_ahead-le [] = omega arith
-told_ahead-le (p ∷ ps) = grind (arith, told_ahead-le ps)
 
 -- a wake
 pub waiting_in-tell : (ps : List Place) → waiting_in (told_first ps) ≡ waiting_in ps
@@ -67,89 +58,13 @@ pub told_ahead-served : (s : ℕ) (ps : List Place) → told_ahead ps ≤ told_a
 told_ahead-served s [] = omega arith
 told_ahead-served s (p ∷ ps) = grind (arith, told_ahead-served s ps)
 
--- one goes on waiting
-pub waiting_in-quiet : (s : ℕ) (ps : List Place) → 0 < copies_in s ps → waiting_in (with_standing s Quiet ps) + weight_at s ps ≡ waiting_in ps + 1
-waiting_in-quiet s [] e = absurd (omega arith)
-waiting_in-quiet s (p ∷ ps) e = grind (arith, waiting_in-quiet s ps)
-
 pub told_ahead-quiet : (s : ℕ) (ps : List Place) → min (told_ahead ps) (ahead s ps) ≤ told_ahead (with_standing s Quiet ps)
 told_ahead-quiet s [] = omega arith
 told_ahead-quiet s (p ∷ ps) = grind (arith, told_ahead-quiet s ps)
 
--- slots
-pub copies_in-tell : (i : ℕ) (ps : List Place) → copies_in i (told_first ps) ≡ copies_in i ps
-copies_in-tell i [] = refl
-copies_in-tell i (p ∷ ps) = grind (arith, copies_in-tell i ps)
-
-pub copies_in-standing : (i s : ℕ) (t : Standing) (ps : List Place) → copies_in i (with_standing s t ps) ≡ copies_in i ps
-copies_in-standing i s t [] = refl
-copies_in-standing i s t (p ∷ ps) = grind (arith, copies_in-standing i s t ps)
-
-pub copies_in-without : (i s : ℕ) (ps : List Place) → 0 < copies_in s ps → copies_in i (without s ps) + (cond (s == i) 1 0) ≡ copies_in i ps
-copies_in-without i s [] e = absurd (omega arith)
-copies_in-without i s (p ∷ ps) e = grind (arith, copies_in-without i s ps)
-
 pub length-standing : (s : ℕ) (t : Standing) (ps : List Place) → length (with_standing s t ps) ≡ length ps
 length-standing s t [] = refl
 length-standing s t (p ∷ ps) = grind (arith, length-standing s t ps)
-
-pub length-tell : (ps : List Place) → length (told_first ps) ≡ length ps
-length-tell [] = refl
-length-tell (p ∷ ps) = grind (arith, length-tell ps)
-
-pub length-without : (s : ℕ) (ps : List Place) → 0 < copies_in s ps → length (without s ps) + 1 ≡ length ps
-length-without s [] e = absurd (omega arith)
-length-without s (p ∷ ps) e = grind (arith, length-without s ps)
-
--- the lists that the code makes
-pub remove-is : (s : ℕ) (ps : List Place) → index_of s ps < length ps → take (index_of s ps) ps ++ drop (suc (index_of s ps)) ps ≡ without s ps
-remove-is s [] e = absurd (omega arith)
-remove-is s (p ∷ ps) e = elim (p.slot == s) as (λ b. b ≡ (p.slot == s) → take (cond b 0 (suc (index_of s ps))) (p ∷ ps) ++ drop (suc (cond b 0 (suc (index_of s ps)))) (p ∷ ps) ≡ cond b ps (p ∷ without s ps)) [ true ↦ λ w. refl | false ↦ λ w. ap (λ l. p ∷ l) (remove-is s ps (grind (arith))) ] refl
-
-pub copies_in-within : (s : ℕ) (ps : List Place) → index_of s ps < length ps → 0 < copies_in s ps
-copies_in-within s [] e = absurd (omega arith)
-copies_in-within s (p ∷ ps) e = grind (arith, copies_in-within s ps)
-
-pub without-none : (s : ℕ) (ps : List Place) → length ps ≤ index_of s ps → without s ps ≡ ps
-without-none s [] e = refl
-without-none s (p ∷ ps) e = grind (arith, without-none s ps)
-
--- what a mark at an index makes
-pub set-is : (s : ℕ) (t : Standing) (ps : List Place) → index_of s ps < length ps → set ps (index_of s ps) (place s t) ≡ with_standing s t ps
-set-is s t [] e = absurd (omega arith)
-set-is s t (p ∷ ps) e = grind (arith, set-is s t ps)
-
-pub tell-is : (ps : List Place) (d : Place) → quiet_index ps < length ps → set ps (quiet_index ps) (place (get_or ps (quiet_index ps) d).slot Told) ≡ told_first ps
-tell-is [] d e = absurd (omega arith)
-tell-is (p ∷ ps) d e = grind (arith, tell-is ps d)
-
-pub first_quiet-is : (ps : List Place) (d : Place) → quiet_index ps < length ps → first_quiet ps ≡ Some (get_or ps (quiet_index ps) d).slot
-first_quiet-is [] d e = absurd (omega arith)
-first_quiet-is (p ∷ ps) d e = grind (arith, first_quiet-is ps d)
-
-pub tell-none : (ps : List Place) → length ps ≤ quiet_index ps → told_first ps ≡ ps
-tell-none [] e = refl
-tell-none (p ∷ ps) e = grind (arith, tell-none ps)
-
-pub first_quiet-none : (ps : List Place) → length ps ≤ quiet_index ps → first_quiet ps ≡ None
-first_quiet-none [] e = refl
-first_quiet-none (p ∷ ps) e = grind (arith, first_quiet-none ps)
-
-pub standing-none : (s : ℕ) (t : Standing) (ps : List Place) → length ps ≤ index_of s ps → with_standing s t ps ≡ ps
-standing-none s t [] e = refl
-standing-none s t (p ∷ ps) e = grind (arith, standing-none s t ps)
-
-pub weight_at-is : (s : ℕ) (ps : List Place) (d : Place) → index_of s ps < length ps → weight_at s ps ≡ weight (get_or ps (index_of s ps) d).standing
-weight_at-is s [] d e = absurd (omega arith)
-weight_at-is s (p ∷ ps) d e = grind (arith, weight_at-is s ps d)
-
-pub told_at-is : (s : ℕ) (ps : List Place) (d : Place) → index_of s ps < length ps → told_at s ps ≡ is_told (get_or ps (index_of s ps) d).standing
-told_at-is s [] d e = absurd (omega arith)
-told_at-is s (p ∷ ps) d e = grind (arith, told_at-is s ps d)
-
-pub told_at-none : (s : ℕ) (ps : List Place) → length ps ≤ index_of s ps → told_at s ps ≡ false
-told_at-none s [] e = refl
-told_at-none s (p ∷ ps) e = grind (arith, told_at-none s ps)
 
 pub waiting_in-le : (ps : List Place) → waiting_in ps ≤ length ps
 waiting_in-le [] = omega arith
@@ -190,13 +105,6 @@ push_apart xs n s a b = grind (arith, nat_tests, copies_of-push xs n s)
 
 pub push_below : (xs : List ℕ) (n s : ℕ) → n + 1 ≤ s → (n ≤ s → copies_of s xs ≡ 0) → copies_of s (xs ++ n ∷ []) ≡ 0
 push_below xs n s lt b = grind (arith, nat_tests, copies_of-push xs n s)
-
--- of those who wait the first ones, as many as are idle, have been told: after each step
-pub kept_more : (idle : ℕ) (ps : List Place) → min idle (waiting_in ps) ≤ told_ahead ps → min (idle + 1) (waiting_in (told_first ps)) ≤ told_ahead (told_first ps)
-kept_more idle ps h = omega (arith, told_ahead-tell ps, waiting_in-tell ps)
-
-pub kept_told : (idle : ℕ) (ps : List Place) → min idle (waiting_in ps) ≤ told_ahead ps → min idle (waiting_in (told_first ps)) ≤ told_ahead (told_first ps)
-kept_told idle ps h = omega (arith, told_ahead-tell ps, waiting_in-tell ps)
 
 pub kept_join : (idle : ℕ) (ps : List Place) (s : ℕ) → idle ≤ waiting_in ps → min idle (waiting_in ps) ≤ told_ahead ps → min idle (waiting_in (ps ++ place s Quiet ∷ [])) ≤ told_ahead (ps ++ place s Quiet ∷ [])
 kept_join idle ps s le h = omega (arith, told_ahead-join ps s, waiting_in-join ps s)

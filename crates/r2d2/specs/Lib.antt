@@ -17,3 +17,4 @@ pub mod Lined
 pub mod Order
 pub mod Standing
 pub mod Since
+pub mod Ring

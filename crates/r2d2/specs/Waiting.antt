@@ -41,11 +41,6 @@ abbrev pub ahead : ℕ → List Place → ℕ
 ahead s [] = 0
 ahead s (p ∷ ps) = if p.slot == s then 0 else weight p.standing + ahead s ps
 
--- the index of the one with this slot, or the length
-abbrev pub index_of : ℕ → List Place → ℕ
-index_of s [] = 0
-index_of s (p ∷ ps) = if p.slot == s then 0 else suc (index_of s ps)
-
 -- whether the one with this slot was told to look, and looks no more
 abbrev pub told_at : ℕ → List Place → Bool
 told_at s [] = false
@@ -65,11 +60,6 @@ without s (p ∷ ps) = if p.slot == s then ps else p ∷ without s ps
 abbrev pub with_standing : ℕ → Standing → List Place → List Place
 with_standing s standing [] = []
 with_standing s standing (p ∷ ps) = if p.slot == s then place p.slot standing ∷ ps else p ∷ with_standing s standing ps
-
--- the index of the first who was told nothing, or the length
-abbrev pub quiet_index : List Place → ℕ
-quiet_index [] = 0
-quiet_index (p ∷ ps) = if is_quiet p.standing then 0 else suc (quiet_index ps)
 
 -- the slot of the first who was told nothing
 abbrev pub first_quiet : List Place → Option ℕ

@@ -181,8 +181,9 @@ impl Error {
         }
     }
 
-    /// How many callers waited before the call as its time ran out in line. None where callers do
-    /// not wait in line, where a check took the rest of its time, and where there is no status.
+    /// How many callers waited before the call as its time ran out in line; 1,000 stands for so
+    /// many or more, as they are counted under the pool's lock. None where callers do not wait in
+    /// line, where a check took the rest of its time, and where there is no status.
     pub fn ahead(&self) -> Option<usize>
         ensures ahead { result ≡ self.now.ahead }
         ensures with_status { IsSome result → IsSome self.now.status }

@@ -1,7 +1,7 @@
 // What the lock of a pool guards: a book, the callers in line for what it lends, and what wakes
 // each of them.
 ghost use Rattle.std.specs.Prelude.{◌≡◌, ◌≢◌, ◌≤◌, ◌<◌, ◌↔◌, ℕ, [], length, true, false, None};
-ghost use Rattle.std.specs.Prelude.{IsSome, IsSomeAnd, IfSome, IfNone, IfOk, IsTrue, Some, vec_len};
+ghost use Rattle.std.specs.Prelude.{IsSome, IsSomeAnd, IfSome, IfNone, IfOk, IsTrue, Some, vec_len, min};
 ghost use Rattle.std.specs.Prelude.{vec_capacity, slice_get, is_some, if◌then◌else◌, ◌-◌};
 ghost use Rattle.futures.specs.Task.{Covers, Keeps};
 ghost use Rattle.futures.specs.Poll.{IfReady, OnPending};
@@ -307,9 +307,10 @@ impl<P: Drop> TaskBook<P> {
         wake(&mut self.wakers, &mut self.workers, to_wake);
     }
 
-    /// How many wait before this caller: all who wait, if it does not stand in line.
+    /// How many wait before this caller, or all who wait, if it does not stand in line; but at most
+    /// a thousand.
     pub fn ahead_of(&self, place: Option<u32>) -> usize
-        ensures { result ≡ before place self.now.guarded.book.places }
+        ensures { result ≡ min (before place self.now.guarded.book.places) 1000 }
     {
         self.guarded.book.ahead_of(place)
     }

@@ -1,49 +1,69 @@
-// A line of at most so many, whose memory is taken at its making.
-ghost use Rattle.std.specs.Prelude.{◌≡◌, ℕ, ◌+◌, ◌<◌, ◌≤◌, ◌++◌, ◌∷◌, ◌↔◌, [], length, IfOk, IfSome};
-ghost use Rattle.std.specs.Prelude.{IfNone, IsSome, IsTrue, vec_capacity, vec_len};
+// A line of at most so many, whose memory is taken at its making. No call takes longer where more
+// stand in line.
+ghost use Rattle.std.specs.Prelude.{◌≡◌, ◌≢◌, ℕ, ◌+◌, ◌^◌, ◌<◌, ◌≤◌, ◌++◌, ◌∷◌, ◌↔◌, [], length, IfOk, IfSome};
+ghost use Rattle.std.specs.Prelude.{IfNone, IsSome, vec_capacity, min};
 ghost use Rattle.std.specs.Prelude.{List, Some};
 ghost use Rattle.std.specs.Duration.{as_nanos};
 ghost use Rattle.r2d2.specs.declared.line.place.Standing.TheVariants.{Quiet, Told, Aside};
-ghost use Rattle.r2d2.specs.Waiting.{weight as weight_of, is_told, place, waiting_in, told_ahead};
-ghost use Rattle.r2d2.specs.Waiting.{ahead, index_of, told_at, weight_at, without, with_standing};
-ghost use Rattle.r2d2.specs.Waiting.{quiet_index, first_quiet, told_first, told_if, slot_if};
+ghost use Rattle.r2d2.specs.Waiting.{weight as weight_of, is_told, is_quiet as is_quiet_of, place};
+ghost use Rattle.r2d2.specs.Waiting.{waiting_in, ahead, told_at, without, with_standing};
+ghost use Rattle.r2d2.specs.Waiting.{first_quiet, told_first, told_if, slot_if};
 ghost use Rattle.r2d2.specs.Waiting.{copies_in, copies_of, is_over, is_late, first_late};
+ghost use Rattle.r2d2.specs.Ring.{next_of, prev_of, AreInverse, reach, order, places_in};
+ghost use Rattle.r2d2.specs.Ring.{standing_of, one_if, or_quiet};
 ghost use Rattle.r2d2.specs.Order.{Event, Came, WaitsOn, Took, Left, Passed, IsUntold, StandsIn};
 ghost use Rattle.r2d2.specs.Order.{standing_in};
 ghost use Rattle.r2d2.specs.Order.{IsHistoryOf, with_told};
 
+use super::links::{Link, skip, splice};
 use super::place::{Place, Standing};
-use std::alloc::{AllocError, Allocator, Global};
+use super::ring::Ring;
+use std::alloc::{AllocError, Global};
 use std::time::Duration;
 
 /// Who stands in line, in the order in which they came. It never grows past the room that it was
 /// made with.
 #[derive(Drop)]
-pub struct Line<A: Allocator = Global> {
-    places: Vec<Place, A>,
+pub struct Line {
+    ring: Ring,
     // The slots at which nobody stands.
-    free: Vec<u32, A>,
+    free: Vec<u32>,
     // How many wait.
     waiting: usize,
-    ghost apart: { (s : ℕ) → copies_in s places.items + copies_of s free.items ≤ 1 },
-    ghost counted: { waiting ≡ waiting_in places.items },
-    ghost room_for_places: { length places.items + length free.items ≤ vec_capacity places },
-    ghost room_for_free: { length places.items + length free.items ≤ vec_capacity free },
+    ghost inverse: { AreInverse (next_of ring.links.items) (prev_of ring.links.items) },
+    ghost closed: { reach (next_of ring.links.items) ring.len (next_of ring.links.items ring.end)
+        ≡ ring.end },
+    ghost stand: { (s : ℕ) → copies_of s (order ring.links.items ring.end ring.len)
+        ≡ one_if (standing_of ring.standings.items s) },
+    ghost apart: { (s : ℕ) → one_if (standing_of ring.standings.items s) + copies_of s free.items
+        ≤ 1 },
+    ghost low: { (s : ℕ) → ring.end ≤ s → copies_of s free.items ≡ 0 },
+    ghost alone: { (s : ℕ) → one_if (standing_of ring.standings.items s) ≡ 0 → s ≢ ring.end
+        → next_of ring.links.items s ≡ s },
+    ghost counted: { waiting ≡ waiting_in (places_in ring) },
+    ghost nodes: { length ring.links.items ≡ ring.end + 1 },
+    ghost slots: { length ring.standings.items ≡ ring.end },
+    ghost room: { ring.len + length free.items ≡ ring.end },
+    ghost room_for_free: { ring.end ≤ vec_capacity free },
+    ghost small: { ring.end < 2 ^ 32 },
 }
 
-impl<A: Allocator> Line<A> {
+impl Line {
     /// A line of so many slots, at which nobody stands. The error is lack of memory.
-    pub fn new(alloc: A, room: u32) -> Result<Line<A>, AllocError>
-    where
-        A: Copy,
+    pub fn new(alloc: Global, room: u32) -> Result<Line, AllocError>
         ensures { IfOk result
-            (λ line. (line.places.items ≡ []) × (length line.free.items ≡ room)
-            × IsHistoryOf [] line.places.items) }
+            (λ line. (places_in line.ring ≡ []) × (length line.free.items ≡ room)
+            × IsHistoryOf [] (places_in line.ring)) }
     {
-        let places = Vec::with_capacity(alloc, room as usize)?;
+        let ring = Ring {
+            links: alone(alloc, room)?,
+            standings: nobody(alloc, room)?,
+            end: room,
+            len: 0,
+        };
         let free = slots(alloc, room)?;
         Ok(Line {
-            places,
+            ring,
             free,
             waiting: 0,
         })
@@ -51,36 +71,47 @@ impl<A: Allocator> Line<A> {
 
     /// How many wait.
     pub fn waiting(&self) -> usize
-        ensures { result ≡ waiting_in self.now.places.items }
+        ensures { result ≡ waiting_in (places_in self.now.ring) }
     {
         self.waiting
     }
 
-    /// How many wait before the one with this slot; all who wait where nobody has it.
-    pub fn ahead(&self, slot: u32) -> usize
-        ensures { result ≡ ahead slot self.now.places.items }
+    /// How many wait before the one with this slot, or all who wait where nobody has it; but at
+    /// most so many. It goes through no more than so many who wait.
+    pub fn ahead(&self, slot: u32, most: usize) -> usize
+        ensures { result ≡ min (ahead slot (places_in self.now.ring)) most }
     {
-        ahead(&self.places, slot)
+        let mut count = 0;
+        let mut at = self.after(self.ring.end);
+        for _ in 0..self.ring.len {
+            if count >= most {
+                return most;
+            }
+            if at == slot {
+                return count;
+            }
+            count += weight(self.place(at).standing);
+            at = self.after(at);
+        }
+        count
     }
 
     /// One more waits, at the end. The answer is its slot, which nobody else has; None where all
     /// slots are taken, and then nothing changes.
     pub fn join(&mut self) -> Option<u32>
         ensures joined { IfSome result
-            (λ s. self.new.places.items ≡ self.old.places.items ++ place s Quiet ∷ []) }
-        ensures fresh { IfSome result (λ s. copies_in s self.old.places.items ≡ 0) }
-        ensures history { (h : List Event) → IsHistoryOf h self.old.places.items
-            → IfSome result (λ s. IsHistoryOf (Came s ∷ h) self.new.places.items) }
-        ensures full { IfNone result (self.new.places.items ≡ self.old.places.items) }
+            (λ s. places_in self.new.ring ≡ places_in self.old.ring ++ place s Quiet ∷ []) }
+        ensures fresh { IfSome result (λ s. copies_in s (places_in self.old.ring) ≡ 0) }
+        ensures history { (h : List Event) → IsHistoryOf h (places_in self.old.ring)
+            → IfSome result (λ s. IsHistoryOf (Came s ∷ h) (places_in self.new.ring)) }
+        ensures full { IfNone result (places_in self.new.ring ≡ places_in self.old.ring) }
         ensures refused { IsSome result ↔ (0 < length self.old.free.items) }
-        ensures room { length self.new.places.items + length self.new.free.items
-            ≡ length self.old.places.items + length self.old.free.items }
+        ensures room { self.new.ring.end ≡ self.old.ring.end }
     {
         let slot = self.free.pop()?;
-        self.places.push_reserved(Place {
-            slot,
-            standing: Standing::Quiet,
-        });
+        splice(&mut self.ring.links, slot, self.ring.end);
+        self.ring.standings[slot as usize] = Some(Standing::Quiet);
+        self.ring.len += 1;
         self.waiting += 1;
         Some(slot)
     }
@@ -88,31 +119,31 @@ impl<A: Allocator> Line<A> {
     /// The one with this slot leaves; the others keep their order. The answer is whether it was
     /// told to look, and so has to pass that on.
     pub fn leave(&mut self, slot: u32) -> bool
-        ensures places { self.new.places.items ≡ without slot self.old.places.items }
-        ensures told { result ≡ told_at slot self.old.places.items }
-        ensures history { (h : List Event) → IsHistoryOf h self.old.places.items
-            → IsHistoryOf (Left slot ∷ h) self.new.places.items }
-        ensures room { length self.new.places.items + length self.new.free.items
-            ≡ length self.old.places.items + length self.old.free.items }
+        ensures places { places_in self.new.ring ≡ without slot (places_in self.old.ring) }
+        ensures told { result ≡ told_at slot (places_in self.old.ring) }
+        ensures history { (h : List Event) → IsHistoryOf h (places_in self.old.ring)
+            → IsHistoryOf (Left slot ∷ h) (places_in self.new.ring) }
+        ensures room { self.new.ring.end ≡ self.old.ring.end }
     {
-        let index = index_of(&self.places, slot);
-        if index >= self.places.len() {
+        let Some(standing) = self.standing(slot) else {
             return false;
-        }
-        let gone = self.places.remove(index);
-        self.waiting -= weight(gone.standing);
+        };
+        skip(&mut self.ring.links, slot);
+        self.ring.standings[slot as usize] = None;
+        self.ring.len -= 1;
+        self.waiting -= weight(standing);
         self.free.push_reserved(slot);
-        was_told(gone.standing)
+        was_told(standing)
     }
 
     /// The one with this slot has a connection: it waits no more, and keeps its place until it
     /// leaves.
     pub fn serve(&mut self, slot: u32)
-        ensures places { self.new.places.items
-            ≡ with_standing slot Aside self.old.places.items }
-        ensures history { (h : List Event) (idle : ℕ) → IsHistoryOf h self.old.places.items
-            → StandsIn h slot → ¬ IsUntold h slot → ahead slot self.old.places.items < idle
-            → IsHistoryOf (Took slot idle ∷ h) self.new.places.items }
+        ensures places { places_in self.new.ring
+            ≡ with_standing slot Aside (places_in self.old.ring) }
+        ensures history { (h : List Event) (idle : ℕ) → IsHistoryOf h (places_in self.old.ring)
+            → StandsIn h slot → ¬ IsUntold h slot → ahead slot (places_in self.old.ring) < idle
+            → IsHistoryOf (Took slot idle ∷ h) (places_in self.new.ring) }
         ensures free { self.new.free.items ≡ self.old.free.items }
     {
         self.mark(slot, Standing::Aside);
@@ -121,11 +152,11 @@ impl<A: Allocator> Line<A> {
     /// The one with this slot, which was told to look, is passed: it waits no more, and keeps its
     /// place until it looks or leaves.
     pub fn pass(&mut self, slot: u32)
-        ensures places { self.new.places.items
-            ≡ with_standing slot Aside self.old.places.items }
-        ensures history { (h : List Event) → IsHistoryOf h self.old.places.items
+        ensures places { places_in self.new.ring
+            ≡ with_standing slot Aside (places_in self.old.ring) }
+        ensures history { (h : List Event) → IsHistoryOf h (places_in self.old.ring)
             → standing_in h slot ≡ Some Told
-            → IsHistoryOf (Passed slot ∷ h) self.new.places.items }
+            → IsHistoryOf (Passed slot ∷ h) (places_in self.new.ring) }
         ensures free { self.new.free.items ≡ self.old.free.items }
     {
         self.mark(slot, Standing::Aside);
@@ -134,17 +165,28 @@ impl<A: Allocator> Line<A> {
     /// The first one that was told to look and whose time is over, before all that were told
     /// nothing. Each one's end stands at its slot.
     pub fn first_late(&self, now: Duration, ends: &[Duration]) -> Option<u32>
-        ensures { result ≡ first_late (as_nanos now) ends.now self.now.places.items }
+        ensures { result ≡ first_late (as_nanos now) ends.now (places_in self.now.ring) }
     {
-        first_late(&self.places, now, ends)
+        let mut at = self.after(self.ring.end);
+        for _ in 0..self.ring.len {
+            let place = self.place(at);
+            if is_quiet(place.standing) {
+                return None;
+            }
+            if is_late(place, now, ends) {
+                return Some(at);
+            }
+            at = self.after(at);
+        }
+        None
     }
 
     /// The one with this slot waits on, and waits to be told.
     pub fn wait_on(&mut self, slot: u32)
-        ensures places { self.new.places.items
-            ≡ with_standing slot Quiet self.old.places.items }
-        ensures history { (h : List Event) → IsHistoryOf h self.old.places.items
-            → StandsIn h slot → IsHistoryOf (WaitsOn slot ∷ h) self.new.places.items }
+        ensures places { places_in self.new.ring
+            ≡ with_standing slot Quiet (places_in self.old.ring) }
+        ensures history { (h : List Event) → IsHistoryOf h (places_in self.old.ring)
+            → StandsIn h slot → IsHistoryOf (WaitsOn slot ∷ h) (places_in self.new.ring) }
         ensures free { self.new.free.items ≡ self.old.free.items }
     {
         self.mark(slot, Standing::Quiet);
@@ -153,62 +195,136 @@ impl<A: Allocator> Line<A> {
     /// Tells the first who was told nothing to look. The answer is its slot.
     #[cold]
     pub fn tell_next(&mut self) -> Option<u32>
-        ensures places { self.new.places.items ≡ told_first self.old.places.items }
-        ensures who { result ≡ first_quiet self.old.places.items }
-        ensures history { (h : List Event) → IsHistoryOf h self.old.places.items
-            → IsHistoryOf (with_told result h) self.new.places.items }
-        ensures nobody { (h : List Event) → IsHistoryOf h self.old.places.items
+        ensures places { places_in self.new.ring ≡ told_first (places_in self.old.ring) }
+        ensures who { result ≡ first_quiet (places_in self.old.ring) }
+        ensures history { (h : List Event) → IsHistoryOf h (places_in self.old.ring)
+            → IsHistoryOf (with_told result h) (places_in self.new.ring) }
+        ensures nobody { (h : List Event) → IsHistoryOf h (places_in self.old.ring)
             → IfNone result ((s : ℕ) → ¬ IsUntold h s) }
         ensures free { self.new.free.items ≡ self.old.free.items }
     {
-        let index = quiet_index(&self.places);
-        if index >= self.places.len() {
+        let Some(slot) = self.first_quiet() else {
             return None;
-        }
-        let slot = self.places[index].slot;
-        self.places[index] = Place {
-            slot,
-            standing: Standing::Told,
         };
+        self.mark(slot, Standing::Told);
         Some(slot)
     }
 
     /// The same, where a caller is to be woken.
     #[inline(always)]
     pub fn tell_if(&mut self, is_to_wake: bool) -> Option<u32>
-        ensures places { self.new.places.items ≡ told_if is_to_wake self.old.places.items }
-        ensures who { result ≡ slot_if is_to_wake self.old.places.items }
-        ensures history { (h : List Event) → IsHistoryOf h self.old.places.items
-            → IsHistoryOf (with_told result h) self.new.places.items }
+        ensures places { places_in self.new.ring ≡ told_if is_to_wake (places_in self.old.ring) }
+        ensures who { result ≡ slot_if is_to_wake (places_in self.old.ring) }
+        ensures history { (h : List Event) → IsHistoryOf h (places_in self.old.ring)
+            → IsHistoryOf (with_told result h) (places_in self.new.ring) }
         ensures free { self.new.free.items ≡ self.old.free.items }
     {
-        if is_to_wake && !self.places.is_empty() {
+        if is_to_wake && self.ring.len > 0 {
             self.tell_next()
         } else {
             None
         }
     }
 
+    // The slot of the first who was told nothing. Those who stand before it were told, or have a
+    // connection.
+    fn first_quiet(&self) -> Option<u32>
+        ensures { result ≡ first_quiet (places_in self.now.ring) }
+    {
+        let mut at = self.after(self.ring.end);
+        for _ in 0..self.ring.len {
+            if is_quiet(self.place(at).standing) {
+                return Some(at);
+            }
+            at = self.after(at);
+        }
+        None
+    }
+
     // How the one with this slot stands from now on.
     fn mark(&mut self, slot: u32, standing: Standing)
-        ensures places { self.new.places.items
-            ≡ with_standing slot standing self.old.places.items }
+        ensures places { places_in self.new.ring
+            ≡ with_standing slot standing (places_in self.old.ring) }
         ensures free { self.new.free.items ≡ self.old.free.items }
     {
-        let index = index_of(&self.places, slot);
-        if index >= self.places.len() {
+        let Some(before) = self.standing(slot) else {
             return;
+        };
+        self.ring.standings[slot as usize] = Some(standing);
+        self.waiting = self.waiting - weight(before) + weight(standing);
+    }
+
+    // How the one with this slot stands; None where nobody does.
+    fn standing(&self, slot: u32) -> Option<Standing>
+        ensures { result ≡ standing_of self.now.ring.standings.items slot }
+    {
+        match self.ring.standings.get(slot as usize) {
+            Some(standing) => *standing,
+            None => None,
         }
-        let before = weight(self.places[index].standing);
-        self.places[index] = Place { slot, standing };
-        self.waiting = self.waiting - before + weight(standing);
+    }
+
+    // Who stands at a slot. (Where nobody does, the answer is of no account.)
+    fn place(&self, slot: u32) -> Place
+        ensures { result ≡ place slot (or_quiet (standing_of self.now.ring.standings.items slot)) }
+    {
+        match self.standing(slot) {
+            Some(standing) => Place { slot, standing },
+            None => Place {
+                slot,
+                standing: Standing::Quiet,
+            },
+        }
+    }
+
+    // The slot behind this one in line, or the end.
+    fn after(&self, at: u32) -> u32
+        requires { at < length self.now.ring.links.items }
+        ensures next { result ≡ next_of self.now.ring.links.items at }
+        ensures inside { result < length self.now.ring.links.items }
+    {
+        self.ring.links[at as usize].next
     }
 }
 
+// Nodes, each a ring of its own, and the end.
+fn alone(alloc: Global, room: u32) -> Result<Vec<Link>, AllocError>
+    ensures len { IfOk result (λ links. length links.items ≡ room + 1) }
+    ensures nexts { IfOk result (λ links. (x : ℕ) → next_of links.items x ≡ x) }
+    ensures prevs { IfOk result (λ links. (x : ℕ) → prev_of links.items x ≡ x) }
+{
+    let mut links = Vec::with_capacity(alloc, room as usize + 1)?;
+    for slot in 0..room {
+        links.push_reserved(Link {
+            prev: slot,
+            next: slot,
+        });
+    }
+    links.push_reserved(Link {
+        prev: room,
+        next: room,
+    });
+    Ok(links)
+}
+
+// So many slots, at which nobody stands.
+fn nobody(alloc: Global, room: u32) -> Result<Vec<Option<Standing>>, AllocError>
+    ensures len { IfOk result (λ standings. length standings.items ≡ room) }
+    ensures nobody { IfOk result
+        (λ standings. (s : ℕ) → one_if (standing_of standings.items s) ≡ 0) }
+{
+    let mut standings = Vec::with_capacity(alloc, room as usize)?;
+    for _ in 0..room {
+        standings.push_reserved(None);
+    }
+    Ok(standings)
+}
+
 // So many slots.
-fn slots<A: Allocator>(alloc: A, room: u32) -> Result<Vec<u32, A>, AllocError>
+fn slots(alloc: Global, room: u32) -> Result<Vec<u32>, AllocError>
     ensures len { IfOk result (λ free. length free.items ≡ room) }
     ensures apart { IfOk result (λ free. (s : ℕ) → copies_of s free.items ≤ 1) }
+    ensures low { IfOk result (λ free. (s : ℕ) → room ≤ s → copies_of s free.items ≡ 0) }
     ensures capacity { IfOk result (λ free. room ≤ vec_capacity free) }
 {
     let mut free = Vec::with_capacity(alloc, room as usize)?;
@@ -228,6 +344,16 @@ fn weight(standing: Standing) -> usize
     }
 }
 
+// Whether it waits and was told nothing.
+fn is_quiet(standing: Standing) -> bool
+    ensures { result ≡ is_quiet_of standing }
+{
+    match standing {
+        Standing::Quiet => true,
+        Standing::Told | Standing::Aside => false,
+    }
+}
+
 // Whether it waits and was told to look.
 fn was_told(standing: Standing) -> bool
     ensures { result ≡ is_told standing }
@@ -236,59 +362,6 @@ fn was_told(standing: Standing) -> bool
         Standing::Told => true,
         Standing::Quiet | Standing::Aside => false,
     }
-}
-
-// The index of the one with this slot, or the length.
-fn index_of(places: &[Place], slot: u32) -> usize
-    ensures { result ≡ index_of slot places.now }
-{
-    for (i, place) in places.iter().enumerate() {
-        if place.slot == slot {
-            return i;
-        }
-    }
-    places.len()
-}
-
-// The index of the first who was told nothing, or the length.
-fn quiet_index(places: &[Place]) -> usize
-    ensures { result ≡ quiet_index places.now }
-{
-    for (i, place) in places.iter().enumerate() {
-        if place.standing == Standing::Quiet {
-            return i;
-        }
-    }
-    places.len()
-}
-
-// How many wait before the one with this slot.
-fn ahead(places: &[Place], slot: u32) -> usize
-    ensures { result ≡ ahead slot places.now }
-{
-    let mut count = 0;
-    for place in places {
-        if place.slot == slot {
-            return count;
-        }
-        count += weight(place.standing);
-    }
-    count
-}
-
-// The first one that was told to look and whose time is over, before all that were told nothing.
-fn first_late(places: &[Place], now: Duration, ends: &[Duration]) -> Option<u32>
-    ensures { result ≡ first_late (as_nanos now) ends.now places.now }
-{
-    for place in places {
-        if place.standing == Standing::Quiet {
-            return None;
-        }
-        if is_late(*place, now, ends) {
-            return Some(place.slot);
-        }
-    }
-    None
 }
 
 // Whether one was told to look, and its time is over.

@@ -2,7 +2,7 @@
 ghost use Rattle.std.specs.Prelude.{◌≡◌, ℕ, ◌+◌, ◌*◌, ◌<◌, ◌≤◌, ◌↔◌, [], length, map, vec_len};
 ghost use Rattle.std.specs.Prelude.{vec_capacity};
 ghost use Rattle.std.specs.Prelude.{IsTrue, IfOk, IfSome, None, false, true, List, ◌∷◌, option_map};
-ghost use Rattle.std.specs.Prelude.{is_some};
+ghost use Rattle.std.specs.Prelude.{is_some, min};
 ghost use Rattle.std.specs.Duration.{as_nanos};
 ghost use Rattle.r2d2_core.specs.Seen.{seen_take, Empty, seen_returned, seen_released, map_ok};
 ghost use Rattle.r2d2_core.specs.BookSteps.{IsTake, IsBegin, IsNumbering, IsReturn, IsReap};
@@ -14,6 +14,7 @@ ghost use Rattle.r2d2.specs.Evicted.{evicted_of, after_eviction, IsEvicted};
 ghost use Rattle.r2d2.specs.Waiting.{waiting_in, before, stood_by, served, left_by, told_by};
 ghost use Rattle.r2d2.specs.Waiting.{told_if, slot_if, is_kept, told_at, first_late, pass_first};
 ghost use Rattle.r2d2.specs.Waiting.{told_instead};
+ghost use Rattle.r2d2.specs.Ring.{places_in};
 ghost use Rattle.r2d2.specs.Order.{Event, TookAtOnce, IsHistoryOf, IsPlaceIn, with_told, with_take};
 ghost use Rattle.r2d2.specs.Order.{with_wait, with_leave, with_pass};
 
@@ -27,6 +28,9 @@ use std::alloc::{AllocError, Global};
 use std::marker::Model;
 use std::sync::ledger::{Ledger, Share};
 use std::time::Duration;
+
+/// As many who wait before a caller are counted for it when it gives up.
+pub const MOST_AHEAD: usize = 1_000;
 
 /// Whom to wake once the lock is free. It can't be let go: `Shared::wake` uses it up.
 pub struct ToWake {
@@ -78,13 +82,14 @@ pub struct LinedBook<P, C: TakeTotal> {
 impl<P, C: TakeTotal> Model for LinedBook<P, C> {
     ghost use Rattle.std.specs.Prelude.{length};
     ghost use Rattle.r2d2.specs.Lined.{SeenLined, seen_lined};
+    ghost use Rattle.r2d2.specs.Ring.{places_in};
     ghost use Rattle.r2d2.specs.Waiting.{AreTold};
 
     ghost Value = { SeenLined P C };
 
-    ghost view = { λ l. seen_lined l.book.book l.book.total l.line.places.items l.owed };
+    ghost view = { λ l. seen_lined l.book.book l.book.total (places_in l.line.ring) l.owed };
 
-    ghost invariant = { λ l. AreTold (length l.book.book.picture.idle) l.line.places.items };
+    ghost invariant = { λ l. AreTold (length l.book.book.picture.idle) (places_in l.line.ring) };
 }
 
 impl<P: Drop> LinedBook<P, Uncounted> {
@@ -106,7 +111,7 @@ impl<P: Drop> LinedBook<P, Uncounted> {
 impl<P, C: TakeTotal> LinedBook<P, C> {
     /// A book for which nobody waits yet.
     pub(super) fn new(book: CountingBook<P, C>, line: Line) -> LinedBook<P, C>
-        requires { line.places.items ≡ [] }
+        requires { places_in line.ring ≡ [] }
         ensures book { result.book ≡ book.book }
         ensures total { result.total ≡ book.total }
         ensures line { result.places ≡ [] }
@@ -240,13 +245,21 @@ impl<P, C: TakeTotal> LinedBook<P, C> {
         self.book.report()
     }
 
-    /// How many wait before this caller: all who wait, if it does not stand in line.
+    /// How many wait before this caller, or all who wait, if it does not stand in line; but at most
+    /// `MOST_AHEAD`, so that who gives up holds the lock no longer where more wait.
     pub fn ahead_of(&self, place: Option<u32>) -> usize
-        ensures { result ≡ before place self.now.places }
+        ensures { result ≡ min (before place self.now.places) 1000 }
+    {
+        self.ahead(place, MOST_AHEAD)
+    }
+
+    // How many wait before a caller, but at most so many.
+    fn ahead(&self, place: Option<u32>, most: usize) -> usize
+        ensures { result ≡ min (before place self.now.places) most }
     {
         match place {
-            Some(slot) => self.line.ahead(slot),
-            None => self.line.waiting(),
+            Some(slot) => self.line.ahead(slot, most),
+            None => self.line.waiting().min(most),
         }
     }
 
@@ -255,7 +268,8 @@ impl<P, C: TakeTotal> LinedBook<P, C> {
         ensures { IsTrue result
             ↔ (before place self.now.places < length self.now.book.picture.idle) }
     {
-        self.ahead_of(place) < self.book.book().idle() as usize
+        let idle = self.book.book().idle() as usize;
+        self.ahead(place, idle) < idle
     }
 
     // Whether all that is idle is kept for those in line.

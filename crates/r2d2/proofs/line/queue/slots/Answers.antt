@@ -4,7 +4,7 @@ use Rattle.r2d2.proofs.Waiting.{push_apart, push_below}
 use Rattle.r2d2.proofs.line.queue.slots.Goals as goal
 
 pub loop-slot-preserved : goal.loop-slot-preserved
-loop-slot-preserved g c =
+loop-slot-preserved c =
     let i = c.loop-slot.invariant in
     record {
       len = omega (arith, i.len, c.push_reserved.ensures.len);

@@ -3,7 +3,7 @@ use Rattle.r2d2.specs.Waiting.{copies_of}
 use Rattle.r2d2.proofs.line.queue.slots.Given as goal
 
 abbrev pub invariant-loop-slot : goal.invariant-loop-slot
-invariant-loop-slot g l = record {
+invariant-loop-slot l = record {
   len : length l.free.items ≡ l.slot;
   capacity : l.room ≤ vec_capacity l.free;
   apart : (s : ℕ) → copies_of s l.free.items ≤ 1;

@@ -1,76 +1,112 @@
-use Rattle.std.proofs.Common.{◌≡◌, suc, ◌<◌, ◌≤◌, ◌++◌, ◌∷◌, length, take, drop, get_or, sym, ◌∙◌, ap, arith}
-use Rattle.r2d2.specs.declared.line.place.Place.{Place}
-use Rattle.r2d2.specs.Waiting.{weight as weight_of, is_told, waiting_in, index_of, without, copies_in, copies_of}
-use Rattle.r2d2.proofs.Waiting.{waiting_in-without, weight_at-is, weight_at-le, told_at-is, told_at-none, remove-is, without-none, copies_in-within, copies_in-without, copies_of-push}
-use Rattle.std.proofs.Common.{subst}
+use Rattle.std.proofs.Common.{◌≡◌, ◌≢◌, ℕ, ◌+◌, ◌-◌, ◌<◌, length, set, cond, None, sym, ◌∙◌, ap, arith}
+use Rattle.std.specs.Prelude.{◌==◌}
+use Rattle.std.proofs.lemmas.Bool.Decides.{nat_tests}
+use Rattle.std.proofs.lemmas.List.{length-set}
+use Rattle.r2d2.specs.Ring.{next_of, order, places_in, row_of, standing_of, one_if, or_quiet}
+use Rattle.r2d2.specs.Waiting.{weight as weight_of, is_told, waiting_in, copies_of, without}
+use Rattle.r2d2.proofs.Waiting.{waiting_in-without, weight_at-le, copies_of-push}
+use Rattle.r2d2.proofs.Walks.{drop_slot, copies_of-drop, order_left, closed_left, more_than_none}
+use Rattle.r2d2.proofs.Rows.{row_of-frame, row_of-drop, told_at-row, weight_at-row, copies_in-row, leaves_none, told_none, stands_within, one_if-left, alone_left}
+use Rattle.std.proofs.Common.{subst, ◌∷◌}
 use Rattle.r2d2.specs.Order.{Left, IsHistoryOf}
 use Rattle.r2d2.proofs.Order.{left}
 use Rattle.r2d2.proofs.line.queue.Line.leave.Goals as goal
 
-pub returns-then-index-len-clause-places : goal.returns-then-index-len-clause-places
-returns-then-index-len-clause-places g c =
-    let ps = c.args.self.now.places.items in
-    let i : c.index_of-index.result ≡ index_of c.args.slot ps = c.index_of-index.ensures ∙ ap (index_of c.args.slot) c.deref.ensures.value in
-    let le : length ps ≤ index_of c.args.slot ps = omega (arith, i, c.if-index-len.true, c.len.ensures) in
-    sym (without-none c.args.slot ps le)
-
-pub returns-then-index-len-clause-told : goal.returns-then-index-len-clause-told
-returns-then-index-len-clause-told g c =
-    let ps = c.args.self.now.places.items in
-    let i : c.index_of-index.result ≡ index_of c.args.slot ps = c.index_of-index.ensures ∙ ap (index_of c.args.slot) c.deref.ensures.value in
-    let le : length ps ≤ index_of c.args.slot ps = omega (arith, i, c.if-index-len.true, c.len.ensures) in
-    sym (told_at-none c.args.slot ps le)
-
-pub overflow_sub-self : goal.overflow_sub-self
-overflow_sub-self g c =
-    let ps = c.args.self.now.places.items in
+pub returns-in_default-clause-places : goal.returns-in_default-clause-places
+returns-in_default-clause-places c =
+    let me = c.args.self.now in
     let s = c.args.slot in
-    let i : c.index_of-index.result ≡ index_of s ps = c.index_of-index.ensures ∙ ap (index_of s) c.deref.ensures.value in
-    let lt : index_of s ps < length ps = omega (arith, i, c.if-index-len.false, c.len.ensures) in
-    let gone = c.remove-gone.result in
-    let it : gone ≡ get_or ps (index_of s ps) gone = c.remove-gone.ensures.value ∙ ap (λ n. get_or ps n gone) i in
-    omega (arith, c.weight.ensures, ap (λ (x : Place). weight_of x.standing) it, weight_at-is s ps gone lt, weight_at-le s ps, c.args.self.now.counted)
+    let ss = order me.ring.links.items me.ring.end me.ring.len in
+    let none : copies_of s ss ≡ 0 = me.stand s ∙ ap one_if (sym c.standing.ensures ∙ c.in_default.is) in
+    sym (leaves_none s (row_of me.ring.standings.items ss) (copies_in-row me.ring.standings.items s ss ∙ none))
+
+pub returns-in_default-clause-told : goal.returns-in_default-clause-told
+returns-in_default-clause-told c =
+    let me = c.args.self.now in
+    let s = c.args.slot in
+    let ss = order me.ring.links.items me.ring.end me.ring.len in
+    let none : copies_of s ss ≡ 0 = me.stand s ∙ ap one_if (sym c.standing.ensures ∙ c.in_default.is) in
+    sym (told_none s (row_of me.ring.standings.items ss) (copies_in-row me.ring.standings.items s ss ∙ none))
+
+pub overflow_sub-self-2 : goal.overflow_sub-self-2
+overflow_sub-self-2 c =
+    let me = c.args.self.now in
+    let sts = me.ring.standings.items in
+    let s = c.args.slot in
+    let ss = order me.ring.links.items me.ring.end me.ring.len in
+    let st = sym c.standing.ensures ∙ c.in-Some.is in
+    let one : copies_of s ss ≡ 1 = me.stand s ∙ ap one_if st in
+    let w : weight_of (or_quiet (standing_of sts s)) ≡ weight_of c.in-Some.standing = ap (λ o. weight_of (or_quiet o)) st in
+    omega (arith, c.weight.ensures, w, weight_at-row sts s ss (omega (arith, one)), weight_at-le s (row_of sts ss), me.counted)
 
 pub invariant_of-self : goal.invariant_of-self
-invariant_of-self g c =
-    let ps = c.args.self.now.places.items in
+invariant_of-self c =
+    let me = c.args.self.now in
+    let sts = me.ring.standings.items in
     let s = c.args.slot in
-    let i : c.index_of-index.result ≡ index_of s ps = c.index_of-index.ensures ∙ ap (index_of s) c.deref.ensures.value in
-    let lt : index_of s ps < length ps = omega (arith, i, c.if-index-len.false, c.len.ensures) in
-    let gone = c.remove-gone.result in
-    let it : gone ≡ get_or ps (index_of s ps) gone = c.remove-gone.ensures.value ∙ ap (λ n. get_or ps n gone) i in
-    let left : c.remove-gone.new.self.items ≡ without s ps = c.remove-gone.ensures.items ∙ ap (λ n. take n ps ++ drop (suc n) ps) i ∙ remove-is s ps lt in
+    let f = next_of me.ring.links.items in
+    let new = next_of c.skip.new.links.items in
+    let h = c.skip.ensures.nexts in
+    let ss = order me.ring.links.items me.ring.end me.ring.len in
+    let ps = row_of sts ss in
+    let st = sym c.standing.ensures ∙ c.in-Some.is in
+    let one_at : one_if (standing_of sts s) ≡ 1 = ap one_if st in
+    let one : copies_of s ss ≡ 1 = me.stand s ∙ one_at in
+    let some : 0 < copies_of s ss = omega (arith, one) in
+    let lt : s < length sts = stands_within sts s one_at in
+    let ne : me.ring.end ≢ s = λ e. omega (arith, e, lt, me.slots) in
+    let left : order c.skip.new.links.items me.ring.end (me.ring.len - 1) ≡ drop_slot s ss = order_left f new s me.ring.end h ne me.ring.len one in
+    let gone : copies_of s (drop_slot s ss) ≡ 0 = grind (arith, nat_tests, copies_of-drop s s ss some, one) in
+    let now : row_of (set sts s None) (order c.skip.new.links.items me.ring.end (me.ring.len - 1)) ≡ without s ps = ap (row_of (set sts s None)) left ∙ (row_of-frame sts s None lt (drop_slot s ss) gone ∙ row_of-drop sts s ss) in
+    let less : (x : ℕ) → one_if (standing_of (set sts s None) x) + (cond (s == x) 1 0) ≡ one_if (standing_of sts x) = λ x. one_if-left sts s x lt one_at in
+    let w : weight_of (or_quiet (standing_of sts s)) ≡ weight_of c.in-Some.standing = ap (λ o. weight_of (or_quiet o)) st in
+    let freed : (x : ℕ) → copies_of x c.push_reserved.new.self.items ≡ copies_of x me.free.items + (cond (s == x) 1 0) = λ x. ap (copies_of x) c.push_reserved.ensures.items ∙ copies_of-push me.free.items s x in
     record {
-      apart = λ t. omega (arith, c.args.self.now.apart t, ap (copies_in t) left, copies_in-without t s ps (copies_in-within s ps lt), ap (copies_of t) c.push_reserved.ensures.items, copies_of-push c.args.self.now.free.items s t);
-      counted = omega (arith, c.weight.ensures, ap (λ (x : Place). weight_of x.standing) it, weight_at-is s ps gone lt, waiting_in-without s ps, ap waiting_in left, c.args.self.now.counted);
-      room_for_places = omega (arith, c.args.self.now.room_for_places, c.remove-gone.ensures.len, c.push_reserved.ensures.len, c.remove-gone.ensures.capacity);
-      room_for_free = omega (arith, c.args.self.now.room_for_free, c.remove-gone.ensures.len, c.push_reserved.ensures.len, c.push_reserved.ensures.capacity);
+      inverse = c.skip.ensures.inverse;
+      closed = closed_left f new s me.ring.end h ne me.ring.len one me.closed;
+      stand = λ x. omega (arith, ap (copies_of x) left, copies_of-drop s x ss some, me.stand x, less x);
+      apart = λ x. omega (arith, me.apart x, less x, freed x);
+      low = λ x le. grind (arith, nat_tests, freed x, me.low x le, lt, me.slots);
+      alone = λ x none ne_end. alone_left f new s x (h x) (λ other. me.alone x (grind (arith, nat_tests, less x, none, other)) ne_end);
+      counted = omega (arith, c.weight.ensures, w, weight_at-row sts s ss some, waiting_in-without s ps, ap waiting_in now, weight_at-le s ps, me.counted);
+      nodes = c.skip.ensures.len ∙ me.nodes;
+      slots = length-set sts s None ∙ me.slots;
+      room = omega (arith, me.room, c.push_reserved.ensures.len, ap length left, one, ap length c.push_reserved.ensures.items, more_than_none f me.ring.len (f me.ring.end) s some);
+      room_for_free = omega (arith, me.room_for_free, c.push_reserved.ensures.capacity);
+      small = me.small;
     }
 
 pub returns-clause-places : goal.returns-clause-places
-returns-clause-places g c =
-    let ps = c.args.self.now.places.items in
+returns-clause-places c =
+    let me = c.args.self.now in
+    let sts = me.ring.standings.items in
     let s = c.args.slot in
-    let i : c.index_of-index.result ≡ index_of s ps = c.index_of-index.ensures ∙ ap (index_of s) c.deref.ensures.value in
-    let lt : index_of s ps < length ps = omega (arith, i, c.if-index-len.false, c.len.ensures) in
-    c.remove-gone.ensures.items ∙ ap (λ n. take n ps ++ drop (suc n) ps) i ∙ remove-is s ps lt
+    let ss = order me.ring.links.items me.ring.end me.ring.len in
+    let one_at : one_if (standing_of sts s) ≡ 1 = ap one_if (sym c.standing.ensures ∙ c.in-Some.is) in
+    let one : copies_of s ss ≡ 1 = me.stand s ∙ one_at in
+    let some : 0 < copies_of s ss = omega (arith, one) in
+    let lt : s < length sts = stands_within sts s one_at in
+    let ne : me.ring.end ≢ s = λ e. omega (arith, e, lt, me.slots) in
+    let left = order_left (next_of me.ring.links.items) (next_of c.skip.new.links.items) s me.ring.end c.skip.ensures.nexts ne me.ring.len one in
+    let gone : copies_of s (drop_slot s ss) ≡ 0 = grind (arith, nat_tests, copies_of-drop s s ss some, one) in
+    ap (row_of (set sts s None)) left ∙ (row_of-frame sts s None lt (drop_slot s ss) gone ∙ row_of-drop sts s ss)
 
 pub returns-clause-told : goal.returns-clause-told
-returns-clause-told g c =
-    let ps = c.args.self.now.places.items in
+returns-clause-told c =
+    let me = c.args.self.now in
+    let sts = me.ring.standings.items in
     let s = c.args.slot in
-    let i : c.index_of-index.result ≡ index_of s ps = c.index_of-index.ensures ∙ ap (index_of s) c.deref.ensures.value in
-    let lt : index_of s ps < length ps = omega (arith, i, c.if-index-len.false, c.len.ensures) in
-    let gone = c.remove-gone.result in
-    let it : gone ≡ get_or ps (index_of s ps) gone = c.remove-gone.ensures.value ∙ ap (λ n. get_or ps n gone) i in
-    c.was_told.ensures ∙ ap (λ (x : Place). is_told x.standing) it ∙ sym (told_at-is s ps gone lt)
+    let ss = order me.ring.links.items me.ring.end me.ring.len in
+    let st = sym c.standing.ensures ∙ c.in-Some.is in
+    let one : copies_of s ss ≡ 1 = me.stand s ∙ ap one_if st in
+    c.was_told.ensures ∙ sym (told_at-row sts s ss (omega (arith, one)) ∙ ap (λ o. is_told (or_quiet o)) st)
 
-pub returns-then-index-len-clause-history : goal.returns-then-index-len-clause-history
-returns-then-index-len-clause-history g c = λ h is.
-    let s = c.args.slot in
-    subst (IsHistoryOf (Left s ∷ h)) (sym (returns-then-index-len-clause-places g c)) (left h s c.args.self.now.places.items is)
+pub returns-in_default-clause-history : goal.returns-in_default-clause-history
+returns-in_default-clause-history c = λ h is.
+    let me = c.args.self.now in
+    subst (IsHistoryOf (Left c.args.slot ∷ h)) (sym (returns-in_default-clause-places c)) (left h c.args.slot (places_in me.ring) is)
 
 pub returns-clause-history : goal.returns-clause-history
-returns-clause-history g c = λ h is.
-    let s = c.args.slot in
-    subst (IsHistoryOf (Left s ∷ h)) (sym (returns-clause-places g c)) (left h s c.args.self.now.places.items is)
+returns-clause-history c = λ h is.
+    let me = c.args.self.now in
+    subst (IsHistoryOf (Left c.args.slot ∷ h)) (sym (returns-clause-places c)) (left h c.args.slot (places_in me.ring) is)

@@ -1,58 +1,79 @@
-use Rattle.std.proofs.Common.{◌≡◌, ◌<◌, ◌≤◌, length, set, get_or, sym, ◌∙◌, ap, arith}
-use Rattle.r2d2.specs.declared.line.place.Place.{Place}
-use Rattle.r2d2.specs.Waiting.{weight as weight_of, place, waiting_in, index_of, with_standing, copies_in}
-use Rattle.r2d2.proofs.Waiting.{weight_at-is, weight_at-le, copies_in-within, set-is, standing-none, copies_in-standing, length-standing, waiting_in-le, waiting_in-standing}
+use Rattle.std.proofs.Common.{◌≡◌, ℕ, set, Some, sym, ◌∙◌, ap, arith}
+use Rattle.std.proofs.lemmas.List.{length-set}
+use Rattle.r2d2.specs.Ring.{next_of, order, row_of, standing_of, one_if, or_quiet}
+use Rattle.r2d2.specs.Waiting.{weight as weight_of, waiting_in, copies_of, with_standing}
+use Rattle.r2d2.proofs.Waiting.{waiting_in-standing, waiting_in-le, weight_at-le, length-standing}
+use Rattle.r2d2.proofs.Rows.{row_of-mark, weight_at-row, copies_in-row, length-row, marks_none, stands_within, one_if-mark}
 use Rattle.r2d2.proofs.line.queue.Line.mark.Goals as goal
 
-pub returns-then-index-len-clause-places : goal.returns-then-index-len-clause-places
-returns-then-index-len-clause-places g c =
-    let ps = c.args.self.now.places.items in
-    let i : c.index_of-index.result ≡ index_of c.args.slot ps = c.index_of-index.ensures ∙ ap (index_of c.args.slot) c.deref.ensures.value in
-    let le : length ps ≤ index_of c.args.slot ps = omega (arith, i, c.if-index-len.true, c.len.ensures) in
-    sym (standing-none c.args.slot c.args.standing ps le)
+pub returns-in_default-clause-places : goal.returns-in_default-clause-places
+returns-in_default-clause-places c =
+    let me = c.args.self.now in
+    let s = c.args.slot in
+    let ss = order me.ring.links.items me.ring.end me.ring.len in
+    let none : copies_of s ss ≡ 0 = me.stand s ∙ ap one_if (sym c.standing.ensures ∙ c.in_default.is) in
+    sym (marks_none s c.args.standing (row_of me.ring.standings.items ss) (copies_in-row me.ring.standings.items s ss ∙ none))
 
 pub overflow_sub-self : goal.overflow_sub-self
-overflow_sub-self g c =
-    let ps = c.args.self.now.places.items in
+overflow_sub-self c =
+    let me = c.args.self.now in
+    let sts = me.ring.standings.items in
     let s = c.args.slot in
-    let i : c.index_of-index.result ≡ index_of s ps = c.index_of-index.ensures ∙ ap (index_of s) c.deref.ensures.value in
-    let lt : index_of s ps < length ps = omega (arith, i, c.if-index-len.false, c.len.ensures) in
-    let at = c.index.result.now in
-    let it : at ≡ get_or ps (index_of s ps) at = c.index.ensures ∙ ap (λ n. get_or ps n at) i in
-    omega (arith, c.weight-before.ensures, ap (λ (x : Place). weight_of x.standing) it, weight_at-is s ps at lt, weight_at-le s ps, c.args.self.now.counted)
+    let ss = order me.ring.links.items me.ring.end me.ring.len in
+    let st = sym c.standing.ensures ∙ c.in-Some.is in
+    let one : copies_of s ss ≡ 1 = me.stand s ∙ ap one_if st in
+    let w : weight_of (or_quiet (standing_of sts s)) ≡ weight_of c.in-Some.before = ap (λ o. weight_of (or_quiet o)) st in
+    omega (arith, c.weight.ensures, w, weight_at-row sts s ss (omega (arith, one)), weight_at-le s (row_of sts ss), me.counted)
 
 pub overflow_add-self : goal.overflow_add-self
-overflow_add-self g c =
-    let ps = c.args.self.now.places.items in
-    let s = c.args.slot in
-    let i : c.index_of-index.result ≡ index_of s ps = c.index_of-index.ensures ∙ ap (index_of s) c.deref.ensures.value in
-    let lt : index_of s ps < length ps = omega (arith, i, c.if-index-len.false, c.len.ensures) in
-    let at = c.index.result.now in
-    let it : at ≡ get_or ps (index_of s ps) at = c.index.ensures ∙ ap (λ n. get_or ps n at) i in
-    omega (arith, c.weight-before.ensures, c.weight.ensures, ap (λ (x : Place). weight_of x.standing) it, weight_at-is s ps at lt, waiting_in-standing s c.args.standing ps (copies_in-within s ps lt), c.args.self.now.counted, waiting_in-le (with_standing s c.args.standing ps), length-standing s c.args.standing ps, c.deref.ensures.len, c.deref.ensures.value, c.deref.type_inv.0, ap length c.deref.ensures.value)
-
-pub invariant_of-self : goal.invariant_of-self
-invariant_of-self g c =
-    let ps = c.args.self.now.places.items in
+overflow_add-self c =
+    let me = c.args.self.now in
+    let sts = me.ring.standings.items in
     let s = c.args.slot in
     let t = c.args.standing in
-    let i : c.index_of-index.result ≡ index_of s ps = c.index_of-index.ensures ∙ ap (index_of s) c.deref.ensures.value in
-    let lt : index_of s ps < length ps = omega (arith, i, c.if-index-len.false, c.len.ensures) in
-    let at = c.index.result.now in
-    let it : at ≡ get_or ps (index_of s ps) at = c.index.ensures ∙ ap (λ n. get_or ps n at) i in
-    let now : set ps c.index_of-index.result (place s t) ≡ with_standing s t ps = ap (λ n. set ps n (place s t)) i ∙ set-is s t ps lt in
-    record {
-      apart = λ u. omega (arith, c.args.self.now.apart u, ap (copies_in u) now, copies_in-standing u s t ps);
-      counted = omega (arith, c.weight-before.ensures, c.weight.ensures, ap (λ (x : Place). weight_of x.standing) it, weight_at-is s ps at lt, waiting_in-standing s t ps (copies_in-within s ps lt), weight_at-le s ps, ap waiting_in now, c.args.self.now.counted);
-      room_for_places = omega (arith, c.args.self.now.room_for_places, ap length now, length-standing s t ps);
-      room_for_free = omega (arith, c.args.self.now.room_for_free, ap length now, length-standing s t ps);
-    }
+    let ss = order me.ring.links.items me.ring.end me.ring.len in
+    let ps = row_of sts ss in
+    let st = sym c.standing.ensures ∙ c.in-Some.is in
+    let one : copies_of s ss ≡ 1 = me.stand s ∙ ap one_if st in
+    let w : weight_of (or_quiet (standing_of sts s)) ≡ weight_of c.in-Some.before = ap (λ o. weight_of (or_quiet o)) st in
+    omega (arith, c.weight.ensures, c.weight-2.ensures, w, weight_at-le s ps, weight_at-row sts s ss (omega (arith, one)), waiting_in-standing s t ps (omega (arith, one, copies_in-row sts s ss)), waiting_in-le (with_standing s t ps), length-standing s t ps, length-row sts (next_of me.ring.links.items) me.ring.len (next_of me.ring.links.items me.ring.end), me.counted, me.room, me.small)
 
 pub returns-clause-places : goal.returns-clause-places
-returns-clause-places g c =
-    let ps = c.args.self.now.places.items in
+returns-clause-places c =
+    let me = c.args.self.now in
+    let sts = me.ring.standings.items in
+    let s = c.args.slot in
+    let ss = order me.ring.links.items me.ring.end me.ring.len in
+    let one_at = ap one_if (sym c.standing.ensures ∙ c.in-Some.is) in
+    let one : copies_of s ss ≡ 1 = me.stand s ∙ one_at in
+    row_of-mark sts s c.args.standing (stands_within sts s one_at) ss (omega (arith, one))
+
+pub invariant_of-self : goal.invariant_of-self
+invariant_of-self c =
+    let me = c.args.self.now in
+    let sts = me.ring.standings.items in
     let s = c.args.slot in
     let t = c.args.standing in
-    let i : c.index_of-index.result ≡ index_of s ps = c.index_of-index.ensures ∙ ap (index_of s) c.deref.ensures.value in
-    let lt : index_of s ps < length ps = omega (arith, i, c.if-index-len.false, c.len.ensures) in
-    ap (λ n. set ps n (place s t)) i ∙ set-is s t ps lt
+    let ss = order me.ring.links.items me.ring.end me.ring.len in
+    let ps = row_of sts ss in
+    let st = sym c.standing.ensures ∙ c.in-Some.is in
+    let one_at : one_if (standing_of sts s) ≡ 1 = ap one_if st in
+    let one : copies_of s ss ≡ 1 = me.stand s ∙ one_at in
+    let lt = stands_within sts s one_at in
+    let w : weight_of (or_quiet (standing_of sts s)) ≡ weight_of c.in-Some.before = ap (λ o. weight_of (or_quiet o)) st in
+    let same : (x : ℕ) → one_if (standing_of (set sts s (Some t)) x) ≡ one_if (standing_of sts x) = λ x. one_if-mark sts s t x lt one_at in
+    let now : row_of (set sts s (Some t)) ss ≡ with_standing s t ps = row_of-mark sts s t lt ss (omega (arith, one)) in
+    record {
+      inverse = me.inverse;
+      closed = me.closed;
+      stand = λ x. me.stand x ∙ sym (same x);
+      apart = λ x. omega (arith, me.apart x, same x);
+      low = me.low;
+      alone = λ x none ne. me.alone x (sym (same x) ∙ none) ne;
+      counted = omega (arith, c.weight.ensures, c.weight-2.ensures, w, weight_at-row sts s ss (omega (arith, one)), waiting_in-standing s t ps (omega (arith, one, copies_in-row sts s ss)), weight_at-le s ps, ap waiting_in now, me.counted);
+      nodes = me.nodes;
+      slots = length-set sts s (Some t) ∙ me.slots;
+      room = me.room;
+      room_for_free = me.room_for_free;
+      small = me.small;
+    }

@@ -1,9 +1,10 @@
 use Rattle.std.proofs.Common.{◌∷◌, sym, subst}
 use Rattle.r2d2.specs.Order.{Passed, IsHistoryOf}
+use Rattle.r2d2.specs.Ring.{places_in}
 use Rattle.r2d2.proofs.Order.{passed}
 use Rattle.r2d2.proofs.line.queue.Line.pass.Goals as goal
 
 pub returns-clause-history : goal.returns-clause-history
-returns-clause-history g c = λ h is told.
+returns-clause-history c = λ h is told.
     let s = c.args.slot in
-    subst (IsHistoryOf (Passed s ∷ h)) (sym c.mark.ensures.places) (passed h s c.args.self.now.places.items told is)
+    subst (IsHistoryOf (Passed s ∷ h)) (sym c.mark.ensures.places) (passed h s (places_in c.args.self.now.ring) told is)

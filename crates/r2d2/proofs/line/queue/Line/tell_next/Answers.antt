@@ -1,68 +1,32 @@
-use Rattle.std.proofs.Common.{◌≡◌, ◌<◌, ◌≤◌, ◌∷◌, length, set, get_or, Some, sym, ◌∙◌, ap, arith}
-use Rattle.r2d2.specs.declared.line.place.Place.{Place}
-use Rattle.r2d2.specs.declared.line.place.Standing.TheVariants.{Told}
-use Rattle.r2d2.specs.Waiting.{place, waiting_in, quiet_index, told_first, copies_in}
-use Rattle.r2d2.proofs.Waiting.{waiting_in-tell, copies_in-tell, length-tell, tell-is, tell-none, first_quiet-is, first_quiet-none}
-use Rattle.std.proofs.Common.{subst}
+use Rattle.std.proofs.Common.{sym, ◌∙◌, arith}
+use Rattle.r2d2.specs.Ring.{order, places_in, standing_of}
+use Rattle.r2d2.proofs.Rows.{copies_in-row, one_if-le}
+use Rattle.r2d2.proofs.Loops.{tell_nobody, tell_first}
+use Rattle.std.proofs.Common.{subst, ◌∷◌}
 use Rattle.r2d2.specs.Order.{WasTold, IsHistoryOf}
 use Rattle.r2d2.proofs.Order.{was_told, none_untold}
 use Rattle.r2d2.proofs.line.queue.Line.tell_next.Goals as goal
 
-pub returns-then-index-len-clause-places : goal.returns-then-index-len-clause-places
-returns-then-index-len-clause-places g c =
-    let ps = c.args.self.now.places.items in
-    let i : c.quiet_index-index.result ≡ quiet_index ps = c.quiet_index-index.ensures ∙ ap quiet_index c.deref.ensures.value in
-    let le : length ps ≤ quiet_index ps = omega (arith, i, c.if-index-len.true, c.len.ensures) in
-    sym (tell-none ps le)
-
-pub returns-then-index-len-clause-who : goal.returns-then-index-len-clause-who
-returns-then-index-len-clause-who g c =
-    let ps = c.args.self.now.places.items in
-    let i : c.quiet_index-index.result ≡ quiet_index ps = c.quiet_index-index.ensures ∙ ap quiet_index c.deref.ensures.value in
-    let le : length ps ≤ quiet_index ps = omega (arith, i, c.if-index-len.true, c.len.ensures) in
-    sym (first_quiet-none ps le)
-
-pub invariant_of-self : goal.invariant_of-self
-invariant_of-self g c =
-    let ps = c.args.self.now.places.items in
-    let i : c.quiet_index-index.result ≡ quiet_index ps = c.quiet_index-index.ensures ∙ ap quiet_index c.deref.ensures.value in
-    let lt : quiet_index ps < length ps = omega (arith, i, c.if-index-len.false, c.len.ensures) in
-    let at = c.index.result.now in
-    let it : at ≡ get_or ps (quiet_index ps) at = c.index.ensures ∙ ap (λ n. get_or ps n at) i in
-    let now : set ps c.quiet_index-index.result (place at.slot Told) ≡ told_first ps = ap (λ n. set ps n (place at.slot Told)) i ∙ ap (λ (x : Place). set ps (quiet_index ps) (place x.slot Told)) it ∙ tell-is ps at lt in
-    record {
-      apart = λ u. omega (arith, c.args.self.now.apart u, ap (copies_in u) now, copies_in-tell u ps);
-      counted = omega (arith, ap waiting_in now, waiting_in-tell ps, c.args.self.now.counted);
-      room_for_places = omega (arith, c.args.self.now.room_for_places, ap length now, length-tell ps);
-      room_for_free = omega (arith, c.args.self.now.room_for_free, ap length now, length-tell ps);
-    }
+pub returns-in_default-clause-places : goal.returns-in_default-clause-places
+returns-in_default-clause-places c =
+    let me = c.args.self.now in
+    sym (tell_nobody (places_in me.ring) (sym c.first_quiet.ensures ∙ c.in_default.is))
 
 pub returns-clause-places : goal.returns-clause-places
-returns-clause-places g c =
-    let ps = c.args.self.now.places.items in
-    let i : c.quiet_index-index.result ≡ quiet_index ps = c.quiet_index-index.ensures ∙ ap quiet_index c.deref.ensures.value in
-    let lt : quiet_index ps < length ps = omega (arith, i, c.if-index-len.false, c.len.ensures) in
-    let at = c.index.result.now in
-    let it : at ≡ get_or ps (quiet_index ps) at = c.index.ensures ∙ ap (λ n. get_or ps n at) i in
-    ap (λ n. set ps n (place at.slot Told)) i ∙ ap (λ (x : Place). set ps (quiet_index ps) (place x.slot Told)) it ∙ tell-is ps at lt
-
-pub returns-clause-who : goal.returns-clause-who
-returns-clause-who g c =
-    let ps = c.args.self.now.places.items in
-    let i : c.quiet_index-index.result ≡ quiet_index ps = c.quiet_index-index.ensures ∙ ap quiet_index c.deref.ensures.value in
-    let lt : quiet_index ps < length ps = omega (arith, i, c.if-index-len.false, c.len.ensures) in
-    let at = c.index.result.now in
-    let it : at ≡ get_or ps (quiet_index ps) at = c.index.ensures ∙ ap (λ n. get_or ps n at) i in
-    ap (λ (x : Place). Some x.slot) it ∙ sym (first_quiet-is ps at lt)
-
-pub returns-then-index-len-clause-history : goal.returns-then-index-len-clause-history
-returns-then-index-len-clause-history g c = λ h is. is
-
-pub returns-then-index-len-clause-nobody : goal.returns-then-index-len-clause-nobody
-returns-then-index-len-clause-nobody g c = λ h is s untold.
-    none_untold s c.args.self.now.places.items (sym (returns-then-index-len-clause-who g c)) (is.stand s ∙ untold)
+returns-clause-places c =
+    let me = c.args.self.now in
+    let s = c.in-Some.slot in
+    let sts = me.ring.standings.items in
+    let ss = order me.ring.links.items me.ring.end me.ring.len in
+    c.mark.ensures.places ∙ tell_first s (places_in me.ring) (sym c.first_quiet.ensures ∙ c.in-Some.is) (omega (arith, copies_in-row sts s ss, me.stand s, one_if-le (standing_of sts s)))
 
 pub returns-clause-history : goal.returns-clause-history
-returns-clause-history g c = λ h is.
-    let s = c.index.result.now.slot in
-    subst (IsHistoryOf (WasTold s ∷ h)) (sym (returns-clause-places g c)) (was_told h s c.args.self.now.places.items (sym (returns-clause-who g c)) is)
+returns-clause-history c = λ h is.
+    let me = c.args.self.now in
+    let s = c.in-Some.slot in
+    subst (IsHistoryOf (WasTold s ∷ h)) (sym (returns-clause-places c)) (was_told h s (places_in me.ring) (sym c.first_quiet.ensures ∙ c.in-Some.is) is)
+
+pub returns-in_default-clause-nobody : goal.returns-in_default-clause-nobody
+returns-in_default-clause-nobody c = λ h is s untold.
+    let me = c.args.self.now in
+    none_untold s (places_in me.ring) (sym c.first_quiet.ensures ∙ c.in_default.is) (is.stand s ∙ untold)

@@ -1,6 +1,7 @@
 use Rattle.std.proofs.Common.{◌≡◌, ◌<◌, List, ◌∷◌, length, false, sym, ◌∙◌, subst, arith}
 use Rattle.r2d2.proofs.Lined.{still_told, one_taken}
 use Rattle.r2d2_core.specs.Seen.{seen_take}
+use Rattle.r2d2.specs.Ring.{places_in}
 use Rattle.r2d2.specs.Counted.{found_by}
 use Rattle.r2d2.specs.Waiting.{is_kept}
 use Rattle.r2d2.specs.Order.{Event, TookAtOnce, IsHistoryOf}
@@ -9,7 +10,7 @@ use Rattle.r2d2.proofs.pool.lined_book.LinedBook.lend.Goals as goal
 
 pub invariant_of-self : goal.invariant_of-self
 invariant_of-self g c =
-    let ps = c.self.inside.line.places.items in
+    let ps = places_in c.self.inside.line.ring in
     let old = c.self.inside.book.book.picture in
     let new = c.lend.new.self.book.picture in
     let less = one_taken c.args.now c.args.or_order c.lend.result.0 old new c.lend.ensures.step.of_core in
@@ -17,7 +18,7 @@ invariant_of-self g c =
 
 pub returns-clause-history : goal.returns-clause-history
 returns-clause-history g c =
-    let ps = c.self.inside.line.places.items in
+    let ps = places_in c.self.inside.line.ring in
     let old = c.self.inside.book.book.picture in
     let new = c.lend.new.self.book.picture in
     let found = found_by (seen_take c.lend.result.0) in

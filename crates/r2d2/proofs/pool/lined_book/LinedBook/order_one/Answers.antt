@@ -1,3 +1,4 @@
+use Rattle.r2d2.specs.Ring.{places_in}
 use Rattle.std.proofs.Common.{◌≡◌, length, sym, subst, arith}
 use Rattle.std.proofs.Common.{true}
 use Rattle.r2d2.proofs.Lined.{still_told, one_taken, none_counted}
@@ -5,7 +6,7 @@ use Rattle.r2d2.proofs.pool.lined_book.LinedBook.order_one.Goals as goal
 
 pub invariant_of-self : goal.invariant_of-self
 invariant_of-self g c =
-    let ps = c.self.inside.line.places.items in
+    let ps = places_in c.self.inside.line.ring in
     let old = c.self.inside.book.book.picture in
     let new = c.lend-empty.new.self.book.picture in
     let less = one_taken c.args.now true c.lend-empty.result.0 old new c.lend-empty.ensures.step.of_core in

@@ -1,5 +1,6 @@
 use Rattle.std.proofs.Common.{◌≡◌, List, ◌∷◌, ℕ, Option, Some, length, sym, ◌∙◌, ap, subst}
 use Rattle.std.specs.Duration.{as_nanos}
+use Rattle.r2d2.specs.Ring.{places_in}
 use Rattle.r2d2.specs.declared.line.place.Place.{Place}
 use Rattle.r2d2.specs.declared.line.place.Standing.TheVariants.{Aside}
 use Rattle.r2d2.specs.Waiting.{AreTold, told_first, with_standing, first_quiet, first_late, told_instead}
@@ -10,20 +11,20 @@ use Rattle.r2d2.proofs.pool.lined_book.LinedBook.pass_late.Goals as goal
 
 pub invariant_of-self : goal.invariant_of-self
 invariant_of-self g c =
-    let ps = c.self.inside.line.places.items in
+    let ps = places_in c.self.inside.line.ring in
     let idle = length c.self.inside.book.book.picture.idle in
     let s = c.in_ok-slot.slot in
     let P : List Place → Type 0 = λ qs. AreTold idle qs in
-    let now : c.tell_next-told.new.self.places.items ≡ told_first (with_standing s Aside ps) = c.tell_next-told.ensures.places ∙ ap told_first c.pass.ensures.places in
+    let now : places_in c.tell_next-told.new.self.ring ≡ told_first (with_standing s Aside ps) = c.tell_next-told.ensures.places ∙ ap told_first c.pass.ensures.places in
     subst P (sym now) (kept_passed idle s ps c.self.invariant)
 
 pub returns-clause-history : goal.returns-clause-history
 returns-clause-history g c =
     let t = as_nanos c.args.now in
     let ends = c.args.ends.now in
-    let ps = c.self.inside.line.places.items in
+    let ps = places_in c.self.inside.line.ring in
     let s = c.in_ok-slot.slot in
-    let after = c.tell_next-told.new.self.places.items in
+    let after = places_in c.tell_next-told.new.self.ring in
     let late : first_late t ends ps ≡ Some s = sym c.in_ok-slot.ensures in
     let who : c.tell_next-told.result ≡ first_quiet (with_standing s Aside ps) = c.tell_next-told.ensures.who ∙ ap first_quiet c.pass.ensures.places in
     let passed : (h : List Event) → IsHistoryOf h ps → IsHistoryOf (with_told (told_instead (Some s) ps) (with_pass (Some s) h)) after =

@@ -1,4 +1,5 @@
 use Rattle.std.proofs.Common.{◌<◌, false, List, length, sym, subst, arith}
+use Rattle.r2d2.specs.Ring.{places_in}
 use Rattle.r2d2.specs.declared.line.place.Place.{Place}
 use Rattle.r2d2.specs.Waiting.{AreTold}
 use Rattle.r2d2.specs.Waiting.{before}
@@ -9,7 +10,7 @@ use Rattle.r2d2.proofs.pool.lined_book.LinedBook.take.Goals as goal
 
 pub invariant_of-self : goal.invariant_of-self
 invariant_of-self g c =
-    let ps = c.self.inside.line.places.items in
+    let ps = places_in c.self.inside.line.ring in
     let old = c.self.inside.book.book.picture in
     let new = c.lend-taken.new.self.book.picture in
     let less = one_taken c.args.now false c.lend-taken.result.0 old new c.lend-taken.ensures.step.of_core in
@@ -17,7 +18,7 @@ invariant_of-self g c =
 
 pub invariant_of-self-2 : goal.invariant_of-self-2
 invariant_of-self-2 g c =
-    let ps = c.self.inside.line.places.items in
+    let ps = places_in c.self.inside.line.ring in
     let old = c.self.inside.book.book.picture in
     let new = c.lend-taken.new.self.book.picture in
     let turn = subst (λ v. before c.args.place v.places < length v.book.picture.idle) (sym c.self.view_is) c.requires.turn in
@@ -27,7 +28,7 @@ invariant_of-self-2 g c =
 
 pub returns-in_default-clause-history : goal.returns-in_default-clause-history
 returns-in_default-clause-history g c =
-    let ps = c.self.inside.line.places.items in
+    let ps = places_in c.self.inside.line.ring in
     let idle = length c.self.inside.book.book.picture.idle in
     let turn = subst (λ v. before c.args.place v.places < length v.book.picture.idle) (sym c.self.view_is) c.requires.turn in
     let nowhere : (h : List Event) → IsHistoryOf h ps → IsPlaceIn h c.args.place → IsHistoryOf (with_take c.args.place idle h) ps =
@@ -37,8 +38,8 @@ returns-in_default-clause-history g c =
 
 pub returns-clause-history : goal.returns-clause-history
 returns-clause-history g c =
-    let ps = c.self.inside.line.places.items in
-    let after = c.serve.new.self.places.items in
+    let ps = places_in c.self.inside.line.ring in
+    let after = places_in c.serve.new.self.ring in
     let idle = length c.self.inside.book.book.picture.idle in
     let turn = subst (λ v. before c.args.place v.places < length v.book.picture.idle) (sym c.self.view_is) c.requires.turn in
     let here : (h : List Event) → IsHistoryOf h ps → IsPlaceIn h c.args.place → IsHistoryOf (with_take c.args.place idle h) after =
