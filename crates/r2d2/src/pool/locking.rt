@@ -37,7 +37,7 @@ const PATIENCE: u128 = 200_000;
 pub struct Guarded<B> {
     // Beside the lock, and the book after them: each step reads them.
     /// Who waits beside the line, and since when somebody waits at all.
-    waiting: Waiters,
+    pub(super) waiting: Waiters,
     /// The least id that no eviction has reached: those below it are closed as they come back.
     evicted_below: u64,
     /// Until this moment nobody looks again before it waits, since letting others run took long.
@@ -107,7 +107,7 @@ impl<B> Guarded<B> {
         ensures calm { result ≡ false → self.new ≡ self.old }
         ensures kept { self.new ≡ record self.old { hurried_until = self.new.hurried_until } }
     {
-        let is_long = now.saturating_sub(begun).as_nanos() >= PATIENCE;
+        let is_long = has_passed(begun, now, PATIENCE);
         if is_long {
             self.hurried_until = now.saturating_add(Duration::from_secs(1));
         }
@@ -250,6 +250,22 @@ impl<P, C: TakeTotal> Guarded<LinedBook<P, C>> {
             }
             None => false,
         }
+    }
+
+    /// Whether something is idle that a caller may take as it comes, and gives way to nobody.
+    pub(super) fn is_free(&self) -> bool
+        ensures { IsTrue result ↔ (0 < length self.now.book.book.picture.idle)
+            × IsFalse self.now.waiting.has_turn }
+    {
+        self.book.book().idle() > 0 && !self.waiting.has_turn
+    }
+
+    /// Whether something is idle that one who was woken is to take first.
+    pub(super) fn is_anothers_turn(&self) -> bool
+        ensures { IsTrue result ↔ (0 < length self.now.book.book.picture.idle)
+            × IsTrue self.now.waiting.has_turn }
+    {
+        self.book.book().idle() > 0 && self.waiting.has_turn
     }
 
     /// Whether nothing is idle, and something is to come back.
@@ -533,8 +549,12 @@ impl<B, M, K, R> Shared<B, M, K, R> {
     {
         // Modelled in model/waiting.pml: keep both alike.
         let mut guarded = self.lock();
-        let (answer, wakes) = call(&mut guarded, self.moment());
+        let now = self.moment();
+        let (answer, wakes) = call(&mut guarded, now);
         let wakes = guarded.needed_wakes(wakes);
+        if wakes.wakes.caller {
+            guarded.waiting.give_turn(now);
+        }
         drop(guarded);
         self.wake(wakes);
         answer
@@ -609,4 +629,11 @@ pub(super) fn pause() {
     for _ in 0..PAUSES {
         spin_loop();
     }
+}
+
+/// Whether so many nanoseconds have passed from one moment to another.
+pub(super) fn has_passed(begun: Duration, now: Duration, length: u128) -> bool
+    ensures { IsTrue result ↔ (length ≤ as_nanos now - as_nanos begun) }
+{
+    now.saturating_sub(begun).as_nanos() >= length
 }

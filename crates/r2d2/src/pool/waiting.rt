@@ -14,7 +14,7 @@ use super::Status;
 use super::call_time::CallTime;
 use super::lent::Lent;
 use super::lined_book::{LinedBook, ToWake};
-use super::locking::{Guarded, Shared, pause};
+use super::locking::{Guarded, Shared, has_passed, pause};
 use crate::engine::{TakeCounter, TakeTotal, Wakes};
 use crate::{Error, ErrorKind};
 use r2d2_core::Take;
@@ -25,6 +25,12 @@ use std::time::Duration;
 
 /// How often a caller looks again before it waits.
 const LOOKS: u32 = 20;
+
+/// How often it looks whether one that was woken, and is to come first, has come; and for how many
+/// nanoseconds at most.
+const LOOKS_FOR_OTHERS: u32 = 200;
+
+const PATIENCE_FOR_OTHERS: u128 = 1_000_000;
 
 impl<P: Drop, C: TakeCounter, M, K, R: Clock + Wait + AllocGlobal> Shared<
     LinedBook<P, C>,
@@ -58,7 +64,7 @@ impl<P: Drop, C: TakeCounter, M, K, R: Clock + Wait + AllocGlobal> Shared<
         if timeout.is_none() && !time.may_take(guarded.book.book().idle()) {
             return Ok(None);
         }
-        if timeout.is_some() && guarded.book.book().idle() == 0 {
+        if timeout.is_some() && !guarded.is_free() {
             guarded = match self.look_before_wait(guarded, time) {
                 Some(guarded) => guarded,
                 None => return Err(Error::full()),
@@ -91,6 +97,7 @@ impl<P: Drop, C: TakeCounter, M, K, R: Clock + Wait + AllocGlobal> Shared<
             guarded.begin_wait(since.unwrap_or(time.start()));
             let (again, outcome) = self.callers.wait_timeout(&self.rt, guarded, left);
             guarded = again;
+            guarded.waiting.end_turn();
             if outcome.timed_out() {
                 guarded.end_wait();
                 time.look(self.moment());
@@ -128,8 +135,8 @@ impl<P: Drop, C: TakeTotal, M, K, R: Clock + Wait + AllocGlobal> Shared<LinedBoo
         }
     }
 
-    // Before a call waits for the first time, where none is idle: its time begins, and it looks
-    // again. None where as many wait as may.
+    // Before a call waits for the first time, where none is idle, or one that was woken is to come
+    // first: its time begins, and it looks again. None where as many wait as may.
     fn look_before_wait<'a>(
         &'a self,
         mut guarded: MutexGuard<'a, Guarded<LinedBook<P, C>>>,
@@ -142,11 +149,34 @@ impl<P: Drop, C: TakeTotal, M, K, R: Clock + Wait + AllocGlobal> Shared<LinedBoo
             return None;
         }
         self.begin(time);
+        guarded = self.give_way(guarded, time.seen());
         guarded = self.look_again(guarded, time.seen());
         if guarded.is_refused(self.tuning.max_waiting) {
             return None;
         }
         Some(guarded)
+    }
+
+    // Where one that was woken is to come first, lets the lock alone until it has come, or for about
+    // as long as a wake takes.
+    fn give_way<'a>(
+        &'a self,
+        mut guarded: MutexGuard<'a, Guarded<LinedBook<P, C>>>,
+        begun: Duration,
+    ) -> MutexGuard<'a, Guarded<LinedBook<P, C>>> {
+        for looks in 0..LOOKS_FOR_OTHERS {
+            if !guarded.is_anothers_turn() {
+                return guarded;
+            }
+            drop(guarded);
+            pause();
+            guarded = self.lock();
+            if looks % 4 == 0 && has_passed(begun, self.moment(), PATIENCE_FOR_OTHERS) {
+                break;
+            }
+        }
+        guarded.waiting.end_turn();
+        guarded
     }
 
     // Where all are lent, lets the lock alone and looks again, a few times, for about as long as a
@@ -238,6 +268,7 @@ impl<P: Drop, C: TakeTotal, M, K, R: Clock + Wait + AllocGlobal> Shared<LinedBoo
             |guarded| guarded.book.book().connections() < wanted,
         );
         guarded.end_wait();
+        guarded.waiting.end_turn();
         if outcome.timed_out() {
             time.look(self.moment());
             let status = guarded.status();
