@@ -46,7 +46,7 @@ def lacking(top, rt="rt"):
     asked = subprocess.run(["git", "-C", top, "ls-files", "--error-unmatch", "crates.txt"], capture_output=True, text=True)
     if asked.returncode != 0:
         why = asked.stderr.strip().splitlines()[0]
-        return f"git, which tells the tools what belongs to the repository, does not read it as a clone of yours: {why}"
+        return f"git, which the tools ask what belongs to the repository, does not read it as a clone of yours: {why}"
     return None
 
 

@@ -80,12 +80,12 @@ class Program:
     def build(self):
         """Proves and builds the program. `rt run` ends in a run of it, which gets the sample, and not what the script was given."""
         log = os.path.relpath(self.log)
-        self.say(f"proving and building; {log} tells how far it is")
+        self.say(f"proving and building; {log} shows how far it is")
         begun = time.time_ns()
         try:
             os.makedirs(os.path.dirname(self.log), exist_ok=True)
             with open(self.log, "wb", buffering=0) as out, self.place() as folder:
-                out.write(f"proving {', '.join(self.crates)}; each tells how many of its functions are checked\n".encode())
+                out.write(f"proving {', '.join(self.crates)}; each says how many of its functions are checked\n".encode())
                 self.run_build(out, folder)
             # A source that was edited meanwhile is newer than the program.
             os.utime(self.path, ns=(begun, begun))
@@ -93,7 +93,7 @@ class Program:
             self.say(f"not built: {error.filename} is missing")
             return False
         except subprocess.CalledProcessError:
-            self.say(f"not built: {log} tells why")
+            self.say(f"not built: {log} says why")
             return False
         except OSError as error:
             self.say(f"not built: {error.filename}: {error.strerror}")
@@ -153,7 +153,7 @@ class Program:
         """The path of a program that is not proved, but compiled as a proved one is, so that it is as fast."""
         path = os.path.join(self.folder, "out", "as-proved", unproved.stamp(self.sources(), TOP))
         if not os.access(path, os.X_OK):
-            self.say(f"compiling {self.crates[-1]} as a proved build would, without the proofs")
+            self.say(f"compiling {self.crates[-1]} as for a proved build, without the proofs")
             try:
                 with self.place() as folder:
                     unproved.compile_program(folder, path, unproved.as_proved)

@@ -35,10 +35,7 @@ def try_words():
     check("--help", help.returncode == 0 and b"--json" in help.stdout, help)
     version = subprocess.run([SCRIPT, "--version"], stdout=subprocess.PIPE, timeout=60)
     check("--version", version.returncode == 0 and version.stdout.startswith(b"pool-audit, by the rules"), version)
-    unknown = (
-        "pool-audit: it takes --find or not, --pool with a name, --json or not, --html with a file, and one file of reports or none: "
-        "--help shows how\n"
-    )
+    unknown = "pool-audit: usage: pool-audit [--find] [--pool NAME] [--json] [--html PAGE] [FILE]; --help says more\n"
     for words in [["--pool"], ["a", "b"], ["--fast"], ["--json", "--json"], ["--text"], ["--svg", "a"], ["--html"], ["--html", "a", "--html", "b"]]:
         runs(f"the words {words}", words, b"", 5, "", unknown)
     runs("a file that is missing", ["/nowhere/at.all"], b"", 3, "",
@@ -162,7 +159,7 @@ def try_files_that_would_be_lost(report):
         with open(path, "wb") as file:
             file.write(report)
         os.symlink(path, link)
-        lost = "pool-audit: {} would be overwritten: the page needs a file of its own\n"
+        lost = "pool-audit: {} holds the reports: give the page another file\n"
         runs("a page over its input", ["--html", path, path], b"", 5, "", lost.format(path))
         runs("a page over its input by another name", ["--html", link, path], b"", 5, "", lost.format(link))
         with open(path, "rb") as given:

@@ -45,8 +45,8 @@ def try_words():
     status, output, errors = run(["--version"])
     lines = output.splitlines()
     check("--version", status == 0 and len(lines) == 3 and lines[0] == "pool-steps, by the rules of r2d2 0.8.10", output)
-    runs("an unknown word", ["--fast"], "", 5, "", "pool-steps: it takes one file, or none: --help shows how")
-    runs("two files", ["a", "b"], "", 5, "", "pool-steps: it takes one file, or none: --help shows how")
+    runs("an unknown word", ["--fast"], "", 5, "", "pool-steps: usage: pool-steps [FILE]; --help says more")
+    runs("two files", ["a", "b"], "", 5, "", "pool-steps: usage: pool-steps [FILE]; --help says more")
     runs("a file that is missing", ["/nowhere/at.all"], "", 3, "", "pool-steps: read failed: /nowhere/at.all: No such file or directory")
 
 
@@ -151,7 +151,7 @@ def try_a_build(folder):
         check(what, seen == (status, output, told), seen)
 
     log = "crates/pool_steps/out/build.log"
-    progress = f"proving and building; {log} tells how far it is"
+    progress = f"proving and building; {log} shows how far it is"
     first, later = stand_in.first("pool-steps"), stand_in.later("pool-steps")
     toolchain = os.path.join(folder, "kit", "bin", "rt")
     os.rename(toolchain, toolchain + ".gone")
@@ -159,7 +159,7 @@ def try_a_build(folder):
     holds("no rt for an answer", [], 4, "", first, "not built: rt is missing")
     os.rename(toolchain + ".gone", toolchain)
     copy.write("fails", "no proof\n")
-    holds("a build that fails", ["--build"], 4, "", progress, f"not built: {log} tells why")
+    holds("a build that fails", ["--build"], 4, "", progress, f"not built: {log} says why")
     with open(os.path.join(folder, log), encoding="utf-8") as told:
         check("the log of a build", told.read().endswith("\nno proof\n"), log)
     holds("a source that is refused", [], 4, "", first, "not built: no proof")

@@ -162,7 +162,7 @@ def try_an_adapter(place):
     mine, first = os.path.join(place, "redis"), os.path.join(TOP, "adapters", "first_redis", "main.rs")
     os.mkdir(mine)
     shutil.copy(os.path.join(TOP, "HANDLES"), mine)
-    said = "vendor: HANDLES says 'Handles allowed: Threads, Wait.', and has to say 'Handles allowed: Threads, Wait, Net.'"
+    said = "vendor: HANDLES says 'Handles allowed: Threads, Wait.', and must say 'Handles allowed: Threads, Wait, Net.'"
     answers("an adapter without Net is refused", 1, said, "--redis", mine)
     check("and is not there", os.listdir(mine) == ["HANDLES"], os.listdir(mine))
     os.unlink(os.path.join(mine, "HANDLES"))
@@ -176,7 +176,7 @@ def try_refusals(place):
     os.mkdir(strict)
     write("Handles allowed: none.\n", strict, "HANDLES")
     before = files(strict)
-    said = "vendor: HANDLES says 'Handles allowed: none.', and has to say 'Handles allowed: Threads, Wait.'"
+    said = "vendor: HANDLES says 'Handles allowed: none.', and must say 'Handles allowed: Threads, Wait.'"
     answers("too few handles are refused", 1, said, strict)
     check("and stay", files(strict) == before)
     # A line of crates.txt with no folder beside it.
