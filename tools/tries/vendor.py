@@ -171,6 +171,22 @@ def try_an_adapter(place):
     check("the first program is there", os.path.isfile(first))
 
 
+def try_tasks(place):
+    """Its first program is one of tasks, on tokio, which needs one handle more."""
+    mine, first = os.path.join(place, "tasks"), os.path.join(TOP, "adapters", "first_tokio", "main.rs")
+    os.mkdir(mine)
+    write("Handles allowed: Print, Threads, Wait.\n", mine, "HANDLES")
+    done = subprocess.run([os.path.join(TOP, "vendor"), "--async", mine], stdout=subprocess.PIPE, text=True)
+    steps = [line.strip() for line in done.stdout.splitlines() if line.startswith("    ")]
+    wanted = [
+        f"cd {mine} && mkdir -p crates/hello/src", f"cp {first} crates/hello/src/main.rt",
+        "echo 'hello: r2d2_async tokio futures anyhow' >> crates.txt",
+        "echo 'Handles allowed: Print, Threads, Wait, Net.' > HANDLES    # tokio needs Net",
+        "cd crates/hello && rt try    # runs it without proof, in half a minute",
+    ]
+    check("the steps to a first program of tasks", steps == wanted and os.path.isfile(first), steps)
+
+
 def try_refusals(place):
     strict, lines = os.path.join(place, "strict"), os.path.join(place, "lines")
     os.mkdir(strict)
@@ -209,6 +225,7 @@ def tried():
         try_metrics(os.path.join(place, "measured"))
         try_options(place)
         try_an_adapter(place)
+        try_tasks(place)
         try_refusals(place)
         try_nobody_who_reads(os.path.join(place, "unread"))
     return TALLY
