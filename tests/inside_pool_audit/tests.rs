@@ -28,7 +28,7 @@ const WELL: &str =
 // What is answered of it.
 const ANSWERS: &str = concat!(
     "  nothing stands out, but the report does not say whether callers failed: it has no status\n",
-    "  covers 0.000 s, from 0.000 s after the making to the last record\n",
+    "  covers 0.000 s, from 0.000 s after the creation to the last record\n",
     "  0 opened, 0 closed at return, 0 closed while idle\n",
     "  at most 0 of 1 lent at once; all of them lent or opening for 0.000 s\n",
 );
@@ -36,7 +36,7 @@ const ANSWERS: &str = concat!(
 // The same in JSON.
 const SUMMARY: &str = concat!(
     r#""concerns":[],"answers":["#,
-    r#""covers 0.000 s, from 0.000 s after the making to the last record","#,
+    r#""covers 0.000 s, from 0.000 s after the creation to the last record","#,
     r#""0 opened, 0 closed at return, 0 closed while idle","#,
     r#""at most 0 of 1 lent at once; all of them lent or opening for 0.000 s"],"#,
     r#""takes":0,"lost":0,"summary":{"from":0,"until":0,"most_lent":0,"exhausted":0,"#,
@@ -363,14 +363,14 @@ const WHO: &str = concat!(
     "  ! was exhausted for 396 ms at a stretch ",
     "(a concern from 9 ns on)\n",
     "    see what ran then; if it comes again, raise max_size or limit who calls\n",
-    "  covers 7.704 s, from 2026-01-31T12:00:00.1Z (0.100 s after the making) to the last record\n",
+    "  covers 7.704 s, from 2026-01-31T12:00:00.1Z (0.100 s after the creation) to the last record\n",
     "  1 opened, 1 closed at return, 0 closed while idle\n",
     "  at most 2 of 2 lent at once; all of them lent or opening for 0.496 s, ",
     "6 % of the time\n",
     "  lent at the end: connection 0, for 7.700 s, ",
-    "since 2026-01-31T12:00:00.104Z (0.104 s after the making)\n",
+    "since 2026-01-31T12:00:00.104Z (0.104 s after the creation)\n",
     "  lent at the end: connection 2, for 0.000 s, ",
-    "since 2026-01-31T12:00:07.804Z (7.804 s after the making)\n",
+    "since 2026-01-31T12:00:07.804Z (7.804 s after the creation)\n",
 );
 
 #[test]
@@ -385,13 +385,13 @@ fn answers_who_is_lent_and_how_long_all_were(rt: HostRuntime) -> Result<(), Fail
         r#""says":"was exhausted for 396 ms at a stretch (a concern from 9 ns on)"#,
         r#"","next":"see what ran then; if it comes again, raise max_size or "#,
         r#"limit who calls"}],"answers":["covers 7.704 s, from 2026-01-31T12:00:00.1Z "#,
-        r#"(0.100 s after the making) to the last record","#,
+        r#"(0.100 s after the creation) to the last record","#,
         r#""1 opened, 1 closed at return, 0 closed while idle","#,
         r#""at most 2 of 2 lent at once; all of them lent or opening for 0.496 s, "#,
         r#"6 % of the time","lent at the end: connection 0, for 7.700 s, "#,
-        r#"since 2026-01-31T12:00:00.104Z (0.104 s after the making)","#,
+        r#"since 2026-01-31T12:00:00.104Z (0.104 s after the creation)","#,
         r#""lent at the end: connection 2, for 0.000 s, "#,
-        r#"since 2026-01-31T12:00:07.804Z (7.804 s after the making)"],"#,
+        r#"since 2026-01-31T12:00:07.804Z (7.804 s after the creation)"],"#,
         r#""made_at":"2026-01-31T12:00:00Z","takes":4,"lost":9,"#,
         r#""summary":{"from":100000000,"until":7804000000,"#,
         r#""most_lent":2,"exhausted":496000000,"longest_exhaustion":396000000,"#,
@@ -408,13 +408,13 @@ fn answers_who_is_lent_and_how_long_all_were(rt: HostRuntime) -> Result<(), Fail
         "line 1: sound\n",
         "  ! 1 lent for at least 9 ns: connection 1 for more than 4 ms\n",
         "    look for a caller that keeps its connection; give what callers do a timeout\n",
-        "  covers 0.004 s, from 2026-01-31T12:00:00.1Z (0.100 s after the making) ",
+        "  covers 0.004 s, from 2026-01-31T12:00:00.1Z (0.100 s after the creation) ",
         "to the last record\n",
         "  0 opened, 0 closed at return, 0 closed while idle\n",
         "  at most 2 of 2 lent at once; all of them lent or opening for 0.000 s, 0 % of the time\n",
         "  lent at the end: connection 1, since before the base\n",
         "  lent at the end: connection 0, for 0.000 s, ",
-        "since 2026-01-31T12:00:00.104Z (0.104 s after the making)\n",
+        "since 2026-01-31T12:00:00.104Z (0.104 s after the creation)\n",
     );
     serves(&rt, WORDS, early.as_str(), words, Ok(Outcome::Concerned))
 }
@@ -454,7 +454,7 @@ fn answers_what_a_report_that_replays_is_asked(rt: HostRuntime) -> Result<(), Fa
     Ok(())
 }
 
-// A report of one, which begins nine seconds after the making and covers one second; it is lent for
+// A report of one, which begins nine seconds after the creation and covers one second; it is lent for
 // the second half of that.
 pub(crate) const LATE: &str = concat!(
     r#"{"version":1,"limits":{"max_size":1,"min_idle":0,"max_lifetime":null,"#,
@@ -472,7 +472,7 @@ fn the_exhausted_part_is_of_what_the_report_covers(rt: HostRuntime) -> Result<()
         "  ! was exhausted for 500 ms at a stretch ",
         "(a concern from 9 ns on)\n",
         "    see what ran then; if it comes again, raise max_size or limit who calls\n",
-        "  covers 1.000 s, from 9.000 s after the making to the last record\n",
+        "  covers 1.000 s, from 9.000 s after the creation to the last record\n",
         "  0 opened, 0 closed at return, 0 closed while idle\n",
         "  at most 1 of 1 lent at once; all of them lent or opening for 0.500 s, ",
         "50 % of the time\n",
@@ -509,7 +509,7 @@ fn names_twenty_and_counts_the_others(rt: HostRuntime) -> Result<(), Fail> {
     ] {
         let counts = "0 opened, 0 closed at return, 0 closed while idle";
         let mut words = format!(in alloc; "line 1: sound\n  {WELL}\n")?;
-        words.push_str("  covers 0.000 s, from 0.000 s after the making to the last record\n")?;
+        words.push_str("  covers 0.000 s, from 0.000 s after the creation to the last record\n")?;
         write!(words, "  {counts}\n  at most {count} of {count} lent at once; ")?;
         words.push_str("all of them lent or opening for 0.000 s\n")?;
         for id in 0..named {
@@ -679,15 +679,15 @@ fn reckons_up_to_the_report(rt: HostRuntime) -> Result<(), Fail> {
         "  ! exhausted for 1 h, since 2026-01-31T12:00:07.804Z: 2 of 2 lent, 0 opening ",
         "(a concern from 9 ns on)\n",
         "    see who has the connections for so long; if all are short, raise max_size\n",
-        "  covers 3607.704 s, from 2026-01-31T12:00:00.1Z (0.100 s after the making) ",
+        "  covers 3607.704 s, from 2026-01-31T12:00:00.1Z (0.100 s after the creation) ",
         "to the report\n",
         "  1 opened, 1 closed at return, 0 closed while idle\n",
         "  at most 2 of 2 lent at once; all of them lent or opening for 3600.496 s, ",
         "99 % of the time\n",
         "  lent at the end: connection 0, for 3607.700 s, ",
-        "since 2026-01-31T12:00:00.104Z (0.104 s after the making)\n",
+        "since 2026-01-31T12:00:00.104Z (0.104 s after the creation)\n",
         "  lent at the end: connection 2, for 3600.000 s, ",
-        "since 2026-01-31T12:00:07.804Z (7.804 s after the making)\n",
+        "since 2026-01-31T12:00:07.804Z (7.804 s after the creation)\n",
     );
     serves(&rt, WORDS, late.as_str(), words, Ok(Outcome::Concerned))
 }

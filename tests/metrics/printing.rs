@@ -76,13 +76,13 @@ db_client_connection_idle_min{db_client_connection_pool_name="orders"} 4
 # HELP db_client_connection_pending_requests Callers that wait now.
 # TYPE db_client_connection_pending_requests gauge
 db_client_connection_pending_requests{db_client_connection_pool_name="orders"} 7
-# HELP db_client_connection_pending_openings Openings under way, those among them that failed and will be tried again.
+# HELP db_client_connection_pending_openings Openings not done yet, including failed ones to be retried.
 # TYPE db_client_connection_pending_openings gauge
 db_client_connection_pending_openings{db_client_connection_pool_name="orders"} 2
-# HELP db_client_connection_longest_loan_seconds For how long that connection is lent now that is lent for longest.
+# HELP db_client_connection_longest_loan_seconds How long the longest current loan has lasted.
 # TYPE db_client_connection_longest_loan_seconds gauge
 db_client_connection_longest_loan_seconds{db_client_connection_pool_name="orders"} 90.5
-# HELP db_client_connection_timeouts_total Callers that waited for a connection in vain.
+# HELP db_client_connection_timeouts_total Callers that timed out.
 # TYPE db_client_connection_timeouts_total counter
 db_client_connection_timeouts_total{db_client_connection_pool_name="orders"} 8
 # HELP db_client_connection_failed_openings_total Openings that failed, or whose connection was refused.
@@ -91,7 +91,7 @@ db_client_connection_failed_openings_total{db_client_connection_pool_name="order
 # HELP db_client_connection_failed_checks_total Checks of connections that failed.
 # TYPE db_client_connection_failed_checks_total counter
 db_client_connection_failed_checks_total{db_client_connection_pool_name="orders"} 6
-# HELP db_client_connection_rejected_total Callers that were refused, since as many waited as may.
+# HELP db_client_connection_rejected_total Callers refused at once, since max_waiting callers waited.
 # TYPE db_client_connection_rejected_total counter
 db_client_connection_rejected_total{db_client_connection_pool_name="orders"} 9
 # HELP db_client_connection_opened_total Connections that were opened.

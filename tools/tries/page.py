@@ -187,7 +187,7 @@ class Page:
         return self.text_of(".tools output")[0]
 
     def pointed_at(self):
-        return length_of(self.text_of(".moment")[0].removesuffix(" after the making"))
+        return length_of(self.text_of(".moment")[0].removesuffix(" after the creation"))
 
     def row_of(self, lane):
         """The middle of a lane on the screen, or None."""

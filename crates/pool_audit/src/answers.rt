@@ -52,7 +52,7 @@ impl Time<'_> {
         let (openings, checks) = (status.failed_openings, status.failed_checks);
         writeln!(
             text,
-            "  {waiting} callers wait; since the making {timeouts} timed out, {refused} were \
+            "  {waiting} callers wait; since the creation {timeouts} timed out, {refused} were \
             refused, {openings} openings and {checks} checks failed"
         )?;
         let Some(failure) = status.latest_failure else {

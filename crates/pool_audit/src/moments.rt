@@ -48,10 +48,10 @@ impl fmt::Display for Moment {
     fn fmt<W: fmt::Write>(&self, f: &mut fmt::Formatter<W>) -> fmt::Result {
         let (length, seconds) = (Length(self.at), Seconds(self.at));
         match self.clock {
-            Some(clock) if f.alternate() => write!(f, "{clock} ({seconds} after the making)"),
+            Some(clock) if f.alternate() => write!(f, "{clock} ({seconds} after the creation)"),
             Some(clock) => write!(f, "{clock}"),
-            None if f.alternate() => write!(f, "{seconds} after the making"),
-            None => write!(f, "{length} after the making"),
+            None if f.alternate() => write!(f, "{seconds} after the creation"),
+            None => write!(f, "{length} after the creation"),
         }
     }
 }

@@ -188,15 +188,13 @@ impl Number {
             Number::IdleMin => "How many connections the pool tries to keep idle.",
             Number::PendingRequests => "Callers that wait now.",
             Number::PendingOpenings => {
-                "Openings under way, those among them that failed and will be tried again."
+                "Openings not done yet, including failed ones to be retried."
             }
-            Number::LongestLoan => {
-                "For how long that connection is lent now that is lent for longest."
-            }
-            Number::Timeouts => "Callers that waited for a connection in vain.",
+            Number::LongestLoan => { "How long the longest current loan has lasted." }
+            Number::Timeouts => "Callers that timed out.",
             Number::FailedOpenings => "Openings that failed, or whose connection was refused.",
             Number::FailedChecks => "Checks of connections that failed.",
-            Number::Rejected => "Callers that were refused, since as many waited as may.",
+            Number::Rejected => "Callers refused at once, since max_waiting callers waited.",
             Number::Errors => "Errors of the manager and of the customizer.",
             Number::LatestError => "When the latest of these errors came, in seconds since 1970.",
             Number::Opened => "Connections that were opened.",
