@@ -1,7 +1,7 @@
 //! Small pools, of which each run plays one schedule or one order: the words are a kind of pool
 //! (`plain`, `counted` or `tasks`) and those of a scenario (tools/schedules/scenarios.txt). A
 //! scheduler plays threads; on one thread all orders of the polls of tasks are played, or the one
-//! whose choices `way=` names. With one word the program writes itself to that place.
+//! whose choices `way=` names.
 #![tactic(auto)]
 
 mod caller;
@@ -24,9 +24,9 @@ use self::choices::Choices;
 use self::plan::Plan;
 use self::world::{Count, World};
 use r2d2::PoolRuntime;
+use std::env;
 use std::process::ExitCode;
 use std::test::Fail;
-use std::{env, fs};
 
 fn main(rt: HostRuntime) -> Result<ExitCode, Fail> {
     let mut words = Vec::new(rt.alloc());
@@ -36,12 +36,6 @@ fn main(rt: HostRuntime) -> Result<ExitCode, Fail> {
     let [kind, named @ ..] = words.as_slice() else {
         return Ok(ExitCode::from(2));
     };
-    if named.is_empty() {
-        // What `rt try` runs lies there under this name.
-        let program = fs::read(&rt, "program")?;
-        fs::write(&rt, kind.as_str(), program.as_slice())?;
-        return Ok(ExitCode::from(0));
-    }
     let (mut plan, mut choices) = (Plan::new(kind.as_str()), Choices::new(rt.alloc()));
     let mut is_told = false;
     for word in named.iter() {

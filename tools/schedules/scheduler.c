@@ -1,10 +1,11 @@
 /* Plays a program under many schedules, each chosen by a seed. It is put before the C library by
    LD_PRELOAD, and the program is the one that users have: nothing in it knows of this.
 
-   One thread runs at a time. At each *point* the scheduler chooses who goes on; between two points
-   a thread runs alone. A point is a wait or a wake of the futex call, which all locks and variables
-   of the toolchain rest on; a reading of the clock; a sleep; a yield; the end of a thread; and
-   where POINTS names them, each locked instruction of the toolchain, before and after it.
+   All threads are played on one, each on a stack of its own, so that no turn waits for the kernel.
+   At each *point* the scheduler chooses who goes on; between two points a thread runs alone. A
+   point is a wait or a wake of the futex call, which all locks and variables of the toolchain rest
+   on; a reading of the clock; a sleep; a yield; the end of a thread; and where POINTS names them,
+   each locked instruction of the program, before and after it.
 
    What it takes over: pthread_create, pthread_join and pthread_detach; `syscall`, by which the
    toolchain makes the futex call; clock_gettime; nanosleep and clock_nanosleep; sched_yield; _exit;
@@ -39,7 +40,6 @@
    Then a line `fault SEED STATUS: WHY` is written to the standard error. The last line is
    `schedules N, distinct D`. TOLD=1 writes a line for each step to the standard output. */
 #define _GNU_SOURCE
-#include <dlfcn.h>
 #include <errno.h>
 #include <limits.h>
 #include <link.h>
@@ -48,7 +48,6 @@
 #include <pthread.h>
 #include <signal.h>
 #include <stdarg.h>
-#include <stdatomic.h>
 #include <stdbool.h>
 #include <stdint.h>
 #include <stdio.h>
@@ -71,6 +70,8 @@ typedef int64_t nanoseconds;
 #define WATCH 77777
 #define CHANCES 12
 #define MOST_THREADS 24
+#define STACK (1 << 20)
+#define PAGE 4096
 #define MOST_POINTS 400000
 #define STUCK 99
 #define ENDLESS 98
@@ -93,14 +94,13 @@ struct thread {
     uint32_t *word; /* where it is parked */
     int joined;     /* which it joins */
     long priority;
-    pthread_t real;
-    _Atomic int baton;
+    ucontext_t context; /* where it goes on */
     void *(*start)(void *);
     void *given;
 };
 static struct thread threads[MOST_THREADS];
 static int thread_count;
-static __thread int me = -1;
+static int me = -1;
 static bool is_on, is_told, is_main_over, is_watched;
 static nanoseconds now = BEGIN, yield_takes;
 static long points, body;
@@ -116,11 +116,6 @@ static struct shared {
     size_t length;
     char why[2000];
 } *shared;
-
-static int (*real_create)(pthread_t *, const pthread_attr_t *, void *(*)(void *), void *);
-static int (*real_join)(pthread_t, void **);
-static int (*real_detach)(pthread_t);
-static ssize_t (*real_write)(int, const void *, size_t);
 
 /* -- The words of others -- */
 
@@ -332,13 +327,9 @@ static int next_to_go_on(bool can_go_on) {
 }
 
 static void hand_over(int next) {
-    atomic_store(&threads[next].baton, 1);
-    kernel(SYS_futex, (long)&threads[next].baton, FUTEX_WAKE_PRIVATE, 1, 0, 0, 0);
-}
-
-static void await_the_baton(void) {
-    while (!atomic_exchange(&threads[me].baton, 0))
-        kernel(SYS_futex, (long)&threads[me].baton, FUTEX_WAIT_PRIVATE, 0, 0, 0, 0);
+    ucontext_t *from = &threads[me].context;
+    me = next;
+    swapcontext(from, &threads[next].context);
 }
 
 /* Whether one was woken in time, and may yet find that its time has run out. */
@@ -367,12 +358,8 @@ static void point(bool can_go_on) {
         step_down();
     }
     int next = next_to_go_on(can_go_on);
-    if (next == me)
-        return;
-    bool is_over = self->state == ENDED;
-    hand_over(next);
-    if (!is_over)
-        await_the_baton();
+    if (next != me)
+        hand_over(next);
 }
 
 /* -- Threads -- */
@@ -385,12 +372,10 @@ static int add_thread(void) {
     return thread_count++;
 }
 
-static void *run_thread(void *given) {
-    struct thread *self = given;
-    me = (int)(self - threads);
-    await_the_baton();
+static void run_thread(void) {
+    struct thread *self = &threads[me];
     tell("begins");
-    void *answer = self->start(self->given);
+    self->start(self->given);
     tell("ends");
     self->state = ENDED;
     for (int i = 0; i < thread_count; i++)
@@ -398,50 +383,47 @@ static void *run_thread(void *given) {
             threads[i].state = READY;
     is_watched = false;
     point(false);
-    me = -1;
-    return answer;
 }
 
+/* A stack, below which nothing may be written. */
+static void *new_stack(void) {
+    void *stack = mmap(NULL, STACK, PROT_READ | PROT_WRITE, MAP_PRIVATE | MAP_ANONYMOUS, -1, 0);
+    if (stack == MAP_FAILED || mprotect(stack, PAGE, PROT_NONE))
+        fail(BROKEN, "no stack for a thread");
+    return stack;
+}
+
+/* A thread's name is its number. */
 int pthread_create(pthread_t *thread, const pthread_attr_t *settings, void *(*start)(void *),
                    void *given) {
+    (void)settings;
     if (!is_on)
-        return real_create(thread, settings, start, given);
+        exit(BROKEN);
     int i = add_thread();
+    *thread = (pthread_t)i;
     threads[i].start = start;
     threads[i].given = given;
-    int status = real_create(thread, settings, run_thread, &threads[i]);
-    if (status == 0)
-        threads[i].real = *thread;
-    else
-        thread_count--;
-    return status;
+    getcontext(&threads[i].context);
+    threads[i].context.uc_stack = (stack_t){.ss_sp = new_stack(), .ss_size = STACK};
+    makecontext(&threads[i].context, run_thread, 0);
+    return 0;
 }
 
-/* The thread with this name of the C library, which may be another's once nobody can join it. */
-static struct thread *taken_out(pthread_t real) {
-    for (int i = 1; is_on && i < thread_count; i++)
-        if (threads[i].real == real) {
-            threads[i].real = 0;
-            return &threads[i];
-        }
-    return NULL;
-}
-
-int pthread_join(pthread_t real, void **value) {
-    struct thread *it = taken_out(real);
-    if (it && it->state != ENDED) {
-        tell("joins thread %d", (int)(it - threads));
+int pthread_join(pthread_t thread, void **value) {
+    (void)value;
+    if (threads[thread].state != ENDED) {
+        tell("joins thread %d", (int)thread);
         threads[me].state = JOINING;
-        threads[me].joined = (int)(it - threads);
+        threads[me].joined = (int)thread;
         is_watched = false;
         point(false);
     }
-    return real_join(real, value);
+    return 0;
 }
 
-int pthread_detach(pthread_t real) {
-    taken_out(real);
-    return real_detach(real);
+int pthread_detach(pthread_t thread) {
+    (void)thread;
+    return 0;
 }
 
 int sched_yield(void) {
@@ -586,7 +568,7 @@ int clock_nanosleep(clockid_t which, int flags, const struct timespec *length,
 
 ssize_t write(int file, const void *text, size_t length) {
     if (file != 1 || !is_on || me < 0)
-        return real_write(file, text, length);
+        return with_errno(kernel(SYS_write, file, (long)text, (long)length, 0, 0, 0));
     tell("%.*s", (int)length - (length > 0 && ((const char *)text)[length - 1] == '\n'),
          (const char *)text);
     return (ssize_t)length;
@@ -640,11 +622,11 @@ static void at_breakpoint(int signal_number, siginfo_t *info, void *given) {
 static void put_breakpoint(struct spot *it, unsigned char *slot) {
     memcpy(slot, (void *)it->at, it->length);
     slot[it->length] = 0xcc;
-    void *page = (void *)(it->at & ~(uintptr_t)4095);
-    if (mprotect(page, 8192, PROT_READ | PROT_WRITE | PROT_EXEC))
+    void *page = (void *)(it->at & ~(uintptr_t)(PAGE - 1));
+    if (mprotect(page, PAGE, PROT_READ | PROT_WRITE | PROT_EXEC))
         fail(BROKEN, "no breakpoint can be put");
     *(unsigned char *)it->at = 0xcc;
-    mprotect(page, 8192, PROT_READ | PROT_EXEC);
+    mprotect(page, PAGE, PROT_READ | PROT_EXEC);
 }
 
 /* The file has the place of each in the program, in order, and its length. */
@@ -774,15 +756,7 @@ static void play_all(uint64_t first, long count) {
     end_with(status != 0);
 }
 
-static void find(const char *name, void *real) {
-    *(void **)real = dlsym(RTLD_NEXT, name);
-}
-
 __attribute__((constructor)) static void begin(void) {
-    find("pthread_create", &real_create);
-    find("pthread_join", &real_join);
-    find("pthread_detach", &real_detach);
-    find("write", &real_write);
     const char *schedules = getenv("SCHEDULES"), *wrong = getenv("BODY");
     unsigned long long first;
     long count;
