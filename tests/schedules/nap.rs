@@ -21,12 +21,8 @@ impl Clock for Place {
         Ok(Duration::from_millis(self.world.now()))
     }
 
-    // Its nanoseconds are the number of a wrong body.
     fn since_1970(&self) -> io::Result<Duration> {
-        if self.world.plan.is_drawn() {
-            return self.world.rt.since_1970();
-        }
-        Ok(self.monotonic()? + Duration::from_nanos(self.world.plan.body))
+        self.monotonic()
     }
 
     fn sleep(&self, duration: Duration) {

@@ -34,8 +34,6 @@ pub(crate) struct Plan {
     pub(crate) moves: u64,
     /// How many threads poll the tasks, as a scheduler draws; 0 for all orders on one.
     pub(crate) threads: u64,
-    /// The wrong body that is played, where the program has some.
-    pub(crate) body: u64,
     pub(crate) fails: bool,
     pub(crate) checks: bool,
     pub(crate) breaks: bool,
@@ -99,7 +97,7 @@ impl Plan {
         if let Some((name, number)) = word.split_once('=') {
             if let Ok(number) = number.parse::<u64>() {
                 set!(self, name, number; size wanted workers callers impatient hasty calls most line
-                    bad closers drainers evictors drops needless early leaves moves threads body);
+                    bad closers drainers evictors drops needless early leaves moves threads);
             }
             return false;
         }

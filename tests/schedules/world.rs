@@ -264,7 +264,7 @@ impl World {
             return 0;
         }
         let time = self.rt.since_1970();
-        time.map_or(0, |time| u64::from(time.subsec_nanos() / 1000))
+        time.map_or(0, |time| u64::from(time.subsec_nanos()))
     }
 
     /// After how many milliseconds a connection is too old, where some are.

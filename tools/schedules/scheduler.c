@@ -23,8 +23,7 @@
 
    What a program can ask for:
    - The wall clock shows seconds that are drawn from CHANCES, so that what a manager answers is
-     part of the schedule. Its nanoseconds are BODY, the number of a wrong body, plus 1000 for each
-     time that time went on before it had to.
+     part of the schedule. Its nanoseconds are how often time went on before it had to.
    - A sleep of WATCH seconds ends where nobody else can go on, before time does. Who wakes so
      looks at what there is, and is not cut short.
    - What it writes to the standard output is shown only where the steps are told, beside them.
@@ -103,7 +102,7 @@ static int thread_count;
 static int me = -1;
 static bool is_on, is_told, is_main_over, is_watched;
 static nanoseconds now = BEGIN, yield_takes;
-static long points, body;
+static long points;
 
 /* Of this schedule. */
 static uint64_t random_state;
@@ -525,7 +524,7 @@ int clock_gettime(clockid_t which, struct timespec *at) {
     if (!is_on || me < 0)
         return (int)with_errno(kernel(SYS_clock_gettime, which, (long)at, 0, 0, 0, 0));
     if (which == CLOCK_REALTIME) {
-        *at = (struct timespec){.tv_sec = one_of(CHANCES), .tv_nsec = body + 1000L * jumps_made};
+        *at = (struct timespec){.tv_sec = one_of(CHANCES), .tv_nsec = jumps_made};
         return 0;
     }
     point(true);
@@ -757,13 +756,12 @@ static void play_all(uint64_t first, long count) {
 }
 
 __attribute__((constructor)) static void begin(void) {
-    const char *schedules = getenv("SCHEDULES"), *wrong = getenv("BODY");
+    const char *schedules = getenv("SCHEDULES");
     unsigned long long first;
     long count;
     if (!schedules || sscanf(schedules, "%llu:%ld", &first, &count) != 2)
         return;
     is_told = getenv("TOLD") != NULL;
-    body = wrong ? atol(wrong) : 0;
     yield_takes = getenv("YIELD_TAKES") ? atol(getenv("YIELD_TAKES")) * SECOND : 0;
     shared = mmap(NULL, sizeof *shared, PROT_READ | PROT_WRITE, MAP_SHARED | MAP_ANONYMOUS, -1, 0);
     atexit(await_all);

@@ -1,5 +1,5 @@
-"""Wrong bodies that are tried together. A folder of tests is compiled once with all of them in it, each behind its number; and each runs in
-a copy of that program in which its number is written. So a body costs the run of its tests, not a compilation.
+"""Wrong bodies that are tried together. A folder of tests, or a program, is compiled once with all of them in it, each behind its number;
+and each runs in a copy of that program in which its number is written. So a body costs a run, not a compilation.
 
 In a function with wrong bodies, `match` chooses among these and the right one. What such a function would ask is a constant of its
 crate, which is made a variable before the program is optimized: else only the right body would be left."""
@@ -114,12 +114,12 @@ def as_variables(text):
     return re.sub(rf'^(@static\.\d+) = private unnamed_addr constant (\[16 x i8\] c"{marked})', r"\1 = global \2", text, flags=re.M)
 
 
-def compile_tests(copy, name, path, kept):
-    """The program of a folder's tests; what is said where there is none."""
+def compile_together(copy, name, path, kept, *flags):
+    """The program of a folder with all bodies in it, or with `--test` of its tests; what is said where there is none."""
     with tempfile.TemporaryDirectory(prefix="half-", dir=kept) as folder, unproved.Group() as group:
         try:
             module, text, code = (os.path.join(folder, it) for it in (unproved.MODULE, "module.ll", "program.o"))
-            unproved.catch_module(group, copy.crate(name), folder, module, "--test")
+            unproved.catch_module(group, copy.crate(name), folder, module, *flags)
             clang = f"{unproved.kit()}/toolchain/bin/clang"
             group.run([clang, f"--target={unproved.TARGET}", "-x", "ir", module, "-S", "-emit-llvm", "-O0", "-Xclang", "-disable-llvm-passes", "-o", text], folder)
             with open(text, encoding="utf-8") as file:
@@ -133,7 +133,7 @@ def compile_tests(copy, name, path, kept):
 
 
 class Program:
-    """The tests of a folder with all bodies in it."""
+    """A program with all bodies in it."""
 
     # A file that is open to be written in a child that was just forked can't be run.
     lock = threading.Lock()
@@ -146,15 +146,20 @@ class Program:
         # What each test takes with the right bodies.
         self.seconds = {}
 
-    def begin(self, number, test):
-        """Runs a test in a copy in which this body is at work."""
+    def copy_with(self, number):
+        """A copy in which this body is at work."""
         path, code = f"{self.path}.{next(self.count)}", bytearray(self.code)
         for place in self.places:
             code[place : place + 4] = struct.pack("<I", number)
+        with open(path, "wb") as file:
+            file.write(code)
+        os.chmod(path, 0o755)
+        return path
+
+    def begin(self, number, test):
+        """Runs a test with this body."""
         with self.lock:
-            with open(path, "wb") as file:
-                file.write(code)
-            os.chmod(path, 0o755)
+            path = self.copy_with(number)
             how = {"stdin": subprocess.DEVNULL, "stdout": subprocess.DEVNULL, "stderr": subprocess.DEVNULL}
             return path, subprocess.Popen([path, test], **how)
 

@@ -7,9 +7,10 @@
     new: what stands in their place
 
 `seen by: test FOLDER NAME` names a test of tests/FOLDER, `seen by: refusal NAME` one of tests/stage where something is refused, and
-`seen by: schedule NAME` a scenario: one or several such lines. `in:`, `old:` and `new:` may come again; without an `in:` of its own a
-change is in the function of the one before. `in: mod pool::in_line` is outside of all functions. A text of several lines begins on the
-next line and is set in by four spaces.
+`seen by: schedule NAME` a scenario, with `counted` behind it where a counted pool plays it, and `points` where locked instructions are
+points: one or several such lines. `seen by: nobody` is of what does no harm: the first line says why. `in:`, `old:` and `new:` may come
+again; without an `in:` of its own a change is in the function of the one before. `in: mod pool::in_line` is outside of all functions. A
+text of several lines begins on the next line and is set in by four spaces.
 
 A change is found by words, whatever the spaces and comments between them. What old and new have in common at their ends tells where it
 is, and is left out again where it has changed. Names may have changed: the match is taken whose names are the nearest, where that is one
@@ -33,14 +34,16 @@ TOKEN = re.compile(r"""
 FEWEST = 4
 KEYWORDS = set("""as break const continue crate else enum extern false fn for if impl in let loop match mod move mut pub ref return self Self
 static struct super trait true type unsafe use where while ghost requires ensures invariant""".split())
-SEEN = ("prover", "test", "refusal", "schedule")
+SEEN = ("prover", "test", "refusal", "schedule", "nobody")
 
 
 class Token:
-    __slots__ = ("kind", "text", "start", "end")
+    __slots__ = ("kind", "text", "start", "end", "key")
 
-    def __init__(self, kind, text, start, end):
+    def __init__(self, kind, text, start, end, before):
         self.kind, self.text, self.start, self.end = kind, text, start, end
+        # A field is another name than a local that is called the same.
+        self.key = "." + text if kind == "name" and before == "." else text
 
     def may_be_renamed(self):
         return self.kind == "name" and self.text not in KEYWORDS and not self.text[0].isupper()
@@ -54,7 +57,7 @@ def tokens_of(text, start=0, end=None):
             continue
         if found and found[-1].text == "," and it[0] in ")]}":
             found.pop()
-        found.append(Token(it.lastgroup, it[0], it.start(), it.end()))
+        found.append(Token(it.lastgroup, it[0], it.start(), it.end(), found[-1].text if found else ""))
     return found
 
 
@@ -182,10 +185,11 @@ def match_at(words, at, old):
     """The names that have changed where `old` stands at a place, or None where it does not."""
     names, back = {}, {}
     for it, other in zip(old, words[at : at + len(old)]):
-        if it.text == other.text and names.get(it.text, it.text) == it.text and back.get(it.text, it.text) == it.text:
-            names[it.text] = back[it.text] = it.text
-        elif it.may_be_renamed() and other.may_be_renamed() and names.get(it.text, other.text) == other.text and back.get(other.text, it.text) == it.text:
-            names[it.text], back[other.text] = other.text, it.text
+        key, now = it.key, other.key
+        is_alike = (key[0] == ".") == (now[0] == ".")
+        may_be = key == now or is_alike and it.may_be_renamed() and other.may_be_renamed()
+        if may_be and names.get(key, now) == now and back.get(now, key) == key:
+            names[key], back[now] = now, key
         else:
             return None
     return {name: other for name, other in names.items() if name != other}
@@ -198,7 +202,7 @@ def matches(words, old):
 
 def is_told(match, old):
     """Whether enough of the words is as it was to know them again."""
-    kept = sum(it.text not in match.names for it in old)
+    kept = sum(it.key not in match.names for it in old)
     return 2 * kept >= len(old)
 
 
@@ -257,8 +261,8 @@ def renamed(text, names):
     """A text with the names that have changed."""
     made, at = [], 0
     for it in tokens_of(text):
-        if it.kind == "name" and it.text in names:
-            made += [text[at : it.start], names[it.text]]
+        if it.kind == "name" and it.key in names:
+            made += [text[at : it.start], names[it.key].lstrip(".")]
             at = it.end
     return "".join([*made, text[at:]])
 

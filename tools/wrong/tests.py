@@ -115,7 +115,7 @@ class Trial:
         for folder in sorted(tests, key=lambda it: -len(tests[it])):
             begun, path = time.monotonic(), os.path.join(kept, folder)
             with copies.only_what_they_need(self.copy.folder, folder, tests[folder]):
-                said = batch.compile_tests(self.copy, folder, path, kept)
+                said = batch.compile_together(self.copy, folder, path, kept, "--test")
             if said:
                 print(f"{folder}: not compiled with all bodies in it:\n{said[-3000:]}", flush=True)
                 continue
