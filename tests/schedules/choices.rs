@@ -2,12 +2,8 @@
 
 use std::alloc::{AllocError, Global};
 
-/// A choice that was made.
-#[derive(Clone, Copy)]
-struct Fork {
-    taken: u64,
-    among: u64,
-}
+/// A choice that was made: which, among how many.
+type Fork = (u64, u64);
 
 /// The choices of the present run.
 #[derive(Drop)]
@@ -20,21 +16,16 @@ pub(crate) struct Choices {
 impl Choices {
     /// The first run takes the first of each.
     pub(crate) fn new(alloc: Global) -> Choices {
-        Choices { forks: Vec::new(alloc), passed: 0 }
+        let (forks, passed) = (Vec::new(alloc), 0);
+        Choices { forks, passed }
     }
 
     /// The run that takes these; false where one is no number.
     pub(crate) fn follow(&mut self, taken: &str) -> bool {
-        for word in taken.split('.') {
-            let Ok(taken) = word.parse::<u64>() else {
-                return false;
-            };
-            let among = taken + 1;
-            if self.forks.push(Fork { taken, among }).is_err() {
-                return false;
-            }
-        }
-        true
+        taken.split('.').all(|word| match word.parse::<u64>() {
+            Ok(taken) => self.forks.push((taken, taken + 1)).is_ok(),
+            Err(_) => false,
+        })
     }
 
     /// One of so many. Where there is no memory to write a choice down it is the first.
@@ -43,10 +34,10 @@ impl Choices {
             return 0;
         }
         self.passed += 1;
-        if let Some(fork) = self.forks.get(self.passed - 1) {
-            return fork.taken;
+        if let Some((taken, _)) = self.forks.get(self.passed - 1) {
+            return *taken;
         }
-        drop(self.forks.push(Fork { taken: 0, among }).ok());
+        drop(self.forks.push((0, among)).ok());
         0
     }
 
@@ -54,13 +45,11 @@ impl Choices {
     pub(crate) fn turn(&mut self) -> bool {
         self.passed = 0;
         for _ in 0..self.forks.len() {
-            if let Some(fork) = self.forks.last_mut() {
-                if fork.taken + 1 < fork.among {
-                    fork.taken += 1;
-                    return true;
+            if let Some((taken, among)) = self.forks.pop() {
+                if taken + 1 < among {
+                    return self.forks.push((taken + 1, among)).is_ok();
                 }
             }
-            self.forks.pop();
         }
         false
     }
@@ -68,11 +57,9 @@ impl Choices {
     /// The choices of the run, to be played again.
     pub(crate) fn way(&self, alloc: Global) -> Result<String, AllocError> {
         let mut way = String::new(alloc);
-        for (place, fork) in self.forks.iter().enumerate() {
-            if place > 0 {
-                way.push('.')?;
-            }
-            way.push_str(format!(in alloc; "{}", fork.taken)?.as_str())?;
+        for (place, (taken, _)) in self.forks.iter().enumerate() {
+            let mark = if place > 0 { "." } else { "" };
+            way.push_str(format!(in alloc; "{mark}{taken}")?.as_str())?;
         }
         Ok(way)
     }

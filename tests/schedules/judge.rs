@@ -13,7 +13,8 @@ pub(crate) struct Stopwatch {
 
 impl Stopwatch {
     pub(crate) fn begin(world: &World) -> Stopwatch {
-        Stopwatch { jumps: world.jumps(), begun: world.now() }
+        let (jumps, begun) = (world.jumps(), world.now());
+        Stopwatch { jumps, begun }
     }
 
     /// How many milliseconds passed.
@@ -29,12 +30,12 @@ impl Stopwatch {
 
     /// The call took so long at least, and at most; where that is None it cannot be told.
     pub(crate) fn check(&self, world: &World, what: &'static str, least: u64, most: Option<u64>) {
-        let Some(taken) = self.seconds(world) else {
-            return;
-        };
-        if taken < least || most.is_some_and(|most| taken > most) {
-            world.tell_number("it ends after seconds:", taken);
-            world.fault(what);
+        match self.seconds(world) {
+            Some(taken) if taken < least || most.is_some_and(|most| taken > most) => {
+                world.tell_number("it ends after seconds:", taken);
+                world.fault(what);
+            }
+            _ => {}
         }
     }
 }
@@ -44,7 +45,7 @@ pub(crate) fn sums(world: &World, status: &Status) {
     let held = status.connections + status.opening;
     let is_sum = status.idle + status.lent == status.connections;
     world.fault_if(!is_sum, "idle and lent are not the connections");
-    world.fault_if(held > status.max_size, "more are open or pending than max_size");
+    world.fault_if(held > status.max_size, "more are held than max_size");
     let is_short = status.idle + status.opening < status.wanted && held < status.max_size;
     world.fault_if(!status.closed && is_short, "too few are idle or pending");
 }
@@ -55,39 +56,36 @@ pub(crate) fn at_rest(world: &World, status: &Status, callers: u64, drains: u64,
     let waits = callers > 0 && !status.closed;
     let is_idle = u64::from(status.idle) > left;
     let has_room = status.opening == 0 && status.connections < status.max_size;
-    world.fault_if(callers > 0 && status.closed, "somebody waits at a closed pool");
-    world.fault_if(waits && is_idle, "somebody waits beside an idle connection");
-    world
-        .fault_if(waits && has_room, "somebody waits, and nothing is ordered though there is room");
     let is_drained = drains > 0 && status.lent == 0;
-    world.fault_if(is_drained, "somebody waits at a closed pool of which nothing is lent");
+    let is_late = callers > 0 && status.closed;
+    world.fault_if(is_late, "a caller waits at a closed pool");
+    world.fault_if(waits && is_idle, "somebody waits beside an idle connection");
+    world.fault_if(waits && has_room, "somebody waits, and nothing is ordered");
+    world.fault_if(is_drained, "a drain waits, and nothing is lent");
 }
 
 /// A `get` for so many seconds is told of an error.
 pub(crate) fn refused(world: &World, error: &Error, watch: &Stopwatch, seconds: u64) {
+    let plan = &world.plan;
     match error.kind() {
         ErrorKind::Timeout => {
             world.tell("is told of a timeout");
             watch.check(world, "a get is told of a timeout before it", seconds, None);
         }
-        ErrorKind::Closed => {
-            world.tell("is told that the pool is closed");
-            world.fault_if(!world.plan.closes(), "a get is told of a close that was not");
-        }
-        ErrorKind::Full => {
-            world.tell("is told that as many wait as may");
-            let may_all = world.plan.may_wait() == 0;
-            world.fault_if(may_all, "a get is refused where as many may wait as come");
-        }
+        ErrorKind::Closed if plan.closes() => world.tell("is told that the pool is closed"),
+        ErrorKind::Full if plan.may_wait() > 0 => world.tell("is told that as many wait as may"),
+        ErrorKind::Closed => world.fault("a get is told of a close that was not"),
+        ErrorKind::Full => world.fault("a get is refused where as many may wait as come"),
         _ => world.fault("a get is told of what cannot be"),
     }
 }
 
 /// Everything is to be gone.
 pub(crate) fn ends(world: &World) {
-    world.fault_if(world.count(Count::Ended) != 1, "a worker does not end, or a pool is left");
+    let is_left = world.count(Count::Ended) != 1;
+    world.fault_if(is_left, "a worker or a pool is left");
     let gone = world.count(Count::Dropped) + world.count(Count::Detached);
     let is_all = world.count(Count::Opened) == gone;
-    world.fault_if(!is_all, "what was opened is not what was dropped and detached");
+    world.fault_if(!is_all, "more is opened than dropped or detached");
     world.fault_if(world.count(Count::Opening) != 0, "an opening is left");
 }

@@ -4,9 +4,7 @@
 //! whose choices `way=` names.
 #![tactic(auto)]
 
-mod caller;
 mod choices;
-mod ear;
 mod judge;
 mod line;
 mod nap;
@@ -14,7 +12,6 @@ mod orders;
 mod plan;
 mod pools;
 mod queue;
-mod rows;
 mod task;
 mod threads;
 mod within;
@@ -29,16 +26,13 @@ use std::process::ExitCode;
 use std::test::Fail;
 
 fn main(rt: HostRuntime) -> Result<ExitCode, Fail> {
-    let mut words = Vec::new(rt.alloc());
-    for word in env::args(&rt)?.skip(1) {
-        words.push(word)?;
-    }
-    let [kind, named @ ..] = words.as_slice() else {
+    let mut words = env::args(&rt)?.skip(1);
+    let Some(kind) = words.next() else {
         return Ok(ExitCode::from(2));
     };
     let (mut plan, mut choices) = (Plan::new(kind.as_str()), Choices::new(rt.alloc()));
     let mut is_told = false;
-    for word in named.iter() {
+    for word in words {
         let way = word.as_str().strip_prefix("way=");
         is_told |= way.is_some();
         let is_known = match way {
@@ -54,21 +48,17 @@ fn main(rt: HostRuntime) -> Result<ExitCode, Fail> {
         within::draw(&rt, &mut plan);
     }
     let world = World::new(rt, plan, choices, is_told)?;
-    let went = play(rt, Box::leak(Box::new(rt.alloc(), world)?))?;
-    Ok(ExitCode::from(if went { 0 } else { 1 }))
+    let went_well = play(rt, Box::leak(Box::new(rt.alloc(), world)?))?;
+    Ok(ExitCode::from(if went_well { 0 } else { 1 }))
 }
 
 // Whether the run went well, or all did.
 fn play<R: PoolRuntime>(rt: R, world: &'static World) -> Result<bool, Fail> {
-    if !world.plan.is_drawn() {
-        return orders::play(world);
-    }
-    if world.plan.is_of_tasks {
-        rows::play(rt, world)?;
-    } else if world.plan.within.is_some() {
-        within::play(rt, world)?;
-    } else {
-        threads::play(rt, world)?;
+    match &world.plan {
+        plan if !plan.is_drawn() => return orders::play(world),
+        plan if plan.is_of_tasks => orders::play_threads(rt, world)?,
+        plan if plan.within.is_some() => within::play(rt, world)?,
+        _ => threads::play(rt, world)?,
     }
     // The manager is dropped with the last worker.
     for _ in 0..1_000 {

@@ -2,8 +2,8 @@
 
 use crate::line::{Blammo, Line, Manager};
 use crate::world::{Count, World};
-use futures::task::{Context, Poll};
 use futures::Future;
+use futures::task::{Context, Poll};
 use r2d2_async::Timer;
 use std::alloc::{Alloc, Global};
 use std::io;
@@ -61,8 +61,8 @@ impl Timer for Place {
     type Sleep = Nap;
 
     fn sleep(&self, length: Duration) -> Nap {
-        let (world, length) = (self.world, length.as_millis() as u64);
-        let end = world.now().saturating_add(length);
+        let world = self.world;
+        let end = world.now().saturating_add(length.as_millis() as u64);
         Nap { world, end }
     }
 }
@@ -104,18 +104,13 @@ impl Future for Checking {
     type Output = (Line, Result<(), Blammo>);
 
     fn poll(&mut self, cx: &mut Context<'_>) -> Poll<(Line, Result<(), Blammo>)> {
-        let is_slow = self.is_slow;
+        let line = if self.is_slow { None } else { self.line.take() };
         self.is_slow = false;
-        match self.line.take() {
-            Some(mut line) if !is_slow => {
-                let checked = line.ends_check(self.began);
-                Poll::Ready((line, checked))
-            }
-            line => {
-                self.line = line;
-                cx.yield_now()
-            }
-        }
+        let Some(mut line) = line else {
+            return cx.yield_now();
+        };
+        let checked = line.ends_check(self.began);
+        Poll::Ready((line, checked))
     }
 }
 
@@ -139,7 +134,11 @@ impl r2d2_async::ManageConnection for Manager {
 
     fn check(&self, mut line: Line) -> Checking {
         line.begins_check();
-        Checking { line: Some(line), is_slow: !self.world.plan.distrusts, began: self.world.now() }
+        Checking {
+            line: Some(line),
+            is_slow: !self.world.plan.distrusts,
+            began: self.world.now(),
+        }
     }
 
     fn has_broken(&self, line: &mut Line) -> bool {

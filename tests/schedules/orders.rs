@@ -3,25 +3,27 @@
 
 use crate::judge;
 use crate::plan::Plan;
-use crate::pools::{task_pool, TaskPool};
-use crate::task::{Deed, Task};
-use crate::world::{Count, World, LONG};
+use crate::pools::{TaskPool, task_pool};
+use crate::task::{Task, tasks_of};
+use crate::threads::sleep;
+use crate::world::{Count, LONG, LONGEST_DELAY, World};
 use futures::spin::lock;
-use r2d2::Status;
+use r2d2::{PoolRuntime, Status};
 use std::test::Fail;
+use std::thread;
 
 /// More steps than a run has.
 const MOST: u64 = 1_000;
 
-/// What may come next.
+/// What may come next, of a task.
 #[derive(Clone, Copy)]
 enum Move {
-    Poll(usize),
-    GiveUp(usize),
+    Poll,
+    GiveUp,
     /// It is neither polled nor dropped from now on.
-    Leave(usize),
+    Leave,
     /// Another executor polls it from now on.
-    Move(usize),
+    Move,
     /// Time goes on to the next moment at which a sleep ends.
     Pass,
 }
@@ -32,25 +34,19 @@ struct Run {
     // None where the last drop of a pool is a caller's.
     pool: Option<TaskPool>,
     tasks: Vec<Task>,
-    moves: Vec<Move>,
+    moves: Vec<(Move, usize)>,
     // What of it may come yet beside polls of those who are woken.
     left: Plan,
 }
 
 /// Whether all runs went well: in each another way is taken, until all were.
 pub(crate) fn play(world: &'static World) -> Result<bool, Fail> {
-    let rt = world.rt;
     for runs in 1..u64::MAX {
         Run::new(world)?.play()?;
         judge::ends(world);
-        let Some(mut choices) = lock(&world.choices) else {
-            break;
-        };
-        if world.has_faults() {
-            println!(rt; "fault {}: {}", choices.way(rt.alloc())?, world.first_fault())?;
-        }
-        if world.has_faults() || world.is_told || !choices.turn() {
-            println!(rt; "orders {runs}")?;
+        let turns = lock(&world.choices).is_some_and(|mut choices| choices.turn());
+        if world.has_faults() || world.is_told || !turns {
+            println!(world.rt; "orders {runs}")?;
             break;
         }
     }
@@ -64,7 +60,11 @@ impl Run {
         let tasks = tasks_of(world, &pool)?;
         Ok(Run {
             world,
-            pool: if world.plan.last_drop { None } else { Some(pool) },
+            pool: if world.plan.last_drop {
+                None
+            } else {
+                Some(pool)
+            },
             tasks,
             moves: Vec::new(world.rt.alloc()),
             left: world.plan,
@@ -84,7 +84,8 @@ impl Run {
                 break;
             }
         }
-        self.world.fault_if(!self.world.has_faults(), "somebody waits for good");
+        self.world
+            .fault_if(!self.world.has_faults(), "somebody waits for good");
         Ok(())
     }
 
@@ -99,80 +100,77 @@ impl Run {
             return Ok(false);
         }
         let chosen = self.world.choose(self.moves.len() as u64) as usize;
-        let Some(next) = self.moves.get(chosen).copied() else {
+        let Some((chosen, place)) = self.moves.get(chosen).copied() else {
             return Ok(false);
         };
         self.world.tick();
-        match next {
-            Move::Poll(place) => self.poll(place, status),
-            Move::GiveUp(place) => {
+        let task = &mut self.tasks[place];
+        match chosen {
+            Move::Poll => {
+                if !task.is_woken() {
+                    self.world
+                        .tell_of(task.who, "is polled, though nobody woke it");
+                    self.left.needless -= 1;
+                }
+                task.poll(status);
+            }
+            Move::GiveUp => {
                 self.left.drops -= 1;
-                self.tasks[place].give_up();
+                task.give_up();
             }
-            Move::Leave(place) => {
+            Move::Leave => {
                 self.left.leaves -= 1;
-                self.tasks[place].leave();
+                task.leave();
             }
-            Move::Move(place) => {
+            Move::Move => {
                 self.left.moves -= 1;
-                self.tasks[place].move_on();
+                task.move_on();
             }
-            Move::Pass => self.pass(rests),
+            Move::Pass => {
+                self.left.early -= u64::from(!rests);
+                self.world.pass();
+            }
         }
         Ok(true)
     }
 
     // What may come next; whether nobody is woken.
     fn find_moves(&mut self) -> Result<bool, Fail> {
-        let mut rests = true;
+        let (left, mut rests) = (&self.left, true);
         self.moves.clear();
         for (place, task) in self.tasks.iter().enumerate() {
             // One before it that is like it in all need not come later.
-            if self.tasks.iter().take(place).any(|earlier| earlier.is_like(task)) {
+            if self
+                .tasks
+                .iter()
+                .take(place)
+                .any(|earlier| earlier.is_like(task))
+            {
                 continue;
             }
-            if task.is_woken() {
-                rests = false;
-                self.moves.push(Move::Poll(place))?;
-            } else if self.left.needless > 0 && !task.is_over {
-                self.moves.push(Move::Poll(place))?;
-            }
-            if self.left.drops > 0 && task.can_give_up() {
-                self.moves.push(Move::GiveUp(place))?;
-            }
-            if self.left.leaves > 0 && task.can_be_left() {
-                self.moves.push(Move::Leave(place))?;
-            }
-            if self.left.moves > 0 && task.can_move() {
-                self.moves.push(Move::Move(place))?;
+            rests &= !task.is_woken();
+            for (found, may_come) in [
+                (
+                    Move::Poll,
+                    task.is_woken() || left.needless > 0 && !task.is_over,
+                ),
+                (Move::GiveUp, left.drops > 0 && task.can_give_up()),
+                (Move::Leave, left.leaves > 0 && task.can_be_left()),
+                (Move::Move, left.moves > 0 && task.can_move()),
+            ] {
+                if may_come {
+                    self.moves.push((found, place))?;
+                }
             }
         }
         // Time goes on where nobody is woken, and now and then before, but never past a long wait.
         if let Some(end) = self.world.next_end() {
             let length = end.saturating_sub(self.world.now());
-            if rests || self.left.early > 0 && length > 0 && length < LONG {
-                self.moves.push(Move::Pass)?;
+            if rests || left.early > 0 && length > 0 && length < LONG {
+                self.moves.push((Move::Pass, 0))?;
             }
         }
         Ok(rests)
-    }
-
-    fn pass(&mut self, rests: bool) {
-        if !rests {
-            self.left.early -= 1;
-        }
-        if let Some(end) = self.world.next_end() {
-            self.world.pass(end);
-        }
-    }
-
-    fn poll(&mut self, place: usize, before: Option<Status>) {
-        let task = &mut self.tasks[place];
-        if !task.is_woken() {
-            self.world.tell_of(task.who, "is polled, though nobody woke it");
-            self.left.needless -= 1;
-        }
-        task.poll(before);
     }
 
     // What there is now, as long as somebody has a pool.
@@ -196,10 +194,10 @@ impl Run {
             return;
         }
         let left = self.tasks.iter().filter(|task| task.is_left).count() as u64;
-        let workers = self.tasks.iter().filter(|task| task.is_worker());
-        let idle = workers.filter(|task| !world.has_sleep(task.who)).count();
-        let is_undone = status.opening > 0 && idle > 0;
-        world.fault_if(is_undone, "an opening is left undone, and a worker rests");
+        // It sleeps at most until an opening that failed is tried again.
+        let is_idle = |task: &Task| task.is_worker() && !world.is_due_in(task.who, LONGEST_DELAY);
+        let is_undone = status.opening > 0 && self.tasks.iter().any(is_idle);
+        world.fault_if(is_undone, "a worker rests beside an opening");
         judge::at_rest(world, status, world.queue.placed(), drains, left);
         let rests = status.closed && world.count(Count::Workers) > 0;
         world.fault_if(rests, "a worker rests at a closed pool");
@@ -208,35 +206,102 @@ impl Run {
     // The last pool goes, so the workers end.
     fn end(mut self) {
         self.world.add(Count::Over);
-        for task in self.tasks.iter_mut() {
-            task.drop_left();
-        }
+        self.tasks.iter_mut().for_each(|task| task.drop_left());
         self.pool = None;
         for _ in 0..4 {
-            for task in self.tasks.iter_mut() {
-                if task.is_woken() {
-                    task.poll(None);
-                }
+            for task in self.tasks.iter_mut().filter(|task| task.is_woken()) {
+                task.poll(None);
             }
         }
-        self.world.fault_if(self.world.count(Count::Workers) > 0, "a worker does not end");
+        let is_left = self.world.count(Count::Workers) > 0;
+        self.world.fault_if(is_left, "a worker does not end");
     }
 }
 
-/// The tasks of a run: workers, then callers, then keepers.
-pub(crate) fn tasks_of(world: &'static World, pool: &TaskPool) -> Result<Vec<Task>, Fail> {
-    let plan = &world.plan;
-    let mut tasks = Vec::new(world.rt.alloc());
-    for (deed, count) in [
-        (Deed::Work, plan.workers),
-        (Deed::Call, plan.callers),
-        (Deed::Close, plan.closers),
-        (Deed::Drain, plan.drainers),
-        (Deed::Evict, plan.evictors),
-    ] {
-        for _ in 0..count {
-            tasks.push(Task::new(world, tasks.len() as u64, deed, pool)?)?;
+/// More rounds than a thread makes.
+const MOST_ROUNDS: u64 = 400;
+
+/// The polls of tasks by several threads, each with a row of its own, as a scheduler draws it.
+pub(crate) fn play_threads<R: PoolRuntime>(rt: R, world: &'static World) -> Result<(), Fail> {
+    world.begin();
+    let pool = task_pool(world)?;
+    let mut rows = Vec::new(rt.alloc());
+    for _ in 0..world.plan.threads {
+        rows.push(Vec::new(rt.alloc()))?;
+    }
+    // They are dealt in turn. The workers end with the last caller's pool.
+    for (turn, task) in tasks_of(world, &pool)?.into_iter().enumerate() {
+        let count = rows.len();
+        rows[turn % count].push(task)?;
+    }
+    drop(pool);
+    let mut threads = Vec::new(rt.alloc());
+    for row in rows {
+        threads.push(thread::spawn(&rt, move || work(rt, world, row))?)?;
+    }
+    for thread in threads {
+        thread.join(&rt);
+    }
+    Ok(())
+}
+
+// Polls the tasks that are woken, until all have ended.
+fn work<R: PoolRuntime>(rt: R, world: &World, mut row: Vec<Task>) {
+    let may_move = world.plan.moves > 0;
+    for _ in 0..MOST_ROUNDS {
+        let moved = if may_move {
+            world.moving.lock(&rt).pop()
+        } else {
+            None
+        };
+        let mut rests = moved.is_none_or(|task| row.push(task).is_err());
+        for task in row.iter_mut() {
+            rests &= !poll_or_drop(world, task);
+        }
+        move_on(rt, world, &mut row);
+        let is_over = row.iter().all(|task| task.is_over);
+        if is_over && (!may_move || world.moving.lock(&rt).is_empty()) {
+            return;
+        }
+        if rests {
+            sleep(world, 1);
         }
     }
-    Ok(tasks)
+    world.fault("somebody waits for good");
+}
+
+// Polls a task, or gives it up, where it is woken; whether it was.
+fn poll_or_drop(world: &World, task: &mut Task) -> bool {
+    if !task.is_woken() {
+        return false;
+    }
+    let plan = &world.plan;
+    // One worker is left.
+    let can_go = task.can_give_up() && (!task.is_worker() || plan.drops < plan.workers);
+    let may_go = can_go && world.count(Count::GivenUp) < plan.drops && world.choose(4) == 0;
+    if may_go && world.add(Count::GivenUp) < plan.drops {
+        task.give_up();
+    } else {
+        task.poll(None);
+    }
+    true
+}
+
+// A call moves to another thread now and then, or comes back to this one.
+fn move_on<R: PoolRuntime>(rt: R, world: &World, row: &mut Vec<Task>) {
+    let plan = &world.plan;
+    if world.count(Count::Moved) >= plan.moves || world.choose(2) == 0 {
+        return;
+    }
+    let Some(place) = row
+        .iter()
+        .position(|task| task.can_move() && !task.is_worker())
+    else {
+        return;
+    };
+    if world.add(Count::Moved) < plan.moves {
+        let mut task = row.swap_remove(place);
+        task.move_on();
+        drop(world.moving.lock(&rt).push(task).ok());
+    }
 }

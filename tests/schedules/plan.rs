@@ -90,15 +90,14 @@ impl Plan {
 
     /// Takes a word of a scenario in; false where there is no such word.
     pub(crate) fn take(&mut self, word: &str) -> bool {
-        if let Some(name) = word.strip_prefix("within=") {
-            self.within = within::named(name);
+        let (name, value) = word.split_once('=').unwrap_or((word, ""));
+        if name == "within" {
+            self.within = within::named(value);
             return self.within.is_some();
         }
-        if let Some((name, number)) = word.split_once('=') {
-            if let Ok(number) = number.parse::<u64>() {
-                set!(self, name, number; size wanted workers callers impatient hasty calls most line
-                    bad closers drainers evictors drops needless early leaves moves threads);
-            }
+        if let Ok(number) = value.parse::<u64>() {
+            set!(self, name, number; size wanted workers callers impatient hasty calls most line
+                bad closers drainers evictors drops needless early leaves moves threads);
             return false;
         }
         set!(self, word, true; fails checks breaks distrusts after_idle reaps lifetimes jitter
@@ -107,7 +106,7 @@ impl Plan {
         false
     }
 
-    /// Whether a scheduler draws the run, which threads play.
+    /// Whether a scheduler draws the run, which threads play; else all orders are played on one.
     pub(crate) fn is_drawn(&self) -> bool {
         !self.is_of_tasks || self.threads > 0
     }
@@ -144,7 +143,12 @@ impl Plan {
     /// a millisecond then.
     pub(crate) fn is_timed(&self) -> bool {
         let is_told = self.is_of_tasks && (self.distrusts || self.oldest);
-        self.after_idle || self.jitter || self.lifetimes || is_told
+        self.after_idle || self.ends_by_age() || is_told
+    }
+
+    /// Whether a connection grows too old.
+    pub(crate) fn ends_by_age(&self) -> bool {
+        self.jitter || self.lifetimes
     }
 
     /// Whether somebody closes the pool while others have it.
@@ -155,32 +159,24 @@ impl Plan {
     /// How many seconds a caller's own checks take at most, if it makes no more than so many. None
     /// where no moment can be told, since a handler of its own call is slow.
     pub(crate) fn seconds_of_checks(&self, checks: u64) -> Option<u64> {
-        if !self.checks {
-            return Some(0);
-        }
-        if self.error_stays || !self.releases_at_once() {
-            return None;
-        }
-        Some(if self.slow_checks { checks * 2 } else { 0 })
+        let is_told = !self.error_stays && self.releases_at_once();
+        let each = if self.checks && self.slow_checks {
+            2
+        } else {
+            0
+        };
+        (is_told || !self.checks).then_some(each * checks)
     }
 
     /// How many seconds a call yields at most that takes the lock.
     pub(crate) fn seconds_of_turns(&self) -> u64 {
-        if self.busy {
-            TURNS
-        } else {
-            0
-        }
+        if self.busy { TURNS } else { 0 }
     }
 
     /// By how many seconds a call outlasts its time at most that looks again: its time may end as it
     /// yields for one more look, and it takes the lock for that.
     pub(crate) fn seconds_of_a_look(&self) -> u64 {
-        if self.busy {
-            TURNS + 1
-        } else {
-            0
-        }
+        self.seconds_of_turns() + u64::from(self.busy)
     }
 
     /// Whether a return and an eviction take no time.

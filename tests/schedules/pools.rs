@@ -1,10 +1,9 @@
 // The pools of a run, and their settings.
 
-use crate::ear::Ear;
-use crate::line::{Line, Manager, JITTER};
+use crate::line::{Ear, JITTER, Line, Manager};
 use crate::nap::Place;
-use crate::plan::{Plan, PATIENT};
-use crate::world::{World, LONGEST_DELAY};
+use crate::plan::{PATIENT, Plan};
+use crate::world::{LONGEST_DELAY, World};
 use r2d2::{Error, LendingOrder, PoolRuntime, Status};
 use r2d2_async::NoHandlers;
 use std::marker::Brand;
@@ -17,17 +16,22 @@ use std::time::Duration;
 const PARTS: u64 = 1_000_000;
 
 pub(crate) type TaskPool = r2d2_async::Pool<Manager, Place, NoHandlers, Place>;
+
 pub(crate) type TaskGet = r2d2_async::Get<Manager, Place, NoHandlers, Place>;
+
 pub(crate) type TaskLent = r2d2_async::PooledConnection<Manager, Place, NoHandlers, Place>;
+
 pub(crate) type TaskWork = r2d2_async::Work<Manager, Place, NoHandlers, Place>;
+
 pub(crate) type TaskDrain = r2d2_async::Drain<Manager, Place, NoHandlers, Place>;
-type Counted<R> = r2d2::CountedPool<Manager, Ear, Ear, Ear, R, Brand>;
+
+type CountedPool<R> = r2d2::CountedPool<Manager, Ear, Ear, Ear, R, Brand>;
 
 /// A pool for threads. A counted one lends each call a part of its ledger.
 #[derive(Drop)]
 pub(crate) enum Pool<R: PoolRuntime> {
     Plain(r2d2::Pool<Manager, Ear, Ear, Ear, R>),
-    Counted(Counted<R>, Arc<Mutex<Share<Brand>>>, R),
+    Counted(CountedPool<R>, Arc<Mutex<Share<Brand>>>, R),
 }
 
 #[derive(Drop)]
@@ -52,25 +56,25 @@ impl<R: PoolRuntime> Lent<R> {
     }
 }
 
-// The same of a pool of any kind.
-macro_rules! of_any {
-    ($pool:expr, $it:ident, $what:expr) => {
+// A call of a pool of any kind; where it is counted, with a part of the ledger behind what is given.
+macro_rules! call {
+    ($pool:expr, $call:ident($($given:expr)?)) => {
         match $pool {
-            Pool::Plain($it) => $what,
-            Pool::Counted($it, ..) => $what,
+            Pool::Plain(pool) => pool.$call($($given)?),
+            Pool::Counted(pool, ..) => pool.$call($($given)?),
         }
     };
-}
-
-// A call that is counted.
-macro_rules! counted {
-    ($parts:expr, $rt:expr, $part:ident, $call:expr) => {{
-        let mut part = $parts.lock($rt).split_off(1, 0);
-        let $part = &mut part;
-        let answer = $call;
-        $parts.lock($rt).merge(part);
-        answer
-    }};
+    (counted $pool:expr, $call:ident($($given:expr)?), $plain:expr, $counted:expr) => {
+        match $pool {
+            Pool::Plain(pool) => pool.$call($($given)?).map($plain),
+            Pool::Counted(pool, parts, rt) => {
+                let mut part = parts.lock(rt).split_off(1, 0);
+                let answer = pool.$call($($given,)? &mut part);
+                parts.lock(rt).merge(part);
+                answer.map($counted)
+            }
+        }
+    };
 }
 
 impl<R: PoolRuntime> Pool<R> {
@@ -85,44 +89,30 @@ impl<R: PoolRuntime> Pool<R> {
     }
 
     pub(crate) fn status(&self) -> Status {
-        of_any!(self, pool, pool.status())
+        call!(self, status())
     }
 
     /// A `get` for so many seconds.
     pub(crate) fn get(&self, seconds: u64) -> Result<Lent<R>, Error> {
         let length = Duration::from_secs(seconds);
-        match self {
-            Pool::Plain(pool) => Ok(Lent::Plain(pool.get_timeout(length)?)),
-            Pool::Counted(pool, parts, rt) => {
-                let lent = counted!(parts, rt, part, pool.get_timeout(length, part));
-                Ok(Lent::Counted(lent?))
-            }
-        }
+        call!(counted self, get_timeout(length), Lent::Plain, Lent::Counted)
     }
 
     pub(crate) fn try_get(&self) -> Result<Option<Lent<R>>, Error> {
-        Ok(match self {
-            Pool::Plain(pool) => pool.try_get()?.map(Lent::Plain),
-            Pool::Counted(pool, parts, rt) => {
-                counted!(parts, rt, part, pool.try_get(part))?.map(Lent::Counted)
-            }
-        })
+        call!(counted self, try_get(), |it| it.map(Lent::Plain), |it| it.map(Lent::Counted))
     }
 
     pub(crate) fn evict(&self) -> Result<usize, Error> {
-        match self {
-            Pool::Plain(pool) => pool.evict(),
-            Pool::Counted(pool, parts, rt) => counted!(parts, rt, part, pool.evict(part)),
-        }
+        call!(counted self, evict(), |count| count, |count| count)
     }
 
     /// A drain for so many seconds.
     pub(crate) fn drain(&self, seconds: u64) -> Result<(), Status> {
-        of_any!(self, pool, pool.drain(Duration::from_secs(seconds)))
+        call!(self, drain(Duration::from_secs(seconds)))
     }
 
     pub(crate) fn close(&self) {
-        of_any!(self, pool, pool.close())
+        call!(self, close())
     }
 }
 
@@ -131,19 +121,16 @@ macro_rules! set {
     ($builder:expr, $world:expr) => {{
         let (world, plan): (&World, &Plan) = ($world, &$world.plan);
         let length = |is_set: bool, length| is_set.then(|| Duration::from_millis(length));
-        let builder = $builder
+        let order = if plan.oldest { LendingOrder::OldestFirst } else { LendingOrder::NewestFirst };
+        $builder
             .max_size(plan.size as u32)
             .min_idle(Some(plan.wanted as u32))
             .test_on_check_out(plan.checks)
             .distrust_idle(plan.distrusts)
-            .max_lifetime(length(plan.lifetimes || plan.jitter, world.lifetime()))
+            .lending_order(order)
+            .max_lifetime(length(plan.ends_by_age(), world.lifetime))
             .idle_timeout(length(plan.reaps, 4_000))
-            .check_after_idle(length(plan.after_idle, world.after_idle()));
-        if plan.oldest {
-            builder.lending_order(LendingOrder::OldestFirst)
-        } else {
-            builder
-        }
+            .check_after_idle(length(plan.after_idle, world.after_idle))
     }};
 }
 

@@ -1,8 +1,9 @@
 // Who waits since when, as the callers themselves tell it: of calls of `get`.
 
-use crate::world::{all, of};
+use crate::judge::Stopwatch;
+use crate::world::{all, of, set};
 use std::alloc::{AllocError, Global};
-use std::sync::atomic::{AtomicU64, Ordering};
+use std::sync::atomic::AtomicU64;
 
 /// More callers than a scenario has.
 const CALLERS: u64 = 8;
@@ -24,38 +25,38 @@ pub(crate) struct Queue {
 
 impl Queue {
     pub(crate) fn new(alloc: Global) -> Result<Queue, AllocError> {
+        let each = || all(alloc, CALLERS, 0);
+        let unsound = AtomicU64::new(0);
         Ok(Queue {
-            since: all(alloc, CALLERS, 0)?,
-            until: all(alloc, CALLERS, 0)?,
-            jumps: all(alloc, CALLERS, 0)?,
-            checks: all(alloc, CALLERS, 0)?,
-            unsound: AtomicU64::new(0),
+            since: each()?,
+            until: each()?,
+            jumps: each()?,
+            checks: each()?,
+            unsound,
         })
     }
 
-    /// A caller waits since then, until then.
-    pub(crate) fn begins(&self, who: u64, since: u64, until: u64, jumps: u64) {
-        self.until[who as usize].store(until, Ordering::SeqCst);
-        self.jumps[who as usize].store(jumps, Ordering::SeqCst);
-        self.checks[who as usize].store(0, Ordering::SeqCst);
-        self.since[who as usize].store(since, Ordering::SeqCst);
+    /// A caller waits since then, for so many seconds from the beginning of its call.
+    pub(crate) fn begins(&self, who: u64, since: u64, watch: &Stopwatch, seconds: u64) {
+        set(&self.until[who as usize], watch.begun + seconds * 1_000);
+        set(&self.jumps[who as usize], watch.jumps);
+        set(&self.checks[who as usize], 0);
+        set(&self.since[who as usize], since);
     }
 
     /// It keeps its place during its check.
     pub(crate) fn checks(&self, who: u64) {
-        self.checks[who as usize].store(1, Ordering::SeqCst);
+        set(&self.checks[who as usize], 1);
     }
 
     /// Its call has ended.
     pub(crate) fn ends(&self, who: u64) {
-        self.since[who as usize].store(0, Ordering::SeqCst);
+        set(&self.since[who as usize], 0);
     }
 
     /// Nobody calls.
     pub(crate) fn clear(&self) {
-        for who in 0..CALLERS {
-            self.ends(who);
-        }
+        self.since.iter().for_each(|it| set(it, 0));
     }
 
     /// Since when this caller waits.
@@ -65,21 +66,21 @@ impl Queue {
 
     // How many have a place of which this is so, and whose time ends after this moment.
     fn count<F: Fn(usize) -> bool>(&self, now: u64, is_so: F) -> u64 {
-        let waits =
-            |who: &usize| of(&self.since[*who]) > 0 && now < of(&self.until[*who]) && is_so(*who);
-        (0..CALLERS as usize).filter(waits).count() as u64
+        let has_time = |who| self.since(who as u64) > 0 && now < of(&self.until[who]);
+        (0..CALLERS as usize)
+            .filter(|who| has_time(*who) && is_so(*who))
+            .count() as u64
+    }
+
+    fn waits(&self, who: usize) -> bool {
+        of(&self.checks[who]) == 0
     }
 
     /// How many whose time is not over wait for longer than since then. Where time went on before it
     /// had to, such a one may not have come to its wait.
     pub(crate) fn ahead_of(&self, own: u64, now: u64, jumps: u64) -> u64 {
-        self.count(now, |who| {
-            self.waits(who) && of(&self.since[who]) < own && of(&self.jumps[who]) == jumps
-        })
-    }
-
-    fn waits(&self, who: usize) -> bool {
-        of(&self.checks[who]) == 0
+        let is_ahead = |who| self.since(who as u64) < own && of(&self.jumps[who]) == jumps;
+        self.count(now, |who| self.waits(who) && is_ahead(who))
     }
 
     /// How many have a place, also at their checks.
@@ -89,13 +90,15 @@ impl Queue {
 
     /// How many wait, and how many of them whose time is not over.
     pub(crate) fn waiting(&self, now: u64) -> (u64, u64) {
-        let waits = |who| self.waits(who);
-        (self.count(0, waits), self.count(now, waits))
+        (
+            self.count(0, |who| self.waits(who)),
+            self.count(now, |who| self.waits(who)),
+        )
     }
 
     /// A check fails. Until its caller looks again others may be served before it.
     pub(crate) fn looks_again(&self, now: u64) {
-        self.unsound.store(now + 1, Ordering::SeqCst);
+        set(&self.unsound, now + 1);
     }
 
     /// Whether a check failed now, or up to so many seconds before.

@@ -1,21 +1,22 @@
 // The tasks of a run, each with what wakes it: workers, those who get connections and give them
 // back, and those who evict, close the pool or drain it.
 
-use crate::judge::Stopwatch;
+use crate::judge::{self, Stopwatch};
 use crate::plan::PATIENT;
 use crate::pools::{TaskDrain, TaskGet, TaskLent, TaskPool, TaskWork};
-use crate::world::{Count, World, NEVER};
+use crate::world::{Count, NEVER, World};
+use futures::Future;
 use futures::task::{Context, Poll};
 use futures::test::MockTask;
-use futures::Future;
-use r2d2::Status;
+use r2d2::{Error, ErrorKind, Status};
+use r2d2_async::PooledConnection;
 use std::mem;
 use std::sync::Arc;
 use std::test::Fail;
 use std::time::Duration;
 
 #[derive(Clone, Copy, PartialEq)]
-pub(crate) enum Deed {
+enum Deed {
     Work,
     Call,
     Close,
@@ -25,7 +26,7 @@ pub(crate) enum Deed {
 
 /// What a task is at.
 #[derive(Drop)]
-pub(crate) enum Stage {
+enum Stage {
     Nothing,
     Works(TaskWork),
     Waits(TaskGet),
@@ -35,21 +36,21 @@ pub(crate) enum Stage {
 
 #[derive(Drop)]
 pub(crate) struct Task {
-    pub(crate) world: &'static World,
+    world: &'static World,
     pub(crate) who: u64,
-    pub(crate) deed: Deed,
-    pub(crate) stage: Stage,
+    deed: Deed,
+    stage: Stage,
     // None once it needs it no more.
-    pub(crate) pool: Option<TaskPool>,
+    pool: Option<TaskPool>,
     // The pool before this poll; None where others are at work.
-    pub(crate) before: Option<Status>,
-    pub(crate) calls: u64,
-    pub(crate) seconds: u64,
-    pub(crate) watch: Stopwatch,
+    before: Option<Status>,
+    calls: u64,
+    seconds: u64,
+    watch: Stopwatch,
     // The number among those who came to stand in line, while it stands there.
-    pub(crate) place: Option<u64>,
+    place: Option<u64>,
     // Whether what it took is under check, or was closed since it is distrusted.
-    pub(crate) is_checking: bool,
+    is_checking: bool,
     mock: Arc<MockTask>,
     has_begun: bool,
     pub(crate) is_over: bool,
@@ -57,26 +58,44 @@ pub(crate) struct Task {
     pub(crate) is_left: bool,
 }
 
-impl Task {
-    pub(crate) fn new(
-        world: &'static World,
-        who: u64,
-        deed: Deed,
-        pool: &TaskPool,
-    ) -> Result<Task, Fail> {
-        let works = deed == Deed::Work;
-        if works {
-            world.add(Count::Workers);
+/// The tasks of a run: workers, then callers, then keepers.
+pub(crate) fn tasks_of(world: &'static World, pool: &TaskPool) -> Result<Vec<Task>, Fail> {
+    let plan = &world.plan;
+    let mut tasks = Vec::new(world.rt.alloc());
+    for (deed, count) in [
+        (Deed::Work, plan.workers),
+        (Deed::Call, plan.callers),
+        (Deed::Close, plan.closers),
+        (Deed::Drain, plan.drainers),
+        (Deed::Evict, plan.evictors),
+    ] {
+        for _ in 0..count {
+            tasks.push(Task::new(world, tasks.len() as u64, deed, pool)?)?;
         }
+    }
+    for _ in 0..plan.workers {
+        world.add(Count::Workers);
+    }
+    Ok(tasks)
+}
+
+impl Task {
+    fn new(world: &'static World, who: u64, deed: Deed, pool: &TaskPool) -> Result<Task, Fail> {
+        let (stage, pool) = match deed {
+            Deed::Work => (Stage::Works(pool.work()?), None),
+            _ => (Stage::Nothing, Some(pool.try_clone()?)),
+        };
+        let caller = who.saturating_sub(world.plan.workers);
+        let seconds = world.plan.patience_of(caller);
         Ok(Task {
             world,
             who,
             deed,
-            stage: if works { Stage::Works(pool.work()?) } else { Stage::Nothing },
-            pool: if works { None } else { Some(pool.try_clone()?) },
+            stage,
+            pool,
             before: None,
             calls: world.plan.calls,
-            seconds: world.plan.patience_of(who.saturating_sub(world.plan.workers)),
+            seconds,
             watch: Stopwatch::begin(world),
             place: None,
             is_checking: false,
@@ -97,11 +116,11 @@ impl Task {
             }
             Deed::Drain => {
                 world.tell("drains the pool");
+                world.add(Count::Draining);
                 match pool.drain(Duration::from_secs(PATIENT)) {
                     Ok(drain) => self.stage = Stage::Drains(drain),
                     Err(_) => world.fault("a drain is refused memory"),
                 }
-                world.add(Count::Draining);
             }
             _ => {
                 world.tell("evicts");
@@ -114,11 +133,9 @@ impl Task {
         let world = self.world;
         world.tell("has drained the pool");
         world.take_off(Count::Draining);
-        if answer.is_err() {
-            world.fault("a drain with all the time in the world gives up");
-        } else if world.count(Count::Lent) > 0 {
-            world.fault("a drain ends, and something is lent");
-        }
+        let is_lent = answer.is_ok() && world.count(Count::Lent) > 0;
+        world.fault_if(answer.is_err(), "a drain with all the time gives up");
+        world.fault_if(is_lent, "a drain ends, and something is lent");
     }
 
     // One poll, as its executor makes it.
@@ -131,13 +148,7 @@ impl Task {
         }
         match &mut self.stage {
             Stage::Works(work) => work.poll(cx),
-            Stage::Drains(drain) => match drain.poll(cx) {
-                Poll::Ready(answer) => {
-                    self.drained(answer);
-                    Poll::Ready(())
-                }
-                Poll::Pending => Poll::Pending,
-            },
+            Stage::Drains(drain) => drain.poll(cx).map(|answer| self.drained(answer)),
             _ => Poll::Ready(()),
         }
     }
@@ -157,14 +168,14 @@ impl Task {
     }
 
     fn is_due(&self) -> bool {
-        (self.is_worker() || !self.world.plan.is_drawn()) && self.world.is_due(self.who)
+        let may_sleep = self.is_worker() || !self.world.plan.is_drawn();
+        may_sleep && self.world.is_due_in(self.who, 0)
     }
 
     /// Whether it may be left alone: a caller in line who has little time.
     pub(crate) fn can_be_left(&self) -> bool {
-        let is_patient = self.seconds == PATIENT;
         let is_in_line = self.place.is_some() && !self.is_checking;
-        !self.is_left && !self.is_over && !is_patient && is_in_line
+        !self.is_left && !self.is_over && self.seconds < PATIENT && is_in_line
     }
 
     /// Whether there is a future to be dropped: a worker, a call, or a drain.
@@ -207,28 +218,24 @@ impl Task {
 
     /// One poll of its task. The pool is so before it, where that can be told.
     pub(crate) fn poll(&mut self, before: Option<Status>) {
-        if self.is_over {
+        let (false, Ok(mock)) = (self.is_over, Arc::try_clone(&self.mock)) else {
             return;
-        }
+        };
         self.has_begun = true;
         self.is_left = false;
         self.world.poll(self.who);
         self.before = before;
-        let Ok(mock) = Arc::try_clone(&self.mock) else {
-            return;
-        };
-        if mock.enter(|cx| self.step(cx)).is_pending() {
-            return;
-        }
-        if self.is_worker() {
+        if mock.enter(|cx| self.step(cx)).is_ready() {
             self.world.tell("ends");
-            self.world.take_off(Count::Workers);
+            self.ends();
         }
-        self.ends();
     }
 
     // Nothing of it is left.
     fn ends(&mut self) {
+        if self.is_worker() {
+            self.world.take_off(Count::Workers);
+        }
         self.is_over = true;
         self.stage = Stage::Nothing;
         self.pool = None;
@@ -246,7 +253,6 @@ impl Task {
             self.begin();
         }
         match mem::replace(&mut self.stage, Stage::Nothing) {
-            Stage::Works(_) => self.world.take_off(Count::Workers),
             Stage::Drains(_) => self.world.take_off(Count::Draining),
             Stage::Waits(_) => self.end_call(),
             _ => {}
@@ -262,6 +268,163 @@ impl Task {
     pub(crate) fn drop_left(&mut self) {
         if self.is_left {
             self.ends();
+        }
+    }
+}
+
+/// The calls of one that gets connections and gives them back.
+impl Task {
+    // Whether its call is pending, or was never polled.
+    fn is_calling(&self) -> bool {
+        self.deed == Deed::Call && self.pool.is_some() && !matches!(self.stage, Stage::Holds(_))
+    }
+
+    // Its number among the callers.
+    fn number(&self) -> u64 {
+        self.who - self.world.plan.workers
+    }
+
+    fn end_call(&mut self) {
+        self.leave_line();
+        self.calls -= 1;
+        if self.calls == 0 {
+            self.pool = None;
+        }
+    }
+
+    fn leave_line(&mut self) {
+        self.place = None;
+        self.is_checking = false;
+        self.world.queue.ends(self.number());
+    }
+
+    // A call begins.
+    fn begin(&mut self) {
+        self.watch = Stopwatch::begin(self.world);
+        let length = Duration::from_secs(self.seconds);
+        match self.pool.as_ref().map(|pool| pool.get_timeout(length)) {
+            Some(Ok(get)) => self.stage = Stage::Waits(get),
+            _ => self.world.fault("a get is refused memory"),
+        }
+    }
+
+    // One poll of its call.
+    fn waits(&mut self, cx: &mut Context<'_>, mut get: TaskGet) -> Poll<()> {
+        let world = self.world;
+        let polled = get.poll(cx);
+        let closes = polled.is_pending() && world.count(Count::Closes) > 0;
+        self.is_checking = world.count(Count::Checks) > 0 || closes;
+        if self.is_checking {
+            self.is_its_turn();
+        }
+        match polled {
+            Poll::Pending => {
+                self.stage = Stage::Waits(get);
+                self.stands();
+                return Poll::Pending;
+            }
+            Poll::Ready(Ok(lent)) => self.holds(lent),
+            Poll::Ready(Err(error)) => self.refused(error),
+        }
+        self.leave_line();
+        self.goes_on(cx)
+    }
+
+    // One that took at once stands nowhere, also if its check fails then.
+    fn stands(&mut self) {
+        let (world, queue) = (self.world, &self.world.queue);
+        if self.place.is_none() && !self.is_checking {
+            world.tell("stands in line");
+            self.place = Some(world.add(Count::Joined) + 1);
+        }
+        if let Some(place) = self.place {
+            queue.begins(self.number(), place, &self.watch, self.seconds);
+            if self.is_checking {
+                queue.checks(self.number());
+            }
+        }
+    }
+
+    fn holds(&mut self, lent: TaskLent) {
+        lent.is_lent();
+        let plan = &self.world.plan;
+        if !plan.checks || plan.after_idle && !lent.is_checked() {
+            self.is_its_turn();
+        }
+        self.stage = Stage::Holds(lent);
+    }
+
+    // Whether it was its turn to take, in this poll.
+    fn is_its_turn(&self) {
+        let (world, own) = (self.world, self.place.unwrap_or(u64::MAX));
+        if let Some(before) = &self.before {
+            world.fault_if(before.closed, "a closed pool lends");
+            let is_late = world.queue.ahead_of(own, world.now(), 0) >= u64::from(before.idle);
+            world.fault_if(is_late, "a caller is served out of turn");
+        }
+    }
+
+    fn refused(&mut self, error: Error) {
+        let (world, kind) = (self.world, error.kind());
+        judge::refused(world, &error, &self.watch, self.seconds);
+        let has_time = self.seconds == PATIENT && world.count(Count::Workers) > 0;
+        let is_early = kind == ErrorKind::Timeout && has_time;
+        world.fault_if(is_early, "a caller with all the time gives up");
+        if let Some(before) = &self.before {
+            let is_open = kind == ErrorKind::Closed && !before.closed;
+            world.fault_if(is_open, "a get is told of a close that was not");
+            let has_room = kind == ErrorKind::Full && world.queue.placed() < world.plan.line;
+            world.fault_if(has_room, "a get is refused where one more may wait");
+        }
+        self.end_call();
+    }
+
+    fn give_back(&mut self, lent: TaskLent) {
+        if lent.is_let_go() {
+            PooledConnection::detach(lent).leaves();
+        } else {
+            drop(lent);
+        }
+        self.end_call();
+    }
+
+    // It asks without waiting.
+    fn tries(&mut self) {
+        let world = self.world;
+        match self.pool.as_ref().map(|pool| pool.try_get()) {
+            Some(Ok(Some(lent))) => {
+                world.fault_if(lent.is_distrusted(), "a try_get lends what is distrusted");
+                self.is_its_turn();
+                self.holds(lent);
+            }
+            Some(Ok(None)) => {
+                world.tell("tries in vain");
+                self.end_call();
+            }
+            _ => world.fault("a try_get is refused memory"),
+        }
+    }
+
+    fn calls(&mut self, cx: &mut Context<'_>) -> Poll<()> {
+        match mem::replace(&mut self.stage, Stage::Nothing) {
+            Stage::Holds(lent) => self.give_back(lent),
+            Stage::Waits(get) => return self.waits(cx, get),
+            _ if self.world.plan.tries && self.world.choose(2) == 1 => self.tries(),
+            _ => {
+                self.begin();
+                if let Stage::Waits(get) = mem::replace(&mut self.stage, Stage::Nothing) {
+                    return self.waits(cx, get);
+                }
+            }
+        }
+        self.goes_on(cx)
+    }
+
+    fn goes_on(&self, cx: &mut Context<'_>) -> Poll<()> {
+        if self.pool.is_some() {
+            cx.yield_now()
+        } else {
+            Poll::Ready(())
         }
     }
 }

@@ -3,9 +3,9 @@
 use crate::judge::{self, Stopwatch};
 use crate::line::{Manager, STAY};
 use crate::plan::PATIENT;
-use crate::pools::{builder_of, thread_pool, Lent, Pool};
+use crate::pools::{Lent, Pool, builder_of, thread_pool};
 use crate::world::{Count, World};
-use r2d2::{ErrorKind, PoolRuntime};
+use r2d2::{Error, ErrorKind, PoolRuntime};
 use std::test::Fail;
 use std::thread;
 use std::time::Duration;
@@ -28,8 +28,7 @@ pub(crate) fn play<R: PoolRuntime>(rt: R, world: &'static World) -> Result<(), F
     watch.check(world, "build ends later than its timeout", 0, Some(wait));
     let Ok(pool) = made else {
         watch.check(world, "build gives up before its timeout", wait, None);
-        let is_patient = wait == PATIENT;
-        world.fault_if(is_patient, "a build with all the time in the world is told of a timeout");
+        world.fault_if(wait == PATIENT, "a build with all the time gives up");
         return Ok(());
     };
     let is_short = u64::from(pool.status().connections) < world.plan.wanted;
@@ -56,7 +55,10 @@ fn shared<R: PoolRuntime>(rt: R, world: &'static World, pool: Pool<R>) -> Result
     for thread in threads {
         thread.join(&rt);
     }
-    world.fault_if(pool.status().waiting != 0, "somebody is told to wait, and all have ended");
+    world.fault_if(
+        pool.status().waiting != 0,
+        "somebody waits, and all have ended",
+    );
     // Time for what failed to be tried again.
     sleep(world, 100);
     rests(world, &pool);
@@ -71,8 +73,9 @@ fn rests<R: PoolRuntime>(world: &World, pool: &Pool<R>) {
     judge::sums(world, &status);
     let is_busy = plan.reaps || plan.jitter || plan.error_stays || plan.release_stays;
     let is_undone = !is_busy && !status.closed && status.opening != 0;
-    world.fault_if(is_undone, "an opening is left undone at the end");
-    world.fault_if(status.closed && status.connections != 0, "a closed pool keeps a connection");
+    world.fault_if(is_undone, "an opening is left at the end");
+    let keeps = status.closed && status.connections != 0;
+    world.fault_if(keeps, "a closed pool keeps a connection");
     let is_so = status.closed == plan.closes();
     world.fault_if(!is_so, "it is not as its callers left it: open, or closed");
 }
@@ -83,13 +86,12 @@ fn watches<R: PoolRuntime>(world: &World, pool: Pool<R>) {
         sleep(world, WATCH);
         let status = pool.status();
         judge::sums(world, &status);
-        let (callers, drains) =
-            if status.closed { (0, status.waiting) } else { (status.waiting, 0) };
         let opening = world.count(Count::Opening);
         let is_undone = u64::from(status.opening) > opening + world.count(Count::Bad);
         let is_idle = opening + world.count(Count::Busy) < world.plan.workers;
-        world.fault_if(is_undone && is_idle, "an opening is left undone, and a worker rests");
-        judge::at_rest(world, &status, callers, drains, 0);
+        world.fault_if(is_undone && is_idle, "a worker rests beside an opening");
+        let drains = if status.closed { status.waiting } else { 0 };
+        judge::at_rest(world, &status, status.waiting - drains, drains, 0);
         if world.count(Count::Over) > 0 {
             return;
         }
@@ -127,40 +129,49 @@ fn gets<R: PoolRuntime>(world: &World, pool: &Pool<R>, who: u64) {
     world.tell_number("calls get, for seconds:", wait);
     let was_closed = world.count(Count::Closed) > 0;
     let watch = Stopwatch::begin(world);
-    let until = watch.begun + wait * 1_000;
-    world.queue.begins(who, watch.begun + 1, until, watch.jumps);
+    world.queue.begins(who, watch.begun + 1, &watch, wait);
     let found = pool.get(wait);
     if plan.is_served_in_order() && found.is_ok() {
         is_in_order(world, who);
     }
     world.queue.ends(who);
     // It may be at its check as its time ends, or look again, and does so no other time then.
-    let own = plan.seconds_of_a_look();
-    let most = plan.seconds_of_checks(1).map(|checks| wait + checks + own);
+    let most = wait + plan.seconds_of_a_look();
+    let most = plan.seconds_of_checks(1).map(|own| own + most);
     watch.check(world, "a get ends later than its timeout", 0, most);
     let status = pool.status();
     // Drains wait at a closed pool.
-    let is_limited = plan.may_wait() > 0 && !status.closed;
-    world.fault_if(is_limited && status.waiting > plan.may_wait(), "more wait than may");
-    let error = match found {
-        Ok(lent) => return holds(world, lent, was_closed),
-        Err(error) => error,
-    };
-    judge::refused(world, &error, &watch, wait);
-    match error.kind() {
-        ErrorKind::Timeout => {
-            if plan.busy {
-                is_told_how_long(world, &watch, error.waited());
-            }
-            let has_time = (wait == PATIENT || was_closed) && !has_stayed(world, &watch);
-            world.fault_if(has_time, "a caller with all the time is told of a timeout");
+    let is_above = plan.may_wait() > 0 && status.waiting > plan.may_wait();
+    world.fault_if(is_above && !status.closed, "more wait than may");
+    match found {
+        Ok(lent) => holds(world, lent, was_closed),
+        Err(error) => {
+            judge::refused(world, &error, &watch, wait);
+            let has_time = wait == PATIENT || was_closed;
+            is_refused_in_time(world, &error, &watch, has_time);
         }
-        ErrorKind::Full => {
-            // One that waited, and whose check failed then, may be one too many.
-            let most = (!plan.checks).then_some(own);
-            watch.check(world, "a get takes time to be refused", 0, most);
+    }
+}
+
+fn is_refused_in_time(world: &World, error: &Error, watch: &Stopwatch, has_time: bool) {
+    let plan = &world.plan;
+    let seconds = plan.seconds_of_checks(1);
+    if error.kind() == ErrorKind::Full {
+        // One that waited, and whose check failed then, may be one too many.
+        let most = (!plan.checks).then_some(plan.seconds_of_a_look());
+        watch.check(world, "a get takes time to be refused", 0, most);
+    } else if error.kind() == ErrorKind::Timeout {
+        if plan.busy {
+            // It is told of all that passed, where it takes no lock after its last reading.
+            let took = watch.seconds(world).unwrap_or(0);
+            let is_less = error.waited().is_some_and(|it| it.as_secs() < took);
+            world.fault_if(is_less, "a timeout tells of less time than passed");
         }
-        _ => {}
+        // Its own handler may have stayed, so that its time was over after a failed check. Who only
+        // waits is told of a timeout long before.
+        let has_stayed = || watch.seconds(world).is_none_or(|took| took >= STAY);
+        let is_early = has_time && !(seconds.is_none() && has_stayed());
+        world.fault_if(is_early, "a caller with all the time gives up");
     }
 }
 
@@ -174,25 +185,7 @@ fn is_in_order(world: &World, who: u64) {
         most += world.count(Count::Bad);
     }
     let ahead = queue.ahead_of(queue.since(who), world.now(), world.jumps());
-    world.fault_if(ahead > most, "a caller is served before one that waits for longer");
-}
-
-// Its timeout tells of all that passed, where it takes no lock after its last reading.
-fn is_told_how_long(world: &World, watch: &Stopwatch, waited: Option<Duration>) {
-    let (Some(took), Some(waited)) = (watch.seconds(world), waited) else {
-        return;
-    };
-    if waited.as_secs() < took {
-        world.tell_number("it is told of seconds:", waited.as_secs());
-        world.fault("a timeout tells of less time than passed");
-    }
-}
-
-// Whether a call's own handler stayed, so that its time was over after a failed check. Who only waits
-// is told of a timeout long before.
-fn has_stayed(world: &World, watch: &Stopwatch) -> bool {
-    let may_stay = world.plan.seconds_of_checks(1).is_none();
-    may_stay && watch.seconds(world).is_none_or(|took| took >= STAY)
+    world.fault_if(ahead > most, "a caller is served out of turn");
 }
 
 fn tries<R: PoolRuntime>(world: &World, pool: &Pool<R>) {
@@ -223,14 +216,11 @@ fn holds<R: PoolRuntime>(world: &World, lent: Lent<R>, was_closed: bool) {
     let detaches = lent.line().is_let_go();
     let watch = Stopwatch::begin(world);
     if detaches {
-        let mut line = lent.detach();
-        line.is_detached = true;
-        thread::yield_now();
-        drop(line);
+        lent.detach().leaves();
     } else {
         drop(lent);
     }
-    let slowest = if plan.slow_returns { 3 } else { plan.seconds_of_turns() };
+    let slowest = plan.seconds_of_turns() + 3 * u64::from(plan.slow_returns);
     let most = plan.releases_at_once().then_some(slowest);
     watch.check(world, "a return takes time", 0, most);
 }

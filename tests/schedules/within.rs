@@ -2,28 +2,37 @@
 // where, and this judges each of it.
 
 use crate::judge::Stopwatch;
-use crate::plan::{Plan, PATIENT};
-use crate::pools::{thread_pool, Lent, Pool};
+use crate::plan::{PATIENT, Plan};
+use crate::pools::{Lent, Pool, thread_pool};
 use crate::threads::sleep;
-use crate::world::{drawn, Count, World};
+use crate::world::{Count, World, drawn};
 use futures::spin::lock;
 use r2d2::PoolRuntime;
 use std::rt::Clock;
 use std::test::Fail;
 
 /// The callbacks: of an opening, of what is lent, and others.
-const OF_OPENINGS: [&str; 4] = ["connect", "on_acquire", "handle_acquire", "handle_error"];
-const OF_LOANS: [&str; 4] = ["is_valid", "handle_checkout", "has_broken", "handle_checkin"];
-const OTHERS: [&str; 3] = ["handle_release", "on_release", "handle_timeout"];
+const OF_OPENINGS: &str = "connect on_acquire handle_acquire handle_error";
+
+const OF_LOANS: &str = "is_valid handle_checkout has_broken handle_checkin";
+
+const OTHERS: &str = "handle_release on_release handle_timeout";
 
 /// The callback with this name.
-pub(crate) fn named(word: &str) -> Option<&'static str> {
-    let mut all = OF_OPENINGS.iter().chain(OF_LOANS.iter()).chain(OTHERS.iter());
-    all.find(|it| **it == word).copied()
+pub(crate) fn named(name: &str) -> Option<&'static str> {
+    let all = [OF_OPENINGS, OF_LOANS, OTHERS];
+    all.iter().find_map(|some| one_of(some, name))
+}
+
+// The one of these words that is this.
+fn one_of(words: &'static str, name: &str) -> Option<&'static str> {
+    words.split(' ').find(|it| *it == name)
 }
 
 /// The calls, of which the schedule draws one.
-const CALLS: [&str; 7] = ["try_get", "get", "get and detach", "evict", "close", "drain", "drop"];
+const CALLS: &str = "try_get get get-and-detach evict close drain drop";
+
+const EVICT: u64 = 3;
 
 /// Openings without an end are this many at least.
 const ENOUGH: u64 = 50;
@@ -35,7 +44,12 @@ pub(crate) fn draw<R: Clock>(rt: &R, plan: &mut Plan) {
     plan.size = if plan.endless { 2 } else { 1 + drawn(rt, 2) };
     plan.workers = if plan.endless { 1 } else { plan.size };
     plan.wanted = if plan.endless { 2 } else { 0 };
-    plan.call = Some(if plan.endless { "evict" } else { CALLS[drawn(rt, 12) as usize % 7] });
+    let call = if plan.endless {
+        EVICT
+    } else {
+        drawn(rt, 12) % 7
+    };
+    plan.call = CALLS.split(' ').nth(call as usize);
 }
 
 /// The pool that a callback calls.
@@ -43,7 +57,7 @@ pub(crate) trait Own: Drop + Send {
     fn another(&self, world: &World) -> Option<Box<dyn Own>>;
 
     /// Whether the call, for a second, is met as it is to be.
-    fn call_once(&self, world: &World, call: &str, waits_out: bool) -> bool;
+    fn is_met(&self, world: &World, call: &str, waits_out: bool) -> bool;
 }
 
 impl<R: PoolRuntime> Own for Pool<R> {
@@ -52,10 +66,10 @@ impl<R: PoolRuntime> Own for Pool<R> {
         Some(another)
     }
 
-    fn call_once(&self, world: &World, call: &str, waits_out: bool) -> bool {
+    fn is_met(&self, world: &World, call: &str, waits_out: bool) -> bool {
         match call {
             "get" => self.get(1).is_ok() != waits_out,
-            "get and detach" => self.get(1).map(Lent::detach).is_ok() != waits_out,
+            "get-and-detach" => self.get(1).map(Lent::detach).is_ok() != waits_out,
             "drain" => self.drain(1).is_ok() != waits_out,
             "try_get" => self.try_get().is_ok(),
             "evict" if world.count(Count::Opened) <= ENOUGH => self.evict().is_ok(),
@@ -78,21 +92,17 @@ impl World {
         if callback != within || (self.add(Count::Called) > 0 && !self.plan.endless) {
             return;
         }
-        let Some(pool) = self.own_pool(call == "drop") else {
+        let (Some(pool), true) = (self.own_pool(call == "drop"), call != "drop") else {
             return;
         };
-        if call == "drop" {
-            return;
-        }
         self.tell(call);
         let watch = Stopwatch::begin(self);
         let waits_out = self.waits_out(within, call);
-        let is_met = pool.call_once(self, call, waits_out);
+        let is_met = pool.is_met(self, call, waits_out);
         // Nothing is said where time went on meanwhile before it had to.
         if let Some(taken) = watch.seconds(self) {
-            if taken != u64::from(waits_out) {
-                self.fault("a call within a callback takes another time");
-            }
+            let is_late = taken != u64::from(waits_out);
+            self.fault_if(is_late, "a call within a callback takes another time");
             self.fault_if(!is_met, "a call within a callback answers otherwise");
         }
     }
@@ -101,19 +111,20 @@ impl World {
     fn own_pool(&self, takes_it: bool) -> Option<Box<dyn Own>> {
         let mut held = lock(&self.own)?;
         if takes_it {
-            return held.take();
+            held.take()
+        } else {
+            held.as_ref()?.another(self)
         }
-        held.as_ref()?.another(self)
     }
 
     // The table: whether such a call waits for what its own callback keeps.
     fn waits_out(&self, within: &str, call: &str) -> bool {
-        let is_lent = OF_LOANS.contains(&within);
-        let is_opening = OF_OPENINGS.contains(&within);
+        let is_lent = one_of(OF_LOANS, within).is_some();
+        let is_opening = one_of(OF_OPENINGS, within).is_some();
         // Where a caller gives up, all is lent, as this program has it.
         let gives_up = within == "handle_timeout";
         match call {
-            "get" | "get and detach" => gives_up || self.plan.size == 1 && (is_lent || is_opening),
+            "get" | "get-and-detach" => gives_up || self.plan.size == 1 && (is_lent || is_opening),
             "drain" => gives_up || is_lent,
             _ => false,
         }
@@ -133,7 +144,8 @@ pub(crate) fn play<R: PoolRuntime>(rt: R, world: &'static World) -> Result<(), F
     }
     drop(pool);
     drop(world.own_pool(true));
-    world.fault_if(world.count(Count::Called) == 0, "the callback is never called");
+    let is_never = world.count(Count::Called) == 0;
+    world.fault_if(is_never, "the callback is never called");
     Ok(())
 }
 
@@ -142,7 +154,11 @@ pub(crate) fn play<R: PoolRuntime>(rt: R, world: &'static World) -> Result<(), F
 fn uses<R: PoolRuntime>(world: &World, pool: Pool<R>) {
     let gives_up = world.plan.within == Some("handle_timeout");
     let first = pool.get(PATIENT).ok();
-    let second = if gives_up && world.plan.size > 1 { pool.get(PATIENT).ok() } else { None };
+    let second = if gives_up && world.plan.size > 1 {
+        pool.get(PATIENT).ok()
+    } else {
+        None
+    };
     if gives_up {
         drop(pool.get(1).ok());
     }
@@ -165,7 +181,6 @@ fn opens_for_ever<R: PoolRuntime>(world: &World, pool: &Pool<R>) {
         }
         sleep(world, 1);
     }
-    if world.count(Count::Opened) <= ENOUGH {
-        world.fault("an eviction in `connect` comes to an end");
-    }
+    let is_over = world.count(Count::Opened) <= ENOUGH;
+    world.fault_if(is_over, "an eviction in `connect` comes to an end");
 }

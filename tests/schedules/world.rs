@@ -3,12 +3,13 @@
 use crate::choices::Choices;
 use crate::plan::Plan;
 use crate::queue::Queue;
+use crate::task::Task;
 use crate::within::Own;
 use futures::spin::lock;
 use std::alloc::{AllocError, Global};
 use std::rt::Clock;
-use std::sync::atomic::{AtomicU64, Ordering};
 use std::sync::Mutex;
+use std::sync::atomic::{AtomicU64, Ordering};
 
 /// The milliseconds of no moment.
 pub(crate) const NEVER: u64 = u64::MAX;
@@ -20,7 +21,7 @@ pub(crate) const LONG: u64 = 500_000;
 pub(crate) const LONGEST_DELAY: u64 = 1_000;
 
 /// More than there are connections at once.
-const PLACES: usize = 8;
+const PLACES: u64 = 8;
 
 /// What is counted in a run.
 #[derive(Clone, Copy)]
@@ -71,6 +72,10 @@ pub(crate) fn of(it: &AtomicU64) -> u64 {
     it.load(Ordering::SeqCst)
 }
 
+pub(crate) fn set(it: &AtomicU64, value: u64) {
+    it.store(value, Ordering::SeqCst);
+}
+
 /// One of so many, as the scheduler chooses: it answers the wall clock.
 pub(crate) fn drawn<R: Clock>(rt: &R, among: u64) -> u64 {
     rt.since_1970().map_or(0, |time| time.as_secs() % among)
@@ -84,8 +89,14 @@ pub(crate) struct World {
     pub(crate) queue: Queue,
     /// The pool that a callback calls.
     pub(crate) own: Mutex<Option<Box<dyn Own>>>,
+    /// The tasks that no thread has yet to which they move.
+    pub(crate) moving: Mutex<Vec<Task>>,
     /// Whether each step is told, where no scheduler does.
     pub(crate) is_told: bool,
+    /// After how many milliseconds a connection is too old, where some are.
+    pub(crate) lifetime: u64,
+    /// For how many milliseconds a connection is idle that is checked, where not all are.
+    pub(crate) after_idle: u64,
     // The milliseconds of its clock, and the task that is polled now.
     now: AtomicU64,
     polled: AtomicU64,
@@ -96,7 +107,6 @@ pub(crate) struct World {
     counts: Vec<AtomicU64>,
     // What has been idle since before this moment is distrusted.
     distrusted_before: AtomicU64,
-    fault: Mutex<&'static str>,
 }
 
 impl World {
@@ -106,33 +116,36 @@ impl World {
         choices: Choices,
         is_told: bool,
     ) -> Result<World, AllocError> {
+        let (lifetime, after_idle) = [(5, 3), (8_000, 4_000)][usize::from(plan.is_drawn())];
         Ok(World {
             rt,
             plan,
             choices: Mutex::new(choices),
             queue: Queue::new(rt.alloc())?,
             own: Mutex::new(None),
+            moving: Mutex::new(Vec::new(rt.alloc())),
             is_told,
+            lifetime,
+            after_idle,
             now: AtomicU64::new(0),
             polled: AtomicU64::new(0),
             sleeps: all(rt.alloc(), plan.tasks(), NEVER)?,
-            idle: all(rt.alloc(), PLACES as u64, NEVER)?,
+            idle: all(rt.alloc(), PLACES, NEVER)?,
             counts: all(rt.alloc(), Count::Called as u64 + 1, 0)?,
             distrusted_before: AtomicU64::new(0),
-            fault: Mutex::new(""),
         })
     }
 
     /// A run of tasks begins.
     pub(crate) fn begin(&self) {
-        self.now.store(1_000, Ordering::SeqCst);
-        self.distrusted_before.store(0, Ordering::SeqCst);
+        set(&self.now, 1_000);
+        set(&self.distrusted_before, 0);
         self.queue.clear();
         for it in self.sleeps.iter().chain(self.idle.iter()) {
-            it.store(NEVER, Ordering::SeqCst);
+            set(it, NEVER);
         }
         for count in self.counts.iter() {
-            count.store(0, Ordering::SeqCst);
+            set(count, 0);
         }
     }
 
@@ -157,6 +170,11 @@ impl World {
         lock(&self.choices).map_or(0, |mut choices| choices.choose(among))
     }
 
+    // The choices of this run, to be played again.
+    fn way(&self) -> Result<String, AllocError> {
+        lock(&self.choices).ok_or(AllocError)?.way(self.rt.alloc())
+    }
+
     /// Whether this goes wrong, where it may.
     pub(crate) fn goes_wrong(&self, may: bool) -> bool {
         let is_over = self.plan.is_of_tasks && self.count(Count::Over) > 0;
@@ -170,14 +188,14 @@ impl World {
         does
     }
 
-    /// A fault is told at once; of all orders the first of a run is kept.
+    /// A fault is told at once; of an order the first, with the way there.
     pub(crate) fn fault(&self, what: &'static str) {
         self.tell(what);
+        let is_first = self.add(Count::Faults) == 0;
         if self.plan.is_drawn() {
             drop(eprintln!(self.rt; "{what}; ").ok());
-        }
-        if let (0, Some(mut fault)) = (self.add(Count::Faults), lock(&self.fault)) {
-            *fault = what;
+        } else if let (true, Ok(way)) = (is_first, self.way()) {
+            drop(println!(self.rt; "fault {way}: {what}").ok());
         }
     }
 
@@ -189,10 +207,6 @@ impl World {
 
     pub(crate) fn has_faults(&self) -> bool {
         self.count(Count::Faults) > 0
-    }
-
-    pub(crate) fn first_fault(&self) -> &'static str {
-        lock(&self.fault).map_or("", |fault| *fault)
     }
 
     /// A scheduler tells who does this.
@@ -237,14 +251,13 @@ impl World {
 
     /// The connection with this number is idle since then, or NEVER. It answers since when it was.
     pub(crate) fn set_idle(&self, number: u64, since: u64) -> u64 {
-        self.idle[number as usize % PLACES].swap(since, Ordering::SeqCst)
+        self.idle[(number % PLACES) as usize].swap(since, Ordering::SeqCst)
     }
 
     /// Whether the lending order has what is idle since then come before all else.
     pub(crate) fn comes_first(&self, since: u64) -> bool {
-        let oldest = self.plan.oldest;
-        let mut idle = self.idle.iter().map(of).filter(|other| *other < NEVER);
-        idle.all(|other| if oldest { since <= other } else { other <= since })
+        let mut others = self.idle.iter().map(of).filter(|other| *other < NEVER);
+        others.all(|other| other == since || self.plan.oldest == (since < other))
     }
 }
 
@@ -267,31 +280,14 @@ impl World {
         time.map_or(0, |time| u64::from(time.subsec_nanos()))
     }
 
-    /// After how many milliseconds a connection is too old, where some are.
-    pub(crate) fn lifetime(&self) -> u64 {
-        if self.plan.is_drawn() {
-            8_000
-        } else {
-            5
-        }
-    }
-
-    /// For how many milliseconds a connection is idle that is checked, where not all are.
-    pub(crate) fn after_idle(&self) -> u64 {
-        if self.plan.is_drawn() {
-            4_000
-        } else {
-            3
-        }
-    }
-
     /// A step takes no time, where nothing depends on that.
     pub(crate) fn tick(&self) {
-        self.now.fetch_add(u64::from(self.plan.is_timed()), Ordering::SeqCst);
+        set(&self.now, of(&self.now) + u64::from(self.plan.is_timed()));
     }
 
-    /// Time goes on to this moment.
-    pub(crate) fn pass(&self, moment: u64) {
+    /// Time goes on to the next moment at which a sleep ends.
+    pub(crate) fn pass(&self) {
+        let moment = self.next_end().unwrap_or(0);
         self.now.fetch_max(moment, Ordering::SeqCst);
         if self.is_told {
             drop(println!(self.rt; "{moment:>9}  time goes on").ok());
@@ -302,19 +298,19 @@ impl World {
     /// is one of all workers, since it is not told which task it is of.
     pub(crate) fn poll(&self, who: u64) {
         if self.plan.is_drawn() {
-            if who < self.plan.workers && self.is_due(who) {
+            if who < self.plan.workers && self.is_due_in(who, 0) {
                 self.set_sleep(who, NEVER);
             }
             return;
         }
-        self.polled.store(who, Ordering::SeqCst);
-        self.counts[Count::Checks as usize].store(0, Ordering::SeqCst);
-        self.counts[Count::Closes as usize].store(0, Ordering::SeqCst);
+        set(&self.polled, who);
+        set(&self.counts[Count::Checks as usize], 0);
+        set(&self.counts[Count::Closes as usize], 0);
         self.set_sleep(who, NEVER);
     }
 
     pub(crate) fn set_sleep(&self, who: u64, end: u64) {
-        self.sleeps[who as usize].store(end, Ordering::SeqCst);
+        set(&self.sleeps[who as usize], end);
     }
 
     /// The task that is polled sleeps until then.
@@ -322,21 +318,15 @@ impl World {
         if !self.plan.is_drawn() {
             self.sleeps[of(&self.polled) as usize].fetch_min(end, Ordering::SeqCst);
         } else if end.saturating_sub(self.now()) < LONG {
-            // One of the workers does: where threads poll, nobody knows which.
             for sleep in self.sleeps.iter().take(self.plan.workers as usize) {
                 sleep.fetch_min(end, Ordering::SeqCst);
             }
         }
     }
 
-    /// Whether this task sleeps until some moment that has come.
-    pub(crate) fn is_due(&self, who: u64) -> bool {
-        of(&self.sleeps[who as usize]) <= self.now()
-    }
-
-    /// Whether this task sleeps until some moment, which comes before an opening is tried again.
-    pub(crate) fn has_sleep(&self, who: u64) -> bool {
-        of(&self.sleeps[who as usize]) <= self.now() + LONGEST_DELAY
+    /// Whether this task sleeps until some moment that comes within so many milliseconds.
+    pub(crate) fn is_due_in(&self, who: u64, length: u64) -> bool {
+        of(&self.sleeps[who as usize]) <= self.now() + length
     }
 
     /// The next moment at which a sleep ends, if there is one.
