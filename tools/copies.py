@@ -23,8 +23,8 @@ import trying
 TOP = os.path.dirname(os.path.dirname(os.path.realpath(__file__)))
 TESTS = os.path.join(TOP, "tests")
 INSIDE = "inside_"
-# Folders whose lib.rs names modules of others, where it has no such file itself: so the same bodies run over another kind of pool.
-OTHERS = {"metrics": ["pool"]}
+# Folders whose lib.rs names modules of others, where they have no such file themselves.
+OTHERS = {"metrics": ["stage"]}
 # Modules of the tests that stand among the crates, since they are proved there.
 LAID = {"crates/pool/src/surface/pool_uses.rt": "crates/examples/src/pool_uses.rt"}
 SECONDS = "400"
@@ -105,7 +105,7 @@ def only_what_they_need(copy, name, tests):
 
 def top_of(source, file):
     """The module at the top that a file belongs to."""
-    return os.path.relpath(file, source).split(os.sep)[0].removesuffix(".rt")
+    return os.path.splitext(os.path.relpath(file, source).split(os.sep)[0])[0]
 
 
 def files_of(name):
@@ -113,10 +113,10 @@ def files_of(name):
     folder = os.path.join(TESTS, name)
     files = {os.path.relpath(source, folder): source for source in sources(folder)}
     for other in OTHERS.get(name, []):
-        for module in re.findall(r"^mod (\w+);", open(files["lib.rs"], encoding="utf-8").read(), re.M):
-            source = os.path.join(TESTS, other, module + ".rs")
-            if module + ".rs" not in files and os.path.exists(source):
-                files[module + ".rs"] = source
+        theirs = os.path.join(TESTS, other)
+        named = re.findall(r"^mod (\w+);", open(files["lib.rs"], encoding="utf-8").read(), re.M)
+        lacking = set(named) - {top_of(folder, os.path.join(folder, place)) for place in files}
+        files |= {os.path.relpath(it, theirs): it for it in sources(theirs) if top_of(theirs, it) in lacking}
     return files
 
 

@@ -1,26 +1,27 @@
-//! Tests of `pool_metrics`: what is counted over real pools, and what is printed.
+//! Tests of `pool_metrics`: what is counted over pools of all kinds, in the world of `tests/stage`,
+//! and what is printed.
 #![tactic(auto)]
 
 #[cfg(test)]
 mod buckets;
 #[cfg(test)]
+mod clock;
+#[cfg(test)]
 mod counting;
 #[cfg(test)]
-mod hand;
+mod ear;
 #[cfg(test)]
-mod kind;
+mod kinds;
 #[cfg(test)]
 mod latest_error;
 #[cfg(test)]
 mod lent_for_long;
 #[cfg(test)]
-mod long_waits;
+mod manager;
 #[cfg(test)]
-mod managers;
+mod measured;
 #[cfg(test)]
 mod outage;
-#[cfg(test)]
-mod place;
 #[cfg(test)]
 mod printing;
 #[cfg(test)]
@@ -28,10 +29,10 @@ mod reasons;
 #[cfg(test)]
 mod report;
 #[cfg(test)]
-mod tasks;
+mod script;
 #[cfg(test)]
-mod timeless;
+mod stops;
 #[cfg(test)]
 mod timing;
 #[cfg(test)]
-mod watching;
+mod world;

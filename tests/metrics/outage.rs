@@ -1,51 +1,65 @@
 // What the metrics tell of a server that went away.
 
-use crate::managers::Blammo;
-use crate::place::Place;
-use crate::watching::watched;
+use crate::ear::Ear;
+use crate::ear::Told::Failed;
+use crate::kinds::{ALL, Pool, THREADS};
+use crate::manager::Sorry::{Check, Connect};
+use crate::measured::{Measure, measured, seconds};
+use crate::world::{Host, World, on_each};
 use pool_metrics::{Metrics, Reading, Snapshot, write};
-use r2d2::{HandleError, NopErrorHandler, PoolRuntime};
-use std::sync::atomic::Ordering;
+use r2d2::{HandleError, NopErrorHandler};
 use std::test::Fail;
 use std::time::{Duration, SystemTime};
 
-// At 5 s the server of two connections goes away, of which a `try_get` hears at two checks, and the
-// worker at two openings. The clock stands, so that none is tried again.
-fn dies<R: PoolRuntime>(place: &Place<R>) -> Result<(), Fail> {
-    place.hand.set(5, 0);
-    place.server.is_dead.store(true, Ordering::SeqCst);
-    if place.pool.try_get()?.is_some() {
+// At 5 s the server of two connections goes away, of which a `try_get` hears at two checks, and then
+// the worker at two openings. It tries a third one, which hangs.
+fn dies<R: Host>(pool: &Pool<R>, metrics: &Measure<R>) -> Result<(), Fail> {
+    let world = pool.world;
+    world.set(5);
+    world.checks.goes("-*");
+    world.connects.goes("~--~-*");
+    if !pool.finds_none() || !world.watch(|| world.connects.hangs()) {
         return Err(Fail::from("a connection"));
     }
-    watched(&place.hand, &place.server.heard, 4);
-    Ok(())
+    world.let_go(&world.connects);
+    world.watch(|| metrics.snapshot().errors == Some(4));
+    pool.until(|status| (status.failed_checks, status.failed_openings) == (2, 2))
 }
 
 #[test]
 fn each_error_is_counted_and_passed_on(rt: HostRuntime) -> Result<(), Fail> {
-    let place = Place::new(rt, 2, |all| all)?;
-    let seen = place.metrics.snapshot();
-    assert_eq!(rt; (seen.errors, seen.latest_error), (Some(0), None));
-    assert_eq!(rt; seen.latest_error_at, None);
-    dies(&place)?;
-    assert_eq!(rt; place.server.heard.load(Ordering::SeqCst), 4);
-    assert_eq!(rt; place.metrics.snapshot().errors, Some(4));
-    let status = place.pool.status();
-    assert_eq!(rt; (status.failed_checks, status.failed_openings), (2, 2));
-    Ok(())
+    on_each(rt, &THREADS, |world| {
+        let inside = World::new(world.rt, world.kind)?;
+        let metrics = world.measure(rt, 2, Ear::new(inside))?;
+        let pool = Pool::new(rt, world, |own| {
+            own.sized(2, 2);
+            own.is_checked = true;
+        })?;
+        let seen = metrics.snapshot();
+        assert_eq!(rt; (seen.errors, seen.latest_error), (Some(0), None));
+        assert_eq!(rt; seen.latest_error_at, None);
+        dies(&pool, &metrics)?;
+        let errors = [Check(0), Check(1), Connect(2), Connect(3)].map(Failed);
+        assert!(rt; inside.went(&errors));
+        assert_eq!(rt; metrics.snapshot().errors, Some(4));
+        Ok(())
+    })
 }
 
 #[test]
 fn how_long_ago_the_latest_error_came(rt: HostRuntime) -> Result<(), Fail> {
-    let place = Place::new(rt, 2, |all| all)?;
-    dies(&place)?;
-    place.hand.set(12, 0);
-    let seen = place.metrics.snapshot();
-    assert_eq!(rt; seen.latest_error, Some(Duration::from_secs(7)));
-    let latest = place.metrics.latest_error()?.ok_or("an error")?;
-    assert_eq!(rt; (latest.at, latest.time), (Duration::from_secs(5), seen.latest_error_at));
-    assert_eq!(rt; latest.text.ok_or("a text")?.as_str(), "blammo");
-    Ok(())
+    on_each(rt, &THREADS, |world| {
+        let (pool, metrics) = measured(rt, world, 2, |_| {})?;
+        dies(&pool, &metrics)?;
+        world.set(12);
+        let seen = metrics.snapshot();
+        assert_eq!(rt; seen.latest_error, Some(seconds(7)));
+        let latest = metrics.latest_error()?.ok_or("an error")?;
+        assert_eq!(rt; latest.at, seconds(5));
+        assert_eq!(rt; latest.time, seen.latest_error_at);
+        assert_eq!(rt; latest.text.ok_or("a text")?.as_str(), "connect 3");
+        Ok(())
+    })
 }
 
 #[test]
@@ -55,7 +69,7 @@ fn who_hears_of_no_error_counts_none(rt: HostRuntime) -> Result<(), Fail> {
     assert_eq!(rt; (seen.errors, seen.latest_error), (None, None));
     let handler = metrics.around(NopErrorHandler)?;
     assert_eq!(rt; metrics.snapshot().errors, Some(0));
-    handler.handle_error(Blammo);
+    handler.handle_error(Check(0));
     assert_eq!(rt; metrics.snapshot().errors, Some(1));
     let shown = format!(in rt.alloc(); "{handler:?}")?;
     let wanted = "CountingErrorHandler { handler: NopErrorHandler }";
@@ -84,49 +98,49 @@ const TOLD: [&str; 15] = [
 
 #[test]
 fn a_page_tells_what_failed(rt: HostRuntime) -> Result<(), Fail> {
-    let place = Place::new(rt, 3, |all| all)?;
-    place.hand.set(2, 0);
-    let lent = place.pool.get()?;
-    dies(&place)?;
-    place.hand.set(9, 0);
-    let seen = place.metrics.snapshot();
-    assert!(rt; seen.latest_error_at.is_some());
-    let at = SystemTime::UNIX_EPOCH + Duration::from_millis(1_700_000_004_500);
-    let reading = Reading {
-        pool: "o",
-        status: place.pool.status(),
-        snapshot: Snapshot {
-            latest_error_at: Some(at),
-            ..seen
-        },
-    };
-    let mut page = String::new(rt.alloc());
-    write(&[reading], &mut page)?;
-    for told in &TOLD {
-        assert!(rt; page.as_str().contains(*told), "{told} in {page}");
-    }
-    drop(lent);
-    Ok(())
+    on_each(rt, &THREADS, |world| {
+        let (pool, metrics) = measured(rt, world, 3, |_| {})?;
+        world.set(2);
+        let lent = pool.get()?;
+        dies(&pool, &metrics)?;
+        world.set(9);
+        let seen = metrics.snapshot();
+        assert!(rt; seen.latest_error_at.is_some());
+        let at = SystemTime::UNIX_EPOCH + Duration::from_millis(1_700_000_004_500);
+        let reading = Reading {
+            pool: "o",
+            status: pool.status(),
+            snapshot: Snapshot {
+                latest_error_at: Some(at),
+                ..seen
+            },
+        };
+        let mut page = String::new(rt.alloc());
+        write(&[reading], &mut page)?;
+        for told in &TOLD {
+            assert!(rt; page.as_str().contains(*told), "{told} in {page}");
+        }
+        drop(lent);
+        Ok(())
+    })
 }
 
 #[test]
 fn the_longest_loan_is_that_of_who_was_lent_first(rt: HostRuntime) -> Result<(), Fail> {
-    let place = Place::new(rt, 2, |all| all)?;
-    assert_eq!(rt; longest(&place), 0);
-    place.hand.set(1, 0);
-    let first = place.pool.get()?;
-    place.hand.set(3, 0);
-    let second = place.pool.get()?;
-    place.hand.set(10, 0);
-    assert_eq!(rt; longest(&place), 9);
-    drop(first);
-    assert_eq!(rt; longest(&place), 7);
-    drop(second);
-    assert_eq!(rt; longest(&place), 0);
-    Ok(())
-}
-
-// In seconds.
-fn longest<R: PoolRuntime>(place: &Place<R>) -> u64 {
-    place.metrics.snapshot().longest_loan.as_secs()
+    on_each(rt, &ALL, |world| {
+        let (pool, metrics) = measured(rt, world, 2, |_| {})?;
+        let longest = || metrics.snapshot().longest_loan.as_secs();
+        assert_eq!(rt; longest(), 0);
+        world.set(1);
+        let first = pool.get()?;
+        world.set(3);
+        let second = pool.get()?;
+        world.set(10);
+        assert_eq!(rt; longest(), 9);
+        drop(first);
+        assert_eq!(rt; longest(), 7);
+        drop(second);
+        assert_eq!(rt; longest(), 0);
+        Ok(())
+    })
 }

@@ -1,59 +1,41 @@
-// The line of a report, and what is read back of it: over a plain pool, and over one whose callers
-// stand in line.
-ghost use Rattle.std.specs.Prelude.{◌≡◌};
+// The line of a report, and what is read back of it.
 
-use crate::kind::PooledConnection;
-use crate::managers::Sevens;
-use crate::place::{LentOf, Place, Settings};
-use crate::watching::{comes_true, watched};
-use pool_metrics::{Metrics, report_of, status_of};
+use crate::kinds::{Calls, Kind, Lent, Pool, QUIET};
+use crate::measured::{Measure, measured, seconds};
+use crate::world::{Host, World, on_each};
+use pool_metrics::{report_of, status_of};
 use pool_reports::{PoolStatus, Waits, Written, from_json_of_pool};
-use r2d2::{Builder, Error, ErrorKind, Observe, PoolRuntime, Status};
+use r2d2::{Error, ErrorKind, NopErrorHandler, Observe, Status};
 use r2d2_core::Report;
-use std::marker::Brand;
 use std::process::Abort;
-use std::sync::atomic::Ordering;
-use std::sync::ledger::{Blank, Ledger};
 use std::test::Fail;
-use std::thread;
-use std::thread::JoinHandle;
 use std::time::{Duration, SystemTime};
 
-pub(crate) fn seconds(count: u64) -> Duration {
-    Duration::from_secs(count)
-}
+/// More milliseconds than pass in a row.
+const LONG: u64 = 1_000_000;
 
-/// What the line says of a pool.
-pub(crate) fn read<P: Observe, R: PoolRuntime>(
-    pool: &P,
-    metrics: &Metrics<R>,
-    rt: R,
-) -> Result<Written, Fail> {
+// What the line says of a pool.
+fn read_of<P: Observe, R: Host>(rt: R, pool: &P, metrics: &Measure<R>) -> Result<Written, Fail> {
     let line = report_of(rt.alloc(), "orders", pool, metrics)?;
     Ok(from_json_of_pool(rt.alloc(), line.as_str())?)
 }
 
-type Waiter<R> = JoinHandle<Option<LentOf<R>>>;
-
-// Another caller waits from now on.
-fn wait<R: PoolRuntime>(place: &Place<R>) -> Result<Waiter<R>, Fail> {
-    let theirs = place.pool.try_clone()?;
-    let waiter = thread::spawn(&place.hand, move || theirs.get_timeout(seconds(1000)).ok())?;
-    until(place, |status| status.waiting == 1)?;
-    Ok(waiter)
-}
-
-fn until<R: PoolRuntime, F: Fn(Status) -> bool>(place: &Place<R>, is_so: F) -> Result<(), Fail> {
-    if comes_true(&place.hand, || is_so(place.pool.status())) {
-        return Ok(());
+// The same of one of these kinds.
+fn read<R: Host>(rt: R, pool: &Pool<R>, metrics: &Measure<R>) -> Result<Written, Fail> {
+    match &pool.calls {
+        Calls::Thread(pool) => read_of(rt, pool, metrics),
+        Calls::Counted(pool, _) => read_of(rt, pool, metrics),
+        Calls::Task(pool) => read_of(rt, pool, metrics),
+        Calls::QuietThread(pool) => read_of(rt, pool, metrics),
+        Calls::QuietTask(pool) => read_of(rt, pool, metrics),
+        Calls::Gone => Err(Fail::from("no pool")),
     }
-    Err(Fail::from("another status"))
 }
 
 // So many calls fail at once, all in this way.
-fn fail<R: PoolRuntime>(place: &Place<R>, count: u32, kind: ErrorKind) -> Result<(), Fail> {
+fn fail<R: Host>(pool: &Pool<R>, count: u32, kind: ErrorKind) -> Result<(), Fail> {
     for _ in 0..count {
-        match place.pool.get_timeout(Duration::ZERO) {
+        match pool.get_within(0) {
             Err(error) if error.kind() == kind => {}
             _ => return Err(Fail::from("another answer")),
         }
@@ -63,78 +45,73 @@ fn fail<R: PoolRuntime>(place: &Place<R>, count: u32, kind: ErrorKind) -> Result
 
 // Both connections are lent, at 1 s and 2 s. At 3 s three callers give up, one waits until 9 s, and
 // meanwhile two are refused.
-fn crowd<R: PoolRuntime>(place: &Place<R>) -> Result<[LentOf<R>; 2], Fail> {
-    place.hand.set(1, 0);
-    let first = place.pool.get()?;
-    place.hand.set(2, 0);
-    let second = place.pool.get()?;
-    place.hand.set(3, 0);
-    fail(place, 3, ErrorKind::Timeout)?;
-    let waiter = wait(place)?;
-    fail(place, 2, ErrorKind::Full)?;
-    place.hand.set(9, 0);
+fn crowd<R: Host>(pool: &Pool<R>) -> Result<[Lent<R>; 2], Fail> {
+    let world = pool.world;
+    world.set(1);
+    let first = pool.get()?;
+    world.set(2);
+    let second = pool.get()?;
+    world.set(3);
+    fail(pool, 3, ErrorKind::Timeout)?;
+    let waiting = pool.begin(LONG)?;
+    fail(pool, 2, ErrorKind::Full)?;
+    world.set(9);
     drop(first);
-    let first = waiter.join(&place.hand).ok_or("none")?;
-    Ok([first, second])
+    Ok([pool.end(waiting)??, second])
 }
 
 // At 12 s the server is gone: the check of what came back fails, and so does an opening. At 15 s it
 // is there again.
-fn outage<R: PoolRuntime>(place: &Place<R>, lent: LentOf<R>) -> Result<(), Fail> {
-    place.hand.set(12, 0);
-    place.server.is_dead.store(true, Ordering::SeqCst);
+fn outage<R: Host>(pool: &Pool<R>, lent: Lent<R>) -> Result<(), Fail> {
+    let world = pool.world;
+    world.set(12);
+    world.checks.goes("-");
+    world.connects.goes("-");
     drop(lent);
-    if place.pool.try_get()?.is_some() {
+    // A `try_get` of tasks makes no check.
+    if world.kind == Kind::Polled {
+        drop(pool.begin(LONG)?);
+    } else if !pool.finds_none() {
         return Err(Fail::from("a connection"));
     }
-    watched(&place.hand, &place.server.heard, 2);
-    until(place, |status| status.failed_openings == 1)?;
-    place.server.is_dead.store(false, Ordering::SeqCst);
-    place.hand.set(15, 0);
-    until(place, |status| status.idle == 1)
+    pool.until(|status| (status.failed_checks, status.failed_openings) == (1, 1))?;
+    world.set(15);
+    pool.until(|status| status.idle == 1)
 }
 
-fn says_all<R, F>(rt: R, queue: F) -> Result<(), Fail>
-where
-    R: PoolRuntime + Abort,
-    F: FnOnce(Settings<R>) -> Settings<R>,
-{
-    let place = Place::new(rt, 2, |all| {
-        let all = all.connection_timeout(seconds(2)).journal_room(64);
-        queue(all.retry_at_most(Duration::from_millis(100)))
+fn says_all<R: Host + Abort>(rt: R, world: &'static World) -> Result<(), Fail> {
+    let (pool, metrics) = measured(rt, world, 2, |own| {
+        own.connection_timeout = 2_000;
+        own.retry_at_most = Some(100);
+        own.journal_room = 64;
+        own.room = 1;
     })?;
-    let [first, second] = crowd(&place)?;
-    outage(&place, first)?;
-    place.hand.set(16, 0);
-    let third = place.pool.get()?;
-    let waiter = wait(&place)?;
-    place.hand.set(20, 0);
+    let [first, second] = crowd(&pool)?;
+    outage(&pool, first)?;
+    world.set(16);
+    let third = pool.get()?;
+    let waiting = pool.begin(LONG)?;
+    world.set(20);
 
-    let said = read(&place.pool, &place.metrics, place.hand)?;
-    let ids = [PooledConnection::id(&second), PooledConnection::id(&third)];
-    says_all_of(rt, &said, &place.pool, ids)?;
-    drop(third);
-    assert!(rt; waiter.join(&rt).is_some());
-    Ok(())
-}
-
-/// Whether that is what was said at 20 s, where these two are lent.
-pub(crate) fn says_all_of<P: Observe, R: PoolRuntime + Abort>(
-    rt: R,
-    said: &Written,
-    pool: &P,
-    ids: [u64; 2],
-) -> Result<(), Fail> {
+    let said = read(rt, &pool, &metrics)?;
     assert_eq!(rt; said.name.as_deref(), Some("orders"));
-    assert_eq!(rt; (said.made_at, said.reported_at), (pool.made_at(), Some(seconds(20))));
-    assert_eq!(rt; said.latest_error.as_deref(), Some("blammo"));
-    let loans = [(ids[0], seconds(2)), (ids[1], seconds(16))];
+    assert!(rt; said.made_at.is_some() && said.made_at == pool.made_at());
+    assert_eq!(rt; said.reported_at, Some(seconds(20)));
+    assert_eq!(rt; said.latest_error.as_deref(), Some("connect 2"));
+    let loans = [(second.id(), seconds(2)), (third.id(), seconds(16))];
     assert_eq!(rt; said.loans.as_slice(), loans.as_slice());
     assert_eq!(rt; said.status, Some(met()));
-    assert_eq!(rt; said.report.limits.connection_timeout(), Duration::from_millis(200));
-    let journal = pool.journal()?;
-    assert_eq!(rt; said.report.records.as_slice(), journal.records.as_slice());
-    assert_eq!(rt; (said.report.takes, said.report.lent.as_slice()), (5, ids.as_slice()));
+    let (report, journal) = (&said.report, pool.journal()?);
+    let timeout = report.limits.connection_timeout();
+    assert_eq!(rt; timeout, Duration::from_millis(200));
+    assert_eq!(rt; report.records.as_slice(), journal.records.as_slice());
+    let lent = [second.id(), third.id()];
+    assert_eq!(rt;
+        (report.takes, report.lent.as_slice()),
+        (5, lent.as_slice())
+    );
+    drop(third);
+    assert!(rt; pool.end(waiting)?.is_ok());
     Ok(())
 }
 
@@ -159,115 +136,92 @@ fn met() -> PoolStatus {
 
 #[test]
 fn the_line_says_what_callers_met(rt: HostRuntime) -> Result<(), Fail> {
-    says_all(rt, |all| all.max_waiting(1))
+    let kinds = [Kind::Limited, Kind::Counted, Kind::Polled];
+    on_each(rt, &kinds, |world| says_all(rt, world))
 }
 
 #[test]
 fn so_it_does_where_they_stand_in_line(rt: HostRuntime) -> Result<(), Fail> {
-    says_all(rt, |all| all.waiting_line(1))
+    on_each(rt, &[Kind::InLine], |world| says_all(rt, world))
 }
 
 // Nothing failed yet, and nobody hears of errors.
 #[test]
 fn what_is_not_known_is_not_said(rt: HostRuntime) -> Result<(), Fail> {
-    let metrics = Metrics::new(rt, 1)?;
-    let pool = Builder::new().max_size(1).build(rt, Sevens)?;
-    let said = read(&pool, &metrics, rt)?;
-    assert_eq!(rt; said.latest_error.as_deref(), None);
-    assert_eq!(rt; said.loans.len(), 0);
-    let status = said.status.ok_or("a status")?;
-    assert_eq!(rt; (status.timeouts, status.latest_failure), (0, None));
-    let waits = status.waits.ok_or("waits")?;
-    // Of the 30 s of a `get`, a bound that one can wait for and be served.
-    assert_eq!(rt; (waits.bound, waits.longer, waits.all), (seconds(10), 0, 0));
-    let without = status_of(seconds(30), &pool.status(), None);
-    assert_eq!(rt; without, PoolStatus { waits: None, ..status });
-    Ok(())
-}
-
-// A counted pool whose one connection is lent, for which a caller waits in vain.
-fn counted<R: PoolRuntime, L: Ledger + Send + Sync + 'static>(
-    rt: R,
-    blank: Blank,
-) -> Result<Written, Fail>
-    requires name { blank.name ≡ L.name }
-    requires parts { blank.parts ≡ L.parts }
-    requires one { blank.parts ≡ 1 }
-{
-    let (total, mut all) = blank.open::<L>();
-    let metrics = Metrics::new(rt, 1)?;
-    let pool = Builder::new()
-        .max_size(1)
-        .connection_timeout(seconds(7))
-        .event_handler(metrics.try_clone()?)
-        .build_counted(rt, Sevens, total)?;
-    let _lent = pool.get(&mut all)?;
-    drop(pool.get_timeout(Duration::ZERO, &mut all));
-    read(&pool, &metrics, rt)
-}
-
-#[test]
-fn a_counted_pool_says_the_same(rt: HostRuntime) -> Result<(), Fail> {
-    let said = counted::<HostRuntime, Brand>(rt, Blank::new(1))?;
-    let status = said.status.ok_or("a status")?;
-    assert_eq!(rt; (status.connection_timeout, status.timeouts), (seconds(7), 1));
-    let ids = said.report.lent.as_slice();
-    assert_eq!(rt; (said.report.takes, ids.len(), said.loans.len()), (1, 1, 1));
-    assert_eq!(rt; said.loans[0].0, ids[0]);
-    assert!(rt; said.reported_at.is_some() && said.made_at.is_some());
-    Ok(())
+    on_each(rt, &QUIET, |world| {
+        let metrics = world.measure(rt, 1, NopErrorHandler)?;
+        let pool = Pool::quiet(rt, world, |_| {})?;
+        let said = read(rt, &pool, &metrics)?;
+        assert_eq!(rt; said.latest_error.as_deref(), None);
+        assert_eq!(rt; said.loans.len(), 0);
+        let mut status = said.status.ok_or("a status")?;
+        assert_eq!(rt; (status.timeouts, status.latest_failure), (0, None));
+        // Of the 30 s of a `get`, a bound that one can wait for and be served.
+        let waits = status.waits.take().ok_or("waits")?;
+        assert_eq!(rt; (waits.bound, waits.longer, waits.all), (seconds(10), 0, 0));
+        assert_eq!(rt; status_of(seconds(30), &pool.status(), None), status);
+        Ok(())
+    })
 }
 
 /// A pool that is used while it is read, and whose clock goes on by a second before each of two
 /// readings: a connection is taken and given back before the journal is read; and before the moment
 /// is, a caller gives up.
 #[derive(Drop)]
-struct Busy<'a, R: PoolRuntime> {
-    place: &'a Place<R>,
+struct Busy<'a, R: Host> {
+    pool: &'a Pool<R>,
+    timeout: Duration,
 }
 
-impl<R: PoolRuntime> Observe for Busy<'_, R> {
-    ghost timeout_of = { λ busy. busy.place.now.connection_timeout };
+impl<R: Host> Observe for Busy<'_, R> {
+    ghost timeout_of = { λ busy. busy.timeout };
 
     fn status(&self) -> Status {
-        self.place.pool.status()
+        self.pool.status()
     }
 
     fn journal(&self) -> Result<Report, Error> {
-        self.place.hand.move_on(1);
-        drop(self.place.pool.get()?);
-        self.place.pool.journal()
+        self.pool.world.pass(1_000);
+        drop(self.pool.get_within(0)?);
+        self.pool.calls.journal()
     }
 
     fn moment(&self) -> Duration {
-        self.place.hand.move_on(1);
-        let _other = self.place.pool.get();
-        drop(self.place.pool.get_timeout(Duration::ZERO));
-        self.place.pool.moment()
+        self.pool.world.pass(1_000);
+        let _other = self.pool.get_within(0);
+        drop(self.pool.get_within(0));
+        Duration::from_millis(self.pool.moment())
     }
 
     fn made_at(&self) -> Option<SystemTime> {
-        self.place.pool.made_at()
+        self.pool.made_at()
     }
 
     fn connection_timeout(&self) -> Duration {
-        self.place.pool.connection_timeout()
+        self.timeout
     }
 }
 
 // One of two connections is lent since 1 s.
 #[test]
 fn no_less_is_said_than_happened(rt: HostRuntime) -> Result<(), Fail> {
-    let place = Place::new(rt, 2, |all| all.journal_room(64))?;
-    place.hand.set(1, 0);
-    let lent = place.pool.get()?;
-    place.hand.set(5, 0);
-    let said = read(&Busy { place: &place }, &place.metrics, place.hand)?;
-    assert_eq!(rt; said.reported_at, Some(seconds(7)));
-    let last = said.report.records.as_slice().last().ok_or("a record")?;
-    assert_eq!(rt; last.at(), seconds(6));
-    assert_eq!(rt; said.status.ok_or("a status")?.timeouts, 1);
-    let loans = [(PooledConnection::id(&lent), seconds(1))];
-    assert_eq!(rt; said.loans.as_slice(), loans.as_slice());
-    Ok(())
+    let kinds = [Kind::Plain, Kind::InLine, Kind::Counted, Kind::Polled];
+    on_each(rt, &kinds, |world| {
+        let (pool, metrics) = measured(rt, world, 2, |own| own.journal_room = 64)?;
+        world.set(1);
+        let lent = pool.get()?;
+        world.set(5);
+        let timeout = pool.connection_timeout();
+        let busy = Busy {
+            pool: &pool,
+            timeout,
+        };
+        let said = read_of(rt, &busy, &metrics)?;
+        assert_eq!(rt; said.reported_at, Some(seconds(7)));
+        let last = said.report.records.as_slice().last().ok_or("a record")?;
+        assert_eq!(rt; last.at(), seconds(6));
+        assert_eq!(rt; said.status.ok_or("a status")?.timeouts, 1);
+        assert_eq!(rt; said.loans.as_slice(), [(lent.id(), seconds(1))].as_slice());
+        Ok(())
+    })
 }

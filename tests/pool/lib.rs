@@ -1,15 +1,10 @@
-//! Tests of a pool in real threads and in real time: what no clause says of it.
+//! Tests of the pool for threads: its engine beside a second book, and its surface as a caller sees
+//! it.
 #![tactic(auto)]
 
 #[cfg(test)]
 mod engine;
 #[cfg(test)]
-mod hand;
-#[cfg(test)]
-mod kind;
-#[cfg(test)]
 mod managers;
 #[cfg(test)]
 mod surface;
-#[cfg(test)]
-mod watching;

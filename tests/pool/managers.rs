@@ -2,7 +2,6 @@
 
 use r2d2::ManageConnection;
 use std::fmt;
-use std::sync::atomic::{AtomicU64, Ordering};
 
 /// The error of each manager.
 #[derive(Clone, Copy, Debug, PartialEq, Eq)]
@@ -35,39 +34,5 @@ impl ManageConnection for Sevens {
 
     fn has_broken(&self, _connection: &mut u32) -> bool {
         false
-    }
-}
-
-/// The same, but what comes back the second time is broken.
-#[derive(Drop)]
-pub(crate) struct BreaksOnce {
-    returns: AtomicU64,
-}
-
-impl BreaksOnce {
-    pub(crate) fn new() -> BreaksOnce {
-        BreaksOnce {
-            returns: AtomicU64::new(0),
-        }
-    }
-}
-
-impl ManageConnection for BreaksOnce {
-    type Connection = u32;
-
-    type Error = Blammo;
-
-    type Extension = ();
-
-    fn connect(&self) -> Result<u32, Blammo> {
-        Sevens.connect()
-    }
-
-    fn is_valid(&self, _connection: &mut u32) -> Result<(), Blammo> {
-        Ok(())
-    }
-
-    fn has_broken(&self, _connection: &mut u32) -> bool {
-        self.returns.fetch_add(1, Ordering::SeqCst) == 1
     }
 }

@@ -10,16 +10,16 @@ use std::test::Fail;
 fn one_value_of_each_kind(rt: HostRuntime) -> Result<(), Fail> {
     let (number, word) = (KeptKind::OfNumber, KeptKind::OfWord);
     let mut kept = Extensions::new(rt.alloc());
-    assert!(rt; kept.insert(Kept::Number(1)) == Ok(None));
-    assert!(rt; kept.insert(Kept::Number(2)) == Ok(Some(Kept::Number(1))));
-    assert!(rt; kept.get(&number) == Some(&Kept::Number(2)));
+    assert!(rt; kept.insert(Kept::number(1)) == Ok(None));
+    assert!(rt; kept.insert(Kept::number(2)) == Ok(Some(Kept::number(1))));
+    assert!(rt; kept.get(&number) == Some(&Kept::number(2)));
     if let Some(value) = kept.get_mut(&number) {
-        *value = Kept::Word('w');
+        *value = Kept::word('w');
     }
-    assert!(rt; kept.get(&number) == Some(&Kept::Word('w')) && kept.get(&word).is_none());
-    assert!(rt; kept.insert(Kept::Word('x')) == Ok(None));
-    assert!(rt; kept.remove(&number) == Some(Kept::Word('w')));
-    assert!(rt; kept.get(&number).is_none() && kept.get(&word) == Some(&Kept::Word('x')));
+    assert!(rt; kept.get(&number) == Some(&Kept::word('w')) && kept.get(&word).is_none());
+    assert!(rt; kept.insert(Kept::word('x')) == Ok(None));
+    assert!(rt; kept.remove(&number) == Some(Kept::word('w')));
+    assert!(rt; kept.get(&number).is_none() && kept.get(&word) == Some(&Kept::word('x')));
     kept.clear();
     assert!(rt; kept.get(&word).is_none());
     Ok(())
@@ -30,10 +30,10 @@ fn extensions(rt: HostRuntime) -> Result<(), Fail> {
     on_each(rt, &ALL, |world| {
         let pool = Pool::new(rt, world, |settings| settings.max_size = 2)?;
         let (mut first, mut second) = (pool.get()?, pool.get()?);
-        first.keep(Kept::Number(1));
-        second.keep(Kept::Number(2));
+        first.keep(Kept::number(1));
+        second.keep(Kept::number(2));
         drop(first);
-        assert_eq!(rt; pool.get()?.kept(KeptKind::OfNumber), Some(Kept::Number(1)));
+        assert_eq!(rt; pool.get()?.kept(KeptKind::OfNumber), Some(Kept::number(1)));
         Ok(())
     })
 }
@@ -44,16 +44,16 @@ fn it_stays_over_a_check_and_a_return(rt: HostRuntime) -> Result<(), Fail> {
         on_each(rt, &ALL, |world| {
             let pool = Pool::new(rt, world, |settings| settings.is_checked = is_checked)?;
             let mut lent = pool.get()?;
-            lent.keep(Kept::Number(7));
+            lent.keep(Kept::number(7));
             drop(lent);
             let mut lent = pool.get()?;
-            assert_eq!(rt; lent.kept(KeptKind::OfNumber), Some(Kept::Number(7)));
+            assert_eq!(rt; lent.kept(KeptKind::OfNumber), Some(Kept::number(7)));
             assert_eq!(rt; lent.kept(KeptKind::OfWord), None);
-            lent.keep(Kept::Word('w'));
+            lent.keep(Kept::word('w'));
             drop(lent);
             let lent = pool.get()?;
-            assert_eq!(rt; lent.kept(KeptKind::OfNumber), Some(Kept::Number(7)));
-            assert_eq!(rt; lent.kept(KeptKind::OfWord), Some(Kept::Word('w')));
+            assert_eq!(rt; lent.kept(KeptKind::OfNumber), Some(Kept::number(7)));
+            assert_eq!(rt; lent.kept(KeptKind::OfWord), Some(Kept::word('w')));
             assert_eq!(rt; world.checks.asked() > 0, is_checked);
             Ok(())
         })?;
@@ -66,7 +66,7 @@ fn it_ends_with_its_connection(rt: HostRuntime) -> Result<(), Fail> {
     on_each(rt, &ALL, |world| {
         let pool = Pool::new(rt, world, |_| ())?;
         let mut lent = pool.get()?;
-        lent.keep(Kept::Number(7));
+        lent.keep(Kept::number(7));
         world.breaks.goes("-");
         drop(lent);
         let lent = pool.get()?;

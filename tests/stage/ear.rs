@@ -62,37 +62,65 @@ pub(crate) fn milliseconds(length: Duration) -> u64 {
     u64::try_from(length.as_millis()).unwrap_or(u64::MAX)
 }
 
+/// What an ear is told as a handler of events and of errors.
+#[derive(Drop)]
+pub(crate) enum Heard {
+    Acquire(AcquireEvent),
+    Release(ReleaseEvent),
+    Checkout(CheckoutEvent),
+    Timeout(TimeoutEvent),
+    Checkin(CheckinEvent),
+    Error(Sorry),
+}
+
+/// Who hears all of that too.
+pub(crate) trait Hear: Send + Sync {
+    fn hear(&self, heard: Heard);
+}
+
+impl Ear {
+    // Notes what was told, once the other one has heard it.
+    fn hear(&self, told: Told, heard: Heard) {
+        if let Some(other) = self.world.other() {
+            other.hear(heard);
+        }
+        self.world.note(told);
+    }
+}
+
 impl HandleEvent for Ear {
     fn handle_acquire(&self, event: AcquireEvent) {
-        self.world.note(Told::Acquire(event.connection_id()));
+        let told = Told::Acquire(event.connection_id());
+        self.hear(told, Heard::Acquire(event));
     }
 
     fn handle_release(&self, event: ReleaseEvent) {
         let age = milliseconds(event.age());
         let told = Told::Release(event.connection_id(), age, event.reason());
-        self.world.note(told);
+        self.hear(told, Heard::Release(event));
     }
 
     fn handle_checkout(&self, event: CheckoutEvent) {
         let waited = milliseconds(event.duration());
-        self.world
-            .note(Told::Checkout(event.connection_id(), waited));
+        let told = Told::Checkout(event.connection_id(), waited);
+        self.hear(told, Heard::Checkout(event));
     }
 
     fn handle_timeout(&self, event: TimeoutEvent) {
-        let timeout = milliseconds(event.timeout());
-        self.world.note(Told::Timeout(timeout));
+        let told = Told::Timeout(milliseconds(event.timeout()));
+        self.hear(told, Heard::Timeout(event));
     }
 
     fn handle_checkin(&self, event: CheckinEvent) {
         let held = milliseconds(event.duration());
-        self.world.note(Told::Checkin(event.connection_id(), held));
+        let told = Told::Checkin(event.connection_id(), held);
+        self.hear(told, Heard::Checkin(event));
     }
 }
 
 impl HandleError<Sorry> for Ear {
     fn handle_error(&self, error: Sorry) {
-        self.world.note(Told::Failed(error));
+        self.hear(Told::Failed(error), Heard::Error(error));
     }
 }
 

@@ -40,7 +40,7 @@ fn how_long_events_say(rt: HostRuntime) -> Result<(), Fail> {
         assert!(rt; world.went(&[Checkout(0, 0)]));
         let get = pool.begin(600_000)?;
         world.pass(3_000);
-        lent.keep(Kept::Number(7));
+        lent.keep(Kept::number(7));
         world.pass(1_000);
         drop(lent);
         assert_eq!(rt; pool.end(get)??.lent_at(), 13_000);

@@ -1,6 +1,4 @@
 // What opens wires and checks them, for pools of both crates; and what tasks wait for.
-ghost use Rattle.stage.specs.declared.manager.Kept.TheVariants.{Number, Word};
-ghost use Rattle.stage.specs.declared.manager.KeptKind.TheVariants.{OfNumber, OfWord};
 
 use crate::ear::milliseconds;
 use crate::script::{Outcome, Script};
@@ -15,9 +13,25 @@ use std::time::Duration;
 
 /// What is kept beside a connection.
 #[derive(Clone, Copy, Debug, PartialEq)]
-pub(crate) enum Kept {
-    Number(u32),
-    Word(char),
+pub(crate) struct Kept {
+    kind: KeptKind,
+    value: u32,
+}
+
+impl Kept {
+    pub(crate) fn number(value: u32) -> Kept {
+        Kept {
+            kind: KeptKind::OfNumber,
+            value,
+        }
+    }
+
+    pub(crate) fn word(letter: char) -> Kept {
+        Kept {
+            kind: KeptKind::OfWord,
+            value: u32::from(letter),
+        }
+    }
 }
 
 #[derive(Clone, Copy, Debug, PartialEq, Eq)]
@@ -29,13 +43,10 @@ pub(crate) enum KeptKind {
 impl Extension for Kept {
     type Kind = KeptKind;
 
-    ghost kind_of = { λ v. elim v [ Number _ ↦ OfNumber | Word _ ↦ OfWord ] };
+    ghost kind_of = { λ v. v.kind };
 
     fn kind(&self) -> KeptKind {
-        match self {
-            Kept::Number(_) => KeptKind::OfNumber,
-            Kept::Word(_) => KeptKind::OfWord,
-        }
+        self.kind
     }
 }
 

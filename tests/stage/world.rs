@@ -1,7 +1,7 @@
 // The world of a row: its scripts, its clock, and what was told in it.
 
 use crate::clock::BEGIN;
-use crate::ear::Told;
+use crate::ear::{Hear, Told};
 use crate::kinds::Kind;
 use crate::script::{Outcome, Script};
 use crate::stops::Stops;
@@ -67,11 +67,13 @@ pub(crate) struct World {
     wakers: Mutex<Vec<(Option<u64>, Option<Waker>)>>,
     /// The calls out of a pool that wait for a look at it.
     pub(crate) stops: Stops,
+    // Who else hears all that an ear does.
+    other: Mutex<Option<&'static dyn Hear>>,
 }
 
 impl World {
-    // It stays for as long as the program: so its futures borrow nothing that ends.
-    fn new(rt: HostRuntime, kind: Kind) -> Result<&'static World, AllocError> {
+    /// It stays for as long as the program: so its futures borrow nothing that ends.
+    pub(crate) fn new(rt: HostRuntime, kind: Kind) -> Result<&'static World, AllocError> {
         let world = World {
             rt,
             kind,
@@ -99,6 +101,7 @@ impl World {
             source: Source::new(),
             wakers: Mutex::new(Vec::new(rt.alloc())),
             stops: Stops::new(),
+            other: Mutex::new(None),
         };
         Ok(Box::leak(Box::new(rt.alloc(), world)?))
     }
@@ -259,6 +262,18 @@ impl World {
             self.hang(&self.tells);
         }
         self.call(&self.hears);
+    }
+
+    /// From now on this one hears all that an ear does, and before it.
+    pub(crate) fn let_hear(&self, other: &'static dyn Hear) {
+        if let Some(mut told) = lock(&self.other) {
+            *told = Some(other);
+        }
+    }
+
+    /// Who else hears it.
+    pub(crate) fn other(&self) -> Option<&'static dyn Hear> {
+        *lock(&self.other)?
     }
 
     /// From now on drops of connections are told too.

@@ -25,7 +25,7 @@ LABEL, VARIABLE, GRAFANAS = re.compile(r"\{\{(\w+)\}\}"), re.compile(r"\$\{?(\w+
 # What Grafana puts in place of a variable for which all was chosen, and of the range that a rate needs.
 CHOSEN, RANGE = ".*", ("$__rate_interval", "5m")
 # What a page has once an error came, of which the example has none: as a test of the printer has it.
-LATEST = re.compile(r'^const LATEST: &str = r#"(.*?)"#;', re.MULTILINE | re.DOTALL)
+LATEST = re.compile(r'^const LATEST: &str =\s+r#"(.*?)"#;', re.MULTILINE | re.DOTALL)
 
 
 class Page:
