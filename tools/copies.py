@@ -24,7 +24,7 @@ TOP = os.path.dirname(os.path.dirname(os.path.realpath(__file__)))
 TESTS = os.path.join(TOP, "tests")
 INSIDE = "inside_"
 # Folders whose lib.rs names modules of others, where they have no such file themselves.
-OTHERS = {"metrics": ["stage"]}
+OTHERS = {"metrics": ["stage"], "verdicts": ["metrics", "stage"]}
 # Modules of the tests that stand among the crates, since they are proved there.
 LAID = {"crates/pool/src/surface/pool_uses.rt": "crates/examples/src/pool_uses.rt"}
 SECONDS = "400"

@@ -129,8 +129,9 @@ impl fmt::Debug for Manager {
 }
 
 impl Manager {
-    fn breaks(&self) -> bool {
+    fn breaks(&self, wire: &Wire) -> bool {
         let goes_well = self.world.call(&self.world.breaks).goes_well;
+        let goes_well = goes_well && !self.world.has_lost(wire.number);
         if !goes_well {
             self.world.is_unsound();
         }
@@ -138,8 +139,9 @@ impl Manager {
     }
 }
 
-fn checked(world: &World, outcome: Outcome) -> Result<(), Sorry> {
-    if outcome.goes_well {
+fn checked(wire: &Wire, outcome: Outcome) -> Result<(), Sorry> {
+    let world = wire.world;
+    if outcome.goes_well && !world.has_lost(wire.number) {
         return Ok(());
     }
     world.is_unsound();
@@ -157,12 +159,12 @@ impl r2d2::ManageConnection for Manager {
         opened(self.world, self.world.call(&self.world.connects))
     }
 
-    fn is_valid(&self, _wire: &mut Wire) -> Result<(), Sorry> {
-        checked(self.world, self.world.call(&self.world.checks))
+    fn is_valid(&self, wire: &mut Wire) -> Result<(), Sorry> {
+        checked(wire, self.world.call(&self.world.checks))
     }
 
-    fn has_broken(&self, _wire: &mut Wire) -> bool {
-        self.breaks()
+    fn has_broken(&self, wire: &mut Wire) -> bool {
+        self.breaks(wire)
     }
 }
 
@@ -171,11 +173,17 @@ impl r2d2::ManageConnection for Manager {
 struct Scripted {
     world: &'static World,
     outcome: Outcome,
+    // What the clock shows at its end at the earliest, in milliseconds.
+    end: u64,
     is_over: bool,
 }
 
 impl Scripted {
     fn poll(&mut self, script: &Script, cx: &mut Context<'_>) -> Poll<Outcome> {
+        if self.outcome.lasts > 0 {
+            let is_due = || self.world.now() >= self.end;
+            ready!(self.world.poll_until(cx, Some(self.end), is_due));
+        }
         if let Some(hung) = self.outcome.hangs {
             ready!(self.world.poll_until(cx, None, || script.goes_on(hung)));
         }
@@ -225,7 +233,10 @@ impl Future for Checking {
         let script = &self.scripted.world.checks;
         let outcome = ready!(self.scripted.poll(script, cx));
         match self.wire.take() {
-            Some(wire) => Poll::Ready((wire, checked(self.scripted.world, outcome))),
+            Some(wire) => {
+                let checked = checked(&wire, outcome);
+                Poll::Ready((wire, checked))
+            }
             None => cx.yield_now(),
         }
     }
@@ -255,17 +266,19 @@ impl r2d2_async::ManageConnection for Manager {
         }
     }
 
-    fn has_broken(&self, _wire: &mut Wire) -> bool {
-        self.breaks()
+    fn has_broken(&self, wire: &mut Wire) -> bool {
+        self.breaks(wire)
     }
 }
 
 impl Manager {
     fn scripted(&self, script: &Script) -> Scripted {
         self.world.stops.stop(self.world);
+        let outcome = script.next();
         Scripted {
             world: self.world,
-            outcome: script.next(),
+            outcome,
+            end: self.world.now() + outcome.lasts,
             is_over: false,
         }
     }

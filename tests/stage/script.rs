@@ -1,6 +1,7 @@
 // How the calls of one kind go, one after the other.
 
 use futures::spin::lock;
+use std::mem;
 use std::sync::Mutex;
 use std::sync::atomic::{AtomicU64, Ordering};
 
@@ -12,6 +13,8 @@ pub(crate) struct Outcome {
     pub(crate) seconds: u64,
     /// Where it waits to be let go first: which it is of those that do.
     pub(crate) hangs: Option<u64>,
+    /// For so many milliseconds it is under way, while the clock is moved by others.
+    pub(crate) lasts: u64,
     // Where it is random: one of so many fails.
     odds: u64,
     /// Which call it is, counted from 0.
@@ -19,9 +22,10 @@ pub(crate) struct Outcome {
 }
 
 /// The outcomes of calls of one kind. `+` stands for one that goes well, and `-` for one that fails.
-/// Before it may stand how many seconds it takes, and `~` where it hangs until it is let go. `9?`
-/// fails at random, once in nine calls. A last `*` repeats the outcome before it for ever; else each
-/// call after the last sign goes well.
+/// Before it may stand how many seconds it takes, and `~` where it hangs until it is let go, or `5~`
+/// where it ends once the clock has moved on by 5 ms. `9?` fails at random, once in nine calls. A
+/// last `*` repeats the outcome before it for ever, and a last `%` all of them; else each call after
+/// the last sign goes well.
 #[derive(Drop)]
 pub(crate) struct Script {
     // The signs, and how many calls there were as they were set.
@@ -103,6 +107,7 @@ const WELL: Outcome = Outcome {
     goes_well: true,
     seconds: 0,
     hangs: None,
+    lasts: 0,
     odds: 0,
     number: 0,
 };
@@ -122,8 +127,10 @@ fn nth(signs: &str, place: u64) -> Outcome {
     let mut left = place;
     for sign in signs.bytes() {
         match sign {
+            b'~' if outcome.seconds > 0 => outcome.lasts = mem::take(&mut outcome.seconds),
             b'~' => outcome.hangs = Some(0),
             b'*' => return latest,
+            b'%' => return nth(signs, place % (place - left)),
             b'+' | b'-' | b'?' => {
                 outcome.goes_well = sign == b'+';
                 if sign == b'?' {

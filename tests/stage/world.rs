@@ -53,6 +53,8 @@ pub(crate) struct World {
     pub(crate) ears: AtomicU64,
     // Whether drops of connections are told too.
     tells_drops: AtomicBool,
+    // How many of those that were opened first are lost.
+    lost: AtomicU64,
     // How many connections are open and were not found broken or unsound, and how many were at most.
     sound: AtomicU64,
     most_sound: AtomicU64,
@@ -92,6 +94,7 @@ impl World {
             ended: AtomicU64::new(0),
             ears: AtomicU64::new(0),
             tells_drops: AtomicBool::new(false),
+            lost: AtomicU64::new(0),
             sound: AtomicU64::new(0),
             most_sound: AtomicU64::new(0),
             told: Mutex::new(Vec::new(rt.alloc())),
@@ -135,6 +138,16 @@ impl World {
     /// Whether nothing is left that a pool was made of, at last.
     pub(crate) fn once_ended(&self) -> bool {
         self.watch(|| self.ended() == 1 && self.ears.load(Ordering::SeqCst) == 0)
+    }
+
+    /// All that were opened so far are lost: checks of them fail, and they come back broken.
+    pub(crate) fn lose_all(&self) {
+        self.lost.store(self.opened(), Ordering::SeqCst);
+    }
+
+    /// Whether this one is lost.
+    pub(crate) fn has_lost(&self, number: u64) -> bool {
+        number < self.lost.load(Ordering::SeqCst)
     }
 
     /// One more is sound.
@@ -223,6 +236,10 @@ impl World {
     /// anybody looks.
     pub(crate) fn hang(&self, script: &Script) -> Outcome {
         let outcome = script.next();
+        if outcome.lasts > 0 {
+            let end = self.now() + outcome.lasts;
+            (0..3).any(|_| self.watch(|| self.now() >= end));
+        }
         if let Some(hung) = outcome.hangs {
             (0..3).any(|_| self.watch(|| script.goes_on(hung)));
         }

@@ -1,11 +1,9 @@
 // Pools with a trouble, and what is to be said first of it: the cause, and not what comes of it.
 
-use crate::server::Server;
-use crate::service::{Call, Load, Service};
-use r2d2::PoolRuntime;
-use r2d2_async::Builder;
+use crate::kinds::Settings;
+use crate::service::{Call, Load, Service, world};
+use crate::world::{Host, World};
 use std::process::Abort;
-use std::random::RandomSource;
 use std::test::Fail;
 
 // A call in each second.
@@ -22,9 +20,7 @@ const EACH_SECOND: Load = Load {
 // One caller of 50 gives nothing back. The first one is late from the second report on.
 #[test]
 fn leak(rt: HostRuntime) -> Result<(), Fail> {
-    let server = Server::new(rt.alloc())?;
-    let settings = Builder::new().journal_room(100);
-    let mut service = Service::new(rt, server, 8, 30_000, settings)?;
+    let mut service = Service::new(rt, world(rt)?, (8, 100), |_| {})?;
     for second in 1..721 {
         let holds = if second % 50 == 0 { None } else { Some(1_000) };
         service.call(Call {
@@ -46,12 +42,9 @@ fn leak(rt: HostRuntime) -> Result<(), Fail> {
 // The server refuses all from the second minute on. What was open then is closed at first.
 #[test]
 fn down(rt: HostRuntime) -> Result<(), Fail> {
-    let server = Server::new(rt.alloc())?;
-    let settings = Builder::new().journal_room(150);
-    let mut service = Service::new(rt, server, 8, 30_000, settings)?;
-    service.go_on(EACH_SECOND, 120_000)?;
-    assert!(rt; service.report()?.is_well());
-    server.go_down();
+    let mut service = Service::new(rt, world(rt)?, (8, 150), |_| {})?;
+    assert!(rt; service.after(EACH_SECOND, 120_000)?.is_well());
+    service.go_down();
     for (milliseconds, first) in [
         (2_000, "openings fail"),
         (8_000, "openings fail"),
@@ -59,8 +52,8 @@ fn down(rt: HostRuntime) -> Result<(), Fail> {
         (60_000, "nothing opens"),
         (600_000, "nothing opens"),
     ] {
-        service.go_on(EACH_SECOND, milliseconds)?;
-        assert!(rt; service.report()?.begins_with(first), "{milliseconds}");
+        let said = service.after(EACH_SECOND, milliseconds)?;
+        assert!(rt; said.begins_with(first), "{milliseconds}");
     }
     Ok(())
 }
@@ -68,24 +61,13 @@ fn down(rt: HostRuntime) -> Result<(), Fail> {
 // No loan ends from the second minute on.
 #[test]
 fn stuck(rt: HostRuntime) -> Result<(), Fail> {
-    let server = Server::new(rt.alloc())?;
-    let settings = Builder::new().journal_room(150);
-    let mut service = Service::new(rt, server, 8, 30_000, settings)?;
-    service.go_on(EACH_SECOND, 120_000)?;
-    assert!(rt; service.report()?.is_well());
-    let call = Call {
-        holds: None,
-        ..EACH_SECOND.call
-    };
+    let mut service = Service::new(rt, world(rt)?, (8, 150), |_| {})?;
+    assert!(rt; service.after(EACH_SECOND, 120_000)?.is_well());
+    let mut load = EACH_SECOND;
+    load.call.holds = None;
     for minute in 0..5 {
-        service.go_on(
-            Load {
-                call,
-                ..EACH_SECOND
-            },
-            60_000,
-        )?;
-        assert!(rt; service.report()?.begins_with("lent for long"), "{minute}");
+        let said = service.after(load, 60_000)?;
+        assert!(rt; said.begins_with("lent for long"), "{minute}");
     }
     Ok(())
 }
@@ -94,15 +76,15 @@ fn stuck(rt: HostRuntime) -> Result<(), Fail> {
 // with its caller's time.
 #[test]
 fn silent(rt: HostRuntime) -> Result<(), Fail> {
-    let server = Server::new(rt.alloc())?;
-    let settings = Builder::new().journal_room(150);
-    let mut service = Service::new(rt, server, 8, 30_000, settings)?;
-    service.go_on(EACH_SECOND, 120_000)?;
-    assert!(rt; service.report()?.is_well());
-    server.hang(true);
+    let mut service = Service::new(rt, world(rt)?, (8, 150), |_| {})?;
+    assert!(rt; service.after(EACH_SECOND, 120_000)?.is_well());
+    service.world.checks.goes("~+*");
+    service.world.connects.goes("~+*");
     for first in ["checks fail", "nothing opens", "nothing opens"] {
-        service.go_on(EACH_SECOND, 40_000)?;
-        assert!(rt; service.report()?.begins_with(first), "{first}");
+        assert!(rt;
+            service.after(EACH_SECOND, 40_000)?.begins_with(first),
+            "{first}"
+        );
     }
     Ok(())
 }
@@ -110,9 +92,7 @@ fn silent(rt: HostRuntime) -> Result<(), Fail> {
 // Exhausted for 97 % of the time, and everybody is served in time.
 #[test]
 fn exhausted(rt: HostRuntime) -> Result<(), Fail> {
-    let server = Server::new(rt.alloc())?;
-    let settings = Builder::new().journal_room(150);
-    let mut service = Service::new(rt, server, 4, 30_000, settings)?;
+    let mut service = Service::new(rt, world(rt)?, (4, 150), |_| {})?;
     service.rest(100, 1_000)?;
     for minute in 0..20 {
         for _ in 0..3 {
@@ -130,9 +110,8 @@ fn exhausted(rt: HostRuntime) -> Result<(), Fail> {
 #[test]
 fn many_short_timeouts(rt: HostRuntime) -> Result<(), Fail> {
     for (patience, first) in [(30_000, "timed out"), (50, "was exhausted")] {
-        let server = Server::new(rt.alloc())?;
-        let settings = Builder::new().journal_room(300);
-        let mut service = Service::new(rt, server, 2, patience, settings)?;
+        let patient = |own: &mut Settings| own.connection_timeout = patience;
+        let mut service = Service::new(rt, world(rt)?, (2, 300), patient)?;
         service.rest(10, 20)?;
         let call = Call {
             patience: 50,
@@ -152,13 +131,10 @@ fn many_short_timeouts(rt: HostRuntime) -> Result<(), Fail> {
 // Each second connection is broken as it comes back.
 #[test]
 fn churn(rt: HostRuntime) -> Result<(), Fail> {
-    let server = Server::new(rt.alloc())?;
-    server.break_one_in(2);
-    let settings = Builder::new().journal_room(150);
-    let mut service = Service::new(rt, server, 8, 30_000, settings)?;
+    let mut service = Service::new(rt, world(rt)?, (8, 150), |_| {})?;
+    service.world.breaks.goes("-+%");
     for minute in 0..10 {
-        service.go_on(EACH_SECOND, 60_000)?;
-        let said = service.report()?;
+        let said = service.after(EACH_SECOND, 60_000)?;
         assert!(rt; said.begins_with("churn"), "{minute}");
         assert_eq!(rt; said.concerns.len(), 1);
     }
@@ -166,64 +142,49 @@ fn churn(rt: HostRuntime) -> Result<(), Fail> {
 }
 
 // Three outages of 5.5 s within an hour, in which callers wait, or try again.
-fn is_down_rarely<R: PoolRuntime + RandomSource + Abort>(
+fn is_down_rarely<R: Host + Abort>(
     rt: R,
+    world: &'static World,
     patience: u64,
     room: usize,
 ) -> Result<(), Fail> {
-    let server = Server::new(rt.alloc())?;
-    let settings = Builder::new().journal_room(room);
-    let mut service = Service::new(rt, server, 8, 30_000, settings)?;
-    let call = Call {
-        patience,
-        retries: 20,
-        ..Call::of(500)
-    };
-    let load = Load {
-        call,
-        ..EACH_SECOND
-    };
+    let mut service = Service::new(rt, world, (8, room), |_| {})?;
+    let mut load = EACH_SECOND;
+    load.call.patience = patience;
+    load.call.retries = 20;
     let mut outage = None;
     for minute in 0..60 {
         service.go_on(load, 20_000)?;
         if minute % 20 == 9 {
             outage = Some(service.moment());
-            server.go_down();
+            service.go_down();
             service.go_on(load, 5_500)?;
-            server.come_up();
+            service.come_up();
         }
-        service.go_on(load, 40_000)?;
-        let said = service.report()?;
+        let said = service.after(load, 40_000)?;
         let is_told = outage.is_some_and(|at| said.covers(at));
-        if is_told {
-            assert!(rt;
-                said.begins_with("openings fail"),
-                "{patience} {room} {minute}"
-            );
-        }
+        let begins = said.begins_with("openings fail");
+        assert!(rt; begins || !is_told, "{patience} {room} {minute}");
         // (Its counts may reach further back than its records.)
         let is_counted = outage.is_some_and(|at| said.counts(at));
-        assert!(rt;
-            is_told || is_counted || said.is_well(),
-            "{patience} {room} {minute}"
-        );
+        let is_told = is_told || is_counted;
+        assert!(rt; is_told || said.is_well(), "{patience} {room} {minute}");
     }
     Ok(())
 }
 
 #[test]
 fn down_rarely(rt: HostRuntime) -> Result<(), Fail> {
-    is_down_rarely(rt, 1_000, 400)?;
-    is_down_rarely(rt, 1_000, 150)?;
-    is_down_rarely(rt, 30_000, 150)
+    for (patience, room) in [(1_000, 400), (1_000, 150), (30_000, 150)] {
+        is_down_rarely(rt, world(rt)?, patience, room)?;
+    }
+    Ok(())
 }
 
 // More call than may wait.
 #[test]
 fn refused(rt: HostRuntime) -> Result<(), Fail> {
-    let server = Server::new(rt.alloc())?;
-    let settings = Builder::new().journal_room(150).max_waiting(4);
-    let mut service = Service::new(rt, server, 2, 30_000, settings)?;
+    let mut service = Service::new(rt, world(rt)?, (2, 150), |own| own.room = 4)?;
     service.rest(10, 20)?;
     for minute in 0..5 {
         for _ in 0..6 {

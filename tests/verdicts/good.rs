@@ -1,15 +1,8 @@
 // Pools of which nothing is to be said.
 
-use crate::server::Server;
-use crate::service::{Call, Load, Service};
-use r2d2::PoolRuntime;
-use r2d2_async::Builder;
-use std::process::Abort;
-use std::random::RandomSource;
+use crate::kinds::Settings;
+use crate::service::{Call, Load, Service, world};
 use std::test::Fail;
-use std::time::Duration;
-
-const JITTERS: [u64; 2] = [0, 10];
 
 // A call in each second, which holds half of eight connections.
 const STEADY: Load = Load {
@@ -25,12 +18,9 @@ const STEADY: Load = Load {
 // At half of its size for an hour.
 #[test]
 fn well(rt: HostRuntime) -> Result<(), Fail> {
-    let server = Server::new(rt.alloc())?;
-    let settings = Builder::new().journal_room(150);
-    let mut service = Service::new(rt, server, 8, 30_000, settings)?;
+    let mut service = Service::new(rt, world(rt)?, (8, 150), |_| {})?;
     for minute in 0..60 {
-        service.go_on(STEADY, 60_000)?;
-        assert!(rt; service.report()?.is_well(), "{minute}");
+        assert!(rt; service.after(STEADY, 60_000)?.is_well(), "{minute}");
     }
     Ok(())
 }
@@ -38,62 +28,50 @@ fn well(rt: HostRuntime) -> Result<(), Fail> {
 // The same, where callers wait for no longer than a loan takes.
 #[test]
 fn well_with_little_patience(rt: HostRuntime) -> Result<(), Fail> {
-    let server = Server::new(rt.alloc())?;
-    let settings = Builder::new().journal_room(150);
-    let mut service = Service::new(rt, server, 8, 250, settings)?;
+    let mut service = Service::new(rt, world(rt)?, (8, 150), |own| own.connection_timeout = 250)?;
     let call = Call {
         patience: 250,
         ..Call::of(400)
     };
+    let load = Load {
+        tick: 50,
+        every: 2,
+        call,
+    };
     service.rest(50, 100)?;
     for minute in 0..10 {
-        let load = Load {
-            tick: 50,
-            every: 2,
-            call,
-        };
-        service.go_on(load, 10_000)?;
-        assert!(rt; service.report()?.is_well(), "{minute}");
+        assert!(rt; service.after(load, 10_000)?.is_well(), "{minute}");
     }
     Ok(())
 }
 
 // Sixteen calls within a third of a second for eight connections, then none for five minutes.
-fn bursts<R: PoolRuntime + RandomSource + Abort>(
-    rt: R,
-    room: usize,
-    patience: u64,
-) -> Result<(), Fail> {
-    let server = Server::new(rt.alloc())?;
-    let settings = Builder::new().journal_room(room);
-    let mut service = Service::new(rt, server, 8, patience, settings)?;
-    service.rest(20, 40)?;
-    let call = Call {
-        patience,
-        ..Call::of(150)
-    };
-    let load = Load {
-        tick: 20,
-        every: 1,
-        call,
-    };
-    for milliseconds in [160, 160] {
-        service.go_on(load, milliseconds)?;
-        assert!(rt; service.report()?.is_well(), "{room} {patience}");
-    }
-    service.rest(20, 400)?;
-    for minute in 0..5 {
-        assert!(rt; service.report()?.is_well(), "{room} {patience} {minute}");
-        service.rest(1_000, 60_000)?;
-    }
-    Ok(())
-}
-
 #[test]
 fn burst(rt: HostRuntime) -> Result<(), Fail> {
-    for room in [16, 100] {
-        bursts(rt, room, 30_000)?;
-        bursts(rt, room, 1_000)?;
+    for (room, patience) in [(16, 30_000), (16, 1_000), (100, 30_000), (100, 1_000)] {
+        let patient = |own: &mut Settings| own.connection_timeout = patience;
+        let mut service = Service::new(rt, world(rt)?, (8, room), patient)?;
+        service.rest(20, 40)?;
+        let call = Call {
+            patience,
+            ..Call::of(150)
+        };
+        let load = Load {
+            tick: 20,
+            every: 1,
+            call,
+        };
+        for milliseconds in [160, 160] {
+            assert!(rt;
+                service.after(load, milliseconds)?.is_well(),
+                "{room} {patience}"
+            );
+        }
+        service.rest(20, 400)?;
+        for minute in 0..5 {
+            assert!(rt; service.report()?.is_well(), "{room} {patience} {minute}");
+            service.rest(1_000, 60_000)?;
+        }
     }
     Ok(())
 }
@@ -101,16 +79,14 @@ fn burst(rt: HostRuntime) -> Result<(), Fail> {
 // Openings are tried again within a second, and some take eight; callers wait for longer.
 #[test]
 fn short_retries(rt: HostRuntime) -> Result<(), Fail> {
-    let server = Server::new(rt.alloc())?;
-    let settings = Builder::new()
-        .journal_room(400)
-        .retry_at_most(Duration::from_secs(1))
-        .max_lifetime(Some(Duration::from_secs(60)));
-    let mut service = Service::new(rt, server, 8, 30_000, settings)?;
+    let mut service = Service::new(rt, world(rt)?, (8, 400), |own| {
+        own.retry_at_most = Some(1_000);
+        own.max_lifetime = Some(60_000);
+    })?;
     for minute in 0..20 {
-        server.let_openings_take(if minute % 3 == 2 { 8_000 } else { 5 });
-        service.go_on(STEADY, 60_000)?;
-        assert!(rt; service.report()?.is_well(), "{minute}");
+        let opening = if minute % 3 == 2 { "8000~+*" } else { "5~+*" };
+        service.world.connects.goes(opening);
+        assert!(rt; service.after(STEADY, 60_000)?.is_well(), "{minute}");
     }
     Ok(())
 }
@@ -119,10 +95,9 @@ fn short_retries(rt: HostRuntime) -> Result<(), Fail> {
 #[test]
 fn a_start(rt: HostRuntime) -> Result<(), Fail> {
     for patience in [250, 30_000] {
-        let server = Server::new(rt.alloc())?;
-        server.let_openings_take(4_000);
-        let settings = Builder::new().journal_room(100);
-        let mut service = Service::new(rt, server, 8, patience, settings)?;
+        let patient = |own: &mut Settings| own.connection_timeout = patience;
+        let mut service = Service::new(rt, world(rt)?, (8, 100), patient)?;
+        service.world.connects.goes("4000~+*");
         for second in 0..12 {
             assert!(rt; service.report()?.is_well(), "{patience} {second}");
             service.rest(100, 1_000)?;
@@ -134,51 +109,39 @@ fn a_start(rt: HostRuntime) -> Result<(), Fail> {
 // Connections are closed for their age as they come back, each at one of its own where that is set.
 #[test]
 fn old_age(rt: HostRuntime) -> Result<(), Fail> {
-    for jitter in JITTERS {
-        let server = Server::new(rt.alloc())?;
-        let settings = Builder::new()
-            .journal_room(400)
-            .max_lifetime(Some(Duration::from_secs(30)))
-            .lifetime_jitter(Duration::from_secs(jitter));
-        let mut service = Service::new(rt, server, 8, 30_000, settings)?;
+    for jitter in [0, 10_000] {
+        let mut service = Service::new(rt, world(rt)?, (8, 400), |own| {
+            own.max_lifetime = Some(30_000);
+            own.lifetime_jitter = Some(jitter);
+        })?;
         for minute in 0..10 {
-            service.go_on(STEADY, 60_000)?;
-            assert!(rt; service.report()?.is_well(), "{jitter} {minute}");
+            assert!(rt;
+                service.after(STEADY, 60_000)?.is_well(),
+                "{jitter} {minute}"
+            );
         }
     }
     Ok(())
 }
 
 // The server was started anew: a check of what it had fails, or one of each connection.
-fn restarts<R: PoolRuntime + RandomSource + Abort>(
-    rt: R,
-    distrusts: bool,
-    every: u64,
-) -> Result<(), Fail> {
-    let server = Server::new(rt.alloc())?;
-    let settings = Builder::new().journal_room(150).distrust_idle(distrusts);
-    let mut service = Service::new(rt, server, 8, 30_000, settings)?;
-    let load = Load {
-        every,
-        call: Call::of(1_000),
-        ..STEADY
-    };
-    service.go_on(load, 60_000)?;
-    service.rest(500, 3_000)?;
-    server.go_down();
-    server.come_up();
-    for minute in 0..4 {
-        assert!(rt; service.report()?.is_well(), "{distrusts} {every} {minute}");
-        service.go_on(load, 60_000)?;
-    }
-    Ok(())
-}
-
 #[test]
 fn a_failed_check_after_a_restart(rt: HostRuntime) -> Result<(), Fail> {
-    for every in [2, 10] {
-        restarts(rt, true, every)?;
-        restarts(rt, false, every)?;
+    for (every, distrusts) in [(2, true), (2, false), (10, true), (10, false)] {
+        let distrust = |own: &mut Settings| own.distrust_idle = distrusts;
+        let mut service = Service::new(rt, world(rt)?, (8, 150), distrust)?;
+        let load = Load {
+            every,
+            call: Call::of(1_000),
+            ..STEADY
+        };
+        service.go_on(load, 60_000)?;
+        service.rest(500, 3_000)?;
+        service.world.lose_all();
+        for minute in 0..4 {
+            assert!(rt; service.report()?.is_well(), "{distrusts} {every} {minute}");
+            service.go_on(load, 60_000)?;
+        }
     }
     Ok(())
 }
@@ -186,26 +149,16 @@ fn a_failed_check_after_a_restart(rt: HostRuntime) -> Result<(), Fail> {
 // All that was there is closed, lent or idle, since the server has moved.
 #[test]
 fn moved(rt: HostRuntime) -> Result<(), Fail> {
-    let server = Server::new(rt.alloc())?;
-    let settings = Builder::new().journal_room(150);
-    let mut service = Service::new(rt, server, 8, 30_000, settings)?;
-    service.go_on(
-        Load {
-            call: Call::of(8_000),
-            ..STEADY
-        },
-        20_000,
-    )?;
+    let mut service = Service::new(rt, world(rt)?, (8, 150), |_| {})?;
+    let mut load = STEADY;
+    load.call = Call::of(8_000);
+    service.go_on(load, 20_000)?;
     service.evict()?;
+    load = STEADY;
+    load.every = 10;
     for minute in 0..4 {
         assert!(rt; service.report()?.is_well(), "{minute}");
-        service.go_on(
-            Load {
-                every: 10,
-                ..STEADY
-            },
-            60_000,
-        )?;
+        service.go_on(load, 60_000)?;
     }
     Ok(())
 }
@@ -213,9 +166,8 @@ fn moved(rt: HostRuntime) -> Result<(), Fail> {
 // Callers waited for more than ten of their twenty seconds, in the first minutes; later ones do not.
 #[test]
 fn recovered(rt: HostRuntime) -> Result<(), Fail> {
-    let server = Server::new(rt.alloc())?;
-    let settings = Builder::new().journal_room(40);
-    let mut service = Service::new(rt, server, 8, 20_000, settings)?;
+    let patient = |own: &mut Settings| own.connection_timeout = 20_000;
+    let mut service = Service::new(rt, world(rt)?, (8, 40), patient)?;
     let call = Call {
         patience: 20_000,
         ..Call::of(7_000)
@@ -229,11 +181,9 @@ fn recovered(rt: HostRuntime) -> Result<(), Fail> {
         call: Call::of(1_000),
         ..STEADY
     };
-    service.go_on(load, 60_000)?;
-    service.report()?;
+    service.after(load, 60_000)?;
     for minute in 0..3 {
-        service.go_on(load, 60_000)?;
-        assert!(rt; service.report()?.is_well(), "{minute}");
+        assert!(rt; service.after(load, 60_000)?.is_well(), "{minute}");
     }
     Ok(())
 }

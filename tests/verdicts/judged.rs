@@ -1,62 +1,11 @@
 // What a report says of a pool, held against what its callers met.
 
-use crate::clock::Turned;
-use crate::service::PoolOf;
-use pool_metrics::{Distribution, Metrics, UpTo};
 use pool_reports::{
-    Calls, Concern, Origin, PoolStatus, State, Summary, Verdict, Waits, Written, audit,
-    from_json_of_pool, summarize, to_json_of_pool,
+    Calls, Concern, State, Summary, Verdict, Written, audit, from_json_of_pool, summarize,
 };
-use r2d2::PoolRuntime;
 use std::alloc::{AllocError, Global};
 use std::test::Fail;
 use std::time::Duration;
-
-/// The report of a pool with all that its service knows, as JSON.
-pub(crate) fn report_of<R: PoolRuntime>(
-    alloc: Global,
-    pool: &PoolOf<R>,
-    metrics: &Metrics<Turned<R>>,
-    connection_timeout: Duration,
-) -> Result<String, Fail> {
-    let (status, seen, moment) = (pool.status(), metrics.snapshot(), pool.moment());
-    let mut loans = Vec::new(alloc);
-    for loan in metrics.lent_longer_than(Duration::ZERO)? {
-        loans.push((loan.id, moment.saturating_sub(loan.lent_for())))?;
-    }
-    let status = PoolStatus {
-        connection_timeout,
-        waiting: status.waiting,
-        waiting_since: status.waiting_since,
-        timeouts: seen.timeouts,
-        refused: status.refused,
-        failed_openings: status.failed_openings,
-        failed_checks: status.failed_checks,
-        latest_failure: seen.latest_error.map(|ago| moment.saturating_sub(ago)),
-        waits: long_waits(&seen.waits, connection_timeout),
-    };
-    let origin = Origin::at(pool.made_at(), moment)
-        .named("pool")
-        .with_status(status)
-        .with_loans(loans.as_slice());
-    Ok(to_json_of_pool(alloc, &pool.journal()?, origin)?)
-}
-
-// How many waited longer than the first bound that is at least half of a timeout.
-fn long_waits(waits: &Distribution, timeout: Duration) -> Option<Waits> {
-    for bucket in waits.buckets() {
-        if let UpTo::Nanos(nanos) = bucket.up_to
-            && timeout.as_nanos() <= 2 * u128::from(nanos)
-        {
-            return Some(Waits {
-                bound: Duration::from_nanos(nanos),
-                longer: waits.count().saturating_sub(bucket.count),
-                all: waits.count(),
-            });
-        }
-    }
-    None
-}
 
 /// What callers were told.
 #[derive(Drop)]

@@ -1,33 +1,14 @@
-// A service over a pool: its callers, what they hold, and what they met.
+// A service over a pool: its server, its callers, what they hold, and what they met.
 
-use crate::clock::Turned;
-use crate::judged::{Heard, History, Said, judged, report_of};
-use crate::server::{Hours, Manager, Server};
-use futures::Future;
-use futures::task::Poll;
-use futures::test::MockTask;
-use pool_metrics::{CountingErrorHandler, Metrics};
-use r2d2::{ErrorKind, NopConnectionCustomizer, NopErrorHandler, PoolRuntime};
-use r2d2_async::{Builder, Get, Handlers, Pool, PooledConnection, Work};
-use std::random::RandomSource;
+use crate::judged::{Heard, History, Said, judged};
+use crate::kinds::{Calls, Get, Kind, Lent, Pool, Settings};
+use crate::measured::Measure;
+use crate::world::{Host, World};
+use pool_metrics::report_of;
+use r2d2::{ErrorKind, NopErrorHandler};
+use std::alloc::AllocError;
 use std::test::Fail;
 use std::time::Duration;
-
-type Ears<R> = Handlers<
-    CountingErrorHandler<NopErrorHandler, Turned<R>>,
-    Metrics<Turned<R>>,
-    NopConnectionCustomizer,
->;
-
-pub(crate) type PoolOf<R> = Pool<Manager, Hours, Ears<R>, Turned<R>>;
-
-type GetOf<R> = Get<Manager, Hours, Ears<R>, Turned<R>>;
-
-type LentOf<R> = PooledConnection<Manager, Hours, Ears<R>, Turned<R>>;
-
-type WorkOf<R> = Work<Manager, Hours, Ears<R>, Turned<R>>;
-
-const WORKERS: u32 = 4;
 
 /// How a call goes.
 #[derive(Clone, Copy)]
@@ -61,84 +42,90 @@ pub(crate) struct Load {
     pub(crate) call: Call,
 }
 
-#[derive(Drop)]
-struct Caller<R: PoolRuntime> {
-    call: Call,
-    get: GetOf<R>,
-}
-
-#[derive(Drop)]
-struct Held<R: PoolRuntime> {
-    lent: LentOf<R>,
-    until: Option<u64>,
-}
-
 /// A service, and what was said of its pool so far.
 #[derive(Drop)]
-pub(crate) struct Service<R: PoolRuntime> {
+pub(crate) struct Service<R: Host> {
     rt: R,
-    pub(crate) server: &'static Server,
-    patience: Duration,
-    pool: PoolOf<R>,
-    metrics: Metrics<Turned<R>>,
-    workers: Vec<WorkOf<R>>,
-    callers: Vec<Caller<R>>,
-    held: Vec<Held<R>>,
+    pub(crate) world: &'static World,
+    pool: Pool<R>,
+    metrics: Measure<R>,
+    callers: Vec<(Call, Get<R>)>,
+    // What is lent, and until which moment.
+    held: Vec<(Lent<R>, Option<u64>)>,
     heard: Heard,
     history: History,
-    // It polls all of them.
-    task: MockTask,
 }
 
-impl<R: PoolRuntime + RandomSource> Service<R> {
-    /// Over a pool of this size and with these settings, where a `get` waits for so many
-    /// milliseconds.
-    pub(crate) fn new(
+/// A world of its own for a service.
+pub(crate) fn world(rt: HostRuntime) -> Result<&'static World, AllocError> {
+    World::new(rt, Kind::Polled)
+}
+
+impl<R: Host> Service<R> {
+    /// Over a pool of this size, whose journal has room for so many records, with a change of its
+    /// settings.
+    pub(crate) fn new<F: FnOnce(&mut Settings)>(
         rt: R,
-        server: &'static Server,
-        size: u32,
-        patience: u64,
-        settings: Builder,
+        world: &'static World,
+        (size, room): (u32, usize),
+        change: F,
     ) -> Result<Service<R>, Fail> {
-        let (alloc, clock) = (rt.alloc(), server.clock(rt));
-        let metrics = Metrics::new(clock, size)?;
-        let patience = Duration::from_millis(patience);
-        let pool = settings
-            .max_size(size)
-            .connection_timeout(patience)
-            .error_handler(metrics.around(NopErrorHandler)?)
-            .event_handler(metrics.try_clone()?)
-            .build(clock, Manager { server }, Hours { server })?;
-        let mut workers = Vec::new(alloc);
-        for _ in 0..WORKERS {
-            workers.push(pool.work()?)?;
-        }
+        let metrics = world.measure(rt, size, NopErrorHandler)?;
+        world.connects.goes("5~+*");
+        let pool = Pool::new(rt, world, |own| {
+            own.sized(size, size);
+            own.workers = 4;
+            own.is_unchecked = true;
+            own.is_checked = true;
+            own.max_lifetime = Some(1_800_000);
+            own.idle_timeout = Some(600_000);
+            own.journal_room = room;
+            change(own);
+        })?;
         Ok(Service {
             rt,
-            server,
-            patience,
+            world,
             pool,
             metrics,
-            workers,
-            callers: Vec::new(alloc),
-            held: Vec::new(alloc),
-            heard: Heard::nothing(alloc),
-            history: History::new(alloc),
-            task: MockTask::new(&rt)?,
+            callers: Vec::new(rt.alloc()),
+            held: Vec::new(rt.alloc()),
+            heard: Heard::nothing(rt.alloc()),
+            history: History::new(rt.alloc()),
         })
     }
 
+    /// The server goes down: what it had is lost, and it refuses what comes.
+    pub(crate) fn go_down(&self) {
+        self.world.lose_all();
+        self.world.connects.goes("-*");
+    }
+
+    /// It is up again.
+    pub(crate) fn come_up(&self) {
+        self.world.connects.goes("5~+*");
+    }
+
     pub(crate) fn call(&mut self, call: Call) -> Result<(), Fail> {
-        let get = self.pool.get_timeout(Duration::from_millis(call.patience))?;
-        self.callers.push(Caller { call, get })?;
+        let get = self.pool.comes(call.patience)?;
+        self.callers.push((call, get))?;
         Ok(())
     }
 
-    /// What comes of the next milliseconds.
-    pub(crate) fn pass(&mut self, milliseconds: u64) -> Result<(), Fail> {
-        self.server.pass(milliseconds);
-        self.give_back();
-        self.work();
+    /// So many calls at once.
+    pub(crate) fn call_all(&mut self, count: u64, call: Call) -> Result<(), Fail> {
+        for _ in 0..count {
+            self.call(call)?;
+        }
+        Ok(())
+    }
+
+    // What comes of the next milliseconds.
+    fn pass(&mut self, milliseconds: u64) -> Result<(), Fail> {
+        self.world.pass(milliseconds);
+        let now = self.world.now();
+        self.held
+            .retain(|(_, until)| until.is_none_or(|until| now < until));
+        self.pool.work();
         self.answer()
     }
 
@@ -161,17 +148,9 @@ impl<R: PoolRuntime + RandomSource> Service<R> {
         Ok(())
     }
 
-    /// So many calls at once.
-    pub(crate) fn call_all(&mut self, count: u64, call: Call) -> Result<(), Fail> {
-        for _ in 0..count {
-            self.call(call)?;
-        }
-        Ok(())
-    }
-
     /// The moment since the making of the pool.
     pub(crate) fn moment(&self) -> Duration {
-        self.pool.moment()
+        Duration::from_millis(self.pool.moment())
     }
 
     /// Evicts what there is.
@@ -180,37 +159,26 @@ impl<R: PoolRuntime + RandomSource> Service<R> {
         Ok(())
     }
 
-    fn give_back(&mut self) {
-        let now = self.server.now();
-        self.held
-            .retain(|held| held.until.is_none_or(|until| now < until));
-    }
-
-    fn work(&mut self) {
-        for worker in self.workers.iter_mut() {
-            run(&self.task, worker);
-        }
-    }
-
     // Each call that came to an end, those that came first before others.
     fn answer(&mut self) -> Result<(), Fail> {
-        let waiting = self.callers.len();
-        for _ in 0..waiting {
-            let mut caller = self.callers.remove(0);
-            match run(&self.task, &mut caller.get) {
-                None => self.callers.push(caller)?,
-                Some(Ok(lent)) => self.lend(lent, caller.call)?,
-                Some(Err(error)) => self.refuse(error.kind(), caller.call)?,
+        for _ in 0..self.callers.len() {
+            let (call, mut get) = self.callers.remove(0);
+            if !get.has_ended() {
+                self.callers.push((call, get))?;
+                continue;
+            }
+            match self.pool.end(get)? {
+                Ok(lent) => self.lend(lent, call)?,
+                Err(error) => self.refuse(error.kind(), call)?,
             }
         }
         Ok(())
     }
 
-    fn lend(&mut self, lent: LentOf<R>, call: Call) -> Result<(), Fail> {
-        let now = self.server.now();
-        let until = call.holds.map(|holds| now.saturating_add(holds));
-        self.heard.served = self.heard.served.saturating_add(1);
-        self.held.push(Held { lent, until })?;
+    fn lend(&mut self, lent: Lent<R>, call: Call) -> Result<(), Fail> {
+        let now = self.world.now();
+        self.heard.served += 1;
+        self.held.push((lent, call.holds.map(|holds| now + holds)))?;
         Ok(())
     }
 
@@ -223,29 +191,23 @@ impl<R: PoolRuntime + RandomSource> Service<R> {
             return Ok(());
         }
         self.call(Call {
-            retries: call.retries.saturating_sub(1),
+            retries: call.retries - 1,
             ..call
         })
     }
 
     /// What a report that is made now says, after it was written and read again.
     pub(crate) fn report(&mut self) -> Result<Said, Fail> {
-        let alloc = self.rt.alloc();
-        let text = report_of(alloc, &self.pool, &self.metrics, self.patience)?;
-        let said = judged(alloc, text.as_str(), &mut self.history, &self.heard)?;
-        Ok(said)
+        let (alloc, Calls::Task(pool)) = (self.rt.alloc(), &self.pool.calls) else {
+            return Err(Fail::from("no pool for tasks"));
+        };
+        let text = report_of(alloc, "pool", pool, &self.metrics)?;
+        judged(alloc, text.as_str(), &mut self.history, &self.heard)
     }
-}
 
-// Polls for as long as it is woken.
-fn run<F: Future>(task: &MockTask, future: &mut F) -> Option<F::Output> {
-    for _ in 0..1_000 {
-        if let Poll::Ready(output) = task.poll(future) {
-            return Some(output);
-        }
-        if !task.is_woken() {
-            break;
-        }
+    /// The same after so many milliseconds of this load.
+    pub(crate) fn after(&mut self, load: Load, milliseconds: u64) -> Result<Said, Fail> {
+        self.go_on(load, milliseconds)?;
+        self.report()
     }
-    None
 }
