@@ -85,8 +85,8 @@ fn who_is_late_is_told_so_though_the_pool_is_closed(rt: HostRuntime) -> Result<(
     })
 }
 
-// One of three comes back after 600 s, one after 1,200 s, and one not at all. The drain looks at each
-// return for what is left: a thread reads the clock three times then, and the return twice.
+// One of three comes back after 600 s, one just before the end, and one not at all. The drain looks
+// at each return for what is left: a thread reads the clock three times then, and the return twice.
 #[test]
 fn a_drain_waits_no_longer_for_each_return(rt: HostRuntime) -> Result<(), Fail> {
     on_each(rt, &ALL, |world| {
@@ -99,8 +99,9 @@ fn a_drain_waits_no_longer_for_each_return(rt: HostRuntime) -> Result<(), Fail> 
         world.watch(|| world.kind.is_of_tasks() || world.readings() >= before + 5);
         assert!(rt; !pool.has_ended(&mut drain));
         assert_eq!(rt; pool.status().waiting, 1);
-        world.pass(600_000);
+        world.pass(399_999);
         drop(second);
+        world.pass(1);
         let status = pool.drained(drain)?.err().ok_or("drained")?;
         assert_eq!(rt; status.lent, 1);
         Ok(())

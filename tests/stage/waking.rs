@@ -102,6 +102,8 @@ fn nobody_is_lent_what_is_still_told_of(rt: HostRuntime) -> Result<(), Fail> {
         let back = thread::spawn(&rt, move || drop(lent))?;
         assert!(rt; world.once_hung() && pool.try_get()?.is_none());
         let get = pool.begin(600_000)?;
+        // Its own return is to hang no more.
+        world.tells.goes("");
         world.let_go(&world.tells);
         back.join(&rt);
         let _lent = pool.end(get)??;
