@@ -1,16 +1,20 @@
 //! Times the calls of a pool. Given `bench`, it prints a line for each scenario: its name, the
 //! threads, `max_size`, how many operations were timed, and the nanoseconds for each, the least and
 //! the median of twenty-five runs; `-` for both where several threads hardly met. Given a scenario's
-//! name too, it runs that one alone, as for a profile. Given `waits`, it prints how long callers wait
-//! for a connection, without a line and in one. Else it says how to run it.
+//! name too, it runs that one alone. Given `waits`, it prints how long callers wait for a connection,
+//! without a line and in one. Given `tasks`, it prints the lines of several numbers of tasks; given
+//! `once`, a scenario of those, how many tasks there are and how many calls they make together, it
+//! makes those calls, as for a profile. Else it says how to run it.
 #![tactic(auto)]
 
 ghost use Rattle.std.specs.Prelude.{◌<◌};
 
 mod alone;
 mod contended;
+mod crowds;
 mod gate;
 mod growing;
+mod leaving;
 mod pools;
 mod scenario;
 mod tasks;
@@ -22,7 +26,6 @@ use r2d2::PoolRuntime;
 use scenario::{Case, Scenario, is_chosen};
 use std::random::RandomSource;
 use std::{env, thread};
-use tasks::{CALLS_OF_EACH, TASKS};
 use waits::waited;
 
 /// Calls of a scenario of one thread, in one run.
@@ -41,8 +44,10 @@ fn main(rt: HostRuntime) -> Result<(), anyhow::Error> {
         });
     }
     if what.as_deref() != Some("bench") {
-        println!(rt; "usage: pool_bench bench [SCENARIO], or pool_bench waits")?;
-        return Ok(());
+        let tasks = words.next();
+        let calls = words.next();
+        let chosen = [only, tasks.as_deref(), calls.as_deref()];
+        return without_threads(rt, what.as_deref(), chosen);
     }
     println!(rt; "scenario threads max_size ops least_ns median_ns")?;
     measure_alone(rt, only)?;
@@ -60,6 +65,23 @@ fn main(rt: HostRuntime) -> Result<(), anyhow::Error> {
         })?;
     }
     measure_growing(rt, only)
+}
+
+// What needs no thread.
+fn without_threads<R: PoolRuntime + RandomSource + Print>(
+    rt: R,
+    what: Option<&str>,
+    chosen: [Option<&str>; 3],
+) -> Result<(), anyhow::Error> {
+    match what {
+        Some("tasks") => crowds::measure(rt),
+        Some("once") => crowds::once(rt, chosen),
+        _ => {
+            let modes = "waits, tasks, or once SCENARIO TASKS CALLS";
+            println!(rt; "usage: pool_bench bench [SCENARIO], {modes}")?;
+            Ok(())
+        }
+    }
 }
 
 fn one_thread(max_size: u32, operations: u32) -> Case
@@ -98,7 +120,7 @@ fn measure_tasks<R: PoolRuntime + RandomSource + Print>(
     only: Option<&str>,
 ) -> Result<(), anyhow::Error> {
     Scenario::TaskGetDrop.measure(rt, only, one_thread(10, CALLS))?;
-    Scenario::Tasks.measure(rt, only, one_thread(8, TASKS * CALLS_OF_EACH))
+    Scenario::Tasks.measure(rt, only, crowds::of(1_000, 10_000))
 }
 
 fn measure_growing<R: PoolRuntime + RandomSource + Print>(

@@ -3,6 +3,7 @@ ghost use Rattle.std.specs.Prelude.{◌≡◌, ◌<◌, ◌/◌, ◌↔◌, IfSo
 ghost use Rattle.std.specs.Option.{IsNone};
 ghost use Rattle.std.specs.Duration.{as_nanos};
 
+use crate::leaving::{self, End};
 use crate::{alone, growing, tasks};
 use r2d2::PoolRuntime;
 use std::alloc::{AllocError, Global};
@@ -24,6 +25,7 @@ pub fn is_chosen(name: &str, only: Option<&str>) -> bool {
 /// How often, and at what size, a scenario is run.
 #[derive(Clone, Copy)]
 pub struct Case {
+    /// How many threads there are; or how many tasks, on one thread.
     pub threads: u32,
     pub max_size: u32,
     /// How many operations one run times.
@@ -130,6 +132,8 @@ pub enum Scenario {
     TryGetMiss,
     TaskGetDrop,
     Tasks,
+    TaskDropped,
+    TaskTimedOut,
     Build,
     LentGet,
     LentDrop,
@@ -150,6 +154,8 @@ impl Scenario {
             Scenario::TryGetMiss => "try_get_miss",
             Scenario::TaskGetDrop => "task_get_drop",
             Scenario::Tasks => "tasks",
+            Scenario::TaskDropped => "task_dropped",
+            Scenario::TaskTimedOut => "task_timed_out",
             Scenario::Build => "build",
             Scenario::LentGet => "lent_get",
             Scenario::LentDrop => "lent_drop",
@@ -157,8 +163,8 @@ impl Scenario {
         }
     }
 
-    // How long the operations of one run took.
-    fn run<R: PoolRuntime + RandomSource>(
+    /// How long the operations of one run took.
+    pub fn run<R: PoolRuntime + RandomSource>(
         self,
         rt: R,
         case: Case,
@@ -174,6 +180,8 @@ impl Scenario {
             Scenario::TryGetMiss => alone::try_get_miss(rt, case),
             Scenario::TaskGetDrop => tasks::get_drop(rt, case),
             Scenario::Tasks => tasks::tasks(rt, case),
+            Scenario::TaskDropped => leaving::leave(rt, case, End::Dropped),
+            Scenario::TaskTimedOut => leaving::leave(rt, case, End::TimedOut),
             Scenario::Build => growing::build(rt, case),
             Scenario::LentGet => growing::lent_get(rt, case),
             Scenario::LentDrop => growing::lent_drop(rt, case),

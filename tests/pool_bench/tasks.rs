@@ -19,12 +19,6 @@ use std::sync::Arc;
 use std::sync::atomic::{AtomicU32, Ordering};
 use std::time::{Duration, Instant};
 
-/// How many tasks there are.
-pub const TASKS: u32 = 1_000;
-
-/// How many calls each of them makes.
-pub const CALLS_OF_EACH: u32 = 10;
-
 impl ManageConnection for Nothings {
     type Connection = ();
 
@@ -63,10 +57,11 @@ impl Timer for NoTime {
 
 type Nobody = Handlers<NopErrorHandler, NopEventHandler, NopConnectionCustomizer>;
 
-type TaskPool<R> = Pool<Nothings, NoTime, Nobody, R>;
+/// A pool for tasks whose calls end by this timer.
+pub type TaskPool<T, R> = Pool<Nothings, T, Nobody, R>;
 
 /// What lends connections to tasks.
-trait Lender: Drop {
+pub trait Lender: Drop {
     type Lent: Drop;
 
     type Get: Future<Output = Result<Self::Lent, Error>>;
@@ -79,16 +74,16 @@ trait Lender: Drop {
     fn another(&self) -> Result<Self, Error>;
 }
 
-impl<R: AsyncRuntime> Lender for TaskPool<R> {
-    type Lent = PooledConnection<Nothings, NoTime, Nobody, R>;
+impl<T: Timer, R: AsyncRuntime> Lender for TaskPool<T, R> {
+    type Lent = PooledConnection<Nothings, T, Nobody, R>;
 
-    type Get = Get<Nothings, NoTime, Nobody, R>;
+    type Get = Get<Nothings, T, Nobody, R>;
 
-    fn call(&self) -> Result<Get<Nothings, NoTime, Nobody, R>, Error> {
+    fn call(&self) -> Result<Get<Nothings, T, Nobody, R>, Error> {
         self.get()
     }
 
-    fn another(&self) -> Result<TaskPool<R>, Error> {
+    fn another(&self) -> Result<TaskPool<T, R>, Error> {
         self.try_clone()
     }
 }
@@ -170,13 +165,13 @@ impl<L: Lender> Future for Caller<L> {
 
 // Polls a worker until all connections are open.
 #[derive(Drop)]
-struct Opens<W: Future<Output = ()>, R: AsyncRuntime> {
+struct Opens<W: Future<Output = ()>, T: Timer, R: AsyncRuntime> {
     worker: W,
-    pool: TaskPool<R>,
+    pool: TaskPool<T, R>,
     max_size: u32,
 }
 
-impl<W: Future<Output = ()>, R: AsyncRuntime> Future for Opens<W, R> {
+impl<W: Future<Output = ()>, T: Timer, R: AsyncRuntime> Future for Opens<W, T, R> {
     type Output = ();
 
     ghost can_poll = { λ o. W.can_poll o.worker };
@@ -194,19 +189,24 @@ impl<W: Future<Output = ()>, R: AsyncRuntime> Future for Opens<W, R> {
     }
 }
 
-// A pool of so many connections, all of them open. Nothing in it expires.
-fn open_pool<R: PoolRuntime + RandomSource>(
+/// A pool of so many connections, all of them open, for which so many may wait. Nothing in it
+/// expires.
+pub fn open_pool<T: Timer, R: PoolRuntime + RandomSource>(
     rt: R,
     max_size: u32,
-) -> Result<TaskPool<R>, anyhow::Error>
-    requires { 0 < max_size }
+    max_waiting: u32,
+    timer: T,
+) -> Result<TaskPool<T, R>, anyhow::Error>
+    requires size { 0 < max_size }
+    requires room { 0 < max_waiting }
 {
     let pool = Builder::new()
         .max_size(max_size)
+        .max_waiting(max_waiting)
         .test_on_check_out(false)
         .max_lifetime(None)
         .idle_timeout(None)
-        .build(rt, Nothings, NoTime)?;
+        .build(rt, Nothings, timer)?;
     let opens = Opens {
         worker: pool.work()?,
         pool: pool.try_clone()?,
@@ -222,7 +222,7 @@ pub fn get_drop<R: PoolRuntime + RandomSource>(
     case: Case,
 ) -> Result<Duration, anyhow::Error> {
     let calls = Calls {
-        lender: open_pool(rt, case.max_size)?,
+        lender: open_pool(rt, case.max_size, 1, NoTime)?,
         calls: case.operations,
     };
     let start = Instant::now(&rt)?;
@@ -232,33 +232,34 @@ pub fn get_drop<R: PoolRuntime + RandomSource>(
     Ok(took)
 }
 
-/// The same by tasks that wait in line for a few connections, each of which is held until its task
-/// is polled again.
+/// The same by tasks that share the calls and wait in line for a few connections, each of which is
+/// held until its task is polled again.
 pub fn tasks<R: PoolRuntime + RandomSource>(rt: R, case: Case) -> Result<Duration, anyhow::Error> {
-    let pool = open_pool(rt, case.max_size)?;
+    let pool = open_pool(rt, case.max_size, case.threads, NoTime)?;
     let served = Arc::new(rt.alloc(), AtomicU32::new(0))?;
     let worker = pool.work()?;
-    let took = run_all(rt, worker, pool, &served)?;
+    let took = run_all(rt, worker, pool, case, &served)?;
     let count = served.load(Ordering::Relaxed);
     ensure!(count == case.operations, "a call was not served");
     Ok(took)
 }
 
-// How long the callers of a pool take together, on this thread, beside a worker.
+// How long the callers of a pool take together, beside a worker.
 fn run_all<R: PoolRuntime + RandomSource, W: Future<Output = ()>, L: Lender>(
     rt: R,
     worker: W,
     lender: L,
+    case: Case,
     served: &Arc<AtomicU32>,
 ) -> Result<Duration, anyhow::Error>
     requires { W.can_poll worker }
 {
     let set = TaskSet::new(&rt, Doorbell::parking(), 1)?;
     set.spawn(Either::Left(worker)).map_err(io::Error::from)?;
-    for _ in 0..TASKS {
+    for _ in 0..case.threads {
         let caller = Caller {
             lender: lender.another()?,
-            calls: CALLS_OF_EACH,
+            calls: case.operations / case.threads,
             get: None,
             lent: None,
             served: Arc::try_clone(served)?,
@@ -267,6 +268,14 @@ fn run_all<R: PoolRuntime + RandomSource, W: Future<Output = ()>, L: Lender>(
     }
     // The worker ends with the last pool.
     drop(lender);
+    worked(rt, &set)
+}
+
+/// How long the tasks of a set take together, on this thread.
+pub fn worked<R: PoolRuntime, F: Future<Output = ()>>(
+    rt: R,
+    set: &TaskSet<F>,
+) -> Result<Duration, anyhow::Error> {
     let start = Instant::now(&rt)?;
     set.work(&rt, 0);
     Ok(start.elapsed(&rt)?)
