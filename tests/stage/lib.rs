@@ -103,6 +103,8 @@ mod too_many;
 #[cfg(test)]
 mod trying;
 #[cfg(test)]
+mod turns;
+#[cfg(test)]
 mod unlocked;
 #[cfg(test)]
 mod waiting;
