@@ -29,6 +29,9 @@
      when that is free: nobody waits for anything else meanwhile, and whoever has the lock lets it go.
    - A caller that finds none looks again a few times before it waits (Shared::look_again). Such a look changes nothing
      and waits for nothing: it is a caller that comes to its one look later.
+   - A caller that comes gives way to one that was woken (Shared::give_way), before it orders and is counted as waiting;
+     `max_waiting` is asked again after that. It changes only whose turn it is, for which nobody sleeps, and waits for
+     nothing: it is a caller that comes to its one look later.
    - `close` is there as the begin of a drain alone. A second close is not there; it would but wake everybody once more.
    - A connection that outlives its pool is here a pool that its caller still has.
    tools/schedules plays the code itself, with the real variables, though by chance and not in all interleavings.
