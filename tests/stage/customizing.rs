@@ -1,7 +1,7 @@
 // What the customizer is asked, and what becomes of connections that it refuses.
 
 use crate::ear::Told::{Acquire, Checkin, Checkout, Ended, Failed, Release, Shown, Timeout};
-use crate::kinds::{ALL, Pool};
+use crate::kinds::{ALL, Kind, Pool};
 use crate::manager::Sorry;
 use crate::world::on_each;
 use r2d2::event::ReleaseReason::Broken;
@@ -29,8 +29,11 @@ fn test_connection_customizer(rt: HostRuntime) -> Result<(), Fail> {
         let pool = Pool::new(rt, world, |settings| settings.retry_at_most = Some(50))?;
         world.pass(7_000);
         world.shows.goes("-");
+        let begun = world.sleeps_begun();
         let get = pool.begin(600_000)?;
         pool.until(|status| status.failed_openings == 1)?;
+        // The call sleeps until its end, and a worker in a thread until it tries again.
+        world.watch(|| world.kind != Kind::Spawned || world.sleeps_begun() >= begun + 2);
         assert!(rt; world.once_told(2));
         assert!(rt; world.went(&[Shown(0), Failed(Sorry::Shown(0))]));
         world.watch(|| world.dropped() == 1);

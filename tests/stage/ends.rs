@@ -76,6 +76,9 @@ fn who_is_late_is_told_so_though_the_pool_is_closed(rt: HostRuntime) -> Result<(
         let pool = Pool::new(rt, world, |_| ())?;
         world.connects.goes("~+");
         let get = begun(world, &pool, 60_000)?;
+        pool.until(|status| status.waiting == 1)?;
+        // A reading may have been the worker's: the caller may come to its wait.
+        world.glimpse(|| false);
         world.pass(100_000);
         pool.close();
         let error = pool.end(get)?.err().ok_or("a connection")?;
