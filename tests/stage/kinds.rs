@@ -632,9 +632,10 @@ impl<R: Host> Pool<R> {
     }
 
     /// How many calls out of the pool there are in this act, and during how many of them it could
-    /// not be asked for its status.
+    /// not be asked for its status. So many are to come: a worker may make the last ones after it.
     pub(crate) fn calls_in<A: FnOnce() -> Result<(), Fail>>(
         &self,
+        wanted: u64,
         act: A,
     ) -> Result<(u64, u64), Fail> {
         let (world, eyes) = (self.world, self.calls.try_clone()?);
@@ -646,6 +647,7 @@ impl<R: Host> Pool<R> {
         };
         let looks = thread::spawn(&self.rt, look)?;
         let done = act();
+        world.watch(|| done.is_err() || world.stops.counts().0 >= wanted);
         world.stops.set(false);
         looks.join(&self.rt);
         done?;

@@ -15,7 +15,7 @@ fn an_opening(rt: HostRuntime) -> Result<(), Fail> {
             settings.retry_at_most = Some(50);
         })?;
         world.connects.goes("-");
-        let counts = pool.calls_in(|| {
+        let counts = pool.calls_in(10, || {
             let get = pool.begin(600_000)?;
             pool.until(|status| status.failed_openings == 1)?;
             world.pass(50);
@@ -34,7 +34,7 @@ fn a_return_and_an_eviction(rt: HostRuntime) -> Result<(), Fail> {
         let pool = Pool::new(rt, world, |settings| settings.max_size = 2)?;
         let (first, second) = (pool.get()?, pool.get()?);
         world.breaks.goes("-");
-        let counts = pool.calls_in(|| {
+        let counts = pool.calls_in(8, || {
             drop(first);
             drop(second);
             pool.evict()?;
@@ -52,7 +52,7 @@ fn a_failed_check(rt: HostRuntime) -> Result<(), Fail> {
         let pool = Pool::new(rt, world, |settings| settings.is_checked = true)?;
         drop(pool.get()?);
         world.checks.goes("-");
-        let counts = pool.calls_in(|| {
+        let counts = pool.calls_in(12, || {
             pool.get()?.detach();
             Ok(())
         })?;
@@ -73,7 +73,7 @@ fn a_reap(rt: HostRuntime) -> Result<(), Fail> {
         let lent = pool.get()?;
         world.breaks.goes("-");
         world.pass(200_000);
-        let counts = pool.calls_in(|| {
+        let counts = pool.calls_in(14, || {
             drop(lent);
             pool.until(|status| status.idle == 2)?;
             Ok(())
