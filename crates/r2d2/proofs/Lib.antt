@@ -4,6 +4,7 @@ pub mod Evicting
 pub mod Waiting
 pub mod Lined
 pub mod Order
+pub mod Overtaking
 pub mod Standing
 pub mod Rings
 pub mod Walks

@@ -53,7 +53,7 @@ order-without came s (p ∷ ps) h =
     ]
 
 -- nobody behind one that came later stands at its slot
-none_behind : (came : ℕ → ℕ) (n s : ℕ) (ps : List Place) → AllByRecursion (λ t. n < came t) (slots_of ps) → came s ≤ n → standing_at s ps ≡ None
+pub none_behind : (came : ℕ → ℕ) (n s : ℕ) (ps : List Place) → AllByRecursion (λ t. n < came t) (slots_of ps) → came s ≤ n → standing_at s ps ≡ None
 none_behind came n s [] h le = refl
 none_behind came n s (p ∷ ps) h le =
     elim (p.slot == s) as (λ b. (p.slot == s) ≡ b → cond b (Some p.standing) (standing_at s ps) ≡ None) [
@@ -192,7 +192,7 @@ others-all P Q s (x ∷ xs) f h =
       | false ↦ λ w. (f x (grind (arith, nat_tests)) h.0, others-all P Q s xs f h.1)
     ] refl
 
-no_copies : (P : ℕ → Type 0) (s : ℕ) (xs : List ℕ) → (P s → ⊥) → AllByRecursion P xs → copies_of s xs ≡ 0
+pub no_copies : (P : ℕ → Type 0) (s : ℕ) (xs : List ℕ) → (P s → ⊥) → AllByRecursion P xs → copies_of s xs ≡ 0
 no_copies P s [] never h = refl
 no_copies P s (x ∷ xs) never h =
     elim (x == s) as (λ b. (x == s) ≡ b → cond b 1 0 + copies_of s xs ≡ 0) [
@@ -262,7 +262,7 @@ stand-front came s t (p ∷ ps) order lt =
       | false ↦ λ w. ap (cond (p.slot == t) (Some p.standing)) (stand-front came s t ps order.1 lt)
     ] refl
 
-all_mapped : (P Q : ℕ → Type 0) (xs : List ℕ) → ((t : ℕ) → P t → Q t) → AllByRecursion P xs → AllByRecursion Q xs
+pub all_mapped : (P Q : ℕ → Type 0) (xs : List ℕ) → ((t : ℕ) → P t → Q t) → AllByRecursion P xs → AllByRecursion Q xs
 all_mapped P Q [] f h = h
 all_mapped P Q (x ∷ xs) f h = (f x h.0, all_mapped P Q xs f h.1)
 
@@ -470,7 +470,7 @@ weighs Quiet e = omega arith
 weighs Told e = omega arith
 weighs Aside e = absurd cc
 
-quiet_waits : (s : ℕ) (ps : List Place) → standing_at s ps ≡ Some Quiet → ahead s ps < waiting_in ps
+pub quiet_waits : (s : ℕ) (ps : List Place) → standing_at s ps ≡ Some Quiet → ahead s ps < waiting_in ps
 quiet_waits s [] e = absurd cc
 quiet_waits s (p ∷ ps) e =
     elim (p.slot == s) as (λ b. cond b (Some p.standing) (standing_at s ps) ≡ Some Quiet → cond b 0 (weight p.standing + ahead s ps) < weight p.standing + waiting_in ps) [

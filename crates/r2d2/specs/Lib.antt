@@ -15,6 +15,7 @@ pub mod Room
 pub mod Waiting
 pub mod Lined
 pub mod Order
+pub mod Overtaking
 pub mod Standing
 pub mod Since
 pub mod Ring
