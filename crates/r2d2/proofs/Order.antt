@@ -12,6 +12,7 @@ use Rattle.r2d2.specs.declared.line.place.Standing.TheVariants.{Quiet, Told, Asi
 use Rattle.r2d2.specs.Waiting.{AreTold, told_ahead, is_kept, place, is_quiet, weight, waiting_in, ahead, weight_at, without, with_standing, first_quiet, told_first, copies_in, copies_of, is_told, is_over, first_late}
 use Rattle.std.specs.declared.time.Duration.{Duration}
 use Rattle.std.specs.Prelude.{◌&&◌, slice_get}
+use Rattle.r2d2.proofs.Overtaking.{no_copies, all_mapped, keeps_turns}
 use Rattle.r2d2.specs.Order.{Event, Came, WasTold, WaitsOn, Took, Passed, Left, TookAtOnce, standing_in, came_in, IsUntold, is_waiting, Waits, IsFirstUntold, AreFewer, IsInTurn, IsInOrder, comings, services, IsOneByOne, standing_at, slots_of, waiting_slots, StandAsTheyCame, IsHistoryOf}
 
 -- the slots after each change
@@ -192,14 +193,6 @@ others-all P Q s (x ∷ xs) f h =
       | false ↦ λ w. (f x (grind (arith, nat_tests)) h.0, others-all P Q s xs f h.1)
     ] refl
 
-pub no_copies : (P : ℕ → Type 0) (s : ℕ) (xs : List ℕ) → (P s → ⊥) → AllByRecursion P xs → copies_of s xs ≡ 0
-no_copies P s [] never h = refl
-no_copies P s (x ∷ xs) never h =
-    elim (x == s) as (λ b. (x == s) ≡ b → cond b 1 0 + copies_of s xs ≡ 0) [
-      | true ↦ λ w. let same : x ≡ s = grind (arith, nat_tests) in absurd (never (subst P same h.0))
-      | false ↦ λ w. omega (arith, no_copies P s xs never h.1)
-    ] refl
-
 same_slot : (s : ℕ) → (s == s) ≡ true
 same_slot s = grind (arith, nat_tests)
 
@@ -261,10 +254,6 @@ stand-front came s t (p ∷ ps) order lt =
           sym (subst (λ b. cond b (Some p.standing) (standing_at t ps) ≡ None) (sym other) none)
       | false ↦ λ w. ap (cond (p.slot == t) (Some p.standing)) (stand-front came s t ps order.1 lt)
     ] refl
-
-pub all_mapped : (P Q : ℕ → Type 0) (xs : List ℕ) → ((t : ℕ) → P t → Q t) → AllByRecursion P xs → AllByRecursion Q xs
-all_mapped P Q [] f h = h
-all_mapped P Q (x ∷ xs) f h = (f x h.0, all_mapped P Q xs f h.1)
 
 -- whoever waits and came before the one with this slot is counted
 pub in_turn : (came : ℕ → ℕ) (s : ℕ) (ps : List Place) (idle : ℕ) → StandAsTheyCame came (slots_of ps) → ahead s ps < idle → (xs : List ℕ) → ((t : ℕ) → copies_of t xs ≤ 1) → AllByRecursion (λ t. Waits (standing_at t ps) × (came t < came s)) xs → length xs < idle
@@ -377,7 +366,7 @@ waiting-left s (p ∷ ps) none =
 
 -- WHAT EACH STEP ADDS
 pub began : IsHistoryOf [] []
-began = record { stand = λ s. refl; as_they_came = tt; in_order = tt; one_by_one = λ h. refl }
+began = record { stand = λ s. refl; as_they_came = tt; in_order = tt; keeps_turns = keeps_turns [] tt; one_by_one = λ h. refl }
 
 pub came : (h : List Event) (s : ℕ) (ps : List Place) → copies_in s ps ≡ 0 → IsHistoryOf h ps → IsHistoryOf (Came s ∷ h) (ps ++ place s Quiet ∷ [])
 came h s ps new is = record {
@@ -387,16 +376,19 @@ came h s ps new is = record {
       let order : StandAsTheyCame after (slots_of ps ++ s ∷ []) = order-joined (came_in h) s (length h + 1) (slots_of ps) (λ t. omega (arith, came_le h t)) (absent_slots s ps new) is.as_they_came in
       subst (StandAsTheyCame after) (sym (slots-joined ps s)) order;
   in_order = is.in_order;
+  keeps_turns = keeps_turns (Came s ∷ h) is.in_order;
   one_by_one = λ one. ap (λ xs. xs ++ s ∷ []) (is.one_by_one one) ∙ append_assoc (services h) (waiting_slots ps) (s ∷ []) ∙ ap (λ xs. services h ++ xs) (sym (waiting-joined s ps));
 }
 
 pub was_told : (h : List Event) (s : ℕ) (ps : List Place) → first_quiet ps ≡ Some s → IsHistoryOf h ps → IsHistoryOf (WasTold s ∷ h) (told_first ps)
 was_told h s ps e is =
     let order = is.as_they_came in
+    let in_order : IsInOrder (WasTold s ∷ h) = ((sym (is.stand s) ∙ untold_first (came_in h) s ps order e, λ t quiet. first_untold (came_in h) s t ps order e (is.stand t ∙ quiet)), is.in_order) in
     record {
       stand = λ t. stand-told (came_in h) s t ps order e ∙ ap (cond (s == t) (Some Told)) (is.stand t);
       as_they_came = subst (StandAsTheyCame (came_in h)) (sym (slots-told ps)) order;
-      in_order = ((sym (is.stand s) ∙ untold_first (came_in h) s ps order e, λ t quiet. first_untold (came_in h) s t ps order e (is.stand t ∙ quiet)), is.in_order);
+      in_order = in_order;
+      keeps_turns = keeps_turns (WasTold s ∷ h) in_order;
       one_by_one = λ one. is.one_by_one one ∙ ap (λ xs. services h ++ xs) (sym (waiting-told ps));
     }
 
@@ -405,6 +397,7 @@ waits_on h s ps some is = record {
   stand = λ t. stand-marked s t Quiet ps (subst IsSome (sym (is.stand s)) some) ∙ ap (cond (s == t) (Some Quiet)) (is.stand t);
   as_they_came = subst (StandAsTheyCame (came_in h)) (sym (slots-standing s Quiet ps)) is.as_they_came;
   in_order = is.in_order;
+  keeps_turns = keeps_turns (WaitsOn s ∷ h) is.in_order;
   one_by_one = λ one. is.one_by_one one.1 ∙ ap (λ xs. services h ++ xs) (sym (waiting-marked s ps (subst Waits (sym (is.stand s)) one.0)));
 }
 
@@ -413,6 +406,7 @@ took h s idle ps some told lt is = record {
   stand = λ t. stand-marked s t Aside ps (subst IsSome (sym (is.stand s)) some) ∙ ap (cond (s == t) (Some Aside)) (is.stand t);
   as_they_came = subst (StandAsTheyCame (came_in h)) (sym (slots-standing s Aside ps)) is.as_they_came;
   in_order = (in_its_turn h s idle ps lt is, told, is.in_order);
+  keeps_turns = keeps_turns (Took s idle ∷ h) (in_its_turn h s idle ps lt is, told, is.in_order);
   one_by_one = λ one.
       let first : ahead s ps ≡ 0 = omega (arith, lt, one.0) in
       is.one_by_one one.2 ∙ ap (λ xs. services h ++ xs) (waiting-served s ps (subst Waits (sym (is.stand s)) one.1) first)
@@ -424,6 +418,7 @@ passed h s ps told is = record {
   stand = λ t. stand-marked s t Aside ps (subst IsSome (sym (is.stand s ∙ told)) refl) ∙ ap (cond (s == t) (Some Aside)) (is.stand t);
   as_they_came = subst (StandAsTheyCame (came_in h)) (sym (slots-standing s Aside ps)) is.as_they_came;
   in_order = (told, is.in_order);
+  keeps_turns = keeps_turns (Passed s ∷ h) (told, is.in_order);
   one_by_one = λ one. absurd one;
 }
 
@@ -436,6 +431,7 @@ left h s ps is = record {
   stand = λ t. stand-left (came_in h) s t ps is.as_they_came ∙ ap (cond (s == t) None) (is.stand t);
   as_they_came = order-without (came_in h) s ps is.as_they_came;
   in_order = is.in_order;
+  keeps_turns = keeps_turns (Left s ∷ h) is.in_order;
   one_by_one = λ one. is.one_by_one one.1 ∙ ap (λ xs. services h ++ xs) (sym (waiting-left s ps (λ w. one.0 (subst Waits (is.stand s) w))));
 }
 
@@ -444,6 +440,7 @@ took_at_once h idle ps lt is = record {
   stand = is.stand;
   as_they_came = is.as_they_came;
   in_order = (all_in_turn h idle ps lt is, is.in_order);
+  keeps_turns = keeps_turns (TookAtOnce idle ∷ h) (all_in_turn h idle ps lt is, is.in_order);
   one_by_one = is.one_by_one;
 }
 

@@ -1,24 +1,37 @@
 -- Who overtakes a caller in line: what follows from the order of service.
 pub mod Rows
-use Rattle.std.proofs.Common.{◌≡◌, ℕ, ◌+◌, ◌<◌, ◌≤◌, ◌-◌, Bool, true, false, cond, List, [], ◌∷◌, Option, Some, None, refl, sym, ◌∙◌, ap, arith}
+pub mod Told
+use Rattle.std.proofs.Common.{◌≡◌, ℕ, ◌+◌, ◌<◌, ◌≤◌, ◌-◌, Bool, true, false, cond, List, [], ◌∷◌, Option, Some, None, refl, ap, subst, arith}
 use Rattle.std.specs.Prelude.{◌==◌, ◌&&◌, nat_lt, max, IsTrue}
+use Rattle.std.specs.List.{AllByRecursion}
 use Rattle.std.proofs.lemmas.Bool.Decides.{nat_tests}
-use Rattle.r2d2.specs.declared.line.place.Place.{Place}
 use Rattle.r2d2.specs.declared.line.place.Standing.{Standing}
-use Rattle.r2d2.specs.declared.line.place.Standing.TheVariants.{Quiet, Told, Aside}
-use Rattle.r2d2.specs.Waiting.{AreTold, weight, waiting_in, ahead, copies_of}
-use Rattle.r2d2.specs.Order.{Event, Came, WasTold, WaitsOn, Took, Passed, Left, TookAtOnce, standing_in, came_in, Waits, AreFewer, IsInTurn, IsInOrder, standing_at, slots_of, StandAsTheyCame, IsHistoryOf}
+use Rattle.r2d2.specs.declared.line.place.Standing.TheVariants.{Aside}
+use Rattle.r2d2.specs.Waiting.{copies_of}
+use Rattle.r2d2.specs.Service.{Event, Came, WasTold, WaitsOn, Took, Passed, Left, TookAtOnce, standing_in, came_in, Waits, AreFewer, IsInTurn, IsInOrder}
 use Rattle.r2d2.specs.Overtaking.{waits, overtakes, overtakings, idle_at, most_idle, spare_left, spare_since, LeavesEnough, EachLeavesEnough, KeepsTurns}
-use Rattle.r2d2.proofs.Order.{no_copies, all_mapped, none_behind, quiet_waits, was_told_in_turn}
 
 waits-so : (o : Option Standing) → IsTrue (waits o) → Waits o
 waits-so None w = absurd cc
 waits-so (Some standing) w = w
 
-both : (a b : Bool) → IsTrue (a && b) → IsTrue a × IsTrue b
+pub both : (a b : Bool) → IsTrue (a && b) → IsTrue a × IsTrue b
 both true true w = (refl, refl)
 both true false w = absurd cc
 both false b w = absurd cc
+
+-- COUNTING
+pub no_copies : (P : ℕ → Type 0) (s : ℕ) (xs : List ℕ) → (P s → ⊥) → AllByRecursion P xs → copies_of s xs ≡ 0
+no_copies P s [] never h = refl
+no_copies P s (x ∷ xs) never h =
+    elim (x == s) as (λ b. (x == s) ≡ b → cond b 1 0 + copies_of s xs ≡ 0) [
+      | true ↦ λ w. let same : x ≡ s = grind (arith, nat_tests) in absurd (never (subst P same h.0))
+      | false ↦ λ w. omega (arith, no_copies P s xs never h.1)
+    ] refl
+
+pub all_mapped : (P Q : ℕ → Type 0) (xs : List ℕ) → ((t : ℕ) → P t → Q t) → AllByRecursion P xs → AllByRecursion Q xs
+all_mapped P Q [] f h = h
+all_mapped P Q (x ∷ xs) f h = (f x h.0, all_mapped P Q xs f h.1)
 
 -- one more that is not yet counted
 still_apart : (s t : ℕ) (xs : List ℕ) → copies_of s xs ≡ 0 → copies_of t xs ≤ 1 → copies_of t (s ∷ xs) ≤ 1
@@ -76,21 +89,21 @@ one_spare : (b : Bool) (n idle left since : ℕ) → (IsTrue b → 2 ≤ idle) �
 one_spare true n idle left since two le = omega (arith, two refl, le)
 one_spare false n idle left since two le = omega (arith, le)
 
-spare : (h : List Event) (s : ℕ) → EachLeavesEnough h → overtakings h s + spare_left h ≤ spare_since h s
+spare : (h : List Event) (s : ℕ) → EachLeavesEnough h → overtakings h s + spare_left h s ≤ spare_since h s
 spare [] s each = omega arith
 spare (Came slot ∷ h) s each =
-    elim (slot == s) as (λ b. cond b 0 (overtakings h s) + spare_left h ≤ cond b (spare_left h) (spare_since h s)) [
+    elim (slot == s) as (λ b. cond b 0 (overtakings h s) + cond b 0 (spare_left h s) ≤ cond b 0 (spare_since h s)) [
       | true ↦ omega arith
       | false ↦ spare h s each.1
     ]
 spare (WasTold slot ∷ h) s each = omega (arith, spare h s each.1)
 spare (WaitsOn slot ∷ h) s each = omega (arith, spare h s each.1)
 spare (Took slot idle ∷ h) s each =
-    one_spare (overtakes h (Took slot idle) s) (overtakings h s) idle (spare_left h) (spare_since h s) (two_idle h (Took slot idle) s each.0) (spare h s each.1)
+    one_spare (overtakes h (Took slot idle) s) (overtakings h s) idle (spare_left h s) (spare_since h s) (two_idle h (Took slot idle) s each.0) (spare h s each.1)
 spare (Passed slot ∷ h) s each = omega (arith, spare h s each.1)
 spare (Left slot ∷ h) s each = omega (arith, spare h s each.1)
 spare (TookAtOnce idle ∷ h) s each =
-    one_spare (overtakes h (TookAtOnce idle) s) (overtakings h s) idle (spare_left h) (spare_since h s) (two_idle h (TookAtOnce idle) s each.0) (spare h s each.1)
+    one_spare (overtakes h (TookAtOnce idle) s) (overtakings h s) idle (spare_left h s) (spare_since h s) (two_idle h (TookAtOnce idle) s each.0) (spare h s each.1)
 
 -- where one is idle, a take overtakes nobody
 nobody : (b : Bool) (n idle most : ℕ) → (IsTrue b → 2 ≤ idle) → (most ≤ 1 → n ≡ 0) → max idle most ≤ 1 → cond b 1 0 + n ≡ 0
@@ -114,49 +127,11 @@ by_nobody (TookAtOnce idle ∷ h) s each le =
     nobody (overtakes h (TookAtOnce idle) s) (overtakings h s) idle (most_idle h s) (two_idle h (TookAtOnce idle) s each.0) (by_nobody h s each.1) le
 
 -- THE THEOREM
-pub keeps_turns : (h : List Event) (ps : List Place) → IsHistoryOf h ps → KeepsTurns h
-keeps_turns h ps is =
-    let each = each_leaves h is.in_order in
+pub keeps_turns : (h : List Event) → IsInOrder h → KeepsTurns h
+keeps_turns h order =
+    let each = each_leaves h order in
     record {
       leaves_enough = each;
       at_most_by_spare = λ s. omega (arith, spare h s each);
       by_nobody = λ s le. by_nobody h s each le;
     }
-
--- WHO IS OVERTAKEN WAS TOLD, and has not looked since: of those who wait the first ones, as many as
--- are idle, were told. (The type of LinedBook says so, and its `take` wants the turn.)
-told_so : (o : Option Standing) → IsTrue (waits o) → (o ≡ Some Quiet → ⊥) → o ≡ Some Told
-told_so None w untold = absurd cc
-told_so (Some Quiet) w untold = absurd (untold refl)
-told_so (Some Told) w untold = refl
-told_so (Some Aside) w untold = absurd cc
-
-fewer_ahead : (came : ℕ → ℕ) (s t : ℕ) (ps : List Place) → StandAsTheyCame came (slots_of ps) → came s < came t → standing_at s ps ≡ Some Quiet → ahead s ps ≤ ahead t ps
-fewer_ahead came s t [] order lt quiet = omega arith
-fewer_ahead came s t (p ∷ ps) order lt quiet =
-    elim (p.slot == s) as (λ b. cond b (Some p.standing) (standing_at s ps) ≡ Some Quiet → cond b 0 (weight p.standing + ahead s ps) ≤ ahead t (p ∷ ps)) [
-      | true ↦ λ w. omega arith
-      | false ↦ λ w.
-          elim (p.slot == t) as (λ b. (p.slot == t) ≡ b → weight p.standing + ahead s ps ≤ cond b 0 (weight p.standing + ahead t ps)) [
-            | true ↦ λ v.
-                let same : p.slot ≡ t = grind (arith, nat_tests) in
-                let none = none_behind came (came p.slot) s ps order.0 (omega (arith, ap came same, lt)) in
-                let wrong : None ≡ Some Quiet = sym none ∙ w in
-                absurd cc
-            | false ↦ λ v. omega (arith, fewer_ahead came s t ps order.1 lt w)
-          ] refl
-    ] quiet
-
-pub overtaken_was_told : (h : List Event) (slot idle s : ℕ) (ps : List Place) → AreTold idle ps → ahead slot ps < idle → IsHistoryOf h ps → IsTrue (overtakes h (Took slot idle) s) → standing_in h s ≡ Some Told
-overtaken_was_told h slot idle s ps told turn is w =
-    let parts = both (waits (standing_in h s)) (nat_lt (came_in h s) (came_in h slot)) w in
-    let later : came_in h s < came_in h slot = grind (arith, nat_tests, parts.1) in
-    told_so (standing_in h s) parts.0 (λ untold.
-    let fewer = fewer_ahead (came_in h) s slot ps is.as_they_came later (is.stand s ∙ untold) in
-    was_told_in_turn h s idle ps told (omega (arith, fewer, turn)) is untold)
-
-pub overtaken_at_once_was_told : (h : List Event) (idle s : ℕ) (ps : List Place) → AreTold idle ps → waiting_in ps < idle → IsHistoryOf h ps → IsTrue (overtakes h (TookAtOnce idle) s) → standing_in h s ≡ Some Told
-overtaken_at_once_was_told h idle s ps told turn is w =
-    told_so (standing_in h s) w (λ untold.
-    let fewer = quiet_waits s ps (is.stand s ∙ untold) in
-    was_told_in_turn h s idle ps told (omega (arith, fewer, turn)) is untold)

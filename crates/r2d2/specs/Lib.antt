@@ -14,8 +14,9 @@ pub mod CallTime
 pub mod Room
 pub mod Waiting
 pub mod Lined
-pub mod Order
+pub mod Service
 pub mod Overtaking
+pub mod Order
 pub mod Standing
 pub mod Since
 pub mod Ring

@@ -1,91 +1,12 @@
--- What happened at a line, and the order of service: that of coming. A caller is known by the slot
--- at which it stands.
-use Rattle.std.specs.Prelude.{◌≡◌, ◌<◌, ◌≤◌, ℕ, ◌+◌, ◌==◌, if◌then◌else◌, Bool, true, false, IsTrue}
-use Rattle.std.specs.Prelude.{List, [], ◌∷◌, ◌++◌, length, map, Option, Some, None, IsSome}
+-- The histories of a line: what happened at it, in the order of service, and who stands in it then.
+use Rattle.std.specs.Prelude.{◌≡◌, ◌<◌, ℕ, ◌==◌, if◌then◌else◌, Bool, true, false}
+use Rattle.std.specs.Prelude.{List, [], ◌∷◌, ◌++◌, map, Option, Some, None}
 use Rattle.std.specs.List.{AllByRecursion}
 use Rattle.r2d2.specs.declared.line.place.Place.{Place}
 use Rattle.r2d2.specs.declared.line.place.Standing.{Standing}
-use Rattle.r2d2.specs.declared.line.place.Standing.TheVariants.{Quiet, Told, Aside}
-use Rattle.r2d2.specs.Waiting.{copies_of}
-
--- what happens to the caller at a slot
-pub data Event : Type 0 where
-  -- it comes, and waits
-  Came : (slot : ℕ) → Event
-  -- it is told to look
-  WasTold : (slot : ℕ) → Event
-  -- it looked in vain, and waits to be told
-  WaitsOn : (slot : ℕ) → Event
-  -- it takes, where so many connections are idle
-  Took : (slot idle : ℕ) → Event
-  -- it was told, and is passed: its time is over
-  Passed : (slot : ℕ) → Event
-  -- it leaves the line
-  Left : (slot : ℕ) → Event
-  -- one that does not stand in line takes, where so many are idle
-  TookAtOnce : (idle : ℕ) → Event
-
--- A HISTORY: what happened, the latest first
-
--- how the caller at a slot stands: as what happened to it last says; None where nobody does
-abbrev pub standing_in : List Event → ℕ → Option Standing
-standing_in [] s = None
-standing_in (Came slot ∷ h) s = if slot == s then Some Quiet else standing_in h s
-standing_in (WasTold slot ∷ h) s = if slot == s then Some Told else standing_in h s
-standing_in (WaitsOn slot ∷ h) s = if slot == s then Some Quiet else standing_in h s
-standing_in (Took slot idle ∷ h) s = if slot == s then Some Aside else standing_in h s
-standing_in (Passed slot ∷ h) s = if slot == s then Some Aside else standing_in h s
-standing_in (Left slot ∷ h) s = if slot == s then None else standing_in h s
-standing_in (TookAtOnce idle ∷ h) s = standing_in h s
-
--- when it came: after how many events, its own included
-abbrev pub came_in : List Event → ℕ → ℕ
-came_in [] s = 0
-came_in (Came slot ∷ h) s = if slot == s then length h + 1 else came_in h s
-came_in (_ ∷ h) s = came_in h s
-
--- it stands in line
-abbrev pub StandsIn : List Event → ℕ → Type 0
-StandsIn h s = IsSome (standing_in h s)
-
--- it waits, and was told nothing since it came or looked
-abbrev pub IsUntold : List Event → ℕ → Type 0
-IsUntold h s = standing_in h s ≡ Some Quiet
-
--- one that stands so waits
-abbrev pub is_waiting : Standing → Bool
-is_waiting Quiet = true
-is_waiting Told = true
-is_waiting Aside = false
-
-abbrev pub Waits : Option Standing → Type 0
-Waits None = ⊥
-Waits (Some standing) = IsTrue (is_waiting standing)
-
--- THE ORDER OF SERVICE
-
--- of those who wait and were told nothing it came first
-abbrev pub IsFirstUntold : List Event → ℕ → Type 0
-IsFirstUntold h s = IsUntold h s × ((t : ℕ) → IsUntold h t → came_in h s ≤ came_in h t)
-
--- so many slots or more do not all pass
-abbrev pub AreFewer : ℕ → (ℕ → Type 0) → Type 0
-AreFewer n P = (slots : List ℕ) → ((s : ℕ) → copies_of s slots ≤ 1) → AllByRecursion P slots
-    → length slots < n
-
--- of those who wait fewer came before it than are idle: none did, where one is
-abbrev pub IsInTurn : List Event → ℕ → ℕ → Type 0
-IsInTurn h s idle = AreFewer idle (λ t. Waits (standing_in h t) × (came_in h t < came_in h s))
-
--- Who was told was the first of those who were not; who took had its turn, and was told; who took
--- without standing in line left enough for all who waited; and who was passed was told before.
-abbrev pub IsInOrder : List Event → Type 0
-IsInOrder [] = Unit {0}
-IsInOrder (WasTold slot ∷ h) = IsFirstUntold h slot × IsInOrder h
-IsInOrder (Took slot idle ∷ h) = IsInTurn h slot idle × ¬ IsUntold h slot × IsInOrder h
-IsInOrder (TookAtOnce idle ∷ h) = AreFewer idle (λ t. Waits (standing_in h t)) × IsInOrder h
-IsInOrder (Passed slot ∷ h) = (standing_in h slot ≡ Some Told) × IsInOrder h
-IsInOrder (_ ∷ h) = IsInOrder h
+use Rattle.r2d2.specs.Overtaking.{KeepsTurns}
+pub use Rattle.r2d2.specs.Service.{Event, Came, WasTold, WaitsOn, Took, Passed, Left, TookAtOnce, standing_in, came_in}
+pub use Rattle.r2d2.specs.Service.{StandsIn, IsUntold, is_waiting, Waits, IsFirstUntold, AreFewer, IsInTurn, IsInOrder}
 
 -- ONE BY ONE
 
@@ -138,6 +59,8 @@ pub record IsHistoryOf (h : List Event) (ps : List Place) : Type 0 where
   pub stand : (s : ℕ) → standing_at s ps ≡ standing_in h s
   pub as_they_came : StandAsTheyCame (came_in h) (slots_of ps)
   pub in_order : IsInOrder h
+  -- so nobody loses its turn to one that came later
+  pub keeps_turns : KeepsTurns h
   -- the order of service is that of coming: first those who were served, and then those who wait
   pub one_by_one : IsOneByOne h → comings h ≡ services h ++ waiting_slots ps
 

@@ -35,6 +35,9 @@ two_were_spare = refl
 three_were_idle_at_once : most_idle takes_again 4 ≡ 3
 three_were_idle_at_once = refl
 
+fewer_are_spare_where_none_comes_back : spare_since (Took 7 2 ∷ Took 2 3 ∷ Came 4 ∷ TookAtOnce 9 ∷ []) 4 ≡ 2
+fewer_are_spare_where_none_comes_back = refl
+
 -- one comes back, and one that does not stand in line takes
 one_comes_back : overtakings (TookAtOnce 2 ∷ takes_again) 4 ≡ 3
 one_comes_back = refl
