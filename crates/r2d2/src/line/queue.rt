@@ -1,5 +1,6 @@
-// A line of at most so many, whose memory is taken at its making. No call takes longer where more
-// stand in line.
+// A line of at most so many, whose memory is taken at its making. To join, to leave and to be marked
+// takes no longer where more stand in line. Who looks for the first that was told nothing goes by
+// those before it, who were told and did not look yet, or have a connection.
 ghost use Rattle.std.specs.Prelude.{◌≡◌, ◌≢◌, ℕ, ◌+◌, ◌^◌, ◌<◌, ◌≤◌, ◌++◌, ◌∷◌, ◌↔◌, [], length, IfOk, IfSome};
 ghost use Rattle.std.specs.Prelude.{IfNone, IsSome, vec_capacity, min};
 ghost use Rattle.std.specs.Prelude.{List, Some};
