@@ -10,3 +10,4 @@ pub mod Rings
 pub mod Walks
 pub mod Rows
 pub mod Loops
+pub mod Searches

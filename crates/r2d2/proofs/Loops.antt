@@ -1,24 +1,15 @@
 -- The steps of the loops along a line.
-use Rattle.std.proofs.Common.{◌≡◌, ◌≢◌, IsTrue, nat_lt, ℕ, ◌+◌, ◌-◌, ◌<◌, ◌≤◌, true, false, cond, List, [], ◌∷◌, Option, Some, None, refl, sym, ◌∙◌, ap, arith}
+use Rattle.std.proofs.Common.{◌≡◌, ◌≢◌, ℕ, ◌+◌, ◌-◌, ◌<◌, ◌≤◌, true, false, cond, List, [], ◌∷◌, Option, Some, None, refl, sym, ◌∙◌, ap, arith}
 use Rattle.std.specs.Prelude.{◌==◌}
 use Rattle.std.proofs.lemmas.Bool.Decides.{nat_tests}
 use Rattle.r2d2.specs.declared.line.place.Place.{Place}
 use Rattle.r2d2.specs.declared.line.place.Standing.{Standing}
 use Rattle.r2d2.specs.declared.line.place.Standing.TheVariants.{Quiet, Told, Aside}
 use Rattle.r2d2.specs.Ring.{standing_of, or_quiet, row_of, walk}
-use Rattle.std.specs.declared.time.Duration.{Duration}
-use Rattle.r2d2.specs.Waiting.{place, is_quiet, weight, ahead, first_quiet, told_first, with_standing, copies_in, is_late, first_late}
+use Rattle.r2d2.specs.Waiting.{weight, ahead, first_quiet, told_first, with_standing, copies_in}
 use Rattle.r2d2.proofs.Rows.{row_more}
 
 module _ (sts : List (Option Standing)) (f : ℕ → ℕ) (n k at : ℕ) (lt : k < n) where
-  pub quiet_more : (next : ℕ) → next ≡ f at → is_quiet (or_quiet (standing_of sts at)) ≡ false → first_quiet (row_of sts (walk f (n - (k + 1)) next)) ≡ first_quiet (row_of sts (walk f (n - k) at))
-  quiet_more next e q =
-      ap (λ x. first_quiet (row_of sts (walk f (n - (k + 1)) x))) e ∙ (sym (ap (λ b. cond b (Some at) (first_quiet (row_of sts (walk f (n - (k + 1)) (f at))))) q) ∙ sym (ap first_quiet (row_more sts f n k at lt)))
-
-  pub quiet_here : is_quiet (or_quiet (standing_of sts at)) ≡ true → first_quiet (row_of sts (walk f (n - k) at)) ≡ Some at
-  quiet_here q =
-      ap first_quiet (row_more sts f n k at lt) ∙ ap (λ b. cond b (Some at) (first_quiet (row_of sts (walk f (n - (k + 1)) (f at))))) q
-
   pub ahead_more : (slot next : ℕ) → next ≡ f at → at ≢ slot → weight (or_quiet (standing_of sts at)) + ahead slot (row_of sts (walk f (n - (k + 1)) next)) ≡ ahead slot (row_of sts (walk f (n - k) at))
   ahead_more slot next e ne =
       let q : (at == slot) ≡ false = grind (arith, nat_tests, ne) in
@@ -30,27 +21,6 @@ module _ (sts : List (Option Standing)) (f : ℕ → ℕ) (n k at : ℕ) (lt : k
       let q : (at == slot) ≡ true = grind (arith, nat_tests, is) in
       let w = weight (or_quiet (standing_of sts at)) in
       ap (ahead slot) (row_more sts f n k at lt) ∙ ap (λ b. cond b 0 (w + ahead slot (row_of sts (walk f (n - (k + 1)) (f at))))) q
-
-  pub late_quiet : (t : ℕ) (ends : List Duration) → is_quiet (or_quiet (standing_of sts at)) ≡ true → first_late t ends (row_of sts (walk f (n - k) at)) ≡ None
-  late_quiet t ends q =
-      let rest = first_late t ends (row_of sts (walk f (n - (k + 1)) (f at))) in
-      let late = is_late t ends (place at (or_quiet (standing_of sts at))) in
-      ap (first_late t ends) (row_more sts f n k at lt) ∙ ap (λ b. cond b None (cond late (Some at) rest)) q
-
-  pub late_here : (t : ℕ) (ends : List Duration) → is_quiet (or_quiet (standing_of sts at)) ≡ false → is_late t ends (place at (or_quiet (standing_of sts at))) ≡ true
-      → first_late t ends (row_of sts (walk f (n - k) at)) ≡ Some at
-  late_here t ends q is =
-      let rest = first_late t ends (row_of sts (walk f (n - (k + 1)) (f at))) in
-      let late = is_late t ends (place at (or_quiet (standing_of sts at))) in
-      ap (first_late t ends) (row_more sts f n k at lt) ∙ (ap (λ b. cond b None (cond late (Some at) rest)) q ∙ ap (λ b. cond b (Some at) rest) is)
-
-  pub late_more : (t : ℕ) (ends : List Duration) (next : ℕ) → next ≡ f at → is_quiet (or_quiet (standing_of sts at)) ≡ false
-      → is_late t ends (place at (or_quiet (standing_of sts at))) ≡ false
-      → first_late t ends (row_of sts (walk f (n - (k + 1)) next)) ≡ first_late t ends (row_of sts (walk f (n - k) at))
-  late_more t ends next e q is =
-      let rest = first_late t ends (row_of sts (walk f (n - (k + 1)) (f at))) in
-      let late = is_late t ends (place at (or_quiet (standing_of sts at))) in
-      ap (λ x. first_late t ends (row_of sts (walk f (n - (k + 1)) x))) e ∙ (sym (ap (λ b. cond b None (cond late (Some at) rest)) q ∙ ap (λ b. cond b (Some at) rest) is) ∙ sym (ap (first_late t ends) (row_more sts f n k at lt)))
 
 pub weight-le : (t : Standing) → weight t ≤ 1
 weight-le Quiet = omega arith

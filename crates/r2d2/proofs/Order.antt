@@ -16,7 +16,7 @@ use Rattle.r2d2.proofs.Overtaking.{no_copies, all_mapped, keeps_turns}
 use Rattle.r2d2.specs.Order.{Event, Came, WasTold, WaitsOn, Took, Passed, Left, TookAtOnce, standing_in, came_in, IsUntold, is_waiting, Waits, IsFirstUntold, AreFewer, IsInTurn, IsInOrder, comings, services, IsOneByOne, standing_at, slots_of, waiting_slots, StandAsTheyCame, IsHistoryOf}
 
 -- the slots after each change
-slots-standing : (s : ℕ) (t : Standing) (ps : List Place) → slots_of (with_standing s t ps) ≡ slots_of ps
+pub slots-standing : (s : ℕ) (t : Standing) (ps : List Place) → slots_of (with_standing s t ps) ≡ slots_of ps
 slots-standing s t [] = refl
 slots-standing s t (p ∷ ps) =
     elim (p.slot == s) as (λ b. slots_of (cond b (place p.slot t ∷ ps) (p ∷ with_standing s t ps)) ≡ slots_of (p ∷ ps)) [
@@ -24,7 +24,7 @@ slots-standing s t (p ∷ ps) =
       | false ↦ ap (λ xs. p.slot ∷ xs) (slots-standing s t ps)
     ]
 
-slots-told : (ps : List Place) → slots_of (told_first ps) ≡ slots_of ps
+pub slots-told : (ps : List Place) → slots_of (told_first ps) ≡ slots_of ps
 slots-told [] = refl
 slots-told (p ∷ ps) =
     elim (is_quiet p.standing) as (λ b. slots_of (cond b (place p.slot Told ∷ ps) (p ∷ told_first ps)) ≡ slots_of (p ∷ ps)) [

@@ -20,3 +20,4 @@ pub mod Order
 pub mod Standing
 pub mod Since
 pub mod Ring
+pub mod Search

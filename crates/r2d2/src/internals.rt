@@ -2,5 +2,6 @@
 //! of `r2d2_async`. A user needs none of it, and it may change from one version to the next.
 
 pub use crate::error::text_of;
+pub use crate::line::search::LateSearch;
 pub use crate::pool::{Failures, Guarded, LinedBook, Look, ToWake, has_room, reason_of_reap};
 pub use crate::tuning::Tuning;

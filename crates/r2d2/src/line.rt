@@ -5,3 +5,4 @@ mod links;
 pub(crate) mod place;
 pub(crate) mod queue;
 mod ring;
+pub(crate) mod search;

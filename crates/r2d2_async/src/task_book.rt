@@ -13,7 +13,7 @@ use futures::util::wait_list::{Ticket, WaitList};
 use r2d2::Status;
 use r2d2::engine::{Outcome, Settled, Uncounted};
 use r2d2::event::ReleaseReason;
-use r2d2::internals::{Guarded, LinedBook, Look, ToWake, Tuning};
+use r2d2::internals::{Guarded, LateSearch, LinedBook, Look, ToWake, Tuning};
 use r2d2_core::machine::Leftover;
 use r2d2_core::{Book, Job, Refusal, Released, Report, Returned, Take};
 use std::alloc::{AllocError, Global};
@@ -74,6 +74,7 @@ impl<P: Drop> TaskBook<P> {
     ghost use Rattle.r2d2.specs.Evicted.{is_to_close, evicted_of, after_eviction};
     ghost use Rattle.r2d2.specs.Waiting.{before, left_by, told_if, is_kept, waiting_in};
     ghost use Rattle.r2d2.specs.Waiting.{first_late, pass_first, passed_late};
+    ghost use Rattle.r2d2.specs.Search.{AreSearches};
     ghost use Rattle.r2d2_core.specs.Connections.{pair_of};
     ghost use Rattle.r2d2_core.specs.Table.{next_of};
     ghost use Rattle.r2d2_async.specs.Looks.{is_found, is_refused, pair_found, IsClosedLook, IsServed};
@@ -187,15 +188,20 @@ impl<P: Drop> TaskBook<P> {
         ensures book { self.new.guarded.book.book ≡ self.old.guarded.book.book }
         ensures waiting { self.new.guarded.waiting ≡ self.old.guarded.waiting }
     {
+        let mut search = self.guarded.book.late_search();
         for _ in 0..self.guarded.book.in_line() {
-            if !self.pass_one(now) {
+            if !self.pass_one(&mut search, now) {
                 break;
             }
         }
     }
 
     // Passes the first of them, and wakes the one who is told instead. Whether there was one.
-    fn pass_one(&mut self, now: Duration) -> bool
+    fn pass_one(&mut self, search: &mut LateSearch, now: Duration) -> bool
+        requires { AreSearches (as_nanos now) self.old.ends.items search.old
+            self.old.guarded.book.places }
+        ensures search { AreSearches (as_nanos now) self.new.ends.items search.new
+            self.new.guarded.book.places }
         ensures whether { result ≡ is_some
             (first_late (as_nanos now) self.old.ends.items self.old.guarded.book.places) }
         ensures line { self.new.guarded.book.places ≡ pass_first (as_nanos now)
@@ -204,7 +210,7 @@ impl<P: Drop> TaskBook<P> {
         ensures ends { self.new.ends ≡ self.old.ends }
         ensures waiting { self.new.guarded.waiting ≡ self.old.guarded.waiting }
     {
-        match self.guarded.book.pass_late(now, &self.ends) {
+        match self.guarded.book.pass_late(search, now, &self.ends) {
             Some(to_wake) => {
                 wake(&mut self.wakers, &mut self.workers, to_wake);
                 true

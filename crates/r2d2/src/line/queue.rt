@@ -1,8 +1,8 @@
-// A line of at most so many, whose memory is taken at its making. To join, to leave and to be marked
-// takes no longer where more stand in line. Who looks for the first that was told nothing goes by
-// those before it, who were told and did not look yet, or have a connection.
+// A line of at most so many, whose memory is taken at its making. To join, to leave and to be
+// marked takes no longer where more stand in line. Who looks for the first that was told nothing
+// goes by those before it, who were told and did not look yet, or have a connection.
 ghost use Rattle.std.specs.Prelude.{◌≡◌, ◌≢◌, ℕ, ◌+◌, ◌^◌, ◌<◌, ◌≤◌, ◌++◌, ◌∷◌, ◌↔◌, [], length, IfOk, IfSome};
-ghost use Rattle.std.specs.Prelude.{IfNone, IsSome, vec_capacity, min};
+ghost use Rattle.std.specs.Prelude.{IfNone, IsSome, vec_capacity, min, slice_get};
 ghost use Rattle.std.specs.Prelude.{List, Some};
 ghost use Rattle.std.specs.Duration.{as_nanos};
 ghost use Rattle.r2d2.specs.declared.line.place.Standing.TheVariants.{Quiet, Told, Aside};
@@ -15,10 +15,12 @@ ghost use Rattle.r2d2.specs.Ring.{standing_of, one_if, or_quiet};
 ghost use Rattle.r2d2.specs.Order.{Event, Came, WaitsOn, Took, Left, Passed, IsUntold, StandsIn};
 ghost use Rattle.r2d2.specs.Order.{standing_in};
 ghost use Rattle.r2d2.specs.Order.{IsHistoryOf, with_told};
+ghost use Rattle.r2d2.specs.Search.{StandsAt, StopsAt, IsSearch, IsLateSearch};
 
 use super::links::{Link, skip, splice};
 use super::place::{Place, Standing};
 use super::ring::Ring;
+use super::search::Search;
 use std::alloc::{AllocError, Global};
 use std::time::Duration;
 
@@ -163,23 +165,41 @@ impl Line {
         self.mark(slot, Standing::Aside);
     }
 
-    /// The first one that was told to look and whose time is over, before all that were told
-    /// nothing. Each one's end stands at its slot.
-    pub fn first_late(&self, now: Duration, ends: &[Duration]) -> Option<u32>
-        ensures { result ≡ first_late (as_nanos now) ends.now (places_in self.now.ring) }
+    /// A search from the front on.
+    pub fn search(&self) -> Search
+        ensures search { IsSearch result (places_in self.now.ring) }
+        ensures front { result.gone ≡ 0 }
     {
-        let mut at = self.after(self.ring.end);
-        for _ in 0..self.ring.len {
-            let place = self.place(at);
+        Search {
+            at: self.after(self.ring.end),
+            gone: 0,
+        }
+    }
+
+    /// The first one that was told to look and whose time is over, before all that were told
+    /// nothing: there the search stops. Each one's end stands at its slot.
+    pub fn first_late(&self, search: &mut Search, now: Duration, ends: &[Duration]) -> Option<u32>
+        requires { IsLateSearch (as_nanos now) ends.now search.old (places_in self.now.ring) }
+        ensures late { result ≡ first_late (as_nanos now) ends.now (places_in self.now.ring) }
+        ensures search { IsLateSearch (as_nanos now) ends.now search.new
+            (places_in self.now.ring) }
+        ensures stops { IfSome result (λ slot. search.new.at ≡ slot) }
+    {
+        let mut here = *search;
+        let mut found = None;
+        for _ in here.gone..self.ring.len {
+            let place = self.look(here);
             if is_quiet(place.standing) {
-                return None;
+                break;
             }
             if is_late(place, now, ends) {
-                return Some(at);
+                found = Some(here.at);
+                break;
             }
-            at = self.after(at);
+            here = self.behind(here);
         }
-        None
+        *search = here;
+        found
     }
 
     /// The one with this slot waits on, and waits to be told.
@@ -193,9 +213,10 @@ impl Line {
         self.mark(slot, Standing::Quiet);
     }
 
-    /// Tells the first who was told nothing to look. The answer is its slot.
+    /// Tells the first who was told nothing to look, where the search stops. It answers its slot.
     #[cold]
-    pub fn tell_next(&mut self) -> Option<u32>
+    pub fn tell_next(&mut self, search: &mut Search) -> Option<u32>
+        requires { IsSearch search.old (places_in self.old.ring) }
         ensures places { places_in self.new.ring ≡ told_first (places_in self.old.ring) }
         ensures who { result ≡ first_quiet (places_in self.old.ring) }
         ensures history { (h : List Event) → IsHistoryOf h (places_in self.old.ring)
@@ -203,8 +224,10 @@ impl Line {
         ensures nobody { (h : List Event) → IsHistoryOf h (places_in self.old.ring)
             → IfNone result ((s : ℕ) → ¬ IsUntold h s) }
         ensures free { self.new.free.items ≡ self.old.free.items }
+        ensures search { IsSearch search.new (places_in self.new.ring) }
+        ensures stops { StopsAt result search.new (places_in self.new.ring) }
     {
-        let Some(slot) = self.first_quiet() else {
+        let Some(slot) = self.first_quiet(search) else {
             return None;
         };
         self.mark(slot, Standing::Told);
@@ -221,7 +244,7 @@ impl Line {
         ensures free { self.new.free.items ≡ self.old.free.items }
     {
         if is_to_wake && self.ring.len > 0 {
-            self.tell_next()
+            self.tell_next(&mut self.search())
         } else {
             None
         }
@@ -229,17 +252,47 @@ impl Line {
 
     // The slot of the first who was told nothing. Those who stand before it were told, or have a
     // connection.
-    fn first_quiet(&self) -> Option<u32>
-        ensures { result ≡ first_quiet (places_in self.now.ring) }
+    fn first_quiet(&self, search: &mut Search) -> Option<u32>
+        requires { IsSearch search.old (places_in self.now.ring) }
+        ensures quiet { result ≡ first_quiet (places_in self.now.ring) }
+        ensures search { IsSearch search.new (places_in self.now.ring) }
+        ensures stops { StopsAt result search.new (places_in self.now.ring) }
     {
-        let mut at = self.after(self.ring.end);
-        for _ in 0..self.ring.len {
-            if is_quiet(self.place(at).standing) {
-                return Some(at);
+        let mut here = *search;
+        let mut found = None;
+        for _ in here.gone..self.ring.len {
+            let place = self.look(here);
+            if is_quiet(place.standing) {
+                found = Some(here.at);
+                break;
             }
-            at = self.after(at);
+            here = self.behind(here);
         }
-        None
+        *search = here;
+        found
+    }
+
+    // The one at whom a search stands.
+    fn look(&self, search: Search) -> Place
+        requires here { StandsAt search (places_in self.now.ring) }
+        requires inside { search.gone < self.now.ring.len }
+        ensures there { slice_get (places_in self.now.ring) search.gone ≡ Some result }
+        ensures slot { result.slot ≡ search.at }
+    {
+        self.place(search.at)
+    }
+
+    // The search, gone on to the one behind.
+    fn behind(&self, search: Search) -> Search
+        requires here { StandsAt search (places_in self.now.ring) }
+        requires inside { search.gone < self.now.ring.len }
+        ensures here { StandsAt result (places_in self.now.ring) }
+        ensures gone { result.gone ≡ search.gone + 1 }
+    {
+        Search {
+            at: self.after(search.at),
+            gone: search.gone + 1,
+        }
     }
 
     // How the one with this slot stands from now on.

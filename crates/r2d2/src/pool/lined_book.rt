@@ -17,11 +17,13 @@ ghost use Rattle.r2d2.specs.Waiting.{told_instead};
 ghost use Rattle.r2d2.specs.Ring.{places_in};
 ghost use Rattle.r2d2.specs.Order.{Event, TookAtOnce, IsHistoryOf, IsPlaceIn, with_told, with_take};
 ghost use Rattle.r2d2.specs.Order.{with_wait, with_leave, with_pass};
+ghost use Rattle.r2d2.specs.Search.{StopsAt, AreSearches};
 
 use crate::engine::{
     CountingBook, LedgerCounter, Outcome, Settled, TakeCounter, TakeTotal, Uncounted, Wakes,
 };
 use crate::line::queue::Line;
+use crate::line::search::LateSearch;
 use r2d2_core::machine::Leftover;
 use r2d2_core::{Book, Job, Refusal, Released, Report, Returned, Take};
 use std::alloc::{AllocError, Global};
@@ -304,10 +306,33 @@ impl<P, C: TakeTotal> LinedBook<P, C> {
         Some(slot)
     }
 
+    /// Searches for those whose time is over, from the front of the line on.
+    pub fn late_search(&self) -> LateSearch
+        ensures { (t : ℕ) (ends : List Duration) → AreSearches t ends result self.now.places }
+    {
+        let front = self.line.search();
+        LateSearch {
+            late: front,
+            quiet: front,
+        }
+    }
+
     /// Passes the first in line that was told to look and whose time is over: it waits no more, and
     /// the first that was told nothing is told. It keeps its place until it looks or leaves. Each
-    /// one's end stands at its slot. The answer is whom to wake; None where nobody is late.
-    pub fn pass_late(&mut self, now: Duration, ends: &[Duration]) -> Option<ToWake>
+    /// one's end stands at its slot. The answer is whom to wake; None where nobody is late. The
+    /// next call with the same search, moment and ends goes on from there.
+    pub fn pass_late(
+        &mut self,
+        search: &mut LateSearch,
+        now: Duration,
+        ends: &[Duration],
+    ) -> Option<ToWake>
+        requires { AreSearches (as_nanos now) ends.now search.old self.old.places }
+        ensures search { AreSearches (as_nanos now) ends.now search.new self.new.places }
+        ensures late { IfSome (first_late (as_nanos now) ends.now self.old.places)
+            (λ slot. search.new.late.at ≡ slot) }
+        ensures quiet { IfSome result
+            (λ to_wake. StopsAt to_wake.told search.new.quiet self.new.places) }
         ensures whether { is_some result
             ≡ is_some (first_late (as_nanos now) ends.now self.old.places) }
         ensures line { self.new.places ≡ pass_first (as_nanos now) ends.now self.old.places }
@@ -322,9 +347,12 @@ impl<P, C: TakeTotal> LinedBook<P, C> {
         ensures total { self.new.total ≡ self.old.total }
         ensures owed { self.new.owed ≡ self.old.owed }
     {
-        let slot = self.line.first_late(now, ends)?;
+        let slot = self.line.first_late(&mut search.late, now, ends)?;
         self.line.pass(slot);
-        let told = self.line.tell_next();
+        // A copy, so that what is searched for those who are late stays in registers.
+        let mut quiet = search.quiet;
+        let told = self.line.tell_next(&mut quiet);
+        search.quiet = quiet;
         Some(ToWake {
             wakes: Wakes::nobody(),
             told,

@@ -1,8 +1,17 @@
-use Rattle.std.proofs.Common.{ap, arith}
+use Rattle.std.proofs.Common.{refl, ap, arith}
 use Rattle.std.specs.Duration.{as_nanos}
 use Rattle.r2d2.specs.Waiting.{waiting_in}
 use Rattle.r2d2_async.proofs.Passing.{ended_by}
 use Rattle.r2d2_async.proofs.task_book.TaskBook.pass_late.Goals as goal
+
+pub loop-init : goal.loop-init
+loop-init g c = record {
+  searches = c.late_search-search.ensures (as_nanos c.args.now) c.args.self.now.ends.items;
+  line = refl;
+  book = refl;
+  ends = refl;
+  waiting = refl;
+}
 
 pub returns-then-not-pass_one-clause-line : goal.returns-then-not-pass_one-clause-line
 returns-then-not-pass_one-clause-line g c =

@@ -1,40 +1,33 @@
-use Rattle.std.proofs.Common.{◌≡◌, ◌-◌, ◌<◌, length, true, false, sym, ◌∙◌, ap, arith}
-use Rattle.std.proofs.lemmas.Bool.Decides.{nat_tests}
-use Rattle.r2d2.specs.declared.line.place.Place.{Place}
-use Rattle.r2d2.specs.Ring.{next_of, row_of, standing_of, or_quiet, walk}
-use Rattle.r2d2.specs.Waiting.{is_quiet, first_quiet}
-use Rattle.r2d2.proofs.Loops.{quiet_more, quiet_here}
+use Rattle.std.proofs.Common.{◌≤◌, length, Some, sym, ◌∙◌, ap, subst, arith}
+use Rattle.r2d2.specs.Ring.{next_of, places_in}
+use Rattle.r2d2.specs.Search.{StopsAt}
+use Rattle.r2d2.proofs.Rows.{length-row}
+use Rattle.r2d2.proofs.Searches.{quiet_on, quiet_found, quiet_nowhere}
 use Rattle.r2d2.proofs.line.queue.Line.first_quiet.Goals as goal
 
-pub loop-init : goal.loop-init
-loop-init c =
-    let me = c.args.self.now in
-    let f = next_of me.ring.links.items in
-    let next : c.after-at.result ≡ f me.ring.end = c.after-at.ensures.next in
-    let all : me.ring.len - 0 ≡ me.ring.len = omega arith in
-    record {
-      inside = c.after-at.ensures.inside;
-      found = ap (λ x. first_quiet (row_of me.ring.standings.items (walk f (me.ring.len - 0) x))) next ∙ ap (λ n. first_quiet (row_of me.ring.standings.items (walk f n (f me.ring.end)))) all;
-    }
-
-pub returns-then-is_quiet : goal.returns-then-is_quiet
-returns-then-is_quiet c =
-    let me = c.args.self.now in
-    let f = next_of me.ring.links.items in
-    let at = c.loop.at in
-    let lt : c.loop.counter < me.ring.len = grind (arith, nat_tests, c.loop-test.true) in
-    let q : is_quiet (or_quiet (standing_of me.ring.standings.items at)) ≡ true = ap (λ (p : Place). is_quiet p.standing) (sym c.place.ensures) ∙ (sym c.is_quiet.ensures ∙ c.if-is_quiet.true) in
-    sym (quiet_here me.ring.standings.items f me.ring.len c.loop.counter at lt q) ∙ c.loop.invariant.found
-
 pub loop-preserved : goal.loop-preserved
-loop-preserved c =
+loop-preserved c = record {
+  none = quiet_on c.loop.here c.behind-here.result (places_in c.args.self.now.ring) c.look-place.result c.loop.invariant.none c.look-place.ensures.there
+      (sym c.is_quiet.ensures ∙ c.if-is_quiet.false) c.behind-here.ensures.here c.behind-here.ensures.gone;
+  found = c.loop.invariant.found;
+  gone = omega (arith, c.behind-here.ensures.gone, c.loop.invariant.gone);
+}
+
+pub returns-after-loop-clause-quiet : goal.returns-after-loop-clause-quiet
+returns-after-loop-clause-quiet c =
     let me = c.args.self.now in
     let f = next_of me.ring.links.items in
-    let at = c.loop.at in
-    let lt : c.loop.counter < me.ring.len = grind (arith, nat_tests, c.loop-test.true) in
-    let next : c.after-at-in-loop.result ≡ f at = c.after-at-in-loop.ensures.next in
-    let q : is_quiet (or_quiet (standing_of me.ring.standings.items at)) ≡ false = ap (λ (p : Place). is_quiet p.standing) (sym c.place.ensures) ∙ (sym c.is_quiet.ensures ∙ c.if-is_quiet.false) in
-    record {
-      inside = c.after-at-in-loop.ensures.inside;
-      found = quiet_more me.ring.standings.items f me.ring.len c.loop.counter at lt c.after-at-in-loop.result next q ∙ c.loop.invariant.found;
-    }
+    let all : length (places_in me.ring) ≤ c.loop.here.gone = omega (arith, length-row me.ring.standings.items f me.ring.len (f me.ring.end), c.loop-test.false, c.loop.invariant.gone) in
+    c.loop.invariant.found ∙ sym (quiet_nowhere c.loop.here (places_in me.ring) c.loop.invariant.none all)
+
+pub returns-then-is_quiet-clause-quiet : goal.returns-then-is_quiet-clause-quiet
+returns-then-is_quiet-clause-quiet c =
+    ap Some (sym c.look-place.ensures.slot) ∙ sym (quiet_found c.loop.here (places_in c.args.self.now.ring) c.look-place.result c.loop.invariant.none c.look-place.ensures.there
+    (sym c.is_quiet.ensures ∙ c.if-is_quiet.true))
+
+pub returns-after-loop-clause-stops : goal.returns-after-loop-clause-stops
+returns-after-loop-clause-stops c =
+    let me = c.args.self.now in
+    let f = next_of me.ring.links.items in
+    subst (λ o. StopsAt o c.loop.here (places_in me.ring)) (sym c.loop.invariant.found)
+    (omega (arith, length-row me.ring.standings.items f me.ring.len (f me.ring.end), c.loop-test.false, c.loop.invariant.gone))

@@ -1,11 +1,11 @@
-use Rattle.std.proofs.Common.{◌≡◌, ◌-◌, ◌<◌, length}
-use Rattle.r2d2.specs.Ring.{next_of, places_in, row_of, walk}
-use Rattle.r2d2.specs.Waiting.{first_quiet}
+use Rattle.std.proofs.Common.{◌≡◌, None}
+use Rattle.r2d2.specs.Ring.{places_in}
+use Rattle.r2d2.specs.Search.{IsSearch}
 use Rattle.r2d2.proofs.line.queue.Line.first_quiet.Given as goal
 
 abbrev pub invariant-loop : goal.invariant-loop
 invariant-loop l = record {
-  inside : l.at < length l.self.ring.links.items;
-  found : first_quiet (row_of l.self.ring.standings.items (walk (next_of l.self.ring.links.items) (l.self.ring.len - l.counter) l.at))
-      ≡ first_quiet (places_in l.self.ring);
+  none : IsSearch l.here (places_in l.self.ring);
+  found : l.found ≡ None;
+  gone : l.here.gone ≡ l.counter;
 }
