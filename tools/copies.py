@@ -91,7 +91,7 @@ def only_what_they_need(copy, name, tests):
         yield
         return
     text, needed = open(root, encoding="utf-8").read(), needed_by(copy, crate_of(name), modules)
-    write(root, re.sub(r"^#\[cfg\(test\)\]\nmod (\w+);\n", lambda it: it[0] * (it[1] in needed), text, flags=re.M))
+    write(root, re.sub(r"^(?:#\[cfg\(test\)\]\n)?mod (\w+);\n", lambda it: it[0] * (it[1] in needed), text, flags=re.M))
     unused = [file for file in sources(os.path.dirname(root)) if top_of(os.path.dirname(root), file) not in needed | {"lib"}]
     for file in unused:
         os.rename(file, file + ".unused")
