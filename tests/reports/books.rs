@@ -1,5 +1,6 @@
 // Books that are driven here: by few words, or at random from fixed seeds.
 
+use pool_reports::PoolStatus;
 use r2d2_core::{Book, Job, LendingOrder, LimitSettings, Limits, Report, Step, Take};
 use rand_core::{Rng, SeedableRng};
 use rand_pcg::Pcg32;
@@ -14,17 +15,36 @@ pub(crate) fn ms(n: u64) -> Duration {
 /// The largest size, how many are wanted idle, the lifetime, and the idle timeout.
 type Sizes = (u32, u32, Option<u64>, Option<u64>);
 
-fn limits((max_size, min_idle, max_lifetime, idle_timeout): Sizes) -> Option<Limits> {
-    LimitSettings {
-        max_size,
-        min_idle: Some(min_idle),
-        max_lifetime: max_lifetime.map(|n| ms(n)),
-        idle_timeout: idle_timeout.map(|n| ms(n)),
+/// Limits of one connection, with a change.
+pub(crate) fn limits<F: FnOnce(&mut LimitSettings)>(change: F) -> Result<Limits, Fail> {
+    let mut settings = LimitSettings {
+        max_size: 1,
+        min_idle: None,
+        max_lifetime: None,
+        idle_timeout: None,
         connection_timeout: ms(30_000),
         reap_every: ms(30_000),
         order: LendingOrder::NewestFirst,
-    }
-    .limits()
+    };
+    change(&mut settings);
+    Ok(settings.limits().ok_or("limits")?)
+}
+
+/// What callers met who wait for 30 s at most, with a change.
+pub(crate) fn met<F: FnOnce(&mut PoolStatus)>(change: F) -> PoolStatus {
+    let mut status = PoolStatus {
+        connection_timeout: ms(30_000),
+        waiting: 0,
+        waiting_since: None,
+        timeouts: 0,
+        refused: 0,
+        failed_openings: 0,
+        failed_checks: 0,
+        latest_failure: None,
+        waits: None,
+    };
+    change(&mut status);
+    status
 }
 
 /// What is done to a book at so many milliseconds. Of the lent ones the first comes back.
@@ -49,23 +69,24 @@ pub(crate) struct Driven {
 
 // The one at this place of a list, counted round; it leaves the list.
 fn pick(list: &mut Vec<u64>, place: u32) -> Option<u64> {
-    let count = list.len();
-    if count == 0 {
-        return None;
-    }
-    Some(list.remove(place as usize % count))
+    let place = (place as usize).checked_rem(list.len())?;
+    Some(list.remove(place))
 }
 
 impl Driven {
     /// A book with room for so many records, to which this was done.
     pub(crate) fn of(
         alloc: Global,
-        sizes: Sizes,
+        (max_size, min_idle, max_lifetime, idle_timeout): Sizes,
         room: usize,
         deeds: &[Deed],
     ) -> Result<Driven, Fail> {
-        let limits = limits(sizes).ok_or("limits")?;
-        let mut driven = Driven::new(alloc, limits, ms(0), 0, room)?;
+        let limits = limits(|it| {
+            (it.max_size, it.min_idle) = (max_size, Some(min_idle));
+            it.max_lifetime = max_lifetime.map(|n| ms(n));
+            it.idle_timeout = idle_timeout.map(|n| ms(n));
+        })?;
+        let mut driven = Driven::over(alloc, Book::new(alloc, limits, ms(0), room)?);
         driven.go_on(deeds)?;
         Ok(driven)
     }
@@ -84,20 +105,14 @@ impl Driven {
         Ok(())
     }
 
-    // A book whose first id is this one.
-    fn new(
-        alloc: Global,
-        limits: Limits,
-        now: Duration,
-        first: u64,
-        room: usize,
-    ) -> Result<Driven, AllocError> {
-        Ok(Driven {
+    fn over(alloc: Global, book: Book<u64>) -> Driven {
+        let (numbered, lent) = (Vec::new(alloc), Vec::new(alloc));
+        Driven {
             alloc,
-            book: Book::with_first_id(alloc, limits, now, first, room)?,
-            numbered: Vec::new(alloc),
-            lent: Vec::new(alloc),
-        })
+            book,
+            numbered,
+            lent,
+        }
     }
 
     // Begins the next opening that is due, and numbers it.
@@ -108,15 +123,14 @@ impl Driven {
         self.book.number(tries).ok()
     }
 
-    fn admit(&mut self, now: Duration, id: u64) {
-        self.book.admit(now, id, id).ok();
+    fn admit(&mut self, now: Duration, id: Option<u64>) {
+        id.map(|id| self.book.admit(now, id, id).ok());
     }
 
     // Opens and admits the next connection that is due.
     pub(crate) fn open(&mut self, now: Duration) {
-        if let Some(id) = self.number(now) {
-            self.admit(now, id);
-        }
+        let id = self.number(now);
+        self.admit(now, id);
     }
 
     pub(crate) fn take(&mut self, now: Duration, or_order: bool) -> Result<(), AllocError> {
@@ -128,20 +142,12 @@ impl Driven {
 
     // Puts the lent one at this place back, counted round.
     pub(crate) fn put_back(&mut self, now: Duration, place: u32, broken: bool) {
-        if let Some(id) = pick(&mut self.lent, place) {
-            self.book.put_back(now, id, id, broken).ok();
-        }
-    }
-
-    fn fail_check(&mut self, now: Duration, place: u32) {
-        if let Some(id) = pick(&mut self.lent, place) {
-            self.book.fail_check(now, id, None).ok();
-        }
+        let id = pick(&mut self.lent, place);
+        id.map(|id| self.book.put_back(now, id, id, broken).ok());
     }
 
     pub(crate) fn reap(&mut self, now: Duration) -> Result<(), AllocError> {
-        self.book.answer(self.alloc, Step::Reap { now })?;
-        Ok(())
+        self.book.answer(self.alloc, Step::Reap { now }).map(drop)
     }
 
     pub(crate) fn report(&self) -> Result<Report, AllocError> {
@@ -153,18 +159,19 @@ impl Driven {
         let place = rng.next_u32();
         match below(rng, 400) {
             0..100 => {
-                if let Some(id) = self.number(now) {
-                    self.numbered.push(id)?;
-                }
+                let id = self.number(now);
+                self.numbered.extend(id)?;
             }
             100..200 => {
-                if let Some(id) = pick(&mut self.numbered, place) {
-                    self.admit(now, id);
-                }
+                let id = pick(&mut self.numbered, place);
+                self.admit(now, id);
             }
             200..290 => self.take(now, place % 2 == 0)?,
             290..360 => self.put_back(now, place, place % 4 == 0),
-            360..370 => self.fail_check(now, place),
+            360..370 => {
+                let id = pick(&mut self.lent, place);
+                id.map(|id| self.book.fail_check(now, id, None).ok());
+            }
             370..399 => self.reap(now)?,
             _ => drop(self.book.close()),
         }
@@ -182,7 +189,7 @@ fn length(rng: &mut Pcg32, bound: u32) -> Duration {
     match below(rng, 6) {
         0 => Duration::MAX,
         1 => Duration::from_nanos(1),
-        _ => ms(u64::from(below(rng, bound)).saturating_add(1)),
+        _ => ms(u64::from(below(rng, bound)) + 1),
     }
 }
 
@@ -191,21 +198,18 @@ fn maybe<T: Drop>(rng: &mut Pcg32, some: T) -> Option<T> {
 }
 
 // Legal limits, with either lending order.
-fn some_limits(rng: &mut Pcg32) -> Option<Limits> {
+fn some_limits(rng: &mut Pcg32) -> Result<Limits, Fail> {
     let max_size = below(rng, 8).saturating_add(1);
     let min_idle = below(rng, max_size.saturating_add(1));
     let (lifetime, timeout) = (length(rng, 200), length(rng, 100));
     let order = maybe(rng, LendingOrder::OldestFirst);
-    LimitSettings {
-        max_size,
-        min_idle: maybe(rng, min_idle),
-        max_lifetime: maybe(rng, lifetime),
-        idle_timeout: maybe(rng, timeout),
-        connection_timeout: length(rng, 40),
-        reap_every: length(rng, 40),
-        order: order.unwrap_or(LendingOrder::NewestFirst),
-    }
-    .limits()
+    limits(|it| {
+        (it.max_size, it.min_idle) = (max_size, maybe(rng, min_idle));
+        it.max_lifetime = maybe(rng, lifetime);
+        it.idle_timeout = maybe(rng, timeout);
+        (it.connection_timeout, it.reap_every) = (length(rng, 40), length(rng, 40));
+        it.order = order.unwrap_or(it.order);
+    })
 }
 
 /// What a book reports after so many steps at random, with room for so many records. Now and then a
@@ -217,9 +221,10 @@ pub(crate) fn random_report(
     steps: u32,
     room: usize,
 ) -> Result<Report, Fail> {
-    let limits = some_limits(rng).ok_or("limits")?;
+    let limits = some_limits(rng)?;
     let mut now = ms(u64::from(below(rng, 50)));
-    let mut driven = Driven::new(alloc, limits, now, first, room)?;
+    let book = Book::with_first_id(alloc, limits, now, first, room)?;
+    let mut driven = Driven::over(alloc, book);
     for _ in 0..steps {
         now = match below(rng, 1000) {
             0 => Duration::MAX,
@@ -231,13 +236,8 @@ pub(crate) fn random_report(
     Ok(driven.report()?)
 }
 
-/// The same from a seed. The ids of each third one are long.
-pub(crate) fn seeded_report(
-    alloc: Global,
-    seed: u64,
-    steps: u32,
-    room: usize,
-) -> Result<Report, Fail> {
+/// What a book reports by a seed. The ids of each third one are long.
+pub(crate) fn seeded(alloc: Global, seed: u64, steps: u32, room: usize) -> Result<Report, Fail> {
     let first = if seed % 3 == 0 { u64::MAX - 1000 } else { 0 };
     let mut rng = Pcg32::seed_from_u64(seed);
     random_report(alloc, &mut rng, first, steps, room)

@@ -28,166 +28,115 @@ fn said(alloc: Global, part: &str, change: &str) -> Result<String, Fail> {
     said_of(alloc, format!(in alloc; "{front}{change}{back}")?.as_str())
 }
 
-// What is said of each change: behind an @ stands what is there in the change, and what ends with a
-// blank is not all that is said.
-fn each_is_said<R: AllocGlobal + Abort>(rt: &R, cases: &[(&str, &str, &str)]) -> Result<(), Fail> {
-    let alloc = rt.alloc();
-    for (part, change, wanted) in cases {
-        let said = said(alloc, part, change)?;
-        let wanted = match wanted.split_once(" @ ") {
-            Some((what, there)) => {
-                let begin = GOOD.find(*part).unwrap_or(0) + change.find(there).unwrap_or(0);
-                format!(in alloc; "{what} at column {}: {there}", begin + 1)?
-            }
-            None => String::from_str(alloc, wanted)?,
-        };
-        let wanted = wanted.as_str().replace(alloc, "'", "\"")?;
-        let (said, wanted) = (said.as_str(), wanted.as_str());
-        let is_so = said == wanted || wanted.ends_with(' ') && said.starts_with(wanted);
-        assert!(rt; is_so, "{part} as {change}: {said} is not {wanted}");
+// Whether that is said of the good text with one part changed: behind an @ stands what is there in
+// the change, and what ends with dots is not all that is said.
+fn is_said<R: AllocGlobal + Abort>(rt: &R, row: (&str, &str, &str)) -> Result<(), Fail> {
+    let (alloc, (part, change, wanted)) = (rt.alloc(), row);
+    let said = said(alloc, part, change)?;
+    let begin = wanted.strip_suffix("..").unwrap_or(wanted);
+    let text = match begin.split_once(" @ ") {
+        Some((what, there)) => {
+            let column = GOOD.find(part).unwrap_or(0) + change.find(there).unwrap_or(0) + 1;
+            format!(in alloc; "{what} at column {column}: {there}")?
+        }
+        None => String::from_str(alloc, begin)?,
+    };
+    let text = text.as_str().replace(alloc, "'", "\"")?;
+    let begins = said.as_str().starts_with(text.as_str()) && wanted.ends_with("..");
+    let is_so = begins || said.as_str() == text.as_str();
+    assert!(rt; is_so, "{part} as {change}: {said} is not {text}");
+    Ok(())
+}
+
+// A part, its change and what is said of that on each line.
+fn each_is_said<R: AllocGlobal + Abort>(rt: &R, table: &str) -> Result<(), Fail> {
+    for row in table.trim().lines() {
+        let (part, row) = row.trim_start().split_once(" => ").ok_or("a part")?;
+        let (change, wanted) = row.split_once(" => ").ok_or("a change")?;
+        is_said(rt, (part, change, wanted))?;
     }
     Ok(())
 }
 
 #[test]
-fn the_good_text_is_good(rt: HostRuntime) -> Result<(), Fail> {
-    let text = GOOD.replace(rt.alloc(), "'", "\"")?;
-    assert!(rt; from_json(rt.alloc(), text.as_str())?.replays()?);
-    Ok(())
-}
-
-#[test]
 fn numbers_have_their_ranges(rt: HostRuntime) -> Result<(), Fail> {
-    each_is_said(
-        &rt,
-        &[
-            ("'id':0", "'id':-1", "invalid value @ -1"),
-            ("'id':0", "'id':1.5", "invalid value @ 1.5"),
-            ("'id':0", "'id':'0'", "invalid type @ '0'"),
-            (
-                "'id':0",
-                "'id':18446744073709551616",
-                "invalid value @ 18446744073709551616",
-            ),
-            ("'lost':2", "'lost':null", "invalid type @ null"),
-            (
-                "'pending':1",
-                "'pending':4294967296",
-                "invalid value @ 4294967296",
-            ),
-            (
-                "'min_idle':null",
-                "'min_idle':false",
-                "invalid type @ false",
-            ),
-            ("'version':1", "'version':'1'", "invalid type @ '1'"),
-            ("'id':0", "'id':18446744073709551615", "read"),
-            ("'pending':1", "'pending':4294967295", "read"),
-        ],
-    )
+    let good = GOOD.replace(rt.alloc(), "'", "\"")?;
+    assert!(rt; from_json(rt.alloc(), good.as_str())?.replays()?);
+    let table = r"
+        'id':0 => 'id':-1 => invalid value @ -1
+        'id':0 => 'id':1.5 => invalid value @ 1.5
+        'id':0 => 'id':'0' => invalid type @ '0'
+        'id':0 => 'id':18446744073709551616 => invalid value @ 18446744073709551616
+        'lost':2 => 'lost':null => invalid type @ null
+        'pending':1 => 'pending':4294967296 => invalid value @ 4294967296
+        'min_idle':null => 'min_idle':false => invalid type @ false
+        'version':1 => 'version':'1' => invalid type @ '1'
+        'id':0 => 'id':18446744073709551615 => read
+        'pending':1 => 'pending':4294967295 => read";
+    each_is_said(&rt, table)
 }
 
 // Moments are whole nanoseconds, and those of the wall clock are from 1970 on.
 #[test]
 fn the_wall_clock_shows_a_moment_from_1970_on(rt: HostRuntime) -> Result<(), Fail> {
-    let (much, none) = (
-        "not whole nanoseconds @ '18446744073709551616000000000'",
-        "not whole nanoseconds @ '000000000000000000000000000003'",
-    );
-    let lost = "'lost':2";
-    let past = "not a moment of the wall clock @ '1969-12-31T23:59:59Z'";
-    each_is_said(
-        &rt,
-        &[
-            (
-                "'at':3",
-                "'at':18446744073709551616",
-                "invalid value @ 18446744073709551616",
-            ),
-            ("'at':3", "'at':'18446744073709551616000000000'", much),
-            ("'at':3", "'at':'+3'", "not whole nanoseconds @ '+3'"),
-            ("'at':3", "'at':''", "not whole nanoseconds @ ''"),
-            ("'at':3", "'at':' 3'", "not whole nanoseconds @ ' 3'"),
-            ("'at':3", "'at':'3s'", "not whole nanoseconds @ '3s'"),
-            ("'at':3", "'at':'000000000000000000000000000003'", none),
-            ("'at':3", "'at':[3]", "invalid type @ [3"),
-            ("'at':3", "'at':-3", "invalid value @ -3"),
-            (lost, "'lost':2,'reported_at':-1", "invalid value @ -1"),
-            ("[[0,1,1]]", "[[0,1,true]]", "invalid type @ true"),
-            ("'at':3", "'at':'18446744073709551616'", "read"),
-            ("'at':3", "'at':'18446744073709551615999999999'", "read"),
-            ("'at':3", "'at':'\\u0033'", "read"),
-            (
-                lost,
-                "'lost':2,'made_at':'noon'",
-                "not a moment of the wall clock @ 'noon'",
-            ),
-            (lost, "'lost':2,'made_at':'1969-12-31T23:59:59Z'", past),
-        ],
-    )
+    let alloc = rt.alloc();
+    let others = "18446744073709551616000000000,+3,, 3,3s,000000000000000000000000000003";
+    for text in others.split(',') {
+        let change = format!(in alloc; "'at':'{text}'")?;
+        let wanted = format!(in alloc; "not whole nanoseconds @ '{text}'")?;
+        is_said(&rt, ("'at':3", change.as_str(), wanted.as_str()))?;
+    }
+    for text in ["noon", "1969-12-31T23:59:59Z"] {
+        let change = format!(in alloc; "'lost':2,'made_at':'{text}'")?;
+        let wanted = format!(in alloc; "not a moment of the wall clock @ '{text}'")?;
+        is_said(&rt, ("'lost':2", change.as_str(), wanted.as_str()))?;
+    }
+    let table = r"
+        'at':3 => 'at':18446744073709551616 => invalid value @ 18446744073709551616
+        'at':3 => 'at':[3] => invalid type @ [3
+        'at':3 => 'at':-3 => invalid value @ -3
+        'lost':2 => 'lost':2,'reported_at':-1 => invalid value @ -1
+        [[0,1,1]] => [[0,1,true]] => invalid type @ true
+        'at':3 => 'at':'18446744073709551616' => read
+        'at':3 => 'at':'18446744073709551615999999999' => read
+        'at':3 => 'at':'\u0033' => read";
+    each_is_said(&rt, table)
 }
 
+// A record's kind is known at its end; a list of two or three has so many; no object is a list.
 #[test]
 fn each_place_wants_its_type(rt: HostRuntime) -> Result<(), Fail> {
-    let (order, kind) = ("'order':'newest_first'", "'kind':'kept'");
-    each_is_said(
-        &rt,
-        &[
-            (order, "'order':'newest'", "unknown variant @ 'newest'"),
-            (order, "'order':0", "invalid type @ 0"),
-            ("'base':{", "'base':7,'more':{", "invalid value @ 7"),
-            ("{'kind':'kept','at':3,'id':1}", "3", "invalid type @ 3"),
-            (kind, "'kind':3", "invalid type @ 3"),
-            ("'closed':false}", "'closed':0}", "invalid type @ 0"),
-            ("'idle':[[0,1,1]]", "'idle':{}", "invalid type @ {"),
-            ("[[0,1,1]]", "[7]", "invalid type @ 7"),
-            ("[[1,1]]", "[[-1,1]]", "invalid value @ -1"),
-            ("'idle':[1]", "'idle':[1,'2']", "invalid type @ '2'"),
-            ("'lent':[0]", "'lent':0", "invalid type @ 0"),
-            ("'lost':2", "'lost':2,'name':7", "invalid type @ 7"),
-            // A record's kind is known at its end.
-            (kind, "'kind':'lent'", "unknown variant at column "),
-            (kind, "'kind':'Kept'", "unknown variant at column "),
-            (kind, "'kind':''", "unknown variant at column "),
-            (kind, "'kind':']},{[,'", "unknown variant at column "),
-            // A list of two or three has just as many.
-            ("[[0,1,1]]", "[[0,1]]", "invalid length at column "),
-            ("[[0,1,1]]", "[[0,1,1,1]]", "invalid length at column "),
-            ("[[1,1]]", "[[1,1,1]]", "invalid length at column "),
-            ("[[1,1]]", "[[1]]", "invalid length at column "),
-        ],
-    )
-}
-
-// Nor is an object a list of what its fields say.
-#[test]
-fn an_object_is_no_list(rt: HostRuntime) -> Result<(), Fail> {
-    let limits = "'limits':[3,null,null,null,1000,1000,'newest_first'],'more':{";
-    each_is_said(
-        &rt,
-        &[
-            ("'base':{", "'base':[],'more':{", "invalid value @ ["),
-            ("'limits':{", limits, "invalid value @ [3"),
-            ("'lost':2", "'lost':2,'status':[0]", "invalid value @ [0"),
-            (
-                "{'kind':'kept','at':3,'id':1}",
-                "['kept',3,1]",
-                "invalid type @ ['kept'",
-            ),
-        ],
-    )
+    let table = r"
+        'order':'newest_first' => 'order':'newest' => unknown variant @ 'newest'
+        'order':'newest_first' => 'order':0 => invalid type @ 0
+        'base':{ => 'base':7,'more':{ => invalid value @ 7
+        {'kind':'kept','at':3,'id':1} => 3 => invalid type @ 3
+        'kind':'kept' => 'kind':3 => invalid type @ 3
+        'closed':false} => 'closed':0} => invalid type @ 0
+        'idle':[[0,1,1]] => 'idle':{} => invalid type @ {
+        [[0,1,1]] => [7] => invalid type @ 7
+        [[1,1]] => [[-1,1]] => invalid value @ -1
+        'idle':[1] => 'idle':[1,'2'] => invalid type @ '2'
+        'lent':[0] => 'lent':0 => invalid type @ 0
+        'lost':2 => 'lost':2,'name':7 => invalid type @ 7
+        'kind':'kept' => 'kind':'lent' => unknown variant at column ..
+        'kind':'kept' => 'kind':'Kept' => unknown variant at column ..
+        'kind':'kept' => 'kind':'' => unknown variant at column ..
+        'kind':'kept' => 'kind':']},{[,' => unknown variant at column ..
+        [[0,1,1]] => [[0,1]] => invalid length at column ..
+        [[0,1,1]] => [[0,1,1,1]] => invalid length at column ..
+        [[1,1]] => [[1,1,1]] => invalid length at column ..
+        [[1,1]] => [[1]] => invalid length at column ..
+        'base':{ => 'base':[],'more':{ => invalid value @ [
+        'limits':{ => 'limits':[3,null,null,null,9,9,'newest_first'],'more':{ => invalid value @ [3
+        'lost':2 => 'lost':2,'status':[0] => invalid value @ [0
+        {'kind':'kept','at':3,'id':1} => ['kept',3,1] => invalid type @ ['kept'";
+    each_is_said(&rt, table)
 }
 
 #[test]
 fn what_may_be_left_out_is_not_null(rt: HostRuntime) -> Result<(), Fail> {
-    for name in [
-        "name",
-        "made_at",
-        "reported_at",
-        "status",
-        "latest_error",
-        "loans",
-    ] {
+    for name in "name made_at reported_at status latest_error loans".split(' ') {
         let change = format!(in rt.alloc(); "'lost':2,'{name}':null")?;
         let said = said(rt.alloc(), "'lost':2", change.as_str())?;
         assert!(rt; said.as_str().ends_with(": null"), "{said}");
@@ -197,149 +146,77 @@ fn what_may_be_left_out_is_not_null(rt: HostRuntime) -> Result<(), Fail> {
 
 #[test]
 fn fields_are_all_there_and_no_others(rt: HostRuntime) -> Result<(), Fail> {
-    each_is_said(
-        &rt,
-        &[
-            ("'lost':2,", "", "missing field `lost` at column "),
-            (
-                "'min_idle':null,",
-                "",
-                "missing field `min_idle` at column ",
-            ),
-            (
-                "'base':{'at':1,",
-                "'base':{",
-                "missing field `at` at column ",
-            ),
-            ("'at':3,", "", "missing field `at` at column "),
-            ("'kind':'kept',", "", "missing field `kind` at column "),
-            (",'id':1}", "}", "missing field `id` at column "),
-            (
-                "'lost':2",
-                "'lost':2,'status':{}",
-                "missing field `connection_timeout` at column ",
-            ),
-            (
-                ",'id':1}",
-                ",'id':1,'ordered':0}",
-                "unknown field @ 'ordered':0",
-            ),
-            (
-                "'lost':2",
-                "'lost':2,'found':1",
-                "unknown field @ 'found':1",
-            ),
-            (
-                "'max_size':3",
-                "'max_size':3,'\\n':1",
-                "unknown field @ '\\n':1",
-            ),
-            (
-                "'base':{",
-                "'base':{'since':1,",
-                "unknown field @ 'since':1",
-            ),
-            (
-                "'base':{",
-                "'base':{'records':[],",
-                "unknown field @ 'records':[",
-            ),
-        ],
-    )
+    let table = r"
+        'lost':2, =>  => missing field `lost` at column ..
+        'min_idle':null, =>  => missing field `min_idle` at column ..
+        'base':{'at':1, => 'base':{ => missing field `at` at column ..
+        'at':3, =>  => missing field `at` at column ..
+        'kind':'kept', =>  => missing field `kind` at column ..
+        ,'id':1} => } => missing field `id` at column ..
+        'lost':2 => 'lost':2,'status':{} => missing field `connection_timeout` at column ..
+        ,'id':1} => ,'id':1,'ordered':0} => unknown field @ 'ordered':0
+        'lost':2 => 'lost':2,'found':1 => unknown field @ 'found':1
+        'max_size':3 => 'max_size':3,'\n':1 => unknown field @ '\n':1
+        'base':{ => 'base':{'since':1, => unknown field @ 'since':1
+        'base':{ => 'base':{'records':[], => unknown field @ 'records':[";
+    each_is_said(&rt, table)
 }
 
 #[test]
 fn other_versions_and_limits_are_refused(rt: HostRuntime) -> Result<(), Fail> {
-    let version = "version: 2 is not one that can be read";
-    let (timeout, zero) = (
-        "'connection_timeout':1000",
-        "limits.connection_timeout: zero",
-    );
-    each_is_said(
-        &rt,
-        &[
-            ("'version':1", "'version':2", version),
-            ("'version':1", "'version':2,'more':[]", version),
-            ("'version':1", "'version':1,'version':2", version),
-            ("'version':1,'limits'", "'version':2,'bounds'", version),
-            ("'version':1", "'version':2,'version':1", "read"),
-            ("'version':1,", "", "version: missing"),
-            (
-                "'version':1,'limits':{",
-                "'limits':{'version':1,",
-                "version: missing",
-            ),
-            ("'max_size':3", "'max_size':0", "limits.max_size: zero"),
-            (
-                "'min_idle':null",
-                "'min_idle':4",
-                "limits.min_idle: above max_size",
-            ),
-            ("'min_idle':null", "'min_idle':3", "read"),
-            (
-                "'reap_every':1000",
-                "'reap_every':0",
-                "limits.reap_every: zero",
-            ),
-            (
-                "'max_lifetime':null",
-                "'max_lifetime':0",
-                "limits.max_lifetime: zero",
-            ),
-            (
-                "'idle_timeout':null",
-                "'idle_timeout':0",
-                "limits.idle_timeout: zero",
-            ),
-            (timeout, "'connection_timeout':0", zero),
-        ],
-    )
+    let table = r"
+        'version':1 => 'version':2 => version: 2 is not one that can be read
+        'version':1 => 'version':2,'more':[] => version: 2 is not one that can be read
+        'version':1 => 'version':1,'version':2 => version: 2 is not one that can be read
+        'version':1,'limits' => 'version':2,'bounds' => version: 2 is not one that can be read
+        'version':1 => 'version':2,'version':1 => read
+        'version':1, =>  => version: missing
+        'version':1,'limits':{ => 'limits':{'version':1, => version: missing
+        'max_size':3 => 'max_size':0 => limits.max_size: zero
+        'min_idle':null => 'min_idle':4 => limits.min_idle: above max_size
+        'min_idle':null => 'min_idle':3 => read
+        'reap_every':1000 => 'reap_every':0 => limits.reap_every: zero
+        'max_lifetime':null => 'max_lifetime':0 => limits.max_lifetime: zero
+        'idle_timeout':null => 'idle_timeout':0 => limits.idle_timeout: zero
+        'connection_timeout':1000 => 'connection_timeout':0 => limits.connection_timeout: zero";
+    each_is_said(&rt, table)
 }
 
 // Of a field that stands twice the last one counts, whatever the others say.
 #[test]
 fn of_fields_given_twice_the_last_one_counts(rt: HostRuntime) -> Result<(), Fail> {
-    let takes = "'takes':2";
-    let (numbers, nothing) = (
-        "duplicate field `records` @ 'records':[7",
-        "duplicate field `records` @ 'records':null",
-    );
-    let (kept, lent) = (
-        "{'kind':'kept','at':3,'id':1}",
-        "{'kind':'lent','at':3,'id':1,'kind':'kept'}",
-    );
-    let size = "duplicate field `max_size` @ 'max_size':0";
-    each_is_said(
-        &rt,
-        &[
-            ("'version':1", "'version':1,'records':7", "read"),
-            ("'version':1", "'limits':[],'version':1", "read"),
-            ("'version':1", "'records':{'a':[]},'version':1", "read"),
-            (takes, "'takes':2,'records':[]", "read"),
-            (takes, "'takes':2 , 'records' : [ ] ", "read"),
-            ("'at':3", "'at':'x','at':3", "read"),
-            (kept, lent, "read"),
-            ("'records':[", " 'rec\\u006frds' : [\n", "read"),
-            ("'at':3,'id':1}],", "'at':3,'id':1} \r\n]\t, ", "read"),
-            (takes, "'takes':2,'records':[7]", numbers),
-            (takes, "'takes':2,'records':null", nothing),
-            ("'max_size':3", "'max_size':3,'max_size':0", size),
-        ],
-    )
+    let kept = "{'kind':'kept','at':3,'id':1}";
+    let lent = "{'kind':'lent','at':3,'id':1,'kind':'kept'}";
+    for (part, change) in [
+        ("'version':1", "'version':1,'records':7"),
+        ("'version':1", "'limits':[],'version':1"),
+        ("'version':1", "'records':{'a':[]},'version':1"),
+        ("'takes':2", "'takes':2,'records':[]"),
+        ("'takes':2", "'takes':2 , 'records' : [ ] "),
+        ("'at':3", "'at':'x','at':3"),
+        (kept, lent),
+        ("'records':[", " 'rec\\u006frds' : [\n"),
+        ("'at':3,'id':1}],", "'at':3,'id':1} \r\n]\t, "),
+    ] {
+        is_said(&rt, (part, change, "read"))?;
+    }
+    let table = r"
+        'takes':2 => 'takes':2,'records':[7] => duplicate field `records` @ 'records':[7
+        'takes':2 => 'takes':2,'records':null => duplicate field `records` @ 'records':null
+        'max_size':3 => 'max_size':3,'max_size':0 => duplicate field `max_size` @ 'max_size':0";
+    each_is_said(&rt, table)
 }
 
 #[test]
 fn texts_that_are_no_json_are_refused(rt: HostRuntime) -> Result<(), Fail> {
+    let negative = "invalid value at line 2, column 12: -1";
     for (text, wanted) in [
         ("", "not JSON at column 0"),
         ("[]", "invalid type at column 1: ["),
         ("{", "not JSON at column 1"),
         ("{}", "version: missing"),
         ("{\n,", "not JSON at line 2, column 1"),
-        (
-            "{\n'version': -1}",
-            "invalid value at line 2, column 12: -1",
-        ),
+        ("{\n'version': -1}", negative),
         ("nul", "not JSON at column 1"),
     ] {
         assert_eq!(rt; said_of(rt.alloc(), text)?.as_str(), wanted, "{text}");

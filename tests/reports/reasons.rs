@@ -1,38 +1,38 @@
-// Each reason in words, of a report that has that fault and no earlier one; and what each report of
-// a pool keeps beyond its replay.
+// Each reason in words, of a report that has that fault and no earlier one; and that it is true,
+// whichever number of a report is changed.
 
-use crate::books::seeded_report;
+use crate::books::seeded;
+use pool_reports::RecordReason::{self, NotNext, Ordered};
 use pool_reports::{Verdict, audit, from_json, to_json};
+use r2d2_core::Record;
 use std::alloc::{AllocError, Global};
 use std::process::Abort;
 use std::test::Fail;
+use std::time::Duration;
 
-/// Whether a report of which that is said replays.
-pub(crate) fn replays(verdict: Verdict) -> bool {
-    !matches!(
-        verdict,
-        Verdict::Base(_) | Verdict::Record { .. } | Verdict::Counts(_)
-    )
-}
+// The order, `max_size`, `min_idle`, how many records were lost, and how many takes there were.
+type Head = (&'static str, u32, u32, u64, u64);
 
-// The order, `max_size`, `min_idle`, and how many records and takes were lost.
-type Head = (&'static str, u32, u32, u64);
+// The base, the records, and the counts.
+type Parts = (&'static str, &'static str, &'static str);
 
-// What is idle, what is lent, what is connected and pending, and whether it is closed.
-type Standing<'a> = (&'a str, &'a str, u32, u32, bool);
+const HEAD: Head = ("newest", 3, 1, 2, 2);
 
-const HEAD: Head = ("newest", 3, 1, 2);
-
-// At 10, 2 is the oldest idle one and 7 the newest, 4 is lent, and nothing is pending.
-const BASE: Standing<'static> = ("[2,1,5],[7,1,6]", "[4,1]", 3, 0, false);
+// What stands: what is idle, what is lent, how many are connected and pending, and whether it is
+// closed. At 10, 2 is the oldest idle one and 7 the newest, 4 is lent, and nothing is pending.
+const BASE: &str = "[2,1,5],[7,1,6] [4,1] 3 0";
 
 // The counts of that base.
-const COUNTS: Standing<'static> = ("2,7", "4", 3, 0, false);
+const COUNTS: &str = "2,7 4 3 0";
 
-fn standing(alloc: Global, it: Standing<'_>) -> Result<String, AllocError> {
-    let (idle, lent, connections, pending, closed) = it;
-    let lists = format!(in alloc; "'idle':[{idle}],'lent':[{lent}]")?;
-    format!(in alloc; "{lists},'connections':{connections},'pending':{pending},'closed':{closed}")
+fn standing(alloc: Global, text: &str) -> Result<String, AllocError> {
+    let mut json = String::new(alloc);
+    let names = ["'idle':[", "],'lent':[", "],'connections':", ",'pending':"];
+    for (name, word) in names.iter().zip(text.split(' ')) {
+        write!(json, "{name}{}", if word == "-" { "" } else { word })?;
+    }
+    write!(json, ",'closed':{}", text.ends_with(" closed"))?;
+    Ok(json)
 }
 
 // A record: its kind, its moment, its id and what it ordered, as far as it has them.
@@ -55,349 +55,249 @@ fn record(alloc: Global, text: &str) -> Result<String, Fail> {
 // What is said of a report with a base at 10, ages of up to 100 and idle times of up to 50.
 fn said(
     alloc: Global,
-    (order, max_size, min_idle, lost): Head,
-    base: Standing<'_>,
-    records: &str,
-    counts: Standing<'_>,
+    (order, max_size, min_idle, lost, takes): Head,
+    (base, records, counts): Parts,
 ) -> Result<String, Fail> {
     let sizes = format!(in alloc; "'max_size':{max_size},'min_idle':{min_idle}")?;
     let lengths = "'max_lifetime':100,'idle_timeout':50,'connection_timeout':9,'reap_every':9";
     let limits = format!(in alloc; "{{{sizes},{lengths},'order':'{order}_first'}}")?;
     let mut text = format!(in alloc; "{{'version':1,'limits':{limits}")?;
     write!(text, ",'base':{{'at':10,{}}}", standing(alloc, base)?)?;
-    write!(text, ",'lost':{lost},'takes':{lost},'records':[")?;
+    write!(text, ",'lost':{lost},'takes':{takes},'records':[")?;
     for (place, it) in records.split("; ").filter(|it| !it.is_empty()).enumerate() {
-        write!(
-            text,
-            "{}{}",
-            if place == 0 { "" } else { "," },
-            record(alloc, it)?
-        )?;
+        let comma = if place == 0 { "" } else { "," };
+        write!(text, "{comma}{}", record(alloc, it)?)?;
     }
     write!(text, "],{}}}", standing(alloc, counts)?)?;
     let text = text.as_str().replace(alloc, "'", "\"")?;
     let report = from_json(alloc, text.as_str())?;
-    let verdict = audit(alloc, &report)?;
-    if report.replays()? != replays(verdict) {
-        return Ok(String::from_str(alloc, "something else than replays says")?);
-    }
-    Ok(verdict.to_string(alloc)?)
+    Ok(audit(alloc, &report)?.to_string(alloc)?)
 }
 
-// That is said of records from that base.
-fn each_is_said<R: AllocGlobal + Abort>(rt: &R, cases: &[(&str, &str)]) -> Result<(), Fail> {
-    for (records, wanted) in cases {
-        let said = said(rt.alloc(), HEAD, BASE, records, COUNTS)?;
-        assert_eq!(rt; said.as_str(), *wanted, "{records}");
+// Of a row's front, its base, records and counts are made; what is said of them is what begins so
+// and goes on as its back.
+fn each_is_said<R: AllocGlobal + Abort, F: Fn(&'static str) -> Parts>(
+    rt: &R,
+    head: Head,
+    parts: F,
+    (begin, table): (&str, &'static str),
+) -> Result<(), Fail> {
+    for row in table.trim().lines() {
+        let (front, wanted) = row.trim().split_once(" => ").ok_or("a row")?;
+        let said = said(rt.alloc(), head, parts(front))?;
+        assert_eq!(rt; said.as_str().strip_prefix(begin), Some(wanted), "{row}");
     }
     Ok(())
+}
+
+// Its two parts, if it has two.
+fn both(front: &'static str) -> (&'static str, &'static str) {
+    front.split_once(" | ").unwrap_or((front, ""))
 }
 
 #[test]
 fn what_is_wrong_with_a_base(rt: HostRuntime) -> Result<(), Fail> {
-    let (idle, lent) = ("[2,1,5],[7,1,6]", "[4,1]");
-    let unlike = "connection 7 was idle earlier than the one that stands before it";
-    let after = "connection 7 is idle since after the moment of the base";
-    let before = "connection 2 was admitted after it came to be idle";
-    for (base, wanted) in [
-        (
-            ("[2,1,5],[4,1,6]", lent, 3, 0, false),
-            "connection 4 stands twice",
-        ),
-        (
-            ("[2,1,5],[2,1,6]", lent, 3, 0, false),
-            "connection 2 stands twice",
-        ),
-        (("[2,1,7],[7,1,6]", lent, 3, 0, false), unlike),
-        (("[2,1,5],[7,1,11]", lent, 3, 0, false), after),
-        (("[2,6,5],[7,1,6]", lent, 3, 0, false), before),
-        (
-            (idle, "[4,11]", 3, 0, false),
-            "connection 4 was admitted after the moment of the base",
-        ),
-        (
-            ("[2,1,5]", lent, 3, 0, false),
-            "connections is 3, but 2 are listed",
-        ),
-        (
-            (idle, lent, 3, 1, false),
-            "connections and pending are 4 together, but max_size is 3",
-        ),
-        ((idle, lent, 3, 0, true), "it is closed, but idle has 2"),
-        (("", lent, 1, 2, true), "it is closed, but pending is 2"),
-    ] {
-        let said = said(rt.alloc(), HEAD, base, "", COUNTS)?;
-        assert_eq!(rt;
-            said.as_str().strip_prefix("the base: "),
-            Some(wanted),
-            "{base:?}"
-        );
-    }
-    Ok(())
+    let table = "
+        [2,1,5],[4,1,6] [4,1] 3 0 => connection 4 stands twice
+        [2,1,5],[2,1,6] [4,1] 3 0 => connection 2 stands twice
+        [2,1,7],[7,1,6] [4,1] 3 0 => \
+            connection 7 was idle earlier than the one that stands before it
+        [2,1,5],[7,1,11] [4,1] 3 0 => connection 7 is idle since after the moment of the base
+        [2,6,5],[7,1,6] [4,1] 3 0 => connection 2 was admitted after it came to be idle
+        [2,1,5],[7,1,6] [4,11] 3 0 => connection 4 was admitted after the moment of the base
+        [2,1,5] [4,1] 3 0 => connections is 3, but 2 are listed
+        [2,1,5],[7,1,6] [4,1] 3 1 => connections and pending are 4 together, but max_size is 3
+        [2,1,5],[7,1,6] [4,1] 3 0 closed => it is closed, but idle has 2
+        - [4,1] 1 2 closed => it is closed, but pending is 2";
+    each_is_said(&rt, HEAD, |base| (base, "", COUNTS), ("the base: ", table))
 }
 
 #[test]
-fn what_is_wrong_with_a_take_or_a_return(rt: HostRuntime) -> Result<(), Fail> {
-    let backwards = "record 1: its moment is before that of the record before it";
-    each_is_said(
-        &rt,
-        &[
-            ("", "sound"),
-            (
-                "taken 9 7 0",
-                "record 0: its moment is before that of the base",
-            ),
-            ("taken 12 7 0; kept 11 4", backwards),
-            (
-                "taken 10 2 0",
-                "record 0: connection 2 is taken, but connection 7 is lent next",
-            ),
-            ("taken 10 7 1", "record 0: 1 was ordered where 0 were due"),
-            (
-                "kept 10 2",
-                "record 0: connection 2 is kept, but it is not lent",
-            ),
-            (
-                "kept 101 4",
-                "record 0: connection 4 is kept, but its age has reached max_lifetime",
-            ),
-            (
-                "kept 100 4; kept 100 4",
-                "record 1: connection 4 is kept, but it is not lent",
-            ),
-            (
-                "closed 10 5 0",
-                "record 0: connection 5 is closed, but it is not lent",
-            ),
-            ("closed 10 4 2", "record 0: 2 were ordered where 0 were due"),
-        ],
-    )
-}
-
-#[test]
-fn what_is_wrong_with_another_record(rt: HostRuntime) -> Result<(), Fail> {
-    let full = "record 2: one is ordered alone, but there are 3 already, which is max_size";
-    let twice = "record 1: connection 2 is admitted, but there was one of that id before";
-    let closed = "record 1: the pool is closed, but it was closed before";
-    let after = "record 1: one is ordered alone, but the pool is closed";
-    each_is_said(
-        &rt,
-        &[
-            (
-                "ordered 10 1",
-                "record 0: one is ordered alone, but connection 7 is idle",
-            ),
-            ("closed_all 10; ordered 10 1", after),
-            ("taken 10 7 0; taken 10 2 0; ordered 10 1", full),
-            (
-                "reaped 56 1; ordered 60 2",
-                "record 1: 2 were ordered where 1 was due",
-            ),
-            (
-                "admitted 10 9",
-                "record 0: connection 9 is admitted, but no opening was pending",
-            ),
-            ("reaped 56 1; admitted 60 2", twice),
-            (
-                "reaped 54 0",
-                "record 0: a reap that closed none and ordered none makes no record",
-            ),
-            ("reaped 56 0", "record 0: 0 were ordered where 1 was due"),
-            ("closed_all 10; closed_all 10", closed),
-            (
-                "closed_all 10; kept 10 4",
-                "record 1: connection 4 is kept, but the pool is closed",
-            ),
-            (
-                "closed_all 10; taken 10 7 0",
-                "record 1: connection 7 is taken, but none is idle",
-            ),
-        ],
-    )
-}
-
-#[test]
-fn the_oldest_is_next_where_the_limits_say_so(rt: HostRuntime) -> Result<(), Fail> {
-    let said = said(
-        rt.alloc(),
-        ("oldest", 3, 1, 2),
-        BASE,
-        "taken 10 7 0",
-        COUNTS,
-    )?;
-    let wanted = "record 0: connection 7 is taken, but connection 2 is lent next";
-    assert_eq!(rt; said.as_str(), wanted);
-    Ok(())
+fn what_is_wrong_with_a_record(rt: HostRuntime) -> Result<(), Fail> {
+    let table = "
+        taken 9 7 0 => record 0: its moment is before that of the base
+        taken 12 7 0; kept 11 4 => record 1: its moment is before that of the record before it
+        taken 10 2 0 => record 0: connection 2 is taken, but connection 7 is lent next
+        taken 10 7 1 => record 0: 1 was ordered where 0 were due
+        kept 10 2 => record 0: connection 2 is kept, but it is not lent
+        kept 101 4 => record 0: connection 4 is kept, but its age has reached max_lifetime
+        kept 100 4; kept 100 4 => record 1: connection 4 is kept, but it is not lent
+        closed 10 5 0 => record 0: connection 5 is closed, but it is not lent
+        closed 10 4 2 => record 0: 2 were ordered where 0 were due
+        ordered 10 1 => record 0: one is ordered alone, but connection 7 is idle
+        closed_all 10; ordered 10 1 => record 1: one is ordered alone, but the pool is closed
+        taken 10 7 0; taken 10 2 0; ordered 10 1 => \
+            record 2: one is ordered alone, but there are 3 already, which is max_size
+        reaped 56 1; ordered 60 2 => record 1: 2 were ordered where 1 was due
+        admitted 10 9 => record 0: connection 9 is admitted, but no opening was pending
+        reaped 56 1; admitted 60 2 => \
+            record 1: connection 2 is admitted, but there was one of that id before
+        reaped 54 0 => record 0: a reap that closed none and ordered none makes no record
+        reaped 56 0 => record 0: 0 were ordered where 1 was due
+        closed_all 10; closed_all 10 => record 1: the pool is closed, but it was closed before
+        closed_all 10; kept 10 4 => record 1: connection 4 is kept, but the pool is closed
+        closed_all 10; taken 10 7 0 => record 1: connection 7 is taken, but none is idle";
+    each_is_said(&rt, HEAD, |it| (BASE, it, COUNTS), ("", table))?;
+    let sound = said(rt.alloc(), HEAD, (BASE, "", COUNTS))?;
+    assert_eq!(rt; sound.as_str(), "sound");
+    // Under another order the oldest is next.
+    let oldest = "taken 10 7 0 => record 0: connection 7 is taken, but connection 2 is lent next";
+    let head = ("oldest", 3, 1, 2, 2);
+    each_is_said(&rt, head, |it| (BASE, it, COUNTS), ("", oldest))
 }
 
 #[test]
 fn what_is_wrong_with_the_counts(rt: HostRuntime) -> Result<(), Fail> {
-    let (other, stranger) = (
-        "idle[0] is connection 7, but the records come to connection 2",
-        "lent[0] is connection 5, but the records come to connection 4",
-    );
-    for (records, counts, wanted) in [
-        (
-            "",
-            ("2", "4", 3, 0, false),
-            "1 is idle, but the records come to 2",
-        ),
-        ("", ("7,2", "4", 3, 0, false), other),
-        (
-            "",
-            ("2,7", "4,5", 3, 0, false),
-            "2 are lent, but the records come to 1",
-        ),
-        ("", ("2,7", "5", 3, 0, false), stranger),
-        (
-            "",
-            ("2,7", "4", 4, 0, false),
-            "4 are connected, but the records come to 3",
-        ),
-        (
-            "",
-            ("2,7", "4", 3, 2, false),
-            "2 are pending, but the records come to 0",
-        ),
-        (
-            "",
-            ("2,7", "4", 3, 0, true),
-            "it is closed, but by the records it is open",
-        ),
-        (
-            "closed_all 10",
-            ("", "4", 1, 0, false),
-            "it is open, but by the records it is closed",
-        ),
-    ] {
-        let said = said(rt.alloc(), HEAD, BASE, records, counts)?;
-        assert_eq!(rt;
-            said.as_str().strip_prefix("the counts: "),
-            Some(wanted),
-            "{counts:?}"
-        );
-    }
-    Ok(())
+    let table = "
+        2 4 3 0 => 1 is idle, but the records come to 2
+        7,2 4 3 0 => idle[0] is connection 7, but the records come to connection 2
+        2,7 4,5 3 0 => 2 are lent, but the records come to 1
+        2,7 5 3 0 => lent[0] is connection 5, but the records come to connection 4
+        2,7 4 4 0 => 4 are connected, but the records come to 3
+        2,7 4 3 2 => 2 are pending, but the records come to 0
+        2,7 4 3 0 closed => it is closed, but by the records it is open
+        - 4 1 0 | closed_all 10 => it is open, but by the records it is closed";
+    let parts = |front| (BASE, both(front).1, both(front).0);
+    each_is_said(&rt, HEAD, parts, ("the counts: ", table))
 }
 
 // A base without records, with so many lost, and counts that say the same.
 #[test]
 fn a_base_that_no_pool_begins_with(rt: HostRuntime) -> Result<(), Fail> {
     let making = "the base: lost is 0, so it is that of the making, but ";
-    let all = "[0,0],[1,0],[2,0],[3,0]";
-    let starved = "the counts: wanted are 1, and there is room, but idle has 0, and pending is 0";
-    for (lost, base, counts, wanted) in [
-        (
-            0,
-            ("", all, 4, 0, false),
-            ("", "0,1,2,3", 4, 0, false),
-            "lent has 4",
-        ),
-        (
-            9,
-            ("", all, 4, 0, false),
-            ("", "0,1,2,3", 4, 0, false),
-            "sound",
-        ),
-        (
-            0,
-            ("[3,0,0]", "", 1, 1, false),
-            ("3", "", 1, 1, false),
-            "idle has 1",
-        ),
-        (
-            0,
-            ("", "", 0, 2, false),
-            ("", "", 0, 2, false),
-            "pending is 2 where 1 are wanted",
-        ),
-        (
-            0,
-            ("", "", 0, 0, true),
-            ("", "", 0, 0, true),
-            "it is closed",
-        ),
-        (9, ("", "", 0, 0, true), ("", "", 0, 0, true), "sound"),
-        // It wants more and opens none.
-        (
-            9,
-            ("", "[8,0]", 1, 0, false),
-            ("", "8", 1, 0, false),
-            starved,
-        ),
-    ] {
-        let said = said(rt.alloc(), ("newest", 4, 1, lost), base, "", counts)?;
-        let said = said.as_str();
-        // Of the making nothing else is said.
-        assert_eq!(rt; said.starts_with(making), lost == 0, "{base:?}");
-        assert_eq!(rt;
-            said.strip_prefix(making).unwrap_or(said),
-            wanted,
-            "{base:?}"
-        );
-    }
-    Ok(())
+    let begun = "
+        - [0,0],[1,0],[2,0],[3,0] 4 0 | - 0,1,2,3 4 0 => lent has 4
+        [3,0,0] - 1 1 | 3 - 1 1 => idle has 1
+        - - 0 2 | - - 0 2 => pending is 2 where 1 are wanted
+        - - 0 0 closed | - - 0 0 closed => it is closed";
+    let parts = |front| (both(front).0, "", both(front).1);
+    each_is_said(&rt, ("newest", 4, 1, 0, 0), parts, (making, begun))?;
+    // The last one wants more and opens none.
+    let later = "
+        - [0,0],[1,0],[2,0],[3,0] 4 0 | - 0,1,2,3 4 0 => sound
+        - - 0 0 closed | - - 0 0 closed => sound
+        - [8,0] 1 0 | - 8 1 0 => \
+            the counts: wanted are 1, and there is room, but idle has 0, and pending is 0";
+    each_is_said(&rt, ("newest", 4, 1, 9, 9), parts, ("", later))
 }
 
 // It is said of the end, and not of the base, where one more was pending.
 #[test]
 fn a_starved_pool_is_told_as_it_ends(rt: HostRuntime) -> Result<(), Fail> {
-    let (base, counts) = (("", "[8,0]", 1, 1, false), ("9", "8", 2, 0, false));
-    let said = said(
-        rt.alloc(),
-        ("newest", 4, 2, 9),
-        base,
-        "admitted 11 9",
-        counts,
-    )?;
-    let starved = "the counts: wanted are 2, and there is room, but idle has 1, and pending is 0";
-    assert_eq!(rt; said.as_str(), starved);
-    Ok(())
+    let starved = "admitted 11 9 => \
+        the counts: wanted are 2, and there is room, but idle has 1, and pending is 0";
+    let parts = |it| ("- [8,0] 1 1", it, "9 8 2 0");
+    each_is_said(&rt, ("newest", 4, 2, 9, 9), parts, ("", starved))
 }
 
-// A pool of three that wants one idle: one was opened, lent and put back, and nothing was folded.
-const GOOD: &str = concat!(
-    "{'version':1,'limits':{'max_size':3,'min_idle':1,'max_lifetime':null,'idle_timeout':null,",
-    "'connection_timeout':9,'reap_every':9,'order':'newest_first'},",
-    "'base':{'at':5,'idle':[],'lent':[],'connections':0,'pending':1,'closed':false},",
-    "'records':[{'kind':'admitted','at':6,'id':0},{'kind':'taken','at':7,'id':0,'ordered':1},",
-    "{'kind':'kept','at':8,'id':0}],'lost':0,'takes':1,",
-    "'idle':[0],'lent':[],'connections':1,'pending':1,'closed':false}",
-);
-
+// A pool of three that wants one idle: one was opened, lent and put back.
 #[test]
 fn what_a_report_that_replays_may_still_lack(rt: HostRuntime) -> Result<(), Fail> {
-    for (change, wanted) in [
-        ("'lost':0,'takes':1", "sound"),
-        (
-            "'lost':0,'takes':0",
-            "the counts: takes is 0, but the records tell of 1",
-        ),
-        (
-            "'lost':0,'takes':2",
-            "the counts: takes is 2, but the records tell of 1",
-        ),
-        ("'lost':1,'takes':2", "sound"),
-        ("'lost':7,'takes':1", "sound"),
+    let records = "admitted 11 0; taken 12 0 1; kept 13 0";
+    let parts = ("- - 0 1", records, "0 - 1 1");
+    for (lost, takes, wanted) in [
+        (0, 1, "sound"),
+        (0, 0, "the counts: takes is 0, but the records tell of 1"),
+        (0, 2, "the counts: takes is 2, but the records tell of 1"),
+        (1, 2, "sound"),
+        (7, 1, "sound"),
     ] {
-        let text = GOOD.replace(rt.alloc(), "'lost':0,'takes':1", change)?;
-        let text = text.as_str().replace(rt.alloc(), "'", "\"")?;
-        let report = from_json(rt.alloc(), text.as_str())?;
-        let said = audit(rt.alloc(), &report)?.to_string(rt.alloc())?;
-        assert_eq!(rt; said.as_str(), wanted, "{change}");
+        let head = ("newest", 3, 1, lost, takes);
+        assert_eq!(rt; said(rt.alloc(), head, parts)?.as_str(), wanted, "{head:?}");
     }
     Ok(())
 }
 
-#[test]
-fn each_report_of_a_book_is_sound(rt: HostRuntime) -> Result<(), Fail> {
-    for seed in 0..60 {
-        let room = if seed % 3 == 0 { 1000 } else { seed as usize };
-        let report = seeded_report(rt.alloc(), seed, 120, room)?;
-        assert_eq!(rt; audit(rt.alloc(), &report)?, Verdict::Sound, "{seed}");
-        let text = to_json(rt.alloc(), &report)?;
-        let read = from_json(rt.alloc(), text.as_str())?;
-        assert_eq!(rt; audit(rt.alloc(), &read)?, Verdict::Sound, "{seed}");
+// Where the first number of the text from the place on begins, and where it ends.
+fn number_from(text: &str, from: usize) -> Option<(usize, usize)> {
+    let digits = |byte: &u8| byte.is_ascii_digit();
+    let begin = from + text[from..].bytes().position(|byte| digits(&byte))?;
+    let len = text[begin..].bytes().take_while(digits).count();
+    Some((begin, begin + len))
+}
+
+// The text with so much more in that number's place, or so much less.
+fn changed(
+    alloc: Global,
+    text: &str,
+    (begin, end): (usize, usize),
+    (more, less): (u128, u128),
+) -> Result<String, AllocError> {
+    let (front, back) = (&text[..begin], &text[end..]);
+    let number = text[begin..end].parse::<u128>().unwrap_or(0) + more;
+    format!(in alloc; "{front}{}{back}", number.saturating_sub(less))
+}
+
+fn taken(at: Duration, id: u64, ordered: u32) -> Record {
+    Record::Taken { at, id, ordered }
+}
+
+// The record as the reason would have it, where it says how.
+fn corrected(record: Record, reason: RecordReason) -> Option<Record> {
+    Some(match (record, reason) {
+        (Record::Taken { at, id, .. }, Ordered { due, .. }) => taken(at, id, due),
+        (Record::Taken { at, ordered, .. }, NotNext { next, .. }) => taken(at, next, ordered),
+        (Record::Closed { at, id, .. }, Ordered { due: ordered, .. }) => {
+            Record::Closed { at, id, ordered }
+        }
+        (Record::Reaped { at, .. }, Ordered { due: ordered, .. }) if ordered > 0 => {
+            Record::Reaped { at, ordered }
+        }
+        _ => return None,
+    })
+}
+
+// Whether the verdict is past the reason at that place.
+fn is_past(verdict: Verdict, place: usize, reason: RecordReason) -> bool {
+    match (verdict, reason) {
+        (Verdict::Record { place: at, reason }, NotNext { .. }) => {
+            at > place || at == place && matches!(reason, Ordered { .. })
+        }
+        (Verdict::Record { place: at, .. }, _) => at > place,
+        (verdict, _) => !matches!(verdict, Verdict::Base(_)),
     }
+}
+
+// Whether a record is past its reason once it is as the reason would have it; None where no record
+// of the text is wrong, or its reason does not say how it should be.
+fn is_true(alloc: Global, text: &str) -> Result<Option<bool>, Fail> {
+    let Ok(mut report) = from_json(alloc, text) else {
+        return Ok(None);
+    };
+    let Verdict::Record { place, reason } = audit(alloc, &report)? else {
+        return Ok(None);
+    };
+    let Some(right) = corrected(report.records[place], reason) else {
+        return Ok(None);
+    };
+    report.records[place] = right;
+    Ok(Some(is_past(audit(alloc, &report)?, place, reason)))
+}
+
+// How many changes of the text could be corrected.
+fn corrections<R: AllocGlobal + Abort>(rt: &R, text: &str) -> Result<u32, Fail> {
+    let (mut from, mut count) = (0, 0);
+    while let Some(number) = number_from(text, from) {
+        for change in [(1, 0), (0, 1)] {
+            let changed = changed(rt.alloc(), text, number, change)?;
+            let is_true = is_true(rt.alloc(), changed.as_str())?;
+            assert!(rt; is_true != Some(false), "{changed}");
+            count += u32::from(is_true.is_some());
+        }
+        from = number.1;
+    }
+    Ok(count)
+}
+
+#[test]
+fn what_is_said_of_each_change_is_true(rt: HostRuntime) -> Result<(), Fail> {
+    let mut count = 0;
+    for seed in 0..12 {
+        for room in [0usize, 4, 100] {
+            let report = seeded(rt.alloc(), seed, 50, room)?;
+            count += corrections(&rt, to_json(rt.alloc(), &report)?.as_str())?;
+        }
+    }
+    assert!(rt; count > 100, "{count} corrected");
     Ok(())
 }

@@ -2,47 +2,41 @@
 
 use crate::books::Deed::{Break, Close, Keep, Open, Reap, Take};
 use crate::books::{Driven, below, ms, random_report};
-use pool_reports::story::{
-    Cause, Coming, Counts, Ending, Life, Story, Stretch, Use, story_to_json,
-};
+use pool_reports::story::{Cause, Coming, Counts, Life, Story, Use, story_to_json};
 use r2d2_core::Report;
 use rand_core::SeedableRng;
 use rand_pcg::Pcg32;
-use std::alloc::{AllocError, Global};
 use std::test::Fail;
 use std::time::Duration;
 
 // Whether these connections are still idle, or lent, whatever their order.
-fn are_still(alloc: Global, story: &Story, what: Use, ids: &[u64]) -> Result<bool, AllocError> {
-    let still = story.lives.iter().filter(|life| life.is_still(what));
-    let mut still: Vec<u64> = still.map(|life| life.id).collect(alloc)?;
-    let mut ids = Vec::from_slice(alloc, ids)?;
-    still.sort_unstable();
-    ids.sort_unstable();
-    Ok(still == ids)
+fn are_still(story: &Story, what: Use, ids: &[u64]) -> bool {
+    let mut still = story.lives.iter().filter(|life| life.is_still(what));
+    let count = story
+        .lives
+        .iter()
+        .filter(|life| life.is_still(what))
+        .count();
+    count == ids.len() && still.all(|life| ids.contains(&life.id))
 }
 
 // Whether the story ends with what the report shows.
-fn ends_as(alloc: Global, story: &Story, report: &Report) -> Result<bool, AllocError> {
-    let lent = u32::try_from(report.lent.len()).unwrap_or(u32::MAX);
-    let is_full = lent.saturating_add(report.pending) >= report.limits.max_size();
+fn ends_as(story: &Story, report: &Report) -> bool {
+    let is_full = report.lent.len() as u32 + report.pending >= report.limits.max_size();
     let counts = Counts {
         at: story.to,
-        idle: u32::try_from(report.idle.len()).unwrap_or(u32::MAX),
+        idle: report.idle.len() as u32,
         connections: report.connections,
         pending: report.pending,
         is_exhausted: is_full && !report.closed,
     };
-    Ok(
-        are_still(alloc, story, Use::Idle, report.idle.as_slice())?
-            && are_still(alloc, story, Use::Lent, report.lent.as_slice())?
-            && story.last_counts() == Some(counts)
-            && story.closed == report.closed,
-    )
+    are_still(story, Use::Idle, report.idle.as_slice())
+        && are_still(story, Use::Lent, report.lent.as_slice())
+        && story.last_counts() == Some(counts)
+        && story.closed == report.closed
 }
 
-// Whether a connection's stretches follow one another from its birth to its end, and change each
-// time.
+// Whether a connection's stretches follow one another from birth to end, and change each time.
 fn is_whole(life: &Life, to: Duration) -> bool {
     let mut at = life.birth;
     let mut what = None;
@@ -54,13 +48,9 @@ fn is_whole(life: &Life, to: Duration) -> bool {
         if !follows || stretch.from < at || stretch.to < stretch.from {
             return false;
         }
-        at = stretch.to;
-        what = Some(stretch.what);
+        (at, what) = (stretch.to, Some(stretch.what));
     }
-    match life.ending {
-        Some(ending) => at == ending.at,
-        None => at == to,
-    }
+    at == life.ending.map_or(to, |ending| ending.at)
 }
 
 #[test]
@@ -71,11 +61,11 @@ fn each_story_ends_as_its_report(rt: HostRuntime) -> Result<(), Fail> {
         for room in [0usize, 1, 9, 300] {
             let report = random_report(alloc, &mut rng, 0, 200, room)?;
             let story = Story::of(alloc, &report, None)?;
-            assert!(rt; ends_as(alloc, &story, &report)?, "{seed} at {room}");
+            assert!(rt; ends_as(&story, &report), "{seed} at {room}");
             for life in story.lives.iter() {
                 assert!(rt; is_whole(life, story.to), "{seed} at {room}: {}", life.id);
             }
-            assert_eq!(rt; story.counts.len(), report.records.len().saturating_add(1));
+            assert_eq!(rt; story.counts.len(), report.records.len() + 1);
         }
     }
     Ok(())
@@ -84,9 +74,9 @@ fn each_story_ends_as_its_report(rt: HostRuntime) -> Result<(), Fail> {
 // The report with two records exchanged and one left out, so that it mostly does not replay.
 fn garble(rng: &mut Pcg32, report: &mut Report) {
     let records = &mut report.records;
-    let count = u32::try_from(records.len()).unwrap_or(u32::MAX);
+    let count = records.len() as u32;
     let (one, other) = (below(rng, count) as usize, below(rng, count) as usize);
-    if one < records.len() && other < records.len() {
+    if count > 0 {
         records.swap(one, other);
         records.remove(one);
     }
@@ -100,9 +90,7 @@ fn a_report_that_does_not_replay_is_told_as_far_as_it_goes(rt: HostRuntime) -> R
         let mut rng = Pcg32::seed_from_u64(seed);
         let mut report = random_report(alloc, &mut rng, 0, 200, 50)?;
         garble(&mut rng, &mut report);
-        if !report.replays()? {
-            strange = strange.saturating_add(1);
-        }
+        strange += u32::from(!report.replays()?);
         let story = Story::of(alloc, &report, None)?;
         for life in story.lives.iter() {
             assert!(rt; is_whole(life, story.to), "{seed}: {}", life.id);
@@ -113,20 +101,7 @@ fn a_report_that_does_not_replay_is_told_as_far_as_it_goes(rt: HostRuntime) -> R
     Ok(())
 }
 
-fn stretch(what: Use, from: u64, to: u64) -> Stretch {
-    Stretch {
-        what,
-        from: ms(from),
-        to: ms(to),
-    }
-}
-
-fn ended(at: u64, cause: Cause) -> Option<Ending> {
-    Some(Ending { at: ms(at), cause })
-}
-
-// Two connections come in; the newer one is lent and kept, and lent and closed; a reap closes the
-// other.
+// Of two the newer one is lent and kept, and lent and closed; a reap closes the other one.
 #[test]
 fn tells_what_became_of_each(rt: HostRuntime) -> Result<(), Fail> {
     let alloc = rt.alloc();
@@ -134,32 +109,20 @@ fn tells_what_became_of_each(rt: HostRuntime) -> Result<(), Fail> {
     let mut driven = Driven::of(alloc, (2, 1, None, Some(100)), 100, &coming)?;
     driven.go_on(&[Reap(130), Open(140), Close])?;
     let story = Story::of(alloc, &driven.report()?, None)?;
-    assert_eq!(rt;
-        (story.from, story.to, story.length()),
-        (ms(0), ms(140), ms(140))
-    );
-    assert_eq!(rt; (story.closed, story.closing), (true, Some(ms(140))));
-    assert_eq!(rt; story.lives.len(), 3);
+    let (begin, end) = (ms(0), ms(140));
+    assert_eq!(rt; (story.from, story.to, story.length()), (begin, end, end));
+    assert_eq!(rt; (story.closed, story.closing), (true, Some(end)));
     let first = &story.lives[0];
-    assert_eq!(rt;
-        (first.id, first.birth, first.coming),
-        (0, ms(10), Coming::Admitted)
-    );
-    let stretches = [
-        stretch(Use::Idle, 10, 20),
-        stretch(Use::Lent, 20, 40),
-        stretch(Use::Idle, 40, 50),
-        stretch(Use::Lent, 50, 60),
-    ];
-    assert_eq!(rt; first.stretches.as_slice(), &stretches[..]);
-    let ends = [
-        ended(60, Cause::Closed),
-        ended(130, Cause::Reaped),
-        ended(140, Cause::ClosedAll),
-    ];
-    for (life, end) in story.lives.iter().zip(ends.iter()) {
-        assert_eq!(rt; life.ending, *end);
-    }
+    let birth = (first.id, first.birth, first.coming);
+    assert_eq!(rt; birth, (0, ms(10), Coming::Admitted));
+    let uses = first.stretches.iter().map(|it| (it.what, it.from, it.to));
+    let uses: Vec<(Use, Duration, Duration)> = uses.collect(alloc)?;
+    let ends = story.lives.iter().flat_map(|life| life.ending);
+    let ends: Vec<(Cause, Duration)> = ends.map(|it| (it.cause, it.at)).collect(alloc)?;
+    let text = format!(in alloc; "{uses:?} {ends:?}")?;
+    let told = "[(Idle, 10ms, 20ms), (Lent, 20ms, 40ms), (Idle, 40ms, 50ms), (Lent, 50ms, 60ms)] \
+        [(Closed, 60ms), (Reaped, 130ms), (ClosedAll, 140ms)]";
+    assert_eq!(rt; (text.as_str(), story.lives.len()), (told, 3));
     Ok(())
 }
 
@@ -191,8 +154,7 @@ fn the_oldest_lanes_are_left_out(rt: HostRuntime) -> Result<(), Fail> {
     for turn in 0..1003 {
         driven.go_on(&[Open(turn * 10), Take(turn * 10 + 1), Break(turn * 10 + 2)])?;
     }
-    let report = driven.report()?;
-    let text = story_to_json(alloc, &report, None)?;
+    let text = story_to_json(alloc, &driven.report()?, None)?;
     assert!(rt; text.as_str().contains(r#""lanes":[{"id":3,"#));
     assert!(rt; text.as_str().ends_with(r#""left_out":3}"#));
     Ok(())

@@ -1,10 +1,8 @@
 // The text of a report: as a reader of the documents expects it, and what is read from it again.
 
-use crate::books::{ms, seeded_report};
-use pool_reports::{
-    Origin, PoolStatus, Waits, from_json, from_json_of_pool, to_json, to_json_of_pool,
-};
-use r2d2_core::{Base, Book, LendingOrder, LimitSettings, Record, Report};
+use crate::books::{limits, met, ms, seeded};
+use pool_reports::{Origin, Waits, from_json, from_json_of_pool, to_json, to_json_of_pool};
+use r2d2_core::{Book, LendingOrder, Report};
 use std::alloc::{AllocError, Global};
 use std::test::Fail;
 use std::time::{Duration, SystemTime};
@@ -22,16 +20,10 @@ const TEXT: &str = concat!(
 
 #[test]
 fn a_report_has_this_text(rt: HostRuntime) -> Result<(), Fail> {
-    let limits = LimitSettings {
-        max_size: 2,
-        min_idle: None,
-        max_lifetime: Some(ms(60_000)),
-        idle_timeout: None,
-        connection_timeout: ms(30_000),
-        reap_every: Duration::MAX,
-        order: LendingOrder::OldestFirst,
-    };
-    let limits = limits.limits().ok_or("limits")?;
+    let limits = limits(|it| {
+        (it.max_size, it.max_lifetime) = (2, Some(ms(60_000)));
+        (it.reap_every, it.order) = (Duration::MAX, LendingOrder::OldestFirst);
+    })?;
     let mut book = Book::new(rt.alloc(), limits, Duration::ZERO, 2)?;
     book.begin(Duration::ZERO);
     let id = book.number(0).ok().ok_or("number")?;
@@ -58,110 +50,68 @@ fn a_text_may_be_laid_out_otherwise(rt: HostRuntime) -> Result<(), Fail> {
     Ok(())
 }
 
-// The numbers of a report, those of its limits and of its base among them.
-fn numbers(alloc: Global, it: &Report) -> Result<String, AllocError> {
-    let base = (
-        it.base.at,
-        it.base.connections,
-        it.base.pending,
-        it.base.closed,
-    );
-    let its = (it.lost, it.takes, it.connections, it.pending, it.closed);
-    format!(in alloc; "{:?} {base:?} {its:?}", it.limits)
-}
-
-fn are_same(alloc: Global, a: &Report, b: &Report) -> Result<bool, AllocError> {
-    Ok(
-        numbers(alloc, a)? == numbers(alloc, b)?
-            && a.base.idle == b.base.idle
-            && a.base.lent == b.base.lent
-            && a.records.as_slice() == b.records.as_slice()
-            && a.idle == b.idle
-            && a.lent == b.lent,
-    )
+// All that a report says.
+fn shown(alloc: Global, it: &Report) -> Result<String, AllocError> {
+    let base = &it.base;
+    let begin = (base.at, base.connections, base.pending, base.closed);
+    let numbers = (it.lost, it.takes, it.connections, it.pending, it.closed);
+    let mut text = format!(in alloc; "{:?} {begin:?} {numbers:?}", it.limits)?;
+    write!(text, "{:?} {:?} {:?}", base.idle, base.lent, it.records)?;
+    write!(text, "{:?} {:?}", it.idle, it.lent)?;
+    Ok(text)
 }
 
 // Whether the report and its origin are what is read from their text, which is one line.
 fn goes_round(alloc: Global, report: &Report, origin: Origin<'_>) -> Result<bool, Fail> {
     let text = to_json_of_pool(alloc, report, origin)?;
     let read = from_json_of_pool(alloc, text.as_str())?;
-    let is_line = !text.as_str().contains('\n');
-    Ok(is_line && read.origin() == origin && are_same(alloc, report, &read.report)?)
+    let is_same = shown(alloc, report)? == shown(alloc, &read.report)?;
+    Ok(is_same && read.origin() == origin && !text.as_str().contains('\n'))
 }
 
 #[test]
 fn reports_at_random_go_round(rt: HostRuntime) -> Result<(), Fail> {
-    let alloc = rt.alloc();
     for seed in 0..200 {
         for room in [0usize, 3, 200] {
-            let report = seeded_report(alloc, seed, 60, room)?;
-            assert!(rt;
-                goes_round(alloc, &report, Origin::unknown())?,
-                "{seed} at {room}"
-            );
+            let report = seeded(rt.alloc(), seed, 60, room)?;
+            let goes = goes_round(rt.alloc(), &report, Origin::unknown())?;
+            assert!(rt; goes, "{seed} at {room}");
         }
     }
     Ok(())
 }
 
-// A report of each kind of record, each field at its greatest. No pool makes it.
-fn greatest(alloc: Global) -> Result<Report, Fail> {
-    let (at, id, ordered) = (Duration::MAX, u64::MAX, u32::MAX);
-    let limits = LimitSettings {
-        max_size: ordered,
-        min_idle: Some(ordered),
-        max_lifetime: Some(at),
-        idle_timeout: Some(at),
-        connection_timeout: at,
-        reap_every: at,
-        order: LendingOrder::NewestFirst,
-    };
-    let records = [
-        Record::Taken { at, id, ordered },
-        Record::Ordered { at, ordered },
-        Record::Admitted { at, id },
-        Record::Kept { at, id },
-        Record::Closed { at, id, ordered },
-        Record::Reaped { at, ordered },
-        Record::ClosedAll { at },
-    ];
-    let idle = Vec::from_array(alloc, [(id, at, at), (0, at, at)])?;
-    let lent = Vec::from_array(alloc, [(id, at), (0, at)])?;
-    Ok(Report {
-        limits: limits.limits().ok_or("limits")?,
-        base: Base {
-            at,
-            idle,
-            lent,
-            connections: ordered,
-            pending: ordered,
-            closed: true,
-        },
-        records: Vec::from_array(alloc, records)?,
-        lost: id,
-        takes: id,
-        idle: Vec::from_array(alloc, [id, 0])?,
-        lent: Vec::from_array(alloc, [0, id])?,
-        connections: ordered,
-        pending: ordered,
-        closed: true,
-    })
-}
+// A report of each kind of record, each field at its greatest. No pool makes it. I stands for the
+// greatest id, N for the greatest number of connections, and T for the greatest moment.
+const GREATEST: &str = concat!(
+    r#"{"version":1,"limits":{"max_size":N,"min_idle":N,"max_lifetime":T,"idle_timeout":T,"#,
+    r#""connection_timeout":T,"reap_every":T,"order":"newest_first"},"base":{"at":BASE,"#,
+    r#""idle":[[I,T,T],[0,T,T]],"lent":[[I,T],[0,T]],"connections":N,"pending":N,"closed":true},"#,
+    r#""records":[{"kind":"taken","at":T,"id":I,"ordered":N},"#,
+    r#"{"kind":"ordered","at":T,"ordered":N},{"kind":"admitted","at":T,"id":I},"#,
+    r#"{"kind":"kept","at":T,"id":I},{"kind":"closed","at":T,"id":I,"ordered":N},"#,
+    r#"{"kind":"reaped","at":T,"ordered":N},{"kind":"closed_all","at":T}],"#,
+    r#""lost":I,"takes":I,"idle":[I,0],"lent":[0,I],"connections":N,"pending":N,"closed":true}"#,
+);
 
 // So do moments round the nanoseconds up to which a number is written.
 #[test]
 fn the_greatest_numbers_go_round(rt: HostRuntime) -> Result<(), Fail> {
-    let alloc = rt.alloc();
-    let edge = Duration::from_nanos(u64::MAX);
-    let nano = Duration::from_nanos(1);
-    for at in [
-        Duration::MAX,
-        edge.saturating_sub(nano),
-        edge,
-        edge.saturating_add(nano),
+    let (alloc, edge) = (rt.alloc(), Duration::from_nanos(u64::MAX));
+    let (nano, longest) = (Duration::from_nanos(1), "\"18446744073709551615999999999\"");
+    for (at, shown) in [
+        (Duration::MAX, longest),
+        (edge.saturating_sub(nano), "18446744073709551614"),
+        (edge, "18446744073709551615"),
+        (edge.saturating_add(nano), "\"18446744073709551616\""),
     ] {
-        let mut report = greatest(alloc)?;
-        report.base.at = at;
+        let text = GREATEST.replace(alloc, "BASE", shown)?;
+        let text = text.as_str().replace(alloc, "T", longest)?;
+        let text = text.as_str().replace(alloc, "N", "4294967295")?;
+        let text = text.as_str().replace(alloc, "I", "18446744073709551615")?;
+        let report = from_json(alloc, text.as_str())?;
+        assert_eq!(rt; (report.base.at, report.takes), (at, u64::MAX));
+        assert_eq!(rt; to_json(alloc, &report)?.as_str(), text.as_str());
         assert!(rt; goes_round(alloc, &report, Origin::unknown())?, "{at:?}");
     }
     Ok(())
@@ -170,7 +120,7 @@ fn the_greatest_numbers_go_round(rt: HostRuntime) -> Result<(), Fail> {
 #[test]
 fn the_wall_clock_goes_round(rt: HostRuntime) -> Result<(), Fail> {
     let alloc = rt.alloc();
-    let report = seeded_report(alloc, 3, 40, 10)?;
+    let report = seeded(alloc, 3, 40, 10)?;
     let plain = to_json(alloc, &report)?;
     for (seconds, text) in [
         (0, "\"made_at\":\"1970-01-01T00:00:00Z\","),
@@ -179,18 +129,13 @@ fn the_wall_clock_goes_round(rt: HostRuntime) -> Result<(), Fail> {
         // It is above all that can be said.
         (253_402_300_800, ""),
     ] {
-        let made_at = SystemTime::UNIX_EPOCH.checked_add(Duration::from_secs(seconds));
-        let origin = Origin {
-            made_at,
-            ..Origin::unknown()
-        };
+        let mut origin = Origin::unknown();
+        origin.made_at = SystemTime::UNIX_EPOCH.checked_add(Duration::from_secs(seconds));
         let written = to_json_of_pool(alloc, &report, origin)?;
-        let (front, back) = written.as_str().split_once(text).ok_or("made_at")?;
-        assert_eq!(rt;
-            format!(in alloc; "{front}{back}")?.as_str(),
-            plain.as_str()
-        );
-        assert_eq!(rt; goes_round(alloc, &report, origin)?, !text.is_empty());
+        let without = written.as_str().replacen(alloc, text, "", 1)?;
+        assert_eq!(rt; without.as_str(), plain.as_str(), "{text}");
+        let goes = goes_round(alloc, &report, origin)?;
+        assert_eq!(rt; goes, !text.is_empty(), "{text}");
         let read = from_json(alloc, written.as_str())?;
         assert_eq!(rt; to_json(alloc, &read)?.as_str(), plain.as_str());
     }
@@ -200,39 +145,23 @@ fn the_wall_clock_goes_round(rt: HostRuntime) -> Result<(), Fail> {
 // So do what callers met, the latest error, and since when connections are lent.
 #[test]
 fn what_callers_met_goes_round(rt: HostRuntime) -> Result<(), Fail> {
-    let alloc = rt.alloc();
-    let report = seeded_report(alloc, 3, 40, 10)?;
-    let bare = PoolStatus {
-        connection_timeout: ms(1),
-        waiting: u64::MAX,
-        waiting_since: None,
-        timeouts: 1,
-        refused: 2,
-        failed_openings: 3,
-        failed_checks: 4,
-        latest_failure: None,
-        waits: None,
-    };
-    let full = PoolStatus {
-        waiting_since: Some(Duration::MAX),
-        latest_failure: Some(ms(5)),
-        waits: Some(Waits {
-            bound: Duration::MAX,
-            longer: 6,
-            all: u64::MAX,
-        }),
-        ..bare
-    };
+    let report = seeded(rt.alloc(), 3, 40, 10)?;
+    let bare = met(|it| {
+        (it.connection_timeout, it.waiting) = (ms(1), u64::MAX);
+        (it.timeouts, it.refused) = (1, 2);
+        (it.failed_openings, it.failed_checks) = (3, 4);
+    });
+    let mut full = bare;
+    (full.waiting_since, full.latest_failure) = (Some(Duration::MAX), Some(ms(5)));
+    let (bound, longer, all) = (Duration::MAX, 6, u64::MAX);
+    full.waits = Some(Waits { bound, longer, all });
     let loans = [(u64::MAX, ms(7)), (0, Duration::MAX)];
+    let error = Origin::unknown().with_error("no\n\"route\"");
     for status in [bare, full] {
         for loans in [&loans[..], &[]] {
-            let origin = Origin::unknown()
-                .with_status(status)
-                .with_error("no\n\"route\"");
-            assert!(rt;
-                goes_round(alloc, &report, origin.with_loans(loans))?,
-                "{status:?}"
-            );
+            let origin = error.with_status(status).with_loans(loans);
+            let goes = goes_round(rt.alloc(), &report, origin)?;
+            assert!(rt; goes, "{origin:?}");
         }
     }
     Ok(())
@@ -241,25 +170,15 @@ fn what_callers_met_goes_round(rt: HostRuntime) -> Result<(), Fail> {
 // The name of a pool and the moment of a report go round, whatever they are.
 #[test]
 fn the_origin_goes_round(rt: HostRuntime) -> Result<(), Fail> {
-    let alloc = rt.alloc();
-    let report = seeded_report(alloc, 3, 40, 10)?;
+    let report = seeded(rt.alloc(), 3, 40, 10)?;
+    let made_at = SystemTime::UNIX_EPOCH.checked_add(ms(100));
     for name in ["orders", "", "a\"b\\c\n\u{e9}{", "\"records\":["] {
         for at in [Duration::ZERO, ms(7), Duration::MAX] {
-            let made_at = SystemTime::UNIX_EPOCH.checked_add(ms(100));
-            let origin = Origin::at(made_at, at).named(name);
+            let mut origin = Origin::at(made_at, at).named(name);
             let its = (origin.name, origin.made_at, origin.reported_at);
             assert_eq!(rt; its, (Some(name), made_at, Some(at)));
-            assert!(rt;
-                goes_round(
-                    alloc,
-                    &report,
-                    Origin {
-                        made_at: None,
-                        ..origin
-                    }
-                )?,
-                "{name}"
-            );
+            origin.made_at = None;
+            assert!(rt; goes_round(rt.alloc(), &report, origin)?, "{name}");
         }
     }
     Ok(())
