@@ -2,33 +2,15 @@
 
 use crate::kinds::{ALL, Pool, Settings, THREADS};
 use crate::measured::measured;
-use crate::printing::CLOSED;
 use crate::world::{Host, World, on_each};
-use pool_metrics::Closings;
-use r2d2::event::ReleaseReason;
 use r2d2::event::ReleaseReason::{
-    Broken, CheckFailed, Detached, Distrusted, Evicted, Idle, Lifetime, PoolClosed,
+    self, Broken, CheckFailed, Detached, Distrusted, Evicted, Idle, Lifetime, PoolClosed,
 };
+use std::process::Abort;
 use std::test::Fail;
 
-#[test]
-fn each_count_is_that_of_its_reason(rt: HostRuntime) {
-    let first = [Broken, CheckFailed, Distrusted, Lifetime];
-    let others = [Idle, Evicted, Detached, PoolClosed];
-    for (reason, count) in first.iter().chain(others.iter()).zip(1..) {
-        assert_eq!(rt; CLOSED.count(*reason), count);
-    }
-    assert_eq!(rt; CLOSED.total(), 36);
-    let many = Closings {
-        broken: u64::MAX,
-        ..CLOSED
-    };
-    assert_eq!(rt; many.total(), u64::MAX);
-}
-
-// From a pool of so many connections with these settings, in a world like this one, so many leave
-// for these reasons once this is done.
-fn leave<R: Host, F: FnOnce(&mut Settings), D: FnOnce(&Pool<R>) -> Result<(), Fail>>(
+// From a pool of so many, with these settings, so many leave for these reasons once this is done.
+fn leave<R: Host + Abort, F: FnOnce(&mut Settings), D: FnOnce(&Pool<R>) -> Result<(), Fail>>(
     rt: R,
     like: &World,
     (size, set): (u32, F),
@@ -45,11 +27,10 @@ fn leave<R: Host, F: FnOnce(&mut Settings), D: FnOnce(&Pool<R>) -> Result<(), Fa
     });
     let seen = metrics.snapshot();
     let are_so = reasons.iter().all(|it| seen.closed.count(it.0) == it.1);
-    if are_so && (seen.closed.total(), seen.ages.count()) == (total, total) {
-        return Ok(());
-    }
-    println!(like.rt; "{:?}", seen.closed).ok();
-    Err(Fail::from("others left, or for other reasons"))
+    assert!(rt; are_so, "{reasons:?}: {:?}", seen.closed);
+    let all = (seen.closed.total(), seen.ages.count());
+    assert_eq!(rt; all, (total, total), "{reasons:?}");
+    Ok(())
 }
 
 // One is lent and comes back at 100 s.
@@ -75,10 +56,7 @@ fn loses_its_server<R: Host>(pool: &Pool<R>) -> Result<(), Fail> {
     }
     pool.world.checks.goes("-*");
     pool.world.connects.goes("-*");
-    if pool.finds_none() {
-        return Ok(());
-    }
-    Err(Fail::from("a connection"))
+    Ok(pool.finds_none().then_some(()).ok_or("a connection")?)
 }
 
 // One comes back after the close.
@@ -113,13 +91,8 @@ fn what_is_idle_has_its_reason(rt: HostRuntime) -> Result<(), Fail> {
     let distrust = |own: &mut Settings| own.distrust_idle = true;
     let distrusted = [(CheckFailed, 1), (Distrusted, 2)];
     on_each(rt, &THREADS, |world| {
-        leave(
-            rt,
-            world,
-            (3, |_| {}),
-            loses_its_server,
-            &[(CheckFailed, 3)],
-        )?;
+        let failed = [(CheckFailed, 3)];
+        leave(rt, world, (3, |_| {}), loses_its_server, &failed)?;
         leave(rt, world, (3, distrust), loses_its_server, &distrusted)
     })
 }

@@ -4,7 +4,7 @@ use crate::kinds::{Calls, Kind, Lent, Pool, QUIET};
 use crate::measured::{Measure, measured, seconds};
 use crate::world::{Host, World, on_each};
 use pool_metrics::{report_of, status_of};
-use pool_reports::{PoolStatus, Waits, Written, from_json_of_pool};
+use pool_reports::{Written, from_json_of_pool};
 use r2d2::{Error, ErrorKind, NopErrorHandler, Observe, Status};
 use r2d2_core::Report;
 use std::process::Abort;
@@ -32,19 +32,7 @@ fn read<R: Host>(rt: R, pool: &Pool<R>, metrics: &Measure<R>) -> Result<Written,
     }
 }
 
-// So many calls fail at once, all in this way.
-fn fail<R: Host>(pool: &Pool<R>, count: u32, kind: ErrorKind) -> Result<(), Fail> {
-    for _ in 0..count {
-        match pool.get_within(0) {
-            Err(error) if error.kind() == kind => {}
-            _ => return Err(Fail::from("another answer")),
-        }
-    }
-    Ok(())
-}
-
-// Both connections are lent, at 1 s and 2 s. At 3 s three callers give up, one waits until 9 s, and
-// meanwhile two are refused.
+// Both are lent, at 1 s and 2 s. At 3 s three give up, one waits until 9 s, and two are refused.
 fn crowd<R: Host>(pool: &Pool<R>) -> Result<[Lent<R>; 2], Fail> {
     let world = pool.world;
     world.set(1);
@@ -52,16 +40,18 @@ fn crowd<R: Host>(pool: &Pool<R>) -> Result<[Lent<R>; 2], Fail> {
     world.set(2);
     let second = pool.get()?;
     world.set(3);
-    fail(pool, 3, ErrorKind::Timeout)?;
+    let fails = |kind| pool.get_within(0).is_err_and(|error| error.kind() == kind);
+    let are_late = (0..3).all(|_| fails(ErrorKind::Timeout));
     let waiting = pool.begin(LONG)?;
-    fail(pool, 2, ErrorKind::Full)?;
+    if !are_late || !(0..2).all(|_| fails(ErrorKind::Full)) {
+        return Err(Fail::from("another answer"));
+    }
     world.set(9);
     drop(first);
     Ok([pool.end(waiting)??, second])
 }
 
-// At 12 s the server is gone: the check of what came back fails, and so does an opening. At 15 s it
-// is there again.
+// At 12 s the server is gone: a check of what came back fails, and an opening. At 15 s it is back.
 fn outage<R: Host>(pool: &Pool<R>, lent: Lent<R>) -> Result<(), Fail> {
     let world = pool.world;
     world.set(12);
@@ -100,49 +90,28 @@ fn says_all<R: Host + Abort>(rt: R, world: &'static World) -> Result<(), Fail> {
     assert_eq!(rt; said.latest_error.as_deref(), Some("connect 2"));
     let loans = [(second.id(), seconds(2)), (third.id(), seconds(16))];
     assert_eq!(rt; said.loans.as_slice(), loans.as_slice());
-    assert_eq!(rt; said.status, Some(met()));
+    let met = format!(in rt.alloc(); "{:?}", said.status.ok_or("a status")?)?;
+    assert_eq!(rt; met.as_str(), MET);
     let (report, journal) = (&said.report, pool.journal()?);
-    let timeout = report.limits.connection_timeout();
-    assert_eq!(rt; timeout, Duration::from_millis(200));
+    let timeout = report.limits.connection_timeout().as_millis();
+    assert_eq!(rt; (timeout, report.takes), (200, 5));
     assert_eq!(rt; report.records.as_slice(), journal.records.as_slice());
     let lent = [second.id(), third.id()];
-    assert_eq!(rt;
-        (report.takes, report.lent.as_slice()),
-        (5, lent.as_slice())
-    );
+    assert_eq!(rt; report.lent.as_slice(), lent.as_slice());
     drop(third);
     assert!(rt; pool.end(waiting)?.is_ok());
     Ok(())
 }
 
 // What callers met by then. Of the four that were lent a connection one waited from 3 s to 9 s.
-fn met() -> PoolStatus {
-    PoolStatus {
-        connection_timeout: seconds(2),
-        waiting: 1,
-        waiting_since: Some(seconds(16)),
-        timeouts: 3,
-        refused: 2,
-        failed_openings: 1,
-        failed_checks: 1,
-        latest_failure: Some(seconds(12)),
-        waits: Some(Waits {
-            bound: seconds(1),
-            longer: 1,
-            all: 4,
-        }),
-    }
-}
+const MET: &str = "PoolStatus { connection_timeout: 2s, waiting: 1, waiting_since: Some(16s), \
+    timeouts: 3, refused: 2, failed_openings: 1, failed_checks: 1, latest_failure: Some(12s), \
+    waits: Some(Waits { bound: 1s, longer: 1, all: 4 }) }";
 
 #[test]
 fn the_line_says_what_callers_met(rt: HostRuntime) -> Result<(), Fail> {
-    let kinds = [Kind::Limited, Kind::Counted, Kind::Polled];
+    let kinds = [Kind::Limited, Kind::Counted, Kind::Polled, Kind::InLine];
     on_each(rt, &kinds, |world| says_all(rt, world))
-}
-
-#[test]
-fn so_it_does_where_they_stand_in_line(rt: HostRuntime) -> Result<(), Fail> {
-    on_each(rt, &[Kind::InLine], |world| says_all(rt, world))
 }
 
 // Nothing failed yet, and nobody hears of errors.
@@ -211,12 +180,8 @@ fn no_less_is_said_than_happened(rt: HostRuntime) -> Result<(), Fail> {
         world.set(1);
         let lent = pool.get()?;
         world.set(5);
-        let timeout = pool.connection_timeout();
-        let busy = Busy {
-            pool: &pool,
-            timeout,
-        };
-        let said = read_of(rt, &busy, &metrics)?;
+        let (timeout, pool) = (pool.connection_timeout(), &pool);
+        let said = read_of(rt, &Busy { pool, timeout }, &metrics)?;
         assert_eq!(rt; said.reported_at, Some(seconds(7)));
         let last = said.report.records.as_slice().last().ok_or("a record")?;
         assert_eq!(rt; last.at(), seconds(6));

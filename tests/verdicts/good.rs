@@ -1,48 +1,33 @@
 // Pools of which nothing is to be said.
 
 use crate::kinds::Settings;
-use crate::service::{Call, Load, Service, world};
+use crate::service::{Call, Load, Service, first_of, world};
 use std::test::Fail;
 
+// A call at each second look, which waits for 30 s, and holds what it is lent for so long.
+fn load(tick: u64, holds: u64) -> Load {
+    (tick, 2, Call::of(30_000, holds))
+}
+
 // A call in each second, which holds half of eight connections.
-const STEADY: Load = Load {
-    tick: 500,
-    every: 2,
-    call: Call {
-        patience: 30_000,
-        holds: Some(4_000),
-        retries: 0,
-    },
-};
+fn steady() -> Load {
+    load(500, 4_000)
+}
 
 // At half of its size for an hour.
 #[test]
 fn well(rt: HostRuntime) -> Result<(), Fail> {
     let mut service = Service::new(rt, world(rt)?, (8, 150), |_| {})?;
-    for minute in 0..60 {
-        assert!(rt; service.after(STEADY, 60_000)?.is_well(), "{minute}");
-    }
-    Ok(())
+    service.says_each(("Well", 60), (steady(), 60_000))
 }
 
 // The same, where callers wait for no longer than a loan takes.
 #[test]
 fn well_with_little_patience(rt: HostRuntime) -> Result<(), Fail> {
-    let mut service = Service::new(rt, world(rt)?, (8, 150), |own| own.connection_timeout = 250)?;
-    let call = Call {
-        patience: 250,
-        ..Call::of(400)
-    };
-    let load = Load {
-        tick: 50,
-        every: 2,
-        call,
-    };
+    let patient = |own: &mut Settings| own.connection_timeout = 250;
+    let mut service = Service::new(rt, world(rt)?, (8, 150), patient)?;
     service.rest(50, 100)?;
-    for minute in 0..10 {
-        assert!(rt; service.after(load, 10_000)?.is_well(), "{minute}");
-    }
-    Ok(())
+    service.says_each(("Well", 10), ((50, 2, Call::of(250, 400)), 10_000))
 }
 
 // Sixteen calls within a third of a second for eight connections, then none for five minutes.
@@ -52,24 +37,10 @@ fn burst(rt: HostRuntime) -> Result<(), Fail> {
         let patient = |own: &mut Settings| own.connection_timeout = patience;
         let mut service = Service::new(rt, world(rt)?, (8, room), patient)?;
         service.rest(20, 40)?;
-        let call = Call {
-            patience,
-            ..Call::of(150)
-        };
-        let load = Load {
-            tick: 20,
-            every: 1,
-            call,
-        };
-        for milliseconds in [160, 160] {
-            assert!(rt;
-                service.after(load, milliseconds)?.is_well(),
-                "{room} {patience}"
-            );
-        }
+        service.says_each(("Well", 2), ((20, 1, Call::of(patience, 150)), 160))?;
         service.rest(20, 400)?;
-        for minute in 0..5 {
-            assert!(rt; service.report()?.is_well(), "{room} {patience} {minute}");
+        for _ in 0..5 {
+            service.says("Well")?;
             service.rest(1_000, 60_000)?;
         }
     }
@@ -86,7 +57,7 @@ fn short_retries(rt: HostRuntime) -> Result<(), Fail> {
     for minute in 0..20 {
         let opening = if minute % 3 == 2 { "8000~+*" } else { "5~+*" };
         service.world.connects.goes(opening);
-        assert!(rt; service.after(STEADY, 60_000)?.is_well(), "{minute}");
+        service.says_each(("Well", 1), (steady(), 60_000))?;
     }
     Ok(())
 }
@@ -98,8 +69,8 @@ fn a_start(rt: HostRuntime) -> Result<(), Fail> {
         let patient = |own: &mut Settings| own.connection_timeout = patience;
         let mut service = Service::new(rt, world(rt)?, (8, 100), patient)?;
         service.world.connects.goes("4000~+*");
-        for second in 0..12 {
-            assert!(rt; service.report()?.is_well(), "{patience} {second}");
+        for _ in 0..12 {
+            service.says("Well")?;
             service.rest(100, 1_000)?;
         }
     }
@@ -110,16 +81,11 @@ fn a_start(rt: HostRuntime) -> Result<(), Fail> {
 #[test]
 fn old_age(rt: HostRuntime) -> Result<(), Fail> {
     for jitter in [0, 10_000] {
-        let mut service = Service::new(rt, world(rt)?, (8, 400), |own| {
-            own.max_lifetime = Some(30_000);
-            own.lifetime_jitter = Some(jitter);
-        })?;
-        for minute in 0..10 {
-            assert!(rt;
-                service.after(STEADY, 60_000)?.is_well(),
-                "{jitter} {minute}"
-            );
-        }
+        let aged = |own: &mut Settings| {
+            (own.max_lifetime, own.lifetime_jitter) = (Some(30_000), Some(jitter));
+        };
+        let mut service = Service::new(rt, world(rt)?, (8, 400), aged)?;
+        service.says_each(("Well", 10), (steady(), 60_000))?;
     }
     Ok(())
 }
@@ -130,18 +96,12 @@ fn a_failed_check_after_a_restart(rt: HostRuntime) -> Result<(), Fail> {
     for (every, distrusts) in [(2, true), (2, false), (10, true), (10, false)] {
         let distrust = |own: &mut Settings| own.distrust_idle = distrusts;
         let mut service = Service::new(rt, world(rt)?, (8, 150), distrust)?;
-        let load = Load {
-            every,
-            call: Call::of(1_000),
-            ..STEADY
-        };
+        let load = (500, every, Call::of(30_000, 1_000));
         service.go_on(load, 60_000)?;
         service.rest(500, 3_000)?;
         service.world.lose_all();
-        for minute in 0..4 {
-            assert!(rt; service.report()?.is_well(), "{distrusts} {every} {minute}");
-            service.go_on(load, 60_000)?;
-        }
+        service.says("Well")?;
+        service.says_each(("Well", 3), (load, 60_000))?;
     }
     Ok(())
 }
@@ -150,17 +110,10 @@ fn a_failed_check_after_a_restart(rt: HostRuntime) -> Result<(), Fail> {
 #[test]
 fn moved(rt: HostRuntime) -> Result<(), Fail> {
     let mut service = Service::new(rt, world(rt)?, (8, 150), |_| {})?;
-    let mut load = STEADY;
-    load.call = Call::of(8_000);
-    service.go_on(load, 20_000)?;
-    service.evict()?;
-    load = STEADY;
-    load.every = 10;
-    for minute in 0..4 {
-        assert!(rt; service.report()?.is_well(), "{minute}");
-        service.go_on(load, 60_000)?;
-    }
-    Ok(())
+    service.go_on(load(500, 8_000), 20_000)?;
+    service.pool.evict()?;
+    service.says("Well")?;
+    service.says_each(("Well", 3), ((500, 10, Call::of(30_000, 4_000)), 60_000))
 }
 
 // Callers waited for more than ten of their twenty seconds, in the first minutes; later ones do not.
@@ -168,22 +121,13 @@ fn moved(rt: HostRuntime) -> Result<(), Fail> {
 fn recovered(rt: HostRuntime) -> Result<(), Fail> {
     let patient = |own: &mut Settings| own.connection_timeout = 20_000;
     let mut service = Service::new(rt, world(rt)?, (8, 40), patient)?;
-    let call = Call {
-        patience: 20_000,
-        ..Call::of(7_000)
-    };
     service.rest(500, 1_000)?;
-    service.call_all(24, call)?;
-    service.rest(500, 60_000)?;
+    service.crowd((24, Call::of(20_000, 7_000)), (500, 60_000))?;
     let said = service.report()?;
-    assert!(rt; said.begins_with("was exhausted") || said.begins_with("waited long"));
-    let load = Load {
-        call: Call::of(1_000),
-        ..STEADY
-    };
+    let first = first_of(rt.alloc(), &said)?;
+    let is_past = ["WasExhausted", "WaitedLong"].contains(&first.as_str());
+    assert!(rt; is_past, "{first}");
+    let load = load(500, 1_000);
     service.after(load, 60_000)?;
-    for minute in 0..3 {
-        assert!(rt; service.after(load, 60_000)?.is_well(), "{minute}");
-    }
-    Ok(())
+    service.says_each(("Well", 3), (load, 60_000))
 }

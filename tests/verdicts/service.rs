@@ -1,12 +1,14 @@
-// A service over a pool: its server, its callers, what they hold, and what they met.
+// A service over a pool, with its callers; and what is said of it, held against what they met.
 
-use crate::judged::{Heard, History, Said, judged};
 use crate::kinds::{Calls, Get, Kind, Lent, Pool, Settings};
 use crate::measured::Measure;
 use crate::world::{Host, World};
 use pool_metrics::report_of;
+use pool_reports as reports;
+use pool_reports::{State, Summary, Verdict, audit, from_json_of_pool, summarize};
 use r2d2::{ErrorKind, NopErrorHandler};
-use std::alloc::AllocError;
+use std::alloc::{AllocError, Global};
+use std::process::Abort;
 use std::test::Fail;
 use std::time::Duration;
 
@@ -22,38 +24,37 @@ pub(crate) struct Call {
 }
 
 impl Call {
-    /// One that waits for 30 seconds, and holds what it is lent for so many milliseconds.
-    pub(crate) fn of(holds: u64) -> Call {
+    /// One that waits for so many milliseconds, and holds what it is lent for so many.
+    pub(crate) fn of(patience: u64, holds: u64) -> Call {
         Call {
-            patience: 30_000,
+            patience,
             holds: Some(holds),
             retries: 0,
         }
     }
 }
 
-/// Calls that come one after the other.
-#[derive(Clone, Copy)]
-pub(crate) struct Load {
-    /// The milliseconds between two looks at all of them.
-    pub(crate) tick: u64,
-    /// One comes at each so many looks.
-    pub(crate) every: u64,
-    pub(crate) call: Call,
-}
+/// Calls one after the other: the milliseconds between two looks, at how many one comes, and how.
+pub(crate) type Load = (u64, u64, Call);
 
 /// A service, and what was said of its pool so far.
 #[derive(Drop)]
 pub(crate) struct Service<R: Host> {
     rt: R,
     pub(crate) world: &'static World,
-    pool: Pool<R>,
+    pub(crate) pool: Pool<R>,
     metrics: Measure<R>,
     callers: Vec<(Call, Get<R>)>,
     // What is lent, and until which moment.
     held: Vec<(Lent<R>, Option<u64>)>,
-    heard: Heard,
-    history: History,
+    // How many were served, and the moments at which one gave up or was refused.
+    served: u64,
+    failures: Vec<Duration>,
+    // What callers had met up to the reports so far, as `pool-audit` keeps it.
+    history: Vec<reports::Calls>,
+    // What tells its row from others: how long callers wait, by how much lives differ, whether the
+    // idle ones are distrusted, the room of the journal, and at how many looks a call comes.
+    row: (u64, Option<u64>, bool, usize, u64),
 }
 
 /// A world of its own for a service.
@@ -61,9 +62,8 @@ pub(crate) fn world(rt: HostRuntime) -> Result<&'static World, AllocError> {
     World::new(rt, Kind::Polled)
 }
 
-impl<R: Host> Service<R> {
-    /// Over a pool of this size, whose journal has room for so many records, with a change of its
-    /// settings.
+impl<R: Host + Abort> Service<R> {
+    /// Over a pool of this size, with room for so many records, and with a change of its settings.
     pub(crate) fn new<F: FnOnce(&mut Settings)>(
         rt: R,
         world: &'static World,
@@ -72,6 +72,7 @@ impl<R: Host> Service<R> {
     ) -> Result<Service<R>, Fail> {
         let metrics = world.measure(rt, size, NopErrorHandler)?;
         world.connects.goes("5~+*");
+        let mut row = (0, None, false, room, 0);
         let pool = Pool::new(rt, world, |own| {
             own.sized(size, size);
             own.workers = 4;
@@ -81,6 +82,8 @@ impl<R: Host> Service<R> {
             own.idle_timeout = Some(600_000);
             own.journal_room = room;
             change(own);
+            let (jitter, distrusts) = (own.lifetime_jitter, own.distrust_idle);
+            row = (own.connection_timeout, jitter, distrusts, room, 0);
         })?;
         Ok(Service {
             rt,
@@ -89,8 +92,10 @@ impl<R: Host> Service<R> {
             metrics,
             callers: Vec::new(rt.alloc()),
             held: Vec::new(rt.alloc()),
-            heard: Heard::nothing(rt.alloc()),
-            history: History::new(rt.alloc()),
+            served: 0,
+            failures: Vec::new(rt.alloc()),
+            history: Vec::new(rt.alloc()),
+            row,
         })
     }
 
@@ -100,42 +105,37 @@ impl<R: Host> Service<R> {
         self.world.connects.goes("-*");
     }
 
-    /// It is up again.
-    pub(crate) fn come_up(&self) {
-        self.world.connects.goes("5~+*");
-    }
-
     pub(crate) fn call(&mut self, call: Call) -> Result<(), Fail> {
         let get = self.pool.comes(call.patience)?;
-        self.callers.push((call, get))?;
-        Ok(())
+        Ok(self.callers.push((call, get))?)
     }
 
-    /// So many calls at once.
-    pub(crate) fn call_all(&mut self, count: u64, call: Call) -> Result<(), Fail> {
-        for _ in 0..count {
-            self.call(call)?;
+    /// So many calls at once, and then so many milliseconds without one.
+    pub(crate) fn crowd(&mut self, calls: (u64, Call), rest: (u64, u64)) -> Result<(), Fail> {
+        for _ in 0..calls.0 {
+            self.call(calls.1)?;
         }
-        Ok(())
+        self.rest(rest.0, rest.1)
     }
 
     // What comes of the next milliseconds.
     fn pass(&mut self, milliseconds: u64) -> Result<(), Fail> {
         self.world.pass(milliseconds);
-        let now = self.world.now();
-        self.held
-            .retain(|(_, until)| until.is_none_or(|until| now < until));
+        let (now, held) = (self.world.now(), &mut self.held);
+        held.retain(|(_, until)| until.is_none_or(|until| now < until));
         self.pool.work();
         self.answer()
     }
 
     /// So many milliseconds of this load.
     pub(crate) fn go_on(&mut self, load: Load, milliseconds: u64) -> Result<(), Fail> {
-        for turn in 0..milliseconds / load.tick {
-            if turn % load.every == 0 {
-                self.call(load.call)?;
+        let (tick, every, call) = load;
+        self.row.4 = every;
+        for turn in 0..milliseconds / tick {
+            if turn % every == 0 {
+                self.call(call)?;
             }
-            self.pass(load.tick)?;
+            self.pass(tick)?;
         }
         Ok(())
     }
@@ -153,12 +153,6 @@ impl<R: Host> Service<R> {
         Duration::from_millis(self.pool.moment())
     }
 
-    /// Evicts what there is.
-    pub(crate) fn evict(&self) -> Result<(), Fail> {
-        self.pool.evict()?;
-        Ok(())
-    }
-
     // Each call that came to an end, those that came first before others.
     fn answer(&mut self) -> Result<(), Fail> {
         for _ in 0..self.callers.len() {
@@ -168,17 +162,14 @@ impl<R: Host> Service<R> {
                 continue;
             }
             match self.pool.end(get)? {
-                Ok(lent) => self.lend(lent, call)?,
+                Ok(lent) => {
+                    let until = call.holds.map(|holds| self.world.now() + holds);
+                    self.served += 1;
+                    self.held.push((lent, until))?;
+                }
                 Err(error) => self.refuse(error.kind(), call)?,
             }
         }
-        Ok(())
-    }
-
-    fn lend(&mut self, lent: Lent<R>, call: Call) -> Result<(), Fail> {
-        let now = self.world.now();
-        self.heard.served += 1;
-        self.held.push((lent, call.holds.map(|holds| now + holds)))?;
         Ok(())
     }
 
@@ -186,28 +177,77 @@ impl<R: Host> Service<R> {
         if !matches!(kind, ErrorKind::Timeout | ErrorKind::Full) {
             return Err(Fail::from("another error"));
         }
-        self.heard.failures.push(self.moment())?;
+        self.failures.push(self.moment())?;
         if call.retries == 0 {
             return Ok(());
         }
-        self.call(Call {
-            retries: call.retries - 1,
-            ..call
-        })
+        let retries = call.retries - 1;
+        self.call(Call { retries, ..call })
     }
 
-    /// What a report that is made now says, after it was written and read again.
-    pub(crate) fn report(&mut self) -> Result<Said, Fail> {
+    /// What a report that is made now says, after it was written and read again. It fails where the
+    /// report is unsound, or where all is well though a caller failed.
+    pub(crate) fn report(&mut self) -> Result<Summary, Fail> {
         let (alloc, Calls::Task(pool)) = (self.rt.alloc(), &self.pool.calls) else {
             return Err(Fail::from("no pool for tasks"));
         };
         let text = report_of(alloc, "pool", pool, &self.metrics)?;
-        judged(alloc, text.as_str(), &mut self.history, &self.heard)
+        let written = from_json_of_pool(alloc, text.as_str())?;
+        let (report, history) = (&written.report, &mut self.history);
+        if audit(alloc, report)? != Verdict::Sound {
+            return Err(Fail::from("an unsound report"));
+        }
+        let earlier = reports::Calls::before(history.as_slice(), report.base.at);
+        let said = summarize(alloc, report, &written.origin(), earlier.as_ref())?;
+        if let Some(status) = &written.status {
+            history.push(reports::Calls::of(report.takes, status, said.until))?;
+        }
+        if report.takes < self.served {
+            return Err(Fail::from("fewer takes than were served"));
+        }
+        if self.failed_in(&said) && said.state() == State::Well {
+            return Err(Fail::from("all is well, though callers failed"));
+        }
+        Ok(said)
+    }
+
+    // Whether one failed at a moment that a report covers, or that its counts are of.
+    fn failed_in(&self, said: &Summary) -> bool {
+        let counted = said.calls.map_or(said.from, |calls| calls.since);
+        let (since, mut failures) = (counted.min(said.from), self.failures.iter());
+        failures.any(|at| since < *at && *at <= said.until)
     }
 
     /// The same after so many milliseconds of this load.
-    pub(crate) fn after(&mut self, load: Load, milliseconds: u64) -> Result<Said, Fail> {
+    pub(crate) fn after(&mut self, load: Load, milliseconds: u64) -> Result<Summary, Fail> {
         self.go_on(load, milliseconds)?;
         self.report()
     }
+
+    /// A report that is made now says this first.
+    pub(crate) fn says(&mut self, first: &str) -> Result<Summary, Fail> {
+        let (rt, said) = (self.rt, self.report()?);
+        let (row, at, told) = (self.row, self.moment(), first_of(rt.alloc(), &said)?);
+        assert_eq!(rt; told.as_str(), first, "{row:?} at {at:?}");
+        Ok(said)
+    }
+
+    /// So many reports say this first, each after so many milliseconds of this load.
+    pub(crate) fn says_each(&mut self, said: (&str, u64), of: (Load, u64)) -> Result<(), Fail> {
+        for _ in 0..said.1 {
+            self.go_on(of.0, of.1)?;
+            self.says(said.0)?;
+        }
+        Ok(())
+    }
+}
+
+/// The name of the first concern, or else that of the state.
+pub(crate) fn first_of(alloc: Global, summary: &Summary) -> Result<String, AllocError> {
+    let shown = match summary.concerns().iter().flatten().next() {
+        Some(concern) => format!(in alloc; "{concern:?}")?,
+        None => format!(in alloc; "{:?}", summary.state())?,
+    };
+    let name = shown.as_str().split(' ').next();
+    String::from_str(alloc, name.unwrap_or(""))
 }
