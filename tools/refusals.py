@@ -35,10 +35,10 @@ def tests_of(case):
     """For each of its requests a test in which that one is refused. By the first and the last, each one between them is refused
     within the case: with the first nothing is left to be refused after it, with the last it still is."""
     def test(name, number, more=""):
-        body = f"    refuse(&rt, {number});\n    super::{case}(rt, rt).report(&rt);\n{more}    Ok(())\n"
+        body = f"    refuse(&rt, {number});\n    super::{case}(rt).report(&rt);\n{more}    Ok(())\n"
         return f"\n#[test]\nfn {case}_{name}(rt: HostRuntime) -> Result<(), Fail> {{\n{body}}}\n"
 
-    yield f"\n#[test]\nfn {case}_alone(rt: HostRuntime) {{\n    super::{case}(rt, rt).report(&rt);\n}}\n"
+    yield f"\n#[test]\nfn {case}_alone(rt: HostRuntime) {{\n    super::{case}(rt).report(&rt);\n}}\n"
     yield test("begins", 1, "    assert_eq!(rt; granted(rt.alloc(), AT), AT);\n")
     for number in range(2, MOST):
         yield test(number, number)
@@ -62,7 +62,7 @@ class Refusals:
             if copies.top_of(stage, file) in below:
                 copies.put(file, source, os.path.relpath(file, stage))
         # A test can't be called, so each case becomes a function, and its runtime that of any world's pools.
-        cases = CASE.sub(r"fn \1<R: Host + Abort>(_host: HostRuntime, rt: R)", in_turn()).replace("on_each(rt, ", "on_each(_host, ")
+        cases = CASE.sub(r"fn \1<R: Host + Abort>(rt: R)", in_turn())
         tests = "".join(test for case in chosen for test in tests_of(case))
         texts = {
             "lib.rt": "//! Cases in which something is refused.\n#![tactic(auto)]\n" + "".join(f"\n#[cfg(test)]\nmod {it};" for it in sorted(below)) + "\n",

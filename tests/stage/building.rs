@@ -1,12 +1,8 @@
 // What comes of building, and what a built pool says of itself.
 
-use crate::ear::Told::Failed;
-use crate::kinds::{ALL, BUILT, Building, Calls, Lent, Pool, Settings, made};
-use crate::manager::Sorry;
-use crate::world::{Host, on_each};
-use r2d2::{Error, ErrorKind};
-use std::test::Fail;
-use std::time::Duration;
+use crate::rows::*;
+
+const TIMED_OUT: &str = "timed out waiting for connection: connect 0";
 
 fn is_send_sync<T: Send + Sync>(_value: &T) {}
 
@@ -24,23 +20,16 @@ fn given_up<R: Host>(build: Building<R>) -> Result<Error, Fail> {
 fn test_max_size_ok(rt: HostRuntime) -> Result<(), Fail> {
     on_each(rt, &ALL, |world| {
         world.connects.goes("+++++-*");
-        let pool = Pool::built(rt, world, |settings| {
-            settings.max_size = 5;
-            settings.min_idle = 5;
-        })?;
-        let mut kept = Vec::new(rt.alloc());
-        for _ in 0..5 {
-            kept.push(pool.get()?)?;
-        }
-        assert_eq!(rt; pool.status().connections, 5);
-        Ok(())
+        let pool = Pool::built(rt, world, full(5))?;
+        let _lent = pool.several(5)?;
+        equal(pool.status().connections, 5)
     })
 }
 
 #[test]
 fn test_is_send_sync(rt: HostRuntime) -> Result<(), Fail> {
-    on_each(rt, &ALL, |world| {
-        is_send_sync(&Pool::new(rt, world, |_| ())?.calls);
+    on_pools(rt, &ALL, SMALL, |_, pool| {
+        is_send_sync(&pool.calls);
         Ok(())
     })
 }
@@ -50,19 +39,11 @@ fn test_is_send_sync(rt: HostRuntime) -> Result<(), Fail> {
 fn test_initialization_failure(rt: HostRuntime) -> Result<(), Fail> {
     on_each(rt, &BUILT, |world| {
         world.connects.goes("-~-");
-        let build = Pool::building(rt, world, |settings| {
-            settings.min_idle = 1;
-            settings.connection_timeout = 50;
-        })?;
+        let build = Pool::building(rt, world, full(1).waiting(50))?;
         assert!(rt; world.once_told(1));
         let text = given_up(build)?.to_string(rt.alloc())?;
-        assert_eq!(rt;
-            text.as_str(),
-            "timed out waiting for connection: connect 0"
-        );
-        assert!(rt; world.went(&[Failed(Sorry::Connect(0))]));
-        world.let_go(&world.connects);
-        Ok(())
+        assert_eq!(rt; text.as_str(), TIMED_OUT);
+        world.heard(&[Failed(Connect(0))])
     })
 }
 
@@ -71,22 +52,12 @@ fn test_initialization_failure(rt: HostRuntime) -> Result<(), Fail> {
 fn test_lazy_initialization_failure(rt: HostRuntime) -> Result<(), Fail> {
     on_each(rt, &ALL, |world| {
         world.connects.goes("-~-");
-        let pool = Pool::new(rt, world, |settings| {
-            settings.min_idle = 1;
-            settings.is_unchecked = true;
-            settings.connection_timeout = 1_000;
-        })?;
+        let pool = Pool::of(rt, world, full(1).unawaited().waiting(1_000))?;
         pool.until(|status| status.failed_openings == 1)?;
         let get = pool.begin_plainly()?;
         world.pass(1_000);
-        let error = pool.end(get)?.err().ok_or("a connection")?;
-        let text = error.to_string(rt.alloc())?;
-        assert_eq!(rt;
-            text.as_str(),
-            "timed out waiting for connection: connect 0"
-        );
-        world.let_go(&world.connects);
-        Ok(())
+        let text = pool.late(get)?.to_string(rt.alloc())?;
+        equal(text.as_str(), TIMED_OUT)
     })
 }
 
@@ -95,38 +66,41 @@ fn test_lazy_initialization_failure(rt: HostRuntime) -> Result<(), Fail> {
 fn a_build_that_gives_up_tells_what_there_is(rt: HostRuntime) -> Result<(), Fail> {
     on_each(rt, &BUILT, |world| {
         world.connects.goes("~++-~-");
-        let build = Pool::building(rt, world, |settings| {
-            settings.max_size = 5;
-            settings.min_idle = 3;
-            settings.connection_timeout = 50;
-        })?;
+        let build = Pool::building(rt, world, full(3).most(5).waiting(50))?;
         // The making looks at the clock, the worker does, and `build` twice as it comes to wait.
         world.watch(|| world.connects.hung() == 1 && world.readings() >= 4);
         world.let_go(&world.connects);
-        assert!(rt; world.once_heard(&[Failed(Sorry::Connect(2))]));
+        assert!(rt; world.once_heard(&[Failed(Connect(2))]));
         let error = given_up(build)?;
-        assert_eq!(rt;
-            (error.kind(), error.message()),
-            (ErrorKind::Timeout, Some("connect 2"))
-        );
+        assert_eq!(rt; error.kind(), ErrorKind::Timeout);
+        assert_eq!(rt; error.message(), Some("connect 2"));
         assert!(rt; error.waited() > Some(Duration::from_millis(50)));
         let status = error.status().ok_or("no status")?;
         assert_eq!(rt; (status.max_size, status.wanted), (5, 3));
-        assert_eq!(rt;
-            (status.connections, status.idle, status.waiting),
-            (2, 2, 0)
-        );
-        assert_eq!(rt;
-            (status.failed_openings, status.timeouts, status.closed),
-            (1, 0, false)
-        );
+        assert_eq!(rt; (status.connections, status.idle), (2, 2));
+        assert_eq!(rt; (status.waiting, status.closed), (0, false));
+        assert_eq!(rt; (status.failed_openings, status.timeouts), (1, 0));
         // It leaves nothing.
         world.watch(|| {
             world.let_go(&world.connects);
             world.ended() == 1
         });
-        assert_eq!(rt; (world.ended(), world.opened(), world.dropped()), (1, 2, 2));
-        Ok(())
+        equal((world.ended(), world.opened(), world.dropped()), (1, 2, 2))
+    })
+}
+
+// Of three connections that are wanted idle two come in time, one after the other.
+#[test]
+fn a_build_waits_no_longer_for_each_connection(rt: HostRuntime) -> Result<(), Fail> {
+    on_each(rt, &BUILT, |world| {
+        world.connects.goes("~2+2+~+");
+        let building = Pool::building(rt, world, full(3).waiting(3_000))?;
+        // As it was made, for the wait and its end, and as the worker began.
+        assert!(rt; world.watch(|| world.connects.hung() == 1 && world.readings() >= 4));
+        world.let_go(&world.connects);
+        let error = building.end()?.err().ok_or("a pool")?;
+        assert_eq!(rt; error.kind(), ErrorKind::Timeout);
+        equal(error.waited(), Some(Duration::from_secs(4)))
     })
 }
 
@@ -135,75 +109,80 @@ fn a_build_that_gives_up_tells_what_there_is(rt: HostRuntime) -> Result<(), Fail
 fn build_waits_as_long_as_a_caller(rt: HostRuntime) -> Result<(), Fail> {
     on_each(rt, &BUILT, |world| {
         world.connects.goes("------------");
-        let build = Pool::building(rt, world, |settings| {
-            settings.min_idle = 1;
-            settings.retry_at_most = Some(1);
-        })?;
+        let mut settings = full(1);
+        settings.retry_at_most = Some(1);
+        let build = Pool::building(rt, world, settings)?;
         for failed in 0..12 {
-            assert!(rt; world.once_heard(&[Failed(Sorry::Connect(failed))]));
+            assert!(rt; world.once_heard(&[Failed(Connect(failed))]));
             world.pass(1);
         }
-        assert_eq!(rt; build.end()??.status().connections, 1);
-        Ok(())
+        equal(build.end()??.status().connections, 1)
     })
 }
 
+// For its journal, or for its workers' lists: nothing is left of it, whether it waits or not.
 #[test]
-fn more_records_than_there_is_memory_for(rt: HostRuntime) -> Result<(), Fail> {
+fn a_build_without_memory(rt: HostRuntime) -> Result<(), Fail> {
     on_each(rt, &ALL, |world| {
-        let settings = Settings::small(|settings| settings.journal_room = usize::MAX);
-        let error = made(rt, world, settings).err().ok_or("a pool")?;
-        assert_eq!(rt; (error.kind(), world.ended()), (ErrorKind::Memory, 1));
-        Ok(())
+        let error = made(rt, world, SMALL.recorded(usize::MAX))
+            .err()
+            .ok_or("a pool")?;
+        equal((error.kind(), world.ended()), (ErrorKind::Memory, 1))
+    })?;
+    let rows = [
+        (usize::MAX, 0, false),
+        (usize::MAX, 0, true),
+        (1, usize::MAX, true),
+    ];
+    on_rows(rt, &BUILT, rows, |world, (workers, room, waits)| {
+        let builder = threads(world, SMALL.workers(workers).recorded(room));
+        let (place, manager) = (Place { world, rt }, Manager { world });
+        let built = if waits {
+            builder.build(place, manager)
+        } else {
+            builder.build_unchecked(place, manager)
+        };
+        assert_eq!(rt; built.err().ok_or("a pool")?.kind(), ErrorKind::Memory);
+        assert_eq!(rt; (world.ended(), world.opened()), (1, 0));
+        world.heard(&[])
     })
 }
 
 #[test]
 fn a_million_connections_at_most(rt: HostRuntime) -> Result<(), Fail> {
     on_each(rt, &ALL, |world| {
-        let pool = Pool::built(rt, world, |settings| settings.max_size = 1_000_000)?;
+        let pool = Pool::built(rt, world, SMALL.most(1_000_000))?;
         assert_eq!(rt; pool.status().connections, 0);
         drop(pool.get()?);
-        assert_eq!(rt; pool.status().connections, 1);
-        Ok(())
+        equal(pool.status().connections, 1)
     })
 }
 
 // Lengths of some nanoseconds, and of some seconds.
 #[test]
 fn getters(rt: HostRuntime) -> Result<(), Fail> {
-    for unit in [1, 1_000_000_000] {
-        on_each(rt, &BUILT, |world| {
-            let pool = Pool::new(rt, world, |settings| {
-                settings.unit = unit;
-                settings.max_size = 4;
-                settings.min_idle = 1;
-                settings.max_lifetime = Some(5);
-                settings.idle_timeout = Some(6);
-                settings.connection_timeout = 7;
-            })?;
-            let clone = pool.try_clone()?;
-            drop(pool);
-            let Calls::Thread(pool) = &clone.calls else {
-                return Err(Fail::from("another kind"));
-            };
-            assert_eq!(rt; (pool.max_size(), pool.min_idle()), (4, Some(1)));
-            assert_eq!(rt; pool.test_on_check_out(), false);
-            let of = |count| Duration::from_nanos(count * unit);
-            assert_eq!(rt; pool.max_lifetime(), Some(of(5)));
-            assert_eq!(rt; pool.idle_timeout(), Some(of(6)));
-            assert_eq!(rt; pool.connection_timeout(), of(7));
-            Ok(())
-        })?;
-    }
-    Ok(())
+    on_rows(rt, &BUILT, [1, 1_000_000_000], |world, unit| {
+        let mut settings = full(1).most(4).living(5).expiring(6).waiting(7);
+        settings.unit = unit;
+        let pool = Pool::of(rt, world, settings)?;
+        let clone = pool.try_clone()?;
+        drop(pool);
+        let Calls::Thread(pool) = &clone.calls else {
+            return Err(Fail::from("another kind"));
+        };
+        assert_eq!(rt; (pool.max_size(), pool.min_idle()), (4, Some(1)));
+        assert_eq!(rt; pool.test_on_check_out(), false);
+        let of = |count| Duration::from_nanos(count * unit);
+        assert_eq!(rt; pool.max_lifetime(), Some(of(5)));
+        assert_eq!(rt; pool.idle_timeout(), Some(of(6)));
+        equal(pool.connection_timeout(), of(7))
+    })
 }
 
 #[test]
 fn debug_texts(rt: HostRuntime) -> Result<(), Fail> {
     let alloc = rt.alloc();
-    on_each(rt, &BUILT, |world| {
-        let pool = Pool::new(rt, world, |settings| settings.min_idle = 1)?;
+    on_pools(rt, &BUILT, full(1), |_, pool| {
         let Calls::Thread(calls) = &pool.calls else {
             return Err(Fail::from("another kind"));
         };
@@ -221,10 +200,8 @@ fn debug_texts(rt: HostRuntime) -> Result<(), Fail> {
         assert_eq!(rt; format!(in alloc; "{lent:?}")?.as_str(), "wire 0 shown 1");
         lent.shown = 8;
         assert_eq!(rt; format!(in alloc; "{lent:?}")?.as_str(), "wire 0 shown 8");
-        assert_eq!(rt;
-            format!(in alloc; "{:?}", calls.state())?.as_str(),
-            "State { connections: 1, idle_connections: 0 }"
-        );
-        Ok(())
+        let shown = format!(in alloc; "{:?}", calls.state())?;
+        let wanted = "State { connections: 1, idle_connections: 0 }";
+        equal(shown.as_str(), wanted)
     })
 }

@@ -1,18 +1,12 @@
-// What is closed because its database has moved, and what stays.
+// What is closed because its database has moved, what a caller takes out of a pool for good, and
+// what stays.
 
-use crate::ear::Told::{Ended, Release};
-use crate::kinds::{ALL, BESIDE, Calls, Pool, length};
-use crate::world::{Host, on_each};
-use r2d2::LendingOrder;
-use r2d2::event::ReleaseReason::Evicted;
-use r2d2_core::Record;
-use std::test::Fail;
+use crate::rows::*;
 
 // Several times, so that workers wait as they are evicted.
 #[test]
 fn what_is_idle_is_closed_at_once(rt: HostRuntime) -> Result<(), Fail> {
-    on_each(rt, &ALL, |world| {
-        let pool = Pool::new(rt, world, |settings| settings.sized(3, 3))?;
+    on_pools(rt, &ALL, full(3), |world, pool| {
         for dropped in [3, 6, 9, 12, 15] {
             assert_eq!(rt; (pool.evict()?, world.dropped()), (3, dropped));
             pool.until(|status| status.idle == 3)?;
@@ -21,17 +15,15 @@ fn what_is_idle_is_closed_at_once(rt: HostRuntime) -> Result<(), Fail> {
         for _ in 0..3 {
             assert!(rt; pool.get()?.id() >= 15);
         }
-        assert_eq!(rt; world.dropped(), 15);
-        Ok(())
+        equal(world.dropped(), 15)
     })
 }
 
 // What is opened afterwards stays.
 #[test]
 fn what_is_lent_is_closed_as_it_comes_back(rt: HostRuntime) -> Result<(), Fail> {
-    on_each(rt, &ALL, |world| {
-        let pool = Pool::new(rt, world, |settings| settings.max_size = 3)?;
-        let (first, second) = (pool.get()?, pool.get()?);
+    on_lent(rt, &ALL, SMALL.most(3), |world, pool, first| {
+        let second = pool.get()?;
         assert_eq!(rt; pool.evict()?, 0);
         let new = pool.get()?;
         assert_eq!(rt; (first.id(), second.id(), new.id()), (0, 1, 2));
@@ -44,53 +36,48 @@ fn what_is_lent_is_closed_as_it_comes_back(rt: HostRuntime) -> Result<(), Fail> 
         drop(second);
         assert_eq!(rt; (pool.status().connections, world.dropped()), (1, 2));
         assert_eq!(rt; pool.get()?.id(), 2);
-        assert_eq!(rt; (pool.evict()?, world.dropped()), (1, 3));
-        Ok(())
+        equal((pool.evict()?, world.dropped()), (1, 3))
     })
 }
 
+// Later, what comes in the place of an evicted one fails once, and then does not come.
 #[test]
 fn who_waits_is_served_by_a_new_one(rt: HostRuntime) -> Result<(), Fail> {
-    on_each(rt, &ALL, |world| {
-        let pool = Pool::new(rt, world, |settings| settings.min_idle = 1)?;
-        let lent = pool.get()?;
-        let mut get = pool.begin(600_000)?;
-        assert!(rt; pool.evict()? == 0 && !pool.has_ended(&mut get));
+    on_lent(rt, &ALL, full(1), |world, pool, lent| {
+        let mut get = pool.begin(LONG)?;
+        assert!(rt; pool.evict()? == 0 && !get.has_ended());
         drop(lent);
         assert_eq!(rt; pool.end(get)??.id(), 1);
-        Ok(())
+        world.connects.goes("-~+");
+        assert_eq!(rt; pool.evict()?, 1);
+        pool.until(|status| status.failed_openings == 1)?;
+        assert_eq!(rt; pool.gives_up(50)?.message(), Some("connect 2"));
+        equal((pool.status().connections, pool.status().opening), (0, 1))
     })
 }
 
+// They are opened at 3 s, and evicted at 10 s.
 #[test]
 fn events_and_the_customizer_are_told_in_the_lending_order(rt: HostRuntime) -> Result<(), Fail> {
-    for (order, first, last) in [
-        (LendingOrder::NewestFirst, 1, 0),
-        (LendingOrder::OldestFirst, 0, 1),
-    ] {
-        on_each(rt, &ALL, |world| {
-            let pool = Pool::new(rt, world, |settings| {
-                settings.max_size = 2;
-                settings.order = order;
-            })?;
-            let (one, other) = (pool.get()?, pool.get()?);
-            drop(one);
-            drop(other);
-            world.forget();
-            assert_eq!(rt; pool.evict()?, 2);
-            let told = [Release(first, 0, Evicted), Ended(first)];
-            assert!(rt; world.went(&[told[0], told[1], Release(last, 0, Evicted), Ended(last)]));
-            Ok(())
-        })?;
-    }
-    Ok(())
+    let orders = [(NewestFirst, 1, 0), (OldestFirst, 0, 1)];
+    on_rows(rt, &ALL, orders, |world, (order, first, last)| {
+        let pool = Pool::of(rt, world, SMALL.most(2).ordered(order))?;
+        world.pass(3_000);
+        let (one, other) = (pool.get()?, pool.get()?);
+        drop(one);
+        drop(other);
+        world.pass(7_000);
+        world.forget();
+        assert_eq!(rt; pool.evict()?, 2);
+        let gone = |id| Release(id, 7_000, Evicted);
+        world.heard(&[gone(first), Ended(first), gone(last), Ended(last)])
+    })
 }
 
 // A take and a return, at one moment.
 #[test]
 fn the_journal_tells_of_an_eviction(rt: HostRuntime) -> Result<(), Fail> {
-    on_each(rt, &ALL, |world| {
-        let pool = Pool::new(rt, world, |settings| settings.journal_room = 100)?;
+    on_pools(rt, &ALL, SMALL.recorded(100), |world, pool| {
         drop(pool.get()?);
         world.pass(7_000);
         assert_eq!(rt; pool.evict()?, 1);
@@ -102,26 +89,46 @@ fn the_journal_tells_of_an_eviction(rt: HostRuntime) -> Result<(), Fail> {
         };
         let (at, id, ordered) = (length(7_000), 0, 0);
         assert_eq!(rt; *take, Record::Taken { at, id, ordered });
-        assert_eq!(rt; *end, Record::Closed { at, id, ordered });
-        Ok(())
+        equal(*end, Record::Closed { at, id, ordered })
     })
 }
 
-// What comes in its place fails once, and then does not come.
 #[test]
-fn callers_are_told_where_nothing_opens_afterwards(rt: HostRuntime) -> Result<(), Fail> {
-    on_each(rt, &ALL, |world| {
-        let pool = Pool::new(rt, world, |settings| settings.min_idle = 1)?;
-        world.connects.goes("-~+");
-        assert_eq!(rt; pool.evict()?, 1);
-        pool.until(|status| status.failed_openings == 1)?;
-        let get = pool.begin(50)?;
-        world.pass(50);
-        let error = pool.end(get)?.err().ok_or("a connection")?;
-        assert_eq!(rt; error.message(), Some("connect 1"));
-        assert_eq!(rt; (pool.status().connections, pool.status().opening), (0, 1));
-        world.let_go(&world.connects);
-        Ok(())
+fn a_detached_connection_is_the_callers(rt: HostRuntime) -> Result<(), Fail> {
+    on_lent(rt, &ALL, SMALL.most(2), |world, pool, mut lent| {
+        lent.write(12);
+        let wire = lent.detach();
+        let status = pool.status();
+        assert_eq!(rt; (status.connections, status.lent), (0, 0));
+        assert_eq!(rt; (status.idle, status.opening), (0, 0));
+        let report = pool.audit()?;
+        assert_eq!(rt; (report.connections, report.takes), (0, 1));
+        assert!(rt; !report.closed && report.replays()?);
+        pool.ended()?;
+        assert_eq!(rt; (wire.mark, world.dropped()), (12, 0));
+        drop(wire);
+        equal(world.dropped(), 1)
+    })
+}
+
+// For one that waits, and for one that comes later. Nothing is wrong where the pool is gone.
+#[test]
+fn another_one_is_opened_in_its_place(rt: HostRuntime) -> Result<(), Fail> {
+    on_lent(rt, &ALL, full(1), |world, mut pool, lent| {
+        let mut get = pool.begin(LONG)?;
+        assert!(rt; !get.has_ended());
+        let _first = lent.detach();
+        let lent = pool.end(get)??;
+        assert_eq!(rt; lent.id(), 1);
+        let _second = lent.detach();
+        let lent = pool.get()?;
+        assert_eq!(rt; (lent.id(), world.connects.asked()), (2, 3));
+        assert_eq!(rt; pool.status().connections, 1);
+        drop(pool.go());
+        let wire = lent.detach();
+        pool.ended()?;
+        // A worker may have come with one more.
+        equal((wire.number, world.opened() - world.dropped()), (2, 3))
     })
 }
 
@@ -146,12 +153,8 @@ fn amid<R: Host>(rt: R, calls: &Calls<R>) -> (u64, u64, u64) {
 
 #[test]
 fn nothing_is_lost_amid_evictions_detaches_and_a_drain(rt: HostRuntime) -> Result<(), Fail> {
-    on_each(rt, &BESIDE, |world| {
-        let pool = Pool::new(rt, world, |settings| {
-            settings.sized(6, 2);
-            settings.workers = 3;
-            settings.journal_room = 100;
-        })?;
+    let settings = SMALL.most(6).idle(2).workers(3).recorded(100);
+    on_pools(rt, &BESIDE, settings, |world, pool| {
         let mut threads = Vec::new(rt.alloc());
         for _ in 0..8 {
             threads.push(pool.aside(move |calls| amid(rt, calls))?)?;
@@ -164,10 +167,9 @@ fn nothing_is_lost_amid_evictions_detaches_and_a_drain(rt: HostRuntime) -> Resul
         }
         let report = pool.audit()?;
         assert!(rt; report.takes == takes && report.replays()?);
-        assert_eq!(rt; pool.drained(pool.drain(600_000)?)?, Ok(()));
+        assert_eq!(rt; pool.drained(pool.drain(LONG)?)?, Ok(()));
         pool.ended()?;
-        assert_eq!(rt; world.dropped(), world.opened());
-        Ok(())
+        equal(world.dropped(), world.opened())
     })
 }
 
@@ -180,25 +182,19 @@ fn evict_until_closed<R: Host>(rt: R, calls: &Calls<R>) -> bool {
 // Once so many were opened.
 #[test]
 fn a_pool_closes_amid_evictions(rt: HostRuntime) -> Result<(), Fail> {
-    for opened in [2, 3, 4, 5, 7, 10, 20, 40, 80, 160] {
-        on_each(rt, &BESIDE, |world| {
-            let pool = Pool::new(rt, world, |settings| {
-                settings.sized(3, 2);
-                settings.workers = 3;
-            })?;
-            let mut threads = Vec::new(rt.alloc());
-            for _ in 0..4 {
-                threads.push(pool.aside(move |calls| evict_until_closed(rt, calls))?)?;
-            }
-            assert!(rt; world.watch(|| world.opened() >= opened));
-            assert_eq!(rt; pool.drained(pool.drain(600_000)?)?, Ok(()));
-            for thread in threads {
-                assert!(rt; thread.join(&rt));
-            }
-            pool.ended()?;
-            assert_eq!(rt; world.dropped(), world.opened());
-            Ok(())
-        })?;
-    }
-    Ok(())
+    let counts = [2, 3, 4, 5, 7, 10, 20, 40, 80, 160];
+    on_rows(rt, &BESIDE, counts, |world, opened| {
+        let pool = Pool::of(rt, world, SMALL.most(3).idle(2).workers(3))?;
+        let mut threads = Vec::new(rt.alloc());
+        for _ in 0..4 {
+            threads.push(pool.aside(move |calls| evict_until_closed(rt, calls))?)?;
+        }
+        assert!(rt; world.watch(|| world.opened() >= opened));
+        assert_eq!(rt; pool.drained(pool.drain(LONG)?)?, Ok(()));
+        for thread in threads {
+            assert!(rt; thread.join(&rt));
+        }
+        pool.ended()?;
+        equal(world.dropped(), world.opened())
+    })
 }

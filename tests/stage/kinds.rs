@@ -1,6 +1,5 @@
 // The kinds of pools, and what all of them can do.
 
-mod ends;
 mod hand;
 mod lent;
 mod making;
@@ -8,11 +7,12 @@ mod turns;
 
 use crate::clock::Place;
 use crate::ear::{Ear, milliseconds};
+use crate::kinds::Kind::{Counted, InLine, Limited, Plain, Polled, Spawned};
 use crate::manager::{Hours, Manager};
-use crate::world::{Host, PATIENCE, World};
+use crate::world::{Host, World};
 use futures::Future;
 use futures::executor::block_on;
-pub(crate) use hand::{Call, Hand};
+pub(crate) use hand::{Beside, Call, Hand};
 pub(crate) use lent::Lent;
 pub(crate) use making::{Building, made, threads};
 use r2d2::event::NopEventHandler;
@@ -20,7 +20,6 @@ use r2d2::{Error, LendingOrder, Status};
 use r2d2_async::Handlers;
 use r2d2_core::Report;
 use std::marker::Brand;
-use std::sync::atomic::{AtomicBool, Ordering};
 use std::sync::ledger::Share;
 use std::sync::{Arc, Mutex};
 use std::test::Fail;
@@ -44,60 +43,32 @@ pub(crate) enum Kind {
     Spawned,
 }
 
-/// For a pool whose events nobody is told of.
-pub(crate) const QUIET: [Kind; 4] = [Kind::Plain, Kind::Limited, Kind::InLine, Kind::Spawned];
+pub(crate) const ALL: [Kind; 6] = [Plain, Limited, InLine, Counted, Polled, Spawned];
 
-/// Those that are made by `build`, which waits for the connections that are wanted idle.
-pub(crate) const BUILT: [Kind; 3] = [Kind::Plain, Kind::Limited, Kind::InLine];
+pub(crate) const THREADS: [Kind; 4] = [Plain, Limited, InLine, Counted];
 
-pub(crate) const THREADS: [Kind; 4] = [Kind::Plain, Kind::Limited, Kind::InLine, Kind::Counted];
-
-/// Those who came first are served first.
-pub(crate) const ORDERED: [Kind; 3] = [Kind::InLine, Kind::Polled, Kind::Spawned];
+pub(crate) const TASKS: [Kind; 2] = [Polled, Spawned];
 
 /// Their workers are in threads of their own.
-pub(crate) const BESIDE: [Kind; 5] = [
-    Kind::Plain,
-    Kind::Limited,
-    Kind::InLine,
-    Kind::Counted,
-    Kind::Spawned,
-];
-
-pub(crate) const TASKS: [Kind; 2] = [Kind::Polled, Kind::Spawned];
-
-/// Whose callers do not stand in line.
-pub(crate) const OUT_OF_LINE: [Kind; 3] = [Kind::Plain, Kind::Limited, Kind::Counted];
-
-/// That have a limit to how many wait.
-pub(crate) const BOUNDED: [Kind; 5] = [
-    Kind::Limited,
-    Kind::InLine,
-    Kind::Counted,
-    Kind::Polled,
-    Kind::Spawned,
-];
-
-/// Those whose workers go on by themselves, in threads.
-pub(crate) const ON_THREADS: [Kind; 5] = [
-    Kind::Plain,
-    Kind::Limited,
-    Kind::InLine,
-    Kind::Counted,
-    Kind::Spawned,
-];
+pub(crate) const BESIDE: [Kind; 5] = [Plain, Limited, InLine, Counted, Spawned];
 
 /// Tasks whose polls a row makes one by one.
-pub(crate) const BY_HAND: [Kind; 1] = [Kind::Polled];
+pub(crate) const BY_HAND: [Kind; 1] = [Polled];
 
-pub(crate) const ALL: [Kind; 6] = [
-    Kind::Plain,
-    Kind::Limited,
-    Kind::InLine,
-    Kind::Counted,
-    Kind::Polled,
-    Kind::Spawned,
-];
+/// For a pool whose events nobody is told of.
+pub(crate) const QUIET: [Kind; 4] = [Plain, Limited, InLine, Spawned];
+
+/// Those that are made by `build`, which waits for the connections that are wanted idle.
+pub(crate) const BUILT: [Kind; 3] = [Plain, Limited, InLine];
+
+/// Those who came first are served first.
+pub(crate) const ORDERED: [Kind; 3] = [InLine, Polled, Spawned];
+
+/// Whose callers do not stand in line.
+pub(crate) const OUT_OF_LINE: [Kind; 3] = [Plain, Limited, Counted];
+
+/// That have a limit to how many wait.
+pub(crate) const BOUNDED: [Kind; 5] = [Limited, InLine, Counted, Polled, Spawned];
 
 impl Kind {
     pub(crate) fn is_of_tasks(self) -> bool {
@@ -112,7 +83,7 @@ const ROOM: u32 = 100;
 const PARTS: u64 = 1_000_000;
 
 /// The settings of a pool of any kind. Lengths are in milliseconds, or in another unit.
-#[derive(Clone, Copy)]
+#[derive(Clone, Copy, Debug)]
 pub(crate) struct Settings {
     /// So many nanoseconds.
     pub(crate) unit: u64,
@@ -166,7 +137,7 @@ impl Settings {
 }
 
 /// One connection, opened for its first caller, which stays as it is.
-const SMALL: Settings = Settings {
+pub(crate) const SMALL: Settings = Settings {
     unit: 1_000_000,
     max_size: 1,
     min_idle: 0,
@@ -213,19 +184,21 @@ type TaskDrain<R> = r2d2_async::Drain<Manager, Hours, Handlers<Ear, Ear, Ear>, P
 
 type TaskWork<R> = r2d2_async::Work<Manager, Hours, Handlers<Ear, Ear, Ear>, Place<R>>;
 
-/// What the first of these calls ends with that does. No worker is polled by hand meanwhile.
-pub(crate) fn first_ended<R: Host>(
+/// What the first of these calls ends with that does, as this is done meanwhile.
+pub(crate) fn first_ended<R: Host, F: Fn()>(
     world: &World,
     rt: R,
     calls: &mut Vec<Get<R>>,
+    meanwhile: F,
 ) -> Result<Result<Lent<R>, Error>, Fail> {
     let mut ended = None;
     world.watch(|| {
+        meanwhile();
         ended = calls.iter_mut().position(|call| call.has_ended());
         ended.is_some()
     });
     match calls.remove(ended.ok_or("none of them ends")?) {
-        Call::Thread(handle, _) => Ok(handle.join(&rt)),
+        Call::Thread(beside) => beside.end(rt, world),
         Call::Hand(hand) => Ok(hand.output.ok_or("it is pending")?.map(Lent::Task)),
     }
 }
@@ -318,7 +291,7 @@ impl<R: Host> Calls<R> {
         of_pool!(self, pool, pool.journal())
     }
 
-    // In a thread.
+    // In a thread: for so long, or as long as the pool's own timeout says.
     fn ask(&self, rt: R, timeout: Option<Duration>) -> Result<Lent<R>, Error> {
         Ok(match self {
             Calls::Thread(pool) => Lent::Thread(ask!(pool, timeout)?),
@@ -332,14 +305,9 @@ impl<R: Host> Calls<R> {
         })
     }
 
-    /// In a thread, for as long as the pool's own timeout says.
+    /// In a thread.
     pub(crate) fn get(&self, rt: R) -> Result<Lent<R>, Error> {
         self.ask(rt, None)
-    }
-
-    // The same with a timeout of its own.
-    fn get_timeout(&self, rt: R, timeout: Duration) -> Result<Lent<R>, Error> {
-        self.ask(rt, Some(timeout))
     }
 
     fn try_get(&self, rt: R) -> Result<Option<Lent<R>>, Error> {
@@ -375,23 +343,9 @@ impl<R: Host> Calls<R> {
                 Ok(drain) => block_on(&rt, drain).unwrap_or(Ok(())),
                 Err(_) => Ok(()),
             },
-            Calls::QuietThread(pool) => pool.drain(timeout),
-            Calls::QuietTask(_) | Calls::Gone => Ok(()),
+            _ => Ok(()),
         }
     }
-}
-
-// What a thread ends with that is to end now.
-fn joined<T: Drop, R: Host>(
-    rt: R,
-    world: &World,
-    handle: JoinHandle<T>,
-    is_over: &AtomicBool,
-) -> Result<T, Fail> {
-    if !world.watch(|| is_over.load(Ordering::SeqCst)) {
-        return Err(Fail::from("it does not end"));
-    }
-    Ok(handle.join(&rt))
 }
 
 /// A pool of one of the kinds.
@@ -460,7 +414,7 @@ impl<R: Host> Pool<R> {
     }
 
     /// The same beside a call, which goes on where it is polled by hand.
-    pub(crate) fn until_beside<T, F: Future<Output: Drop>, G: Fn(&Status) -> bool>(
+    pub(crate) fn until_beside<T: Drop, F: Future<Output: Drop>, G: Fn(&Status) -> bool>(
         &self,
         call: &mut Call<T, F>,
         is_so: G,
@@ -469,7 +423,7 @@ impl<R: Host> Pool<R> {
             if self.world.kind != Kind::Polled || is_so(&self.status()) {
                 break;
             }
-            self.has_ended(call);
+            call.has_ended();
             self.work();
         }
         self.until(is_so)
@@ -513,20 +467,6 @@ impl<R: Host> Pool<R> {
         self.beside(move || calls.ask(rt, timeout))
     }
 
-    /// Lends a connection as the clock moves on, since its opening may be due later.
-    pub(crate) fn get_in_time(&self) -> Result<Lent<R>, Fail> {
-        let mut get = self.begin(600_000)?;
-        for _ in 0..PATIENCE {
-            if self.has_ended(&mut get) {
-                break;
-            }
-            thread::sleep(&self.rt, length(1));
-            self.world.pass(50);
-            self.work();
-        }
-        self.end(get)?.map_err(Fail::from)
-    }
-
     // Begins it in a thread of its own, and waits until it came to rest.
     fn beside<T: Send + Drop + 'static, F, C>(&self, call: C) -> Result<Call<T, F>, Fail>
     where
@@ -535,9 +475,9 @@ impl<R: Host> Pool<R> {
     {
         let hung = || self.world.checks.hung() + self.world.hears.hung();
         let (waiting, before) = (self.status().waiting, hung());
-        let mut call = self.started(call)?;
+        let mut call: Call<T, F> = Call::Thread(Beside::start(self.rt, call)?);
         let came = self.world.watch(|| {
-            self.has_ended(&mut call) || self.has_come_or_sent_away(waiting) || hung() > before
+            call.has_ended() || self.has_come_or_sent_away(waiting) || hung() > before
         });
         if !came {
             return Err(Fail::from("it did not come to rest"));
@@ -551,26 +491,10 @@ impl<R: Host> Pool<R> {
         status.waiting > waiting || status.closed && status.waiting < waiting
     }
 
-    // Begins it in a thread of its own.
-    fn started<T: Send + Drop + 'static, F, C>(&self, call: C) -> Result<Call<T, F>, Fail>
-    where
-        F: Future<Output: Drop>,
-        C: FnOnce() -> T + Send + Drop + 'static,
-    {
-        let is_over = Arc::new(self.rt.alloc(), AtomicBool::new(false))?;
-        let theirs = Arc::try_clone(&is_over)?;
-        let call = move || {
-            let answer = call();
-            theirs.store(true, Ordering::SeqCst);
-            answer
-        };
-        Ok(Call::Thread(thread::spawn(&self.rt, call)?, is_over))
-    }
-
     /// What a `get` ends with.
     pub(crate) fn end(&self, call: Get<R>) -> Result<Result<Lent<R>, Error>, Fail> {
         match call {
-            Call::Thread(handle, is_over) => joined(self.rt, self.world, handle, &is_over),
+            Call::Thread(beside) => beside.end(self.rt, self.world),
             Call::Hand(hand) => Ok(self.led(hand)?.map(Lent::Task)),
         }
     }
@@ -612,14 +536,9 @@ impl<R: Host> Pool<R> {
     /// What it ends with.
     pub(crate) fn drained(&self, call: Drain<R>) -> Result<Result<(), Status>, Fail> {
         match call {
-            Call::Thread(handle, is_over) => joined(self.rt, self.world, handle, &is_over),
+            Call::Thread(beside) => beside.end(self.rt, self.world),
             Call::Hand(hand) => self.led(hand),
         }
-    }
-
-    /// Whether a call has ended: where it is polled by hand, if it was woken for that.
-    pub(crate) fn has_ended<T, F: Future<Output: Drop>>(&self, call: &mut Call<T, F>) -> bool {
-        call.has_ended()
     }
 
     /// A call in a thread of its own, which is not waited for.

@@ -1,20 +1,12 @@
 // Callers in line: who came first is served first. Each begins to wait after the one before it.
 
-use crate::ear::Told::{Checkin, Checkout, Ended, Release, Timeout};
-use crate::kinds::{ALL, Kind, ORDERED, Pool};
-use crate::world::on_each;
-use r2d2::ErrorKind;
-use r2d2::event::ReleaseReason::PoolClosed;
-use std::test::Fail;
+use crate::rows::*;
 
+// Later who gave the connection back that another one waits for asks for it again at once: in the
+// same thread, with no time. Who passed its check leaves its place to the next.
 #[test]
 fn who_came_first_is_served_first(rt: HostRuntime) -> Result<(), Fail> {
-    on_each(rt, &ORDERED, |world| {
-        let pool = Pool::new(rt, world, |settings| {
-            settings.is_checked = true;
-            settings.room = 8;
-        })?;
-        let lent = pool.get()?;
+    on_lent(rt, &ORDERED, SMALL.checked().room(8), |world, pool, lent| {
         let line = pool.line(8)?;
         assert_eq!(rt; pool.status().waiting, 8);
         let error = pool.get_within(9).err().ok_or("a connection")?;
@@ -24,35 +16,6 @@ fn who_came_first_is_served_first(rt: HostRuntime) -> Result<(), Fail> {
         pool.in_turn(line)?;
         assert_eq!(rt; (pool.status().waiting, world.opened()), (0, 1));
         assert!(rt; pool.try_get()?.is_some());
-        Ok(())
-    })
-}
-
-// Two connections come back at once, to two of the three who wait.
-#[test]
-fn as_many_are_told_as_are_idle(rt: HostRuntime) -> Result<(), Fail> {
-    on_each(rt, &ORDERED, |world| {
-        let pool = Pool::new(rt, world, |settings| settings.max_size = 2)?;
-        let lent = (pool.get()?, pool.get()?);
-        let mut line = pool.line(3)?;
-        drop(lent);
-        assert!(rt; pool.ends(&mut line[0]) && pool.ends(&mut line[1]));
-        assert!(rt; !pool.has_ended(&mut line[2]));
-        assert_eq!(rt; pool.status().waiting, 1);
-        assert_eq!(rt; pool.all_end(line)?, 3);
-        Ok(())
-    })
-}
-
-// Who gave the connection back that another one waits for asks for it again at once: in the same
-// thread, with no time. Who passed its check leaves its place to the next.
-#[test]
-fn who_comes_later_passes_nobody(rt: HostRuntime) -> Result<(), Fail> {
-    on_each(rt, &ORDERED, |world| {
-        let pool = Pool::new(rt, world, |settings| {
-            settings.is_checked = true;
-            settings.room = 8;
-        })?;
         for round in 0..20 {
             let lent = pool.get()?;
             let line = pool.line(1)?;
@@ -69,25 +32,20 @@ fn who_comes_later_passes_nobody(rt: HostRuntime) -> Result<(), Fail> {
     })
 }
 
-// The same with time: it is served after all who wait.
+// Two connections come back at once, to two of the three who wait. Where only one waits, the other
+// one is anybody's.
 #[test]
-fn who_gets_again_waits_behind_the_others(rt: HostRuntime) -> Result<(), Fail> {
-    on_each(rt, &ORDERED, |world| {
-        let pool = Pool::new(rt, world, |_| ())?;
-        let lent = pool.get()?;
-        let mut line = pool.line(2)?;
-        line.push(pool.again(lent)?)?;
-        pool.in_turn(line)
-    })
-}
-
-// Two come back, and one is kept for the one who waits: the other is anybody's.
-#[test]
-fn more_than_wait_are_anybodys(rt: HostRuntime) -> Result<(), Fail> {
-    on_each(rt, &ORDERED, |world| {
-        let pool = Pool::new(rt, world, |settings| settings.max_size = 2)?;
+fn as_many_are_told_as_are_idle(rt: HostRuntime) -> Result<(), Fail> {
+    on_pools(rt, &ORDERED, SMALL.most(2), |_, pool| {
+        let lent = pool.several(2)?;
+        let mut line = pool.line(3)?;
+        drop(lent);
+        assert!(rt; pool.ends(&mut line[0]) && pool.ends(&mut line[1]));
+        assert!(rt; !line[2].has_ended());
+        assert_eq!(rt; pool.status().waiting, 1);
+        assert_eq!(rt; pool.all_end(line)?, 3);
         for round in 0..10 {
-            let lent = (pool.get()?, pool.get()?);
+            let lent = pool.several(2)?;
             let line = pool.line(1)?;
             drop(lent);
             assert!(rt; pool.try_get()?.is_some(), "round {round}");
@@ -97,40 +55,57 @@ fn more_than_wait_are_anybodys(rt: HostRuntime) -> Result<(), Fail> {
     })
 }
 
-// The second of four, as its time ends by itself.
+// As what is lent is evicted, and another one is opened; as one who returns it asks again, with
+// time; as the second of four gives up; and as each one comes back broken, so that who is told
+// orders another.
 #[test]
-fn who_gives_up_leaves_the_others_in_order(rt: HostRuntime) -> Result<(), Fail> {
-    on_each(rt, &ORDERED, |world| {
-        let pool = Pool::new(rt, world, |_| ())?;
+fn the_line_stays_in_order(rt: HostRuntime) -> Result<(), Fail> {
+    on_lent(rt, &ORDERED, SMALL, |world, pool, lent| {
+        let line = pool.line(3)?;
+        assert_eq!(rt; pool.evict()?, 0);
+        pool.until(|status| status.waiting == 3)?;
+        drop(lent);
+        pool.in_turn(line)?;
+        assert_eq!(rt; world.opened(), 2);
+
+        let lent = pool.get()?;
+        let mut line = pool.line(2)?;
+        line.push(pool.again(lent)?)?;
+        pool.in_turn(line)?;
+
         let lent = pool.get()?;
         let mut line = pool.line(1)?;
         let hasty = pool.begin(50)?;
         line.append(&mut pool.line(2)?)?;
         world.pass(50);
-        let error = pool.end(hasty)?.err().ok_or("a connection")?;
-        assert_eq!(rt; error.kind(), ErrorKind::Timeout);
+        pool.late(hasty)?;
         assert_eq!(rt; pool.status().waiting, 3);
         drop(lent);
-        pool.in_turn(line)
+        pool.in_turn(line)?;
+
+        let lent = pool.get()?;
+        let line = pool.line(3)?;
+        world.breaks.goes("-*");
+        drop(lent);
+        pool.in_turn(line)?;
+        equal(world.opened(), 5)
     })
 }
 
-// The check of the first one fails while another one waits. It waits again, at its place, before the
-// next connection is opened.
+// The check of the first one fails while another one waits. It waits again, at its place, before
+// the next connection is opened.
 #[test]
 fn who_finds_one_unsound_keeps_its_place(rt: HostRuntime) -> Result<(), Fail> {
-    on_each(rt, &ORDERED, |world| {
-        let pool = Pool::new(rt, world, |settings| settings.is_checked = true)?;
-        let lent = pool.get()?;
+    on_lent(rt, &ORDERED, SMALL.checked(), |world, pool, lent| {
         let mut line = pool.line(2)?;
         world.checks.goes("~-");
         world.connects.goes("~+");
         drop(lent);
-        pool.has_ended(&mut line[0]);
+        line[0].has_ended();
         // It has one, and is at its check.
         pool.until(|status| status.waiting == 1 && world.checks.hung() == 1)?;
         world.let_go(&world.checks);
-        pool.has_ended(&mut line[0]);
+        line[0].has_ended();
         pool.until(|status| status.waiting == 2 && world.connects.hung() == 1)?;
         world.let_go(&world.connects);
         pool.in_turn(line)
@@ -141,114 +116,21 @@ fn who_finds_one_unsound_keeps_its_place(rt: HostRuntime) -> Result<(), Fail> {
 // in a line of two is free.
 #[test]
 fn who_is_late_after_its_check_leaves_the_line(rt: HostRuntime) -> Result<(), Fail> {
-    on_each(rt, &ORDERED, |world| {
-        let pool = Pool::new(rt, world, |settings| {
-            settings.is_checked = true;
-            settings.room = 2;
-        })?;
-        let lent = pool.get()?;
+    on_lent(rt, &ORDERED, SMALL.checked().room(2), |world, pool, lent| {
         let mut late = pool.begin(60_000)?;
         let mut line = pool.line(1)?;
         world.checks.goes("~-");
         world.connects.goes("~+");
         drop(lent);
-        pool.has_ended(&mut late);
+        late.has_ended();
         pool.until(|status| status.waiting == 1 && world.checks.hung() == 1)?;
         world.pass(100_000);
         world.let_go(&world.checks);
-        let error = pool.end(late)?.err().ok_or("a connection")?;
-        assert_eq!(rt; error.kind(), ErrorKind::Timeout);
+        pool.late(late)?;
         line.append(&mut pool.line(1)?)?;
-        pool.until(|_| world.connects.hung() == 1)?;
+        pool.until_opening(1)?;
         world.let_go(&world.connects);
         pool.in_turn(line)
-    })
-}
-
-// One who is refused asks for no memory, and is told of nowhere. Who gives up leaves its place.
-#[test]
-fn a_line_is_full_where_as_many_stand_in_it_as_may(rt: HostRuntime) -> Result<(), Fail> {
-    on_each(rt, &ORDERED, |world| {
-        let pool = Pool::new(rt, world, |settings| settings.room = 2)?;
-        let lent = pool.get()?;
-        world.forget();
-        let mut line = pool.line(1)?;
-        for round in 1..4 {
-            let late = pool.begin(50)?;
-            let asked = world.allocs.asked();
-            let error = pool.get_within(60_000).err().ok_or("a connection")?;
-            assert_eq!(rt;
-                (error.kind(), world.allocs.asked()),
-                (ErrorKind::Full, asked)
-            );
-            let text = format!(in rt.alloc(); "{error}")?;
-            assert_eq!(rt; text.as_str(), "too many callers are waiting");
-            assert_eq!(rt; (error.message(), error.waited()), (None, None));
-            assert!(rt; error.status().is_none() && pool.try_get()?.is_none());
-            let status = pool.status();
-            assert_eq!(rt; (status.waiting, status.refused), (2, round));
-            assert!(rt; world.went(&[]));
-            world.pass(50);
-            let error = pool.end(late)?.err().ok_or("a connection")?;
-            assert_eq!(rt;
-                (error.kind(), pool.status().waiting),
-                (ErrorKind::Timeout, 1)
-            );
-            assert!(rt; world.went(&[Timeout(50)]));
-        }
-        line.append(&mut pool.line(1)?)?;
-        drop(lent);
-        pool.in_turn(line)
-    })
-}
-
-#[test]
-fn a_close_tells_all_who_stand_in_line(rt: HostRuntime) -> Result<(), Fail> {
-    on_each(rt, &ALL, |world| {
-        let pool = Pool::new(rt, world, |_| ())?;
-        let lent = pool.get()?;
-        let line = pool.line(3)?;
-        world.forget();
-        pool.close();
-        for caller in line {
-            let error = pool.end(caller)?.err().ok_or("a connection")?;
-            assert_eq!(rt; error.kind(), ErrorKind::Closed);
-        }
-        assert_eq!(rt; pool.status().waiting, 0);
-        drop(lent);
-        assert!(rt; world.went(&[Checkin(0, 0), Release(0, 0, PoolClosed), Ended(0)]));
-        Ok(())
-    })
-}
-
-// What is lent is evicted, and another one is opened as it comes back.
-#[test]
-fn an_eviction_leaves_the_line_in_order(rt: HostRuntime) -> Result<(), Fail> {
-    on_each(rt, &ORDERED, |world| {
-        let pool = Pool::new(rt, world, |_| ())?;
-        let lent = pool.get()?;
-        let line = pool.line(3)?;
-        assert_eq!(rt; pool.evict()?, 0);
-        pool.until(|status| status.waiting == 3)?;
-        drop(lent);
-        pool.in_turn(line)?;
-        assert_eq!(rt; world.opened(), 2);
-        Ok(())
-    })
-}
-
-// Each connection comes back broken: who waits is told, and orders another one.
-#[test]
-fn a_broken_return_is_for_the_first_in_line(rt: HostRuntime) -> Result<(), Fail> {
-    on_each(rt, &ORDERED, |world| {
-        let pool = Pool::new(rt, world, |_| ())?;
-        let lent = pool.get()?;
-        let line = pool.line(3)?;
-        world.breaks.goes("-*");
-        drop(lent);
-        pool.in_turn(line)?;
-        assert_eq!(rt; world.opened(), 4);
-        Ok(())
     })
 }
 
@@ -256,16 +138,12 @@ fn a_broken_return_is_for_the_first_in_line(rt: HostRuntime) -> Result<(), Fail>
 // idle is opened once none is.
 #[test]
 fn what_a_kept_one_hides_is_ordered_later(rt: HostRuntime) -> Result<(), Fail> {
-    on_each(rt, &ORDERED, |world| {
-        let pool = Pool::new(rt, world, |settings| {
-            settings.max_size = 3;
-            settings.workers = 3;
-        })?;
-        let lent = pool.get()?;
+    let settings = SMALL.most(3).workers(3);
+    on_lent(rt, &ORDERED, settings, |world, pool, lent| {
         world.connects.goes("~+*");
-        let mut first = pool.begin(600_000)?;
+        let mut first = pool.begin(LONG)?;
         // Its own order, which does not come.
-        pool.until(|_| world.connects.hung() == 1)?;
+        pool.until_opening(1)?;
         let second = pool.again(lent)?;
         assert!(rt; pool.ends(&mut first));
         pool.until(|status| status.waiting == 1 && world.connects.hung() == 2)?;
@@ -276,35 +154,24 @@ fn what_a_kept_one_hides_is_ordered_later(rt: HostRuntime) -> Result<(), Fail> {
     })
 }
 
-#[test]
-fn no_memory_is_asked_for_in_line(rt: HostRuntime) -> Result<(), Fail> {
-    on_each(rt, &ALL, |world| {
-        let pool = Pool::new(rt, world, |_| ())?;
-        let lent = pool.get()?;
-        let asked = world.allocs.asked();
-        let line = pool.line(3)?;
-        drop(lent);
-        assert_eq!(rt; (pool.all_end(line)?, world.allocs.asked()), (3, asked));
-        Ok(())
-    })
-}
-
-// One gives up, and one is served.
+// One gives up, and one is served. Three more ask for no memory.
 #[test]
 fn events_in_line_are_those_of_any_call(rt: HostRuntime) -> Result<(), Fail> {
-    on_each(rt, &ALL, |world| {
-        let pool = Pool::new(rt, world, |_| ())?;
-        let lent = pool.get()?;
+    on_lent(rt, &ALL, SMALL, |world, pool, lent| {
         let late = pool.begin(50)?;
         let line = pool.line(1)?;
         world.forget();
         world.pass(50);
         assert!(rt; pool.end(late)?.is_err());
-        assert!(rt; world.went(&[Timeout(50)]));
+        world.heard(&[Timeout(50)])?;
         drop(lent);
         pool.in_turn(line)?;
-        assert!(rt; world.went(&[Checkin(0, 50), Checkout(0, 50), Checkin(0, 0)]));
-        Ok(())
+        world.heard(&[Checkin(0, 50), Checkout(0, 50), Checkin(0, 0)])?;
+        let lent = pool.get()?;
+        let asked = world.allocs.asked();
+        let line = pool.line(3)?;
+        drop(lent);
+        equal((pool.all_end(line)?, world.allocs.asked()), (3, asked))
     })
 }
 
@@ -312,35 +179,47 @@ fn events_in_line_are_those_of_any_call(rt: HostRuntime) -> Result<(), Fail> {
 #[test]
 fn a_build_takes_no_place_in_line(rt: HostRuntime) -> Result<(), Fail> {
     on_each(rt, &[Kind::Limited, Kind::InLine], |world| {
-        let pool = Pool::built(rt, world, |settings| {
-            settings.max_size = 3;
-            settings.min_idle = 3;
-            settings.room = 1;
-        })?;
+        let pool = Pool::built(rt, world, full(3).room(1))?;
         assert_eq!(rt; pool.status().idle, 3);
-        let lent = (pool.get()?, pool.get()?, pool.get()?);
+        let lent = pool.several(3)?;
         let line = pool.line(1)?;
         drop(lent);
         pool.in_turn(line)
     })
 }
 
-// It ends with the last return.
+// During its check a task does not wait, and yet it takes up the only place. Once it is lent its
+// connection that place is free again.
 #[test]
-fn a_drain_waits_beside_the_line(rt: HostRuntime) -> Result<(), Fail> {
-    on_each(rt, &ALL, |world| {
-        let pool = Pool::new(rt, world, |_| ())?;
-        let lent = pool.get()?;
-        let line = pool.line(2)?;
-        let mut drain = pool.drain(600_000)?;
-        for caller in line {
-            let error = pool.end(caller)?.err().ok_or("a connection")?;
-            assert_eq!(rt; error.kind(), ErrorKind::Closed);
-        }
-        pool.until(|status| status.waiting == 1)?;
-        assert!(rt; !pool.has_ended(&mut drain));
+fn one_under_check_keeps_its_place(rt: HostRuntime) -> Result<(), Fail> {
+    on_pools(rt, &TASKS, SMALL.checked().room(1), |world, pool| {
+        world.checks.goes("~+");
+        let mut checks = pool.begin(LONG)?;
+        pool.until_beside(&mut checks, |_| world.checks.hung() == 1)?;
+        assert_eq!(rt; (pool.status().lent, pool.status().waiting), (1, 0));
+        pool.refused()?;
+        world.let_go(&world.checks);
+        let lent = pool.end(checks)??;
+        let next = pool.begin(LONG)?;
+        assert_eq!(rt; pool.status().waiting, 1);
         drop(lent);
-        assert!(rt; pool.drained(drain)?.is_ok());
-        Ok(())
+        pool.serves(next)
+    })
+}
+
+// The check of a task took the rest of its time, and not who came before it: it is given up, and
+// its connection with it.
+#[test]
+fn one_whose_time_runs_out_as_it_is_told(rt: HostRuntime) -> Result<(), Fail> {
+    on_lent(rt, &TASKS, SMALL.checked(), |world, pool, lent| {
+        let (mut checks, next) = (pool.begin(10)?, pool.begin(LONG)?);
+        world.checks.goes("~+");
+        drop(lent);
+        pool.until_beside(&mut checks, |_| world.checks.hung() == 1)?;
+        world.pass(10);
+        let error = pool.late(checks)?;
+        assert_eq!(rt; error.ahead(), None);
+        assert_eq!(rt; error.status().ok_or("no status")?.timeouts, 1);
+        equal((world.dropped(), pool.end(next)??.number()), (1, 1))
     })
 }

@@ -21,11 +21,11 @@ pub(crate) struct Outcome {
     pub(crate) number: u64,
 }
 
-/// The outcomes of calls of one kind. `+` stands for one that goes well, and `-` for one that fails.
-/// Before it may stand how many seconds it takes, and `~` where it hangs until it is let go, or `5~`
-/// where it ends once the clock has moved on by 5 ms. `9?` fails at random, once in nine calls. A
-/// last `*` repeats the outcome before it for ever, and a last `%` all of them; else each call after
-/// the last sign goes well.
+/// The outcomes of calls of one kind. `+` stands for one that goes well, and `-` for one that
+/// fails. Before it may stand how many seconds it takes, and `~` where it hangs until it is let go,
+/// or `5~` where it ends once the clock has moved on by 5 ms. `9?` fails at random, once in nine
+/// calls. A last `*` repeats the outcome before it for ever, and a last `%` all of them; else each
+/// call after the last sign goes well.
 #[derive(Drop)]
 pub(crate) struct Script {
     // The signs, and how many calls there were as they were set.

@@ -1,15 +1,12 @@
 // Many threads, and calls that fail at random: none is served wrongly, nothing is lost, and each
 // report of the journal replays, whatever room there is for records.
 
-use crate::kinds::{BESIDE, Pool};
-use crate::world::{Host, World, on_each};
+use crate::rows::*;
 use std::process::Abort;
 use std::sync::Arc;
 use std::sync::atomic::{AtomicU64, Ordering};
-use std::test::Fail;
-use std::thread;
 
-const THREADS: u64 = 16;
+const CALLERS: u64 = 16;
 
 /// How often each thread lends.
 const TIMES: u64 = 200;
@@ -44,14 +41,11 @@ fn lend_and_read<R: Host>(pool: Pool<R>, seen: Arc<Seen>) {
 // The clock moves on as they run. At the end two more connections are lent: the journal counts each
 // take that found one, those included whose check failed.
 fn stressed<R: Host + Abort>(rt: R, world: &'static World, room: usize) -> Result<(), Fail> {
-    let pool = Pool::new(rt, world, |settings| {
-        settings.max_size = 8;
-        settings.min_idle = 8;
-        settings.workers = 3;
-        settings.is_checked = true;
-        settings.retry_at_most = Some(50);
-        settings.journal_room = room;
-    })?;
+    let pool = Pool::of(
+        rt,
+        world,
+        full(8).workers(3).checked().retried().recorded(room),
+    )?;
     world.connects.goes("32?*");
     world.checks.goes("256?*");
     world.breaks.goes("256?*");
@@ -61,42 +55,34 @@ fn stressed<R: Host + Abort>(rt: R, world: &'static World, room: usize) -> Resul
         ended: AtomicU64::new(0),
     };
     let seen = Arc::new(rt.alloc(), seen)?;
-    for _ in 0..THREADS {
+    for _ in 0..CALLERS {
         let (theirs, notes) = (pool.try_clone()?, Arc::try_clone(&seen)?);
         thread::spawn(&rt, move || lend_and_read(theirs, notes))?;
     }
     let ended = || {
         world.pass(50);
-        seen.ended.load(Ordering::SeqCst) == THREADS
+        seen.ended.load(Ordering::SeqCst) == CALLERS
     };
     while !world.watch(ended) {}
     let found = seen.found.load(Ordering::SeqCst);
     let replayed = seen.replayed.load(Ordering::SeqCst);
-    assert_eq!(rt;
-        (found, replayed),
-        (THREADS * TIMES, THREADS * TIMES / TIMES_A_REPORT)
-    );
+    let wanted = (CALLERS * TIMES, CALLERS * TIMES / TIMES_A_REPORT);
+    assert_eq!(rt; (found, replayed), wanted);
     assert_eq!(rt; world.most_sound(), 8);
     let lent = (pool.get()?, pool.get()?);
     let report = pool.journal()?;
     assert_eq!(rt; (report.replays(), report.lent.len()), (Ok(true), 2));
     assert_eq!(rt; report.takes, found + 2 + pool.status().failed_checks);
     let is_whole = report.lost == 0;
-    assert_eq!(rt; is_whole, room == ROOM_FOR_ALL, "a room of {room}");
-    assert!(rt;
-        is_whole || report.records.len() == room,
-        "a room of {room}"
-    );
+    assert_eq!(rt; is_whole, room == ROOM_FOR_ALL);
+    assert!(rt; is_whole || report.records.len() == room);
     drop(lent);
     drop(pool);
-    assert!(rt; world.watch(|| world.ended() == 1 && world.dropped() == world.opened()));
-    Ok(())
+    holds(world.watch(|| world.ended() == 1 && world.dropped() == world.opened()))
 }
 
 #[test]
 fn stress(rt: HostRuntime) -> Result<(), Fail> {
-    for room in [0, 1, 7, 64, ROOM_FOR_ALL] {
-        on_each(rt, &BESIDE, |world| stressed(rt, world, room))?;
-    }
-    Ok(())
+    let rooms = [0, 1, 7, 64, ROOM_FOR_ALL];
+    on_rows(rt, &BESIDE, rooms, |world, room| stressed(rt, world, room))
 }

@@ -1,15 +1,10 @@
 // Who returns a connection and asks for one at once: a caller that the return woke comes first,
 // where none did so for a while. The clock stands still in between.
 
-use crate::kinds::{BUILT, OUT_OF_LINE, Pool, Settings};
-use crate::world::{Host, World, on_each};
-use std::test::Fail;
+use crate::rows::*;
 
 /// How often a connection comes back while somebody waits for it.
 const ROUNDS: u64 = 20;
-
-/// More milliseconds than pass.
-const LONG: u64 = 600_000;
 
 /// So often a `get` that finds one idle reads the clock: as it begins, takes it, and tells of that.
 const USUAL: u64 = 3;
@@ -41,32 +36,12 @@ fn before_who_returns<R: Host>(
     Ok(count)
 }
 
+// But a `try_get` gives way to nobody.
 #[test]
 fn one_that_waits_comes_before_who_returns_and_asks_again(rt: HostRuntime) -> Result<(), Fail> {
-    on_each(rt, &OUT_OF_LINE, |world| {
-        let pool = Pool::new(rt, world, |_| ())?;
+    on_pools(rt, &OUT_OF_LINE, SMALL, |world, pool| {
         let count = before_who_returns(rt, world, &pool, 3_500_000)?;
-        assert!(rt; count >= ROUNDS / 4, "{count} {:?}", world.kind);
-        Ok(())
-    })
-}
-
-// The clock stands still half a millisecond past a full one: so the next turn is not due yet.
-#[test]
-fn no_turn_is_given_at_the_moment_of_another(rt: HostRuntime) -> Result<(), Fail> {
-    on_each(rt, &OUT_OF_LINE, |world| {
-        let pool = Pool::new(rt, world, |_| ())?;
-        world.pass_nanoseconds(500_000);
-        let count = before_who_returns(rt, world, &pool, 0)?;
-        assert!(rt; count <= ROUNDS / 2, "{count} {:?}", world.kind);
-        Ok(())
-    })
-}
-
-#[test]
-fn try_get_gives_way_to_nobody(rt: HostRuntime) -> Result<(), Fail> {
-    on_each(rt, &OUT_OF_LINE, |world| {
-        let pool = Pool::new(rt, world, |_| ())?;
+        assert!(rt; count >= ROUNDS / 4, "{count}");
         let (mut lent, mut count) = (pool.get()?, 0);
         for _ in 0..ROUNDS {
             let waits = pool.begin(LONG)?;
@@ -75,7 +50,18 @@ fn try_get_gives_way_to_nobody(rt: HostRuntime) -> Result<(), Fail> {
             count += u64::from(pool.try_get()?.is_some());
             lent = pool.end(waits)??;
         }
-        assert!(rt; count >= ROUNDS / 4, "{count} {:?}", world.kind);
+        assert!(rt; count >= ROUNDS / 4, "{count}");
+        Ok(())
+    })
+}
+
+// The clock stands still half a millisecond past a full one: so the next turn is not due yet.
+#[test]
+fn no_turn_is_given_at_the_moment_of_another(rt: HostRuntime) -> Result<(), Fail> {
+    on_pools(rt, &OUT_OF_LINE, SMALL, |world, pool| {
+        world.pass_nanoseconds(500_000);
+        let count = before_who_returns(rt, world, &pool, 0)?;
+        assert!(rt; count <= ROUNDS / 2, "{count}");
         Ok(())
     })
 }
@@ -90,25 +76,18 @@ fn readings_of_a_get<R: Host>(world: &World, pool: &Pool<R>) -> Result<u64, Fail
 }
 
 // The only worker is at a second opening until the end, and so reads no clock.
-fn two(settings: &mut Settings) {
-    settings.sized(2, 2);
-    settings.is_unchecked = true;
-}
-
 #[test]
 fn nobody_gives_way_once_the_one_that_was_woken_came(rt: HostRuntime) -> Result<(), Fail> {
     on_each(rt, &OUT_OF_LINE, |world| {
         world.connects.goes("+~+");
-        let pool = Pool::new(rt, world, two)?;
-        pool.until(|_| world.connects.hung() == 1)?;
+        let pool = Pool::of(rt, world, full(2).unawaited())?;
+        pool.until_opening(1)?;
         assert_eq!(rt; readings_of_a_get(world, &pool)?, USUAL);
         let lent = pool.get()?;
         let waits = pool.begin(LONG)?;
         drop(lent);
         drop(pool.end(waits)??);
-        assert_eq!(rt; readings_of_a_get(world, &pool)?, USUAL);
-        world.let_go(&world.connects);
-        Ok(())
+        equal(readings_of_a_get(world, &pool)?, USUAL)
     })
 }
 
@@ -116,9 +95,9 @@ fn nobody_gives_way_once_the_one_that_was_woken_came(rt: HostRuntime) -> Result<
 #[test]
 fn nobody_gives_way_once_a_pool_is_built(rt: HostRuntime) -> Result<(), Fail> {
     on_each(rt, &BUILT, |world| {
-        let pool = Pool::built(rt, world, |settings| settings.min_idle = 1)?;
+        let pool = Pool::built(rt, world, full(1))?;
         let readings = readings_of_a_get(world, &pool)?;
-        assert!(rt; readings <= USUAL + 1, "{readings} {:?}", world.kind);
+        assert!(rt; readings <= USUAL + 1, "{readings}");
         Ok(())
     })
 }

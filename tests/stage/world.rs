@@ -19,7 +19,7 @@ use std::time::Duration;
 use std::{mem, thread};
 
 /// How long a thread looks for what is to come, in milliseconds.
-pub(crate) const PATIENCE: u64 = 10_000;
+const PATIENCE: u64 = 10_000;
 
 /// The same for what is not to come.
 const GLANCES: u64 = 200;
@@ -55,7 +55,8 @@ pub(crate) struct World {
     tells_drops: AtomicBool,
     // How many of those that were opened first are lost.
     lost: AtomicU64,
-    // How many connections are open and were not found broken or unsound, and how many were at most.
+    // How many connections are open and were not found broken or unsound, and how many were at
+    // most.
     sound: AtomicU64,
     most_sound: AtomicU64,
     told: Mutex<Vec<Told>>,
@@ -115,6 +116,21 @@ impl World {
         self.ring(|end| end.is_none());
     }
 
+    // All that hangs goes on, and what comes later does not hang.
+    fn let_all_go(&self) {
+        for script in [
+            &self.connects,
+            &self.checks,
+            &self.shows,
+            &self.hears,
+            &self.tells,
+            &self.readings,
+        ] {
+            script.goes("");
+            self.let_go(script);
+        }
+    }
+
     /// How many connections were opened.
     pub(crate) fn opened(&self) -> u64 {
         self.opened.load(Ordering::SeqCst)
@@ -166,8 +182,8 @@ impl World {
         self.most_sound.load(Ordering::SeqCst)
     }
 
-    // Of those who sleep until this moment, or hang. A waker wakes its task as it is dropped, outside
-    // of the lock.
+    // Of those who sleep until this moment, or hang. A waker wakes its task as it is dropped,
+    // outside of the lock.
     pub(crate) fn ring<F: Fn(Option<u64>) -> bool>(&self, is_due: F) {
         let (mut all, mut rung) = (Vec::new(self.rt.alloc()), Vec::new(self.rt.alloc()));
         if let Some(mut wakers) = lock(&self.wakers) {
@@ -202,20 +218,18 @@ impl World {
     }
 
     /// Waits, in a thread, until something is so; whether it came to be so.
-    pub(crate) fn watch<F: FnMut() -> bool>(&self, mut is_so: F) -> bool {
-        for _ in 0..PATIENCE {
-            if is_so() {
-                return true;
-            }
-            thread::sleep(&self.rt, Duration::from_millis(1));
-        }
-        is_so()
+    pub(crate) fn watch<F: FnMut() -> bool>(&self, is_so: F) -> bool {
+        self.look(PATIENCE, is_so)
     }
 
     /// Looks, for a while, for what is not to come; whether it came. A busy machine can only hide
     /// it.
-    pub(crate) fn glimpse<F: FnMut() -> bool>(&self, mut is_so: F) -> bool {
-        for _ in 0..GLANCES {
+    pub(crate) fn glimpse<F: FnMut() -> bool>(&self, is_so: F) -> bool {
+        self.look(GLANCES, is_so)
+    }
+
+    fn look<F: FnMut() -> bool>(&self, times: u64, mut is_so: F) -> bool {
+        for _ in 0..times {
             if is_so() {
                 return true;
             }
@@ -334,6 +348,14 @@ impl World {
         is_so
     }
 
+    /// Fails unless it is.
+    pub(crate) fn heard(&self, wanted: &[Told]) -> Result<(), Fail> {
+        if self.went(wanted) {
+            return Ok(());
+        }
+        Err(Fail::from("something else was told"))
+    }
+
     /// Whether so many things were told since then, at last.
     pub(crate) fn once_told(&self, count: usize) -> bool {
         self.watch(|| match lock(&self.told) {
@@ -368,22 +390,33 @@ impl World {
     }
 }
 
+/// The runtime of a test, which may do all.
+pub(crate) trait Anchor {
+    fn host(&self) -> HostRuntime;
+}
+
+impl Anchor for HostRuntime {
+    fn host(&self) -> HostRuntime {
+        *self
+    }
+}
+
 /// What the rows need of the runtime.
-pub(crate) trait Host: PoolRuntime + AsyncRuntime + RandomSource + Print {}
+pub(crate) trait Host: PoolRuntime + AsyncRuntime + RandomSource + Print + Anchor {}
 
-impl<R: PoolRuntime + AsyncRuntime + RandomSource + Print> Host for R {}
+impl<R: PoolRuntime + AsyncRuntime + RandomSource + Print + Anchor> Host for R {}
 
-/// Plays a row in a world of its own for each of these kinds.
-pub(crate) fn on_each<F: Fn(&'static World) -> Result<(), Fail>>(
-    rt: HostRuntime,
+/// Plays a row in a world of its own for each of these kinds. What hangs at its end goes on.
+pub(crate) fn on_each<R: Host, F: Fn(&'static World) -> Result<(), Fail>>(
+    rt: R,
     kinds: &[Kind],
     row: F,
 ) -> Result<(), Fail> {
     for kind in kinds {
-        let played = row(World::new(rt, *kind)?);
-        if played.is_err() {
-            println!(rt; "{kind:?}").ok();
-        }
+        println!(rt; "{kind:?}").ok();
+        let world = World::new(rt.host(), *kind)?;
+        let played = row(world);
+        world.let_all_go();
         played?;
     }
     Ok(())

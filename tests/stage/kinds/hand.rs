@@ -1,14 +1,55 @@
-// Tasks that a row polls by hand.
+// Calls that go on: in threads of their own, or in tasks that a row polls by hand.
 
 use crate::kinds::{Calls, Drain, Get, Pool, length};
-use crate::world::Host;
+use crate::world::{Host, World};
 use futures::Future;
 use futures::task::Poll;
 use futures::test::MockTask;
 use std::sync::Arc;
 use std::sync::atomic::{AtomicBool, Ordering};
 use std::test::Fail;
+use std::thread;
 use std::thread::JoinHandle;
+
+/// A call in a thread of its own.
+#[derive(Drop)]
+pub(crate) struct Beside<T> {
+    handle: JoinHandle<T>,
+    is_over: Arc<AtomicBool>,
+}
+
+impl<T: Send + Drop + 'static> Beside<T> {
+    /// It begins.
+    pub(crate) fn start<R: Host, C>(rt: R, call: C) -> Result<Beside<T>, Fail>
+    where
+        C: FnOnce() -> T + Send + Drop + 'static,
+    {
+        let is_over = Arc::new(rt.alloc(), AtomicBool::new(false))?;
+        let theirs = Arc::try_clone(&is_over)?;
+        let call = move || {
+            let answer = call();
+            theirs.store(true, Ordering::SeqCst);
+            answer
+        };
+        let handle = thread::spawn(&rt, call)?;
+        Ok(Beside { handle, is_over })
+    }
+}
+
+impl<T: Drop> Beside<T> {
+    pub(crate) fn is_over(&self) -> bool {
+        self.is_over.load(Ordering::SeqCst)
+    }
+
+    /// What it ends with, which it is to do now.
+    pub(crate) fn end<R: Host>(self, rt: R, world: &World) -> Result<T, Fail> {
+        if !world.watch(|| self.is_over()) {
+            return Err(Fail::from("it does not end"));
+        }
+        let Beside { handle, .. } = self;
+        Ok(handle.join(&rt))
+    }
+}
 
 /// A task that is polled by hand.
 #[derive(Drop)]
@@ -56,15 +97,15 @@ impl<F: Future<Output: Drop>> Hand<F> {
 /// A call that waits: in a thread, or in a task that is polled by hand.
 #[derive(Drop)]
 pub(crate) enum Call<T, F: Future<Output: Drop>> {
-    Thread(JoinHandle<T>, Arc<AtomicBool>),
+    Thread(Beside<T>),
     Hand(Hand<F>),
 }
 
-impl<T, F: Future<Output: Drop>> Call<T, F> {
+impl<T: Drop, F: Future<Output: Drop>> Call<T, F> {
     /// Whether it has ended: where it is polled by hand, if it was woken for that.
     pub(crate) fn has_ended(&mut self) -> bool {
         match self {
-            Call::Thread(_, is_over) => is_over.load(Ordering::SeqCst),
+            Call::Thread(beside) => beside.is_over(),
             Call::Hand(hand) => hand.run(),
         }
     }
@@ -72,7 +113,7 @@ impl<T, F: Future<Output: Drop>> Call<T, F> {
     /// Whether it was woken since its last poll began, where it is polled by hand.
     pub(crate) fn is_woken(&self) -> bool {
         match self {
-            Call::Thread(..) => false,
+            Call::Thread(_) => false,
             Call::Hand(hand) => hand.is_woken(),
         }
     }
@@ -80,7 +121,7 @@ impl<T, F: Future<Output: Drop>> Call<T, F> {
     /// One poll by hand, whether it was woken or not. Whether it has ended.
     pub(crate) fn poll(&mut self) -> bool {
         match self {
-            Call::Thread(..) => false,
+            Call::Thread(_) => false,
             Call::Hand(hand) => hand.poll(),
         }
     }

@@ -1,9 +1,9 @@
-// How pools are made.
+// How pools are made, and how they end.
 
 use crate::clock::Place;
 use crate::ear::Ear;
 use crate::kinds::{
-    BUILT, Calls, Hand, Kind, PARTS, Pool, ROOM, Settings, TaskWork, ThreadPool, joined,
+    BUILT, Beside, Calls, Hand, Kind, PARTS, Pool, ROOM, Settings, TaskWork, ThreadPool,
 };
 use crate::manager::{Hours, Manager};
 use crate::world::{Host, World};
@@ -12,12 +12,10 @@ use futures::executor::block_on;
 use r2d2::Error;
 use r2d2::event::HandleEvent;
 use std::marker::Brand;
-use std::sync::atomic::{AtomicBool, Ordering};
 use std::sync::ledger::Blank;
 use std::sync::{Arc, Mutex};
 use std::test::Fail;
-use std::thread;
-use std::thread::JoinHandle;
+use std::{mem, thread};
 
 // Sets what builders of both crates have.
 macro_rules! set {
@@ -78,11 +76,10 @@ fn of_kind<V: HandleEvent + 'static>(
 }
 
 /// A builder of a pool of threads that an ear listens to.
-pub(crate) fn threads<F: FnOnce(&mut Settings)>(
+pub(crate) fn threads(
     world: &'static World,
-    change: F,
+    settings: Settings,
 ) -> r2d2::Builder<Manager, Ear, Ear, Ear> {
-    let settings = Settings::small(change);
     let builder = set!(r2d2::Builder::<Manager>::new(), settings);
     let builder = hear!(builder, world, settings.is_backwards);
     of_kind(builder, world.kind, settings)
@@ -100,7 +97,7 @@ pub(crate) fn made<R: Host>(
         let tasks = hear!(tasks, world, settings.is_backwards);
         return Ok(Calls::Task(tasks.build(place, manager, Hours { world })?));
     }
-    let threads = threads(world, |own| *own = settings);
+    let threads = threads(world, settings);
     if world.kind != Kind::Counted {
         return Ok(Calls::Thread(threads.build_unchecked(place, manager)?));
     }
@@ -126,24 +123,18 @@ fn spawned<R: Host, F: Future<Output: Drop> + Send + Drop + 'static>(
 pub(crate) struct Building<R: Host> {
     pub(crate) world: &'static World,
     rt: R,
-    handle: JoinHandle<Result<ThreadPool<R>, Error>>,
-    is_over: Arc<AtomicBool>,
+    build: Beside<Result<ThreadPool<R>, Error>>,
 }
 
 impl<R: Host> Building<R> {
     pub(crate) fn is_over(&self) -> bool {
-        self.is_over.load(Ordering::SeqCst)
+        self.build.is_over()
     }
 
     /// What it ends with.
     pub(crate) fn end(self) -> Result<Result<Pool<R>, Error>, Fail> {
-        let Building {
-            world,
-            rt,
-            handle,
-            is_over,
-        } = self;
-        let made = joined(rt, world, handle, &is_over)?;
+        let Building { world, rt, build } = self;
+        let made = build.end(rt, world)?;
         Ok(made.map(|pool| Pool::bare(rt, world, Calls::Thread(pool))))
     }
 }
@@ -155,7 +146,11 @@ impl<R: Host> Pool<R> {
         world: &'static World,
         change: F,
     ) -> Result<Pool<R>, Fail> {
-        let settings = Settings::small(change);
+        Pool::of(rt, world, Settings::small(change))
+    }
+
+    /// The same, with all settings given.
+    pub(crate) fn of(rt: R, world: &'static World, settings: Settings) -> Result<Pool<R>, Fail> {
         Pool::over(rt, world, settings, made(rt, world, settings)?)
     }
 
@@ -186,37 +181,23 @@ impl<R: Host> Pool<R> {
     }
 
     /// A `build` begins, of a pool of threads.
-    pub(crate) fn building<F: FnOnce(&mut Settings)>(
+    pub(crate) fn building(
         rt: R,
         world: &'static World,
-        change: F,
+        settings: Settings,
     ) -> Result<Building<R>, Fail> {
-        let builder = threads(world, change);
-        let is_over = Arc::new(rt.alloc(), AtomicBool::new(false))?;
-        let theirs = Arc::try_clone(&is_over)?;
-        let build = move || {
-            let made = builder.build(Place { world, rt }, Manager { world });
-            theirs.store(true, Ordering::SeqCst);
-            made
-        };
-        Ok(Building {
-            world,
-            rt,
-            handle: thread::spawn(&rt, build)?,
-            is_over,
-        })
+        let builder = threads(world, settings);
+        let build = move || builder.build(Place { world, rt }, Manager { world });
+        let build = Beside::start(rt, build)?;
+        Ok(Building { world, rt, build })
     }
 
     /// One that is made by `build`, where its kind is.
-    pub(crate) fn built<F: FnOnce(&mut Settings)>(
-        rt: R,
-        world: &'static World,
-        change: F,
-    ) -> Result<Pool<R>, Fail> {
+    pub(crate) fn built(rt: R, world: &'static World, settings: Settings) -> Result<Pool<R>, Fail> {
         if BUILT.contains(&world.kind) {
-            return Ok(Pool::building(rt, world, change)?.end()??);
+            return Ok(Pool::building(rt, world, settings)?.end()??);
         }
-        Pool::new(rt, world, change)
+        Pool::of(rt, world, settings)
     }
 
     // Over the calls, with the connections that are wanted idle.
@@ -253,6 +234,31 @@ impl<R: Host> Pool<R> {
     /// The same pool. Its workers stay with this one.
     pub(crate) fn try_clone(&self) -> Result<Pool<R>, Fail> {
         Ok(Pool::bare(self.rt, self.world, self.calls.try_clone()?))
+    }
+
+    /// The pool is gone once these are dropped. Its workers stay, and so do calls that wait.
+    pub(crate) fn go(&mut self) -> Calls<R> {
+        mem::replace(&mut self.calls, Calls::Gone)
+    }
+
+    /// Drops it, and waits until its workers ended, and its manager and handlers with them.
+    pub(crate) fn ended(mut self) -> Result<(), Fail> {
+        drop(self.go());
+        self.work();
+        let Pool {
+            world,
+            rt,
+            hands,
+            ..
+        } = self;
+        if !hands.lock(&rt).iter().all(|hand| hand.output.is_some()) {
+            return Err(Fail::from("a worker goes on"));
+        }
+        drop(hands);
+        if !world.once_ended() {
+            return Err(Fail::from("something is left of the pool"));
+        }
+        Ok(())
     }
 
     // A worker begins.

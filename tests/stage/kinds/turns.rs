@@ -1,7 +1,7 @@
 // Callers who wait, and how they end.
 
 use crate::ear::milliseconds;
-use crate::kinds::{Call, Get, Kind, Lent, Pool, length};
+use crate::kinds::{Beside, Call, Get, Kind, Lent, Pool, first_ended, length};
 use crate::world::Host;
 use futures::Future;
 use r2d2::Error;
@@ -17,18 +17,23 @@ impl<R: Host> Pool<R> {
         (status.waiting, status.waiting_since.map(milliseconds))
     }
 
-    /// So many callers come to wait, one after the other.
-    pub(crate) fn line(&self, callers: u64) -> Result<Vec<Get<R>>, Fail> {
-        let mut line = Vec::new(self.rt.alloc());
-        for _ in 0..callers {
-            line.push(self.begin(LONG)?)?;
+    /// So many callers come to wait for so many milliseconds, one after the other.
+    pub(crate) fn callers(&self, count: u64, timeout: u64) -> Result<Vec<Get<R>>, Fail> {
+        let mut callers = Vec::new(self.rt.alloc());
+        for _ in 0..count {
+            callers.push(self.begin(timeout)?)?;
         }
-        Ok(line)
+        Ok(callers)
+    }
+
+    /// The same with all the time that they need.
+    pub(crate) fn line(&self, count: u64) -> Result<Vec<Get<R>>, Fail> {
+        self.callers(count, LONG)
     }
 
     /// A `get` in this thread, for so many milliseconds.
     pub(crate) fn get_within(&self, timeout: u64) -> Result<Lent<R>, Error> {
-        self.calls.get_timeout(self.rt, length(timeout))
+        self.calls.ask(self.rt, Some(length(timeout)))
     }
 
     /// Gives it back, and begins to ask for one again at once.
@@ -39,15 +44,11 @@ impl<R: Host> Pool<R> {
             return self.begin(LONG);
         }
         let calls = self.calls.try_clone()?;
-        self.started(move || {
+        let again = Beside::start(rt, move || {
             drop(lent);
-            calls.get_timeout(rt, length(LONG))
-        })
-    }
-
-    /// How many an eviction closes, where it goes well.
-    pub(crate) fn evicts(&self) -> Option<usize> {
-        self.calls.evict(self.rt).ok()
+            calls.ask(rt, Some(length(LONG)))
+        })?;
+        Ok(Call::Thread(again))
     }
 
     /// Whether the report of this moment replays.
@@ -57,19 +58,22 @@ impl<R: Host> Pool<R> {
     }
 
     /// Whether a call ends, at last.
-    pub(crate) fn ends<T, F: Future<Output: Drop>>(&self, call: &mut Call<T, F>) -> bool {
+    pub(crate) fn ends<T: Drop, F: Future<Output: Drop>>(&self, call: &mut Call<T, F>) -> bool {
         self.world.watch(|| {
             self.work();
-            self.has_ended(call)
+            call.has_ended()
         })
     }
 
     /// The same, as the clock moves on.
-    pub(crate) fn ends_in_time<T, F: Future<Output: Drop>>(&self, call: &mut Call<T, F>) -> bool {
+    pub(crate) fn ends_in_time<T: Drop, F: Future<Output: Drop>>(
+        &self,
+        call: &mut Call<T, F>,
+    ) -> bool {
         self.world.watch(|| {
             self.world.pass(50);
             self.work();
-            self.has_ended(call)
+            call.has_ended()
         })
     }
 
@@ -80,7 +84,7 @@ impl<R: Host> Pool<R> {
             if !self.ends(&mut first) {
                 return Err(Fail::from("the first in line is not served"));
             }
-            if line.iter_mut().any(|other| self.has_ended(other)) {
+            if line.iter_mut().any(|other| other.has_ended()) {
                 return Err(Fail::from("another one is served too"));
             }
             drop(self.end(first)??);
@@ -93,14 +97,8 @@ impl<R: Host> Pool<R> {
     pub(crate) fn all_end(&self, mut calls: Vec<Get<R>>) -> Result<u64, Fail> {
         let mut served = 0;
         while !calls.is_empty() {
-            let mut ended = None;
-            self.world.watch(|| {
-                self.work();
-                ended = calls.iter_mut().position(|call| self.has_ended(call));
-                ended.is_some()
-            });
-            let call = calls.remove(ended.ok_or("none of them ends")?);
-            served += u64::from(self.end(call)?.is_ok());
+            let ended = first_ended(self.world, self.rt, &mut calls, || self.work())?;
+            served += u64::from(ended.is_ok());
         }
         Ok(served)
     }
