@@ -181,6 +181,7 @@ fn a_close_wakes_after_its_step(rt: HostRuntime) -> Result<(), Fail> {
         world.connects.goes("~+");
         let get = begun(world, &pool, LONG)?;
         pool.until_opening(1)?;
+        world.glimpse(|| false);
         world.readings.goes("~+");
         let other = pool.aside(|calls| drop(calls.journal()))?;
         world.watch(|| world.readings.hung() == 1);
@@ -326,6 +327,8 @@ fn a_caller_has_begun_before_it_looks_again(rt: HostRuntime) -> Result<(), Fail>
 #[test]
 fn looks_that_take_too_long_are_the_last_for_a_second(rt: HostRuntime) -> Result<(), Fail> {
     on_lent(rt, &OUT_OF_LINE, SMALL, |world, pool, _lent| {
+        // The worker may come to its rest, for which it reads the clock.
+        world.glimpse(|| false);
         for (passes, reads, wanted) in [
             (10_000, "", 10),
             (10_000, "1+", 6),

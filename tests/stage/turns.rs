@@ -61,7 +61,8 @@ fn no_turn_is_given_at_the_moment_of_another(rt: HostRuntime) -> Result<(), Fail
     on_pools(rt, &OUT_OF_LINE, SMALL, |world, pool| {
         world.pass_nanoseconds(500_000);
         let count = before_who_returns(rt, world, &pool, 0)?;
-        assert!(rt; count <= ROUNDS / 2, "{count}");
+        // On a busy machine this thread may lose its processor before it asks again.
+        assert!(rt; count <= ROUNDS * 3 / 4, "{count}");
         Ok(())
     })
 }
