@@ -102,7 +102,6 @@
 #define TAKE 8            /* a take that found one */
 #define FAILURE 9         /* a failed opening */
 #define CLOSE 10          /* the last drop, or a call of `close` */
-#define DRAIN 11          /* the end of a drain */
 #define EVICTION 12
 #ifndef NO_CALLER_AFTER
 #define NO_CALLER_AFTER 0
@@ -132,7 +131,9 @@ bool builds;              /* caller 0 is `build`, and waits */
 #define UNTIL 2           /* or until the first moment that something falls due */
 byte resting[WORKERS];
 
-byte counted;             /* Guarded::waiting: those who began to wait and have not the lock again */
+byte counted;             /* Waiters::callers: those who began to wait and have not looked again, nor given up */
+byte sent;                /* Waiters::woken: wakes that were sent to them, and not taken */
+bool maker_sleeps, drain_sleeps;        /* of the same name there: who waits for no connection, and was not woken */
 byte holders = WAITERS;   /* those who hold the pool */
 bool built = (BUILD == 0);
 hidden byte ordered, k;   /* for use inside one step alone */
@@ -200,15 +201,16 @@ inline wake_callers(step) {
 #endif
 }
 
-/* Book::close */
+/* PoolState::close */
 inline close() {
-  idle = 0; due = 0; later = 0; in_work = 0; reap_due = false; closed = true
+  idle = 0; due = 0; later = 0; in_work = 0; reap_due = false; closed = true;
+  sent = counted; maker_sleeps = false; drain_sleeps = false
 #if LINE
   ; owed = 0
 #endif
 }
 
-/* Guarded::begin_wait and end_wait, under the lock. */
+/* Waiters::begin_if and end, under the lock. */
 inline begin_wait() {
 #ifndef NOBODY_IS_COUNTED
   if :: !waits -> waits = true; counted++ :: else fi
@@ -217,33 +219,59 @@ inline begin_wait() {
 #endif
 }
 inline end_wait() {
-  if :: waits -> waits = false; counted-- :: else fi
+  if :: waits -> waits = false; counted--; sent = (sent > 0 -> sent - 1 : 0) :: else fi
 }
 
-/* Guarded::needed_wakes, under the lock: whether there is a caller to be woken once it is free. */
+/* Waiters::wake_all, under the lock. */
+inline count_all() {
+  sent = counted; maker_sleeps = false; drain_sleeps = false
+}
+
+/* Waiters::wake_if, under the lock: whom to wake at the callers' variable once it is free. */
+#define ONE 1
+#define ALL 2
 #ifdef WAKES_ONLY_WHERE_TWO_WAIT
-#define somebody_waits (counted > 1)
+#define IS_TO_BE_WOKEN (sent + 1 < counted)
 #else
-#define somebody_waits (counted > 0)
+#define IS_TO_BE_WOKEN (sent < counted)
 #endif
+#ifdef WAKES_ONE_OF_THOSE_WHO_DRAIN
+#define OTHERS_SLEEP false
+#else
+#define OTHERS_SLEEP (maker_sleeps || drain_sleeps)
+#endif
+inline count_wake() {
+  if
+  :: OTHERS_SLEEP -> count_all(); wakes = ALL
+#ifdef WAKES_ONE_OF_THOSE_WHO_DRAIN
+  :: maker_sleeps || drain_sleeps -> maker_sleeps = false; drain_sleeps = false; wakes = ONE
+#endif
+  :: !maker_sleeps && !drain_sleeps && IS_TO_BE_WOKEN -> sent++; wakes = ONE
+  :: !maker_sleeps && !drain_sleeps && !IS_TO_BE_WOKEN -> wakes = 0
+  fi
+}
 
 /* The end of a step under the lock that leaves something for a caller: whom it is to wake. In a line it tells one. */
 inline is_for_a_caller(step) {
 #if LINE
   tell(step); keeps();
 #endif
-  wakes = somebody_waits
+  if :: step != NO_CALLER_AFTER -> count_wake() :: else fi
 }
 
-/* Shared::wake, of a caller, once the lock is free. */
+/* Shared::wake, of who waits at the callers' variable, once the lock is free. */
 inline wake_caller(step) {
 #if LINE
   if :: tells != NOBODY -> atomic { waiting[tells] = false; tells = NOBODY } :: else fi;
 #endif
-  if :: wakes -> atomic { wakes = false; wake_any(step) } :: else fi
+  if
+  :: wakes == ONE -> atomic { wakes = 0; wake_any(step) }
+  :: wakes == ALL -> atomic { wakes = 0; wake_callers(step) }
+  :: else
+  fi
 }
 
-/* Guarded::is_full: who may not begin to wait. Who waits is counted until it looks, and is not refused then. */
+/* PoolState::is_full: who may not begin to wait. Who waits is counted until it looks, and is not refused then. */
 #if LIMIT
 #define IS_TOO_MANY (!has_waited && counted >= LIMIT)
 #define IS_DONE has_waited = false
@@ -255,7 +283,7 @@ inline wake_caller(step) {
 /* AnyPool::lend_within, the drop of what was lent, and the drop of the pool. */
 active [CALLERS] proctype caller() {
   bool orders;            /* the step just made has ordered openings */
-  bool wakes;             /* it is to wake a caller, and one waits */
+  byte wakes;             /* whom it is to wake at the callers' variable */
   bool waits;             /* this caller is among those who are counted */
 #if LINE
   byte tells = NOBODY;    /* whom the step just made has told */
@@ -266,17 +294,17 @@ active [CALLERS] proctype caller() {
 #if BUILD
   if
   :: _pid == 0 ->
-building: /* Shared::wait_for: it looks, and waits again, until there are as many as are wanted */
+building: /* Shared::wait_for_build: it looks, and waits again, until there are as many as are wanted */
      atomic {
        if
-       :: connections >= WANTED -> end_wait(); built = true; builds = false; goto calls
-       :: else -> begin_wait(); waiting[_pid] = true; builds = true
+       :: connections >= WANTED -> built = true; builds = false; goto calls
+       :: else -> maker_sleeps = true; waiting[_pid] = true; builds = true
        fi
      };
      if
      :: !waiting[_pid] -> goto building
      :: BUILD == 2 ->      /* `build` drops the pool that nobody else has */
-        atomic { waiting[_pid] = false; builds = false; end_wait(); holders = 1 };
+        atomic { waiting[_pid] = false; builds = false; holders = 1 };
         goto let_go
      fi
   :: else ->
@@ -296,14 +324,17 @@ evicts: /* Shared::evict: what is lent then is closed as it comes back, as each 
     do
     :: idle > 0 -> idle--; lent++; top_up(); lent--; top_up()       /* CountingBook::evict_next */
     :: else -> break
-    od
+    od;
+#if NO_CALLER_AFTER != EVICTION
+    count_all()
+#endif
   };
   atomic { wake_callers(EVICTION) };
   atomic { wake_workers(EVICTION) };
   if :: MAY_STAY -> goto stays :: true fi;                          /* Hooks::release */
   goto calls;
 
-look: /* Shared::lend_until; of a `try_get` it has no timeout, and a miss makes no step */
+look: /* Shared::lend_until, and wait_for_turn once it waited; of a `try_get` lend_once, of which a miss makes no step */
 #ifdef WAKES_BEFORE_THE_STEP
   atomic { wake_workers(MISS) };
 #endif
@@ -366,13 +397,13 @@ woken:
 #endif
   goto look;
 
-gives_up: /* Shared::give_up, which has the lock and takes the latest error */
+gives_up: /* PoolState::give_up_wait or give_up_late, then Shared::give_up, which takes the latest error */
 #if LINE
   atomic { give_up_in_line() };
 #elif defined(PASSES_ON_ONLY_WHERE_ONE_IS_IDLE)
-  atomic { end_wait(); IS_DONE; wakes = somebody_waits && idle > 0 };
+  atomic { end_wait(); IS_DONE; if :: idle > 0 -> count_wake() :: else fi };
 #else
-  atomic { end_wait(); IS_DONE; wakes = somebody_waits };
+  atomic { end_wait(); IS_DONE; count_wake() };
 #endif
   wake_caller(GIVING_UP);
   goto calls;
@@ -387,7 +418,7 @@ has: /* Shared::if_sound, then the caller's own use, then AnyConnection::drop */
   :: atomic { is[_pid] != 0 -> leave(); keeps() };                  /* its check is over: Shared::leave */
      goto has
 #endif
-  :: atomic { CHECKS -> lent--; top_up(); orders = ordered > 0; is_for_a_caller(CHECK) };  /* Guarded::fail_check; and of one that is distrusted, Guarded::give_back */
+  :: atomic { CHECKS -> lent--; top_up(); orders = ordered > 0; is_for_a_caller(CHECK) };  /* PoolState::fail_check; and of one that is distrusted, give_back */
      wake_caller(CHECK);
      if :: orders -> atomic { orders = false; wake_workers(CHECK) } :: else fi;
      if :: MAY_STAY -> goto stays :: true fi;                       /* Hooks::release */
@@ -431,16 +462,16 @@ gone:
 /* Shared::work */
 active [WORKERS] proctype worker() {
   bool orders, closes;    /* what the reap just made has done */
-  bool wakes;             /* the step just made is to wake a caller, and one waits */
+  byte wakes;             /* whom the step just made is to wake at the callers' variable */
 #if LINE
   byte tells = NOBODY;    /* whom it has told */
 #endif
-begins: /* CountingBook::begin; what is closed has nothing due any more */
+begins: /* PoolState::begin; what is closed has nothing due any more */
   atomic {
     if
     :: closed -> goto ended
     :: due > 0 -> due--; in_work++; goto opens
-    :: reap_due ->                                                  /* Guarded::reap, under the same lock */
+    :: reap_due ->                                                  /* PoolState::reap, under the same lock */
        reap_due = false;
        do
        :: idle > 0 -> idle--; closes = true
@@ -547,20 +578,15 @@ active proctype judge() {
 
 /* AnyPool::drain, by one who has the pool as the callers do. */
 active [CLOSERS] proctype closer() {
-  bool wakes;             /* it is to wake another one, and one waits */
-  bool waits;
-#if LINE
-  byte tells = NOBODY;
-#endif
   atomic { close() };                                               /* Shared::close */
   atomic { wake_callers(CLOSE) };
   atomic { wake_workers(CLOSE) };
 
-looks: /* Shared::wait_for_returns */
+looks: /* Shared::wait_for_returns: whoever drains is woken by each return, and all are */
   atomic {
     if
-    :: lent == 0 -> end_wait(); wakes = somebody_waits; goto drained
-    :: lent > 0 -> begin_wait(); waiting[SEAT] = true
+    :: lent == 0 -> goto drained
+    :: lent > 0 -> drain_sleeps = true; waiting[SEAT] = true
     fi
   };
 end_draining:
@@ -568,10 +594,8 @@ end_draining:
   :: !waiting[SEAT] -> goto looks
   :: HASTY -> waiting[SEAT] = false
   fi;
-  atomic { end_wait(); wakes = somebody_waits };
 
 drained:
-  wake_caller(DRAIN);
   holders--                                                         /* what is closed has nothing more to close */
 }
 #endif

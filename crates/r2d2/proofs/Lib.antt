@@ -2,6 +2,7 @@ pub mod Changes
 pub mod Places
 pub mod Evicting
 pub mod Waiting
+pub mod Waits
 pub mod Lined
 pub mod Order
 pub mod Overtaking

@@ -1,12 +1,12 @@
 -- What each change of the line leaves.
-use Rattle.std.proofs.Common.{◌≡◌, ℕ, suc, ◌+◌, ◌<◌, ◌≤◌, true, false, cond, List, [], ◌∷◌, ◌++◌, length, take, drop, set, get_or, Option, Some, None, refl, sym, ap, subst, arith, ◌-◌}
+use Rattle.std.proofs.Common.{◌≡◌, ℕ, ◌+◌, ◌<◌, ◌≤◌, true, false, cond, List, [], ◌∷◌, ◌++◌, length, Option, Some, None, refl, sym, subst, arith, ◌-◌}
 use Rattle.std.specs.Prelude.{◌==◌}
 use Rattle.std.specs.Prelude.{min, IfSome, IfNone}
 use Rattle.std.proofs.lemmas.Bool.Decides.{nat_tests}
 use Rattle.r2d2.specs.declared.line.place.Place.{Place}
 use Rattle.r2d2.specs.declared.line.place.Standing.{Standing}
-use Rattle.r2d2.specs.declared.line.place.Standing.TheVariants.{Quiet, Told, Aside}
-use Rattle.r2d2.specs.Waiting.{place, is_told, weight, waiting_in, told_ahead, ahead, told_at, weight_at, without, with_standing, first_quiet, told_first, copies_in, copies_of}
+use Rattle.r2d2.specs.declared.line.place.Standing.TheVariants.{Quiet, Aside}
+use Rattle.r2d2.specs.Waiting.{place, weight, waiting_in, told_ahead, ahead, told_at, weight_at, without, with_standing, told_first, copies_in, copies_of}
 
 -- a join: who is told nothing at the end changes nothing for those before it
 pub told_ahead-join : (ps : List Place) (s : ℕ) → told_ahead (ps ++ place s Quiet ∷ []) ≡ told_ahead ps

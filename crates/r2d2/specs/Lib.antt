@@ -19,5 +19,6 @@ pub mod Overtaking
 pub mod Order
 pub mod Standing
 pub mod Since
+pub mod Waits
 pub mod Ring
 pub mod Search

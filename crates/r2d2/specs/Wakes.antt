@@ -1,6 +1,6 @@
 -- Whom the pool wakes after a step, read off the step's answer: one waiting caller where a connection came in, or there is room to order
 -- one; all waiting workers where something is due.
-use Rattle.std.specs.Prelude.{ℕ, nat_lt, Bool, true, false, ◌&&◌, Result, Ok, Err}
+use Rattle.std.specs.Prelude.{ℕ, nat_lt, Bool, true, false, Result, Ok, Err}
 use Rattle.r2d2_core.specs.declared.machine.answers.Refusal.{Refusal}
 use Rattle.r2d2_core.specs.Seen.{SeenTake, Found, Empty, SeenReturned, Kept, Closed}
 use Rattle.r2d2.specs.declared.engine.Wakes.{Wakes}
@@ -22,10 +22,6 @@ workers_for n = wakes false (is_some_number n)
 -- a caller, since there may be room for another connection; and the workers, where openings were ordered
 abbrev pub caller_and_workers_for : ℕ → Wakes
 caller_and_workers_for n = wakes true (is_some_number n)
-
--- of those to be woken, who is there: no caller where none waits
-abbrev pub needed_wakes : ℕ → Wakes → Wakes
-needed_wakes waiting w = wakes (w.caller && is_some_number waiting) w.workers
 
 module _ {T : Type 0} where
   -- after a take, that found or not, the workers where it ordered

@@ -3,5 +3,5 @@
 
 pub use crate::error::text_of;
 pub use crate::line::search::LateSearch;
-pub use crate::pool::{Failures, Guarded, LinedBook, Look, ToWake, has_room, reason_of_reap};
+pub use crate::pool::{Failures, LinedBook, Look, PoolState, ToWake, has_room, reason_of_reap};
 pub use crate::tuning::Tuning;

@@ -13,7 +13,7 @@ use futures::util::wait_list::{Ticket, WaitList};
 use r2d2::Status;
 use r2d2::engine::{Outcome, Settled, Uncounted};
 use r2d2::event::ReleaseReason;
-use r2d2::internals::{Guarded, LateSearch, LinedBook, Look, ToWake, Tuning};
+use r2d2::internals::{LateSearch, LinedBook, Look, PoolState, ToWake, Tuning};
 use r2d2_core::machine::Leftover;
 use r2d2_core::{Book, Job, Refusal, Released, Report, Returned, Take};
 use std::alloc::{AllocError, Global};
@@ -47,7 +47,7 @@ pub struct CallSpan {
 /// `LinedBook`'s own fact. Here each who was told is awake: no waker of it is left.
 #[derive(Drop)]
 pub struct TaskBook<P> {
-    guarded: Guarded<LinedBook<P, Uncounted>>,
+    guarded: PoolState<P, Uncounted>,
     // By the slot of a caller in line: what wakes it. A waker wakes its task when it is dropped.
     wakers: Vec<Option<Waker>>,
     // By the slot: when its time is over.
@@ -71,6 +71,7 @@ impl<P: Drop> TaskBook<P> {
     ghost use Rattle.r2d2.specs.Wakes.{wakes_of_return};
     ghost use Rattle.r2d2.specs.Since.{since_with, since_if};
     ghost use Rattle.r2d2.specs.Status.{IsStatus, all_who_wait};
+    ghost use Rattle.r2d2.specs.Waits.{WaitAsBefore, count_of};
     ghost use Rattle.r2d2.specs.Evicted.{is_to_close, evicted_of, after_eviction};
     ghost use Rattle.r2d2.specs.Waiting.{before, left_by, told_if, is_kept, waiting_in};
     ghost use Rattle.r2d2.specs.Waiting.{first_late, pass_first, passed_late};
@@ -87,7 +88,7 @@ impl<P: Drop> TaskBook<P> {
         ensures book { IfOk result (λ tasks. tasks.guarded.book.book ≡ book) }
         ensures line { IfOk result (λ tasks. tasks.guarded.book.places ≡ []) }
     {
-        let guarded = Guarded::new(LinedBook::plain(alloc, book, room)?);
+        let guarded = PoolState::new(LinedBook::plain(alloc, book, room)?);
         Ok(TaskBook {
             guarded,
             wakers: no_wakers(alloc, room)?,
@@ -101,7 +102,7 @@ impl<P: Drop> TaskBook<P> {
     pub fn book(&self) -> &Book<P>
         ensures { result.now ≡ self.now.guarded.book.book }
     {
-        self.guarded.book.book()
+        self.guarded.book()
     }
 
     /// The counts, with those of the callers who wait.
@@ -111,9 +112,9 @@ impl<P: Drop> TaskBook<P> {
         ensures lent { result.lent ≡ length self.now.guarded.book.book.picture.lent }
         ensures opening { result.opening ≡ self.now.guarded.book.book.picture.on_order.pending }
         ensures waiting { result.waiting
-            ≡ all_who_wait self.now.guarded.waiting.count self.now.guarded.book.places }
+            ≡ all_who_wait (count_of self.now.guarded.waiting) self.now.guarded.book.places }
         ensures since { result.waiting_since
-            ≡ since_if (all_who_wait self.now.guarded.waiting.count self.now.guarded.book.places)
+            ≡ since_if (all_who_wait (count_of self.now.guarded.waiting) self.now.guarded.book.places)
             self.now.guarded.waiting.since }
         ensures refused { result.refused ≡ self.now.guarded.failures.refused }
         ensures timeouts { result.timeouts ≡ self.now.guarded.failures.timeouts }
@@ -129,7 +130,7 @@ impl<P: Drop> TaskBook<P> {
         ensures failures { IsOneTimeoutMore self.old.guarded.failures self.new.guarded.failures }
         ensures timeouts { result.timeouts ≡ self.new.guarded.failures.timeouts }
         ensures waiting { result.waiting
-            ≡ all_who_wait self.old.guarded.waiting.count self.old.guarded.book.places }
+            ≡ all_who_wait (count_of self.old.guarded.waiting) self.old.guarded.book.places }
         ensures kept { self.new.guarded.waiting ≡ self.old.guarded.waiting }
         ensures book { self.new.guarded.book ≡ self.old.guarded.book }
         ensures wakers { self.new.wakers ≡ self.old.wakers }
@@ -142,14 +143,14 @@ impl<P: Drop> TaskBook<P> {
     pub fn report(&self) -> Result<Report, AllocError>
         ensures { IfOk result IsSoundReport }
     {
-        self.guarded.book.report()
+        self.guarded.report()
     }
 
     /// How many connections are lent.
     pub fn lent(&self) -> u32
         ensures { result ≡ length self.now.guarded.book.book.picture.lent }
     {
-        let book = self.guarded.book.book();
+        let book = self.guarded.book();
         book.connections() - book.idle()
     }
 
@@ -169,8 +170,8 @@ impl<P: Drop> TaskBook<P> {
         ensures line { self.new.guarded.book.places ≡ self.old.guarded.book.places }
         ensures waiting { self.new.guarded.waiting ≡ self.old.guarded.waiting }
     {
-        let (taken, wakes) = self.guarded.book.lend(now, false, &mut ());
-        if wakes.workers {
+        let (taken, ordered) = self.guarded.look_once(now, &mut ());
+        if ordered {
             self.workers.wake_all();
         }
         match taken {
@@ -188,8 +189,8 @@ impl<P: Drop> TaskBook<P> {
         ensures book { self.new.guarded.book.book ≡ self.old.guarded.book.book }
         ensures waiting { self.new.guarded.waiting ≡ self.old.guarded.waiting }
     {
-        let mut search = self.guarded.book.late_search();
-        for _ in 0..self.guarded.book.in_line() {
+        let mut search = self.guarded.late_search();
+        for _ in 0..self.guarded.in_line() {
             if !self.pass_one(&mut search, now) {
                 break;
             }
@@ -210,7 +211,7 @@ impl<P: Drop> TaskBook<P> {
         ensures ends { self.new.ends ≡ self.old.ends }
         ensures waiting { self.new.guarded.waiting ≡ self.old.guarded.waiting }
     {
-        match self.guarded.book.pass_late(search, now, &self.ends) {
+        match self.guarded.pass_late(search, now, &self.ends) {
             Some(to_wake) => {
                 wake(&mut self.wakers, &mut self.workers, to_wake);
                 true
@@ -260,17 +261,17 @@ impl<P: Drop> TaskBook<P> {
         // as it was.
         ensures since { IfSome place.old (λ slot. waker_at self.old.wakers slot ≡ None)
             → OnPending result (as_nanos self.new.guarded.waiting.since
-            ≡ since_with (all_who_wait self.old.guarded.waiting.count
+            ≡ since_with (all_who_wait (count_of self.old.guarded.waiting)
             self.old.guarded.book.places) (as_nanos call.start)
             (as_nanos self.old.guarded.waiting.since)) }
         ensures asleep { IsSomeAnd place.old (λ slot. IsSome (waker_at self.old.wakers slot))
             → self.new.guarded.waiting ≡ self.old.guarded.waiting }
         ensures ready { IfReady result
             (λ _. self.new.guarded.waiting ≡ self.old.guarded.waiting) }
-        ensures count { self.new.guarded.waiting.count ≡ self.old.guarded.waiting.count }
+        ensures count { count_of self.new.guarded.waiting ≡ count_of self.old.guarded.waiting }
         ensures kept { Keeps cx.old cx.new }
     {
-        if self.guarded.book.book().is_closed() {
+        if self.guarded.book().is_closed() {
             self.leave(place);
             return Poll::Ready(Looked::Closed);
         }
@@ -278,9 +279,9 @@ impl<P: Drop> TaskBook<P> {
             // Nobody told it anything, so it is not its turn.
             return register(&mut self.wakers, cx, source, slot);
         }
-        let idle_since = self.guarded.book.book().next_idle_since();
+        let idle_since = self.guarded.book().next_idle_since();
         let since = self.guarded.since_with(call.start);
-        let (look, to_wake) = self.guarded.book.look(now, place, keeps_place, &mut ());
+        let (look, to_wake) = self.guarded.look_in_line(now, place, keeps_place, &mut ());
         wake(&mut self.wakers, &mut self.workers, to_wake);
         match look {
             Look::Found { id, value } => Poll::Ready(Looked::Found {
@@ -309,7 +310,7 @@ impl<P: Drop> TaskBook<P> {
         ensures waiting { self.new.guarded.waiting ≡ self.old.guarded.waiting }
     {
         clear_at(&mut self.wakers, *place);
-        let to_wake = self.guarded.book.leave(place);
+        let to_wake = self.guarded.leave(place);
         wake(&mut self.wakers, &mut self.workers, to_wake);
     }
 
@@ -318,7 +319,7 @@ impl<P: Drop> TaskBook<P> {
     pub fn ahead_of(&self, place: Option<u32>) -> usize
         ensures { result ≡ min (before place self.now.guarded.book.places) 1000 }
     {
-        self.guarded.book.ahead_of(place)
+        self.guarded.ahead_of(place)
     }
 
     /// Puts a lent connection back. One that is unfit, has outlived its own lifetime, or was opened
@@ -337,7 +338,7 @@ impl<P: Drop> TaskBook<P> {
         ensures told { self.new.guarded.book.places
             ≡ told_if (wakes_of_return (map_ok seen_returned result)).caller
             self.old.guarded.book.places }
-        ensures waiting { self.new.guarded.waiting ≡ self.old.guarded.waiting }
+        ensures waits { WaitAsBefore self.old.guarded.waiting self.new.guarded.waiting }
     {
         let (returned, to_wake) = self.guarded.give_back(now, id, payload, unfit, outlived);
         wake(&mut self.wakers, &mut self.workers, to_wake);
@@ -370,9 +371,9 @@ impl<P: Drop> TaskBook<P> {
         ensures told { self.new.guarded.book.places
             ≡ told_if (wakes_of_settled (seen_settled result)).caller
             self.old.guarded.book.places }
-        ensures waiting { self.new.guarded.waiting ≡ self.old.guarded.waiting }
+        ensures waits { WaitAsBefore self.old.guarded.waiting self.new.guarded.waiting }
     {
-        let (settled, to_wake) = self.guarded.book.settle(now, outcome);
+        let (settled, to_wake) = self.guarded.settle(now, outcome);
         wake(&mut self.wakers, &mut self.workers, to_wake);
         self.wake_drains();
         settled
@@ -387,7 +388,7 @@ impl<P: Drop> TaskBook<P> {
         ensures told { self.new.guarded.book.places
             ≡ told_if (wakes_of_settled (seen_settled result)).caller
             self.old.guarded.book.places }
-        ensures waiting { self.new.guarded.waiting ≡ self.old.guarded.waiting }
+        ensures waits { WaitAsBefore self.old.guarded.waiting self.new.guarded.waiting }
     {
         let (settled, to_wake) = self.guarded.fail(now, tries, text);
         wake(&mut self.wakers, &mut self.workers, to_wake);
@@ -410,7 +411,7 @@ impl<P: Drop> TaskBook<P> {
         ensures told { self.new.guarded.book.places
             ≡ told_if (wakes_of_settled (seen_settled result)).caller
             self.old.guarded.book.places }
-        ensures waiting { self.new.guarded.waiting ≡ self.old.guarded.waiting }
+        ensures waits { WaitAsBefore self.old.guarded.waiting self.new.guarded.waiting }
     {
         let (settled, to_wake) = self.guarded.fail_check(now, id, text, distrusted_before);
         wake(&mut self.wakers, &mut self.workers, to_wake);
@@ -423,7 +424,7 @@ impl<P: Drop> TaskBook<P> {
         ensures step { IsBegin now result self.old.guarded.book.book self.new.guarded.book.book }
         ensures waiting { self.new.guarded.waiting ≡ self.old.guarded.waiting }
     {
-        self.guarded.book.begin(now)
+        self.guarded.begin(now)
     }
 
     /// Gives an opened connection its id.
@@ -432,7 +433,7 @@ impl<P: Drop> TaskBook<P> {
             self.old.guarded.book.book self.new.guarded.book.book }
         ensures waiting { self.new.guarded.waiting ≡ self.old.guarded.waiting }
     {
-        self.guarded.book.number(tries)
+        self.guarded.number(tries)
     }
 
     /// Closes what is expired, into the list, which is empty and has room for all.
@@ -442,9 +443,9 @@ impl<P: Drop> TaskBook<P> {
             ≤ vec_capacity expired.old }
         ensures step { (ordered : _) × IsReap now expired.new.items ordered
             self.old.guarded.book.book self.new.guarded.book.book }
-        ensures waiting { self.new.guarded.waiting ≡ self.old.guarded.waiting }
+        ensures waits { WaitAsBefore self.old.guarded.waiting self.new.guarded.waiting }
     {
-        let (_ordered, to_wake) = self.guarded.book.sweep(now, expired);
+        let (_ordered, to_wake) = self.guarded.reap(now, expired);
         wake(&mut self.wakers, &mut self.workers, to_wake);
     }
 
@@ -458,7 +459,7 @@ impl<P: Drop> TaskBook<P> {
         ensures after { self.new.guarded.book.book
             ≡ after_eviction (as_nanos now) self.old.guarded.book.book }
         ensures line { self.new.guarded.book.places ≡ self.old.guarded.book.places }
-        ensures waiting { self.new.guarded.waiting ≡ self.old.guarded.waiting }
+        ensures waits { WaitAsBefore self.old.guarded.waiting self.new.guarded.waiting }
     {
         self.guarded.evict(now, &mut (), evicted);
         // What was ordered in their place.
@@ -470,7 +471,7 @@ impl<P: Drop> TaskBook<P> {
         ensures step { IsTelling result self.old.guarded.book.book self.new.guarded.book.book }
         ensures waiting { self.new.guarded.waiting ≡ self.old.guarded.waiting }
     {
-        self.guarded.book.take_error()
+        self.guarded.take_error()
     }
 
     /// Closes the book, hands over what was idle, and wakes all who wait: after it no caller
@@ -478,11 +479,11 @@ impl<P: Drop> TaskBook<P> {
     pub fn close(&mut self) -> Leftover<P>
         ensures step { IsClose result self.old.guarded.book.book self.new.guarded.book.book }
         ensures nobody { (slot : ℕ) → waker_at self.new.wakers slot ≡ None }
-        ensures waiting { self.new.guarded.waiting ≡ self.old.guarded.waiting }
+        ensures waits { WaitAsBefore self.old.guarded.waiting self.new.guarded.waiting }
     {
         self.wakers.clear();
         self.workers.wake_all();
-        let left = self.guarded.book.close();
+        let left = self.guarded.close();
         self.wake_drains();
         left
     }
@@ -505,6 +506,7 @@ impl<P: Drop> TaskBook<P> {
     ghost use Rattle.r2d2.specs.Failed.{one_more};
     ghost use Rattle.r2d2.specs.Since.{since_with};
     ghost use Rattle.r2d2.specs.Status.{all_who_wait};
+    ghost use Rattle.r2d2.specs.Waits.{count_of};
 
     /// A place for a worker. The error is lack of memory.
     pub fn add_worker(&mut self) -> Result<Ticket, AllocError> {
@@ -535,12 +537,12 @@ impl<P: Drop> TaskBook<P> {
     /// began, at this moment.
     pub fn count_drain(&mut self, start: Duration, is_counted: &mut bool)
         ensures counted { is_counted.new ≡ true }
-        ensures waiting { self.new.guarded.waiting.count ≡ (if is_counted.old
-            then self.old.guarded.waiting.count
-            else one_more self.old.guarded.waiting.count) }
+        ensures waiting { self.new.guarded.waiting.drains ≡ (if is_counted.old
+            then self.old.guarded.waiting.drains
+            else one_more self.old.guarded.waiting.drains) }
         ensures since { as_nanos self.new.guarded.waiting.since ≡ (if is_counted.old
             then as_nanos self.old.guarded.waiting.since
-            else since_with (all_who_wait self.old.guarded.waiting.count
+            else since_with (all_who_wait (count_of self.old.guarded.waiting)
             self.old.guarded.book.places) (as_nanos start)
             (as_nanos self.old.guarded.waiting.since)) }
         ensures book { self.new.guarded.book ≡ self.old.guarded.book }
@@ -548,23 +550,23 @@ impl<P: Drop> TaskBook<P> {
     {
         if !*is_counted {
             *is_counted = true;
-            self.guarded.begin_wait(start);
+            self.guarded.begin_drain(start);
         }
     }
 
     /// It waits no more.
     pub fn uncount_drain(&mut self, is_counted: &mut bool)
         ensures counted { is_counted.new ≡ false }
-        ensures waiting { self.new.guarded.waiting.count ≡ (if is_counted.old
-            then self.old.guarded.waiting.count - 1
-            else self.old.guarded.waiting.count) }
+        ensures waiting { self.new.guarded.waiting.drains ≡ (if is_counted.old
+            then self.old.guarded.waiting.drains - 1
+            else self.old.guarded.waiting.drains) }
         ensures since { self.new.guarded.waiting.since ≡ self.old.guarded.waiting.since }
         ensures book { self.new.guarded.book ≡ self.old.guarded.book }
         ensures wakers { self.new.wakers ≡ self.old.wakers }
     {
         if *is_counted {
             *is_counted = false;
-            self.guarded.end_wait();
+            self.guarded.end_drain();
         }
     }
 
@@ -679,9 +681,13 @@ fn wake(wakers: &mut Vec<Option<Waker>>, workers: &mut WaitList<()>, to_wake: To
     ensures others { (other : ℕ) → waker_at wakers.old other ≡ None
         → waker_at wakers.new other ≡ None }
 {
-    let ToWake { wakes, told } = to_wake;
+    let ToWake {
+        callers: _,
+        workers: are_due,
+        told,
+    } = to_wake;
     clear_at(wakers, told);
-    if wakes.workers {
+    if are_due {
         workers.wake_all();
     }
 }

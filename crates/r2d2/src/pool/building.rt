@@ -12,7 +12,8 @@ ghost use Rattle.r2d2.specs.Failures.{IsOfMemoryOrThreads, IsOfABuild};
 
 use super::closing::Closer;
 use super::lined_book::LinedBook;
-use super::locking::{Guarded, Shared, SharedOf};
+use super::locking::{Shared, SharedOf};
+use super::pool_state::PoolState;
 use super::{AnyPool, CountedPool, Pool, PoolRuntime};
 use crate::config::{Builder, Config};
 use crate::engine::{Counted, CountingBook, TakeTotal};
@@ -168,9 +169,7 @@ fn wait_for_connections<
     ensures { IfErr result (λ error. error.kind ≡ ErrorKind.Timeout) }
 {
     let shared = pool.shared();
-    let config = &shared.hooks;
-    let wanted = config.min_idle.unwrap_or(config.max_size);
-    shared.wait_for(wanted, config.connection_timeout)
+    shared.wait_for_build(shared.hooks.connection_timeout)
 }
 
 // A list for each worker, with room for all connections that a reap may close.
@@ -210,7 +209,7 @@ fn shared_state<P: Drop, C: TakeTotal, M: Drop, K: Drop, R: PoolRuntime>(
     let line = Line::new(rt.alloc(), room)?;
     let slots = slots(rt.alloc(), room)?;
     let shared = Shared {
-        guarded: Mutex::new(Guarded::new(LinedBook::new(book, line))),
+        guarded: Mutex::new(PoolState::new(LinedBook::new(book, line))),
         callers: Condvar::new(),
         slots,
         workers: Condvar::new(),

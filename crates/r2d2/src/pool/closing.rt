@@ -1,14 +1,14 @@
 // How a pool ends.
 
-use super::lined_book::LinedBook;
 use super::locking::Shared;
+use super::pool_state::PoolState;
 use crate::engine::TakeTotal;
 use std::rt::Clock;
 use std::sync::{Arc, Wait};
 
 /// What pools and lent connections hold: where the last of them goes, the pool is closed.
 pub struct Closer<P: Drop, C: TakeTotal, M: Drop, K: Drop, R: Clock + Wait + Drop> {
-    pub(super) shared: Arc<Shared<LinedBook<P, C>, M, K, R>>,
+    pub(super) shared: Arc<Shared<PoolState<P, C>, M, K, R>>,
 }
 
 impl<P: Drop, C: TakeTotal, M: Drop, K: Drop, R: Clock + Wait + Drop> Drop

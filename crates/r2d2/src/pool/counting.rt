@@ -3,8 +3,8 @@ ghost use Rattle.std.specs.Prelude.{◌≡◌, ◌≤◌, ◌<◌, ◌+◌, IfOk
 ghost use Rattle.r2d2_core.specs.Reports.{IsSoundReport};
 ghost use Rattle.r2d2.specs.Counted.{counted_up_to};
 
-use super::lined_book::LinedBook;
 use super::locking::Shared;
+use super::pool_state::PoolState;
 use super::{CountedConnection, CountedPool, PoolRuntime};
 use crate::engine::LedgerCounter;
 use crate::event::HandleEvent;
@@ -104,7 +104,7 @@ impl<
     }
 }
 
-impl<P: Drop, L: Ledger, M, K, R: Clock + Wait> Shared<LinedBook<P, LedgerCounter<L>>, M, K, R> {
+impl<P: Drop, L: Ledger, M, K, R: Clock + Wait> Shared<PoolState<P, LedgerCounter<L>>, M, K, R> {
     /// What the book reports, beside the share with all parts.
     pub(super) fn audit(&self, all: &mut Share<L>) -> Result<Report, AllocError>
         requires { all.old.parts ≡ L.parts }
@@ -113,6 +113,6 @@ impl<P: Drop, L: Ledger, M, K, R: Clock + Wait> Shared<LinedBook<P, LedgerCounte
         ensures amount { all.new.amount ≡ all.old.amount }
         ensures parts { all.new.parts ≡ all.old.parts }
     {
-        self.guarded.lock(&self.rt).book.audit(all)
+        self.guarded.lock(&self.rt).audit(all)
     }
 }

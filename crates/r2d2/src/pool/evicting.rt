@@ -27,7 +27,7 @@ impl<C: TakeCounter, M: ManageConnection, K: Hooks<M>, R: PoolRuntime> SharedOf<
         let mut evicted = Vec::with_capacity(self.rt.alloc(), max_size)?;
         let mut guarded = self.guarded.lock(&self.rt);
         let now = self.moment();
-        if has_room(guarded.book.book(), &evicted) {
+        if has_room(guarded.book(), &evicted) {
             guarded.evict(now, tally, &mut evicted);
         }
         drop(guarded);

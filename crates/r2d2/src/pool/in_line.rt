@@ -9,8 +9,9 @@ ghost use Rattle.r2d2.specs.Failures.{IsOfAGet};
 
 use super::call_time::CallTime;
 use super::lent::Lent;
-use super::lined_book::{LinedBook, Look, ToWake};
-use super::locking::{Guarded, Shared};
+use super::lined_book::Look;
+use super::locking::Shared;
+use super::pool_state::PoolState;
 use crate::engine::{TakeCounter, TakeTotal};
 use crate::{Error, ErrorKind};
 use std::alloc::AllocGlobal;
@@ -19,7 +20,7 @@ use std::sync::{MutexGuard, Wait};
 use std::time::Duration;
 
 impl<P: Drop, C: TakeCounter, M, K, R: Clock + Wait + AllocGlobal> Shared<
-    LinedBook<P, C>,
+    PoolState<P, C>,
     M,
     K,
     R,
@@ -46,14 +47,14 @@ impl<P: Drop, C: TakeCounter, M, K, R: Clock + Wait + AllocGlobal> Shared<
         for _ in self.rt.forever() {
             let now = self.moment();
             time.look(now);
-            if guarded.book.book().is_closed() {
+            if guarded.book().is_closed() {
                 return Err(self.leave_with(guarded, place, Error::closed()));
             }
             if self.tuning.asks_idle_times() {
-                time.find(guarded.book.book().next_idle_since());
+                time.find(guarded.book().next_idle_since());
             }
             let since = guarded.since_with(time.start());
-            let (look, to_wake) = guarded.book.look(now, place, keeps_place, tally);
+            let (look, to_wake) = guarded.look_in_line(now, place, keeps_place, tally);
             let slot = match look {
                 Look::Found { id, value } => {
                     drop(guarded);
@@ -86,18 +87,18 @@ impl<P: Drop, C: TakeCounter, M, K, R: Clock + Wait + AllocGlobal> Shared<
     }
 }
 
-impl<P: Drop, C: TakeTotal, M, K, R: Clock + Wait + AllocGlobal> Shared<LinedBook<P, C>, M, K, R> {
+impl<P: Drop, C: TakeTotal, M, K, R: Clock + Wait + AllocGlobal> Shared<PoolState<P, C>, M, K, R> {
     // Leaves the line, with this error.
     fn leave_with(
         &self,
-        mut guarded: MutexGuard<'_, Guarded<LinedBook<P, C>>>,
+        mut guarded: MutexGuard<'_, PoolState<P, C>>,
         place: &mut Option<u32>,
         error: Error,
     ) -> Error
         ensures error { result ≡ error }
         ensures gone { place.new ≡ None }
     {
-        let to_wake = guarded.book.leave(place);
+        let to_wake = guarded.leave(place);
         drop(guarded);
         self.wake(to_wake);
         error
@@ -106,7 +107,7 @@ impl<P: Drop, C: TakeTotal, M, K, R: Clock + Wait + AllocGlobal> Shared<LinedBoo
     // Gives up, as one that does not stand in line: who was told to look passes it on.
     fn give_up_in_line(
         &self,
-        mut guarded: MutexGuard<'_, Guarded<LinedBook<P, C>>>,
+        mut guarded: MutexGuard<'_, PoolState<P, C>>,
         place: &mut Option<u32>,
         time: &CallTime,
     ) -> Error
@@ -116,11 +117,11 @@ impl<P: Drop, C: TakeTotal, M, K, R: Clock + Wait + AllocGlobal> Shared<LinedBoo
             ≡ one_more (mutex_guard_value guarded.entry).failures.timeouts) }
     {
         // Modelled in model/waiting.pml: keep both alike.
-        let ahead = guarded.book.ahead_of(*place);
-        let to_wake = guarded.book.leave(place);
+        let ahead = guarded.ahead_of(*place);
+        let to_wake = guarded.leave(place);
         guarded.give_up();
         let status = guarded.status();
-        let error = guarded.book.take_error();
+        let error = guarded.take_error();
         drop(guarded);
         self.wake(to_wake);
         Error::timeout(self.rt.alloc(), error, status, time.waited(), Some(ahead))
@@ -135,7 +136,7 @@ impl<P: Drop, C: TakeTotal, M, K, R: Clock + Wait + AllocGlobal> Shared<LinedBoo
             return;
         }
         let mut guarded = self.lock();
-        let to_wake = guarded.book.leave(place);
+        let to_wake = guarded.leave(place);
         drop(guarded);
         self.wake(to_wake);
     }

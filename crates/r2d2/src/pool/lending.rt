@@ -40,7 +40,7 @@ impl<C: TakeCounter, M: ManageConnection, K: Hooks<M>, R: PoolRuntime> AnyPool<C
         let mut time = CallTime::new(shared.start_of_call());
         let closer = Arc::try_clone(&self.closer).map_err(|_| Error::memory())?;
         for _ in shared.rt.forever() {
-            let found = match shared.lend_until(timeout, &mut time, tally) {
+            let found = match shared.lend(timeout, &mut time, tally) {
                 Ok(Some(lent)) => lent,
                 Ok(None) => return Ok(None),
                 Err(error) => return Err(shared.tell_in_vain(error, timeout)),

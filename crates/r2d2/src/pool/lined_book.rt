@@ -17,8 +17,10 @@ ghost use Rattle.r2d2.specs.Waiting.{told_instead};
 ghost use Rattle.r2d2.specs.Ring.{places_in};
 ghost use Rattle.r2d2.specs.Order.{Event, TookAtOnce, IsHistoryOf, IsPlaceIn, with_told, with_take};
 ghost use Rattle.r2d2.specs.Order.{with_wait, with_leave, with_pass};
+ghost use Rattle.r2d2.specs.Waits.{IsSent, SleepOnlyUndue, WaitAsBefore};
 ghost use Rattle.r2d2.specs.Search.{StopsAt, AreSearches};
 
+use super::waiters::{ToWake, Waiters};
 use crate::engine::{
     CountingBook, LedgerCounter, Outcome, Settled, TakeCounter, TakeTotal, Uncounted, Wakes,
 };
@@ -34,28 +36,38 @@ use std::time::Duration;
 /// As many who wait before a caller are counted for it when it gives up.
 pub const MOST_AHEAD: usize = 1_000;
 
-/// Whom to wake once the lock is free. It can't be let go: `Shared::wake` uses it up.
-pub struct ToWake {
+/// What a step left for others: whom the engine says to wake, and the slot of the caller in line
+/// that was told to look. It can't be let go: `counted` makes of it whom to wake.
+pub struct Due {
     pub wakes: Wakes,
-    /// The slot of the caller in line that was told to look.
     pub told: Option<u32>,
 }
 
-impl ToWake {
-    /// These, and nobody in line.
-    pub(super) fn these(wakes: Wakes) -> ToWake
+impl Due {
+    // The workers, or nobody, and nobody in line.
+    fn these(wakes: Wakes) -> Due
         ensures wakes { result.wakes ≡ wakes }
         ensures told { result.told ≡ None }
     {
-        ToWake { wakes, told: None }
+        Due { wakes, told: None }
     }
 
-    /// After a refusal, or a reading.
-    pub(super) fn nobody() -> ToWake
-        ensures wakes { result.wakes ≡ nobody }
-        ensures told { result.told ≡ None }
+    /// Whom to wake once the lock is free, counted among those who wait at the callers' variable.
+    pub(super) fn counted(self, waiting: &mut Waiters, now: Duration) -> ToWake
+        requires { waiting.old.woken ≤ waiting.old.callers }
+        ensures sent { IsSent self.wakes.caller result.callers waiting.old waiting.new }
+        ensures within { waiting.new.woken ≤ waiting.old.callers }
+        ensures sleepers { SleepOnlyUndue self.wakes.caller waiting.old waiting.new }
+        ensures waits { WaitAsBefore waiting.old waiting.new }
+        ensures workers { result.workers ≡ self.wakes.workers }
+        ensures told { result.told ≡ self.told }
     {
-        ToWake::these(Wakes::nobody())
+        let Due { wakes, told } = self;
+        ToWake {
+            callers: waiting.wake_if(wakes.caller, now),
+            workers: wakes.workers,
+            told,
+        }
     }
 }
 
@@ -150,7 +162,7 @@ impl<P, C: TakeTotal> LinedBook<P, C> {
         id: u64,
         value: P,
         broken: bool,
-    ) -> (Result<Returned<P>, (Refusal, P)>, ToWake)
+    ) -> (Result<Returned<P>, (Refusal, P)>, Due)
         ensures step { IsReturn now id value broken result.0 self.old.book self.new.book }
         ensures wakes { result.1.wakes ≡ wakes_of_return (map_ok seen_returned result.0) }
         ensures told { result.1.told ≡ slot_if result.1.wakes.caller self.old.places }
@@ -162,11 +174,11 @@ impl<P, C: TakeTotal> LinedBook<P, C> {
     {
         let (returned, wakes) = self.book.give_back(now, id, value, broken);
         let told = self.line.tell_if(wakes.caller);
-        (returned, ToWake { wakes, told })
+        (returned, Due { wakes, told })
     }
 
     /// As `CountingBook::settle`, and tells as `give_back`.
-    pub fn settle(&mut self, now: Duration, outcome: Outcome<P>) -> (Settled<P>, ToWake)
+    pub fn settle(&mut self, now: Duration, outcome: Outcome<P>) -> (Settled<P>, Due)
         ensures step { IsSettling now outcome result.0 self.old.book self.new.book }
         ensures wakes { result.1.wakes ≡ wakes_of_settled (seen_settled result.0) }
         ensures told { result.1.told ≡ slot_if result.1.wakes.caller self.old.places }
@@ -178,11 +190,11 @@ impl<P, C: TakeTotal> LinedBook<P, C> {
     {
         let (settled, wakes) = self.book.settle(now, outcome);
         let told = self.line.tell_if(wakes.caller);
-        (settled, ToWake { wakes, told })
+        (settled, Due { wakes, told })
     }
 
     /// As `CountingBook::sweep`, and tells as `give_back`.
-    pub fn sweep(&mut self, now: Duration, out: &mut Vec<Released<P>>) -> (u32, ToWake)
+    pub fn sweep(&mut self, now: Duration, out: &mut Vec<Released<P>>) -> (u32, Due)
         requires empty { vec_len out.old ≡ 0 }
         requires room { self.old.book.picture.on_order.limits.max_size ≤ vec_capacity out.old }
         ensures step { IsReap now out.new.items result.0 self.old.book self.new.book }
@@ -196,7 +208,7 @@ impl<P, C: TakeTotal> LinedBook<P, C> {
     {
         let (ordered, wakes) = self.book.sweep(now, out);
         let told = self.line.tell_if(wakes.caller);
-        (ordered, ToWake { wakes, told })
+        (ordered, Due { wakes, told })
     }
 
     /// As `Book::begin`.
@@ -319,26 +331,25 @@ impl<P, C: TakeTotal> LinedBook<P, C> {
 
     /// Passes the first in line that was told to look and whose time is over: it waits no more, and
     /// the first that was told nothing is told. It keeps its place until it looks or leaves. Each
-    /// one's end stands at its slot. The answer is whom to wake; None where nobody is late. The
+    /// one's end stands at its slot. The answer is who was told; None where nobody is late. The
     /// next call with the same search, moment and ends goes on from there.
     pub fn pass_late(
         &mut self,
         search: &mut LateSearch,
         now: Duration,
         ends: &[Duration],
-    ) -> Option<ToWake>
+    ) -> Option<Option<u32>>
         requires { AreSearches (as_nanos now) ends.now search.old self.old.places }
         ensures search { AreSearches (as_nanos now) ends.now search.new self.new.places }
         ensures late { IfSome (first_late (as_nanos now) ends.now self.old.places)
             (λ slot. search.new.late.at ≡ slot) }
         ensures quiet { IfSome result
-            (λ to_wake. StopsAt to_wake.told search.new.quiet self.new.places) }
+            (λ told. StopsAt told search.new.quiet self.new.places) }
         ensures whether { is_some result
             ≡ is_some (first_late (as_nanos now) ends.now self.old.places) }
         ensures line { self.new.places ≡ pass_first (as_nanos now) ends.now self.old.places }
-        ensures told { IfSome result (λ to_wake. to_wake.told
-            ≡ told_instead (first_late (as_nanos now) ends.now self.old.places) self.old.places) }
-        ensures wakes { IfSome result (λ to_wake. to_wake.wakes ≡ nobody) }
+        ensures told { IfSome result (λ told.
+            told ≡ told_instead (first_late (as_nanos now) ends.now self.old.places) self.old.places) }
         ensures history { (h : List Event) → IsHistoryOf h self.old.places
             → IsHistoryOf (with_told
             (told_instead (first_late (as_nanos now) ends.now self.old.places) self.old.places)
@@ -353,14 +364,12 @@ impl<P, C: TakeTotal> LinedBook<P, C> {
         let mut quiet = search.quiet;
         let told = self.line.tell_next(&mut quiet);
         search.quiet = quiet;
-        Some(ToWake {
-            wakes: Wakes::nobody(),
-            told,
-        })
+        Some(told)
     }
 
-    // The caller leaves the line. The answer is the slot of the one who is told in its stead.
-    fn pass_on(&mut self, place: &mut Option<u32>) -> Option<u32>
+    /// The caller leaves the line. Where it was told to look, the next one is: the answer is its
+    /// slot.
+    pub fn leave(&mut self, place: &mut Option<u32>) -> Option<u32>
         ensures line { self.new.places ≡ left_by place.old self.old.places }
         ensures told { result ≡ told_by place.old self.old.places }
         ensures history { (h : List Event) → IsHistoryOf h self.old.places
@@ -373,25 +382,6 @@ impl<P, C: TakeTotal> LinedBook<P, C> {
         let slot = place.take()?;
         let was_told = self.line.leave(slot);
         self.line.tell_if(was_told)
-    }
-
-    /// The caller leaves the line. Where it was told to look, the next one is.
-    pub fn leave(&mut self, place: &mut Option<u32>) -> ToWake
-        ensures line { self.new.places ≡ left_by place.old self.old.places }
-        ensures told { result.told ≡ told_by place.old self.old.places }
-        ensures history { (h : List Event) → IsHistoryOf h self.old.places
-            → IsHistoryOf (with_told result.told (with_leave place.old h)) self.new.places }
-        ensures wakes { result.wakes ≡ nobody }
-        ensures gone { place.new ≡ None }
-        ensures book { self.new.book ≡ self.old.book }
-        ensures total { self.new.total ≡ self.old.total }
-        ensures owed { self.new.owed ≡ self.old.owed }
-    {
-        let told = self.pass_on(place);
-        ToWake {
-            wakes: Wakes::nobody(),
-            told,
-        }
     }
 }
 
@@ -440,6 +430,31 @@ impl<P, C: TakeCounter> LinedBook<P, C> {
         if self.is_kept() {
             return (Take::Empty { ordered: 0 }, Wakes::nobody());
         }
+        self.lend_beside(now, or_order, tally)
+    }
+
+    /// The same, where callers do not stand in line: it does not ask for whom something is kept.
+    #[inline(always)]
+    pub(super) fn lend_beside(
+        &mut self,
+        now: Duration,
+        or_order: bool,
+        tally: &mut C::Tally,
+    ) -> (Take<P>, Wakes)
+        requires { 0 < C.parts tally.old }
+        ensures parts { C.parts tally.new ≡ C.parts tally.old }
+        ensures amount { C.amount tally.new
+            ≡ C.amount tally.old + found_by (seen_take result.0) * C.per_take }
+        ensures step { IsTake now or_order result.0 self.old.book self.new.book }
+        ensures wakes { result.1 ≡ wakes_of_take (seen_take result.0) }
+        ensures line { self.new.places ≡ self.old.places }
+        ensures history { (h : List Event) → IsHistoryOf h self.old.places
+            → is_kept self.old.book.picture self.old.places ≡ false
+            → 0 < found_by (seen_take result.0)
+            → IsHistoryOf (TookAtOnce (length self.old.book.picture.idle) ∷ h) self.new.places }
+        ensures total { counted_where C.counts (seen_take result.0) self.old.total self.new.total }
+        ensures owed { self.new.owed ≡ self.old.owed }
+    {
         self.book.lend(now, or_order, tally)
     }
 
@@ -486,7 +501,7 @@ impl<P: Drop, C: TakeCounter> LinedBook<P, C> {
         place: &mut Option<u32>,
         keeps_place: bool,
         tally: &mut C::Tally,
-    ) -> (Look<P>, ToWake)
+    ) -> (Look<P>, Due)
         requires { 0 < C.parts tally.old }
         ensures turn { IsTrue (is_found result.0)
             ↔ (before place.old self.old.places < length self.old.book.picture.idle) }
@@ -514,21 +529,17 @@ impl<P: Drop, C: TakeCounter> LinedBook<P, C> {
             return match self.stand(place) {
                 Some(slot) => {
                     let wakes = self.order(now, tally);
-                    (Look::Stands(slot), ToWake::these(wakes))
+                    (Look::Stands(slot), Due::these(wakes))
                 }
-                None => (Look::Full, ToWake::nobody()),
+                None => (Look::Full, Due::these(Wakes::nobody())),
             };
         }
         let (taken, mut wakes) = self.take(now, *place, tally);
-        let told = if keeps_place {
-            None
-        } else {
-            self.pass_on(place)
-        };
+        let told = if keeps_place { None } else { self.leave(place) };
         let paid = self.pay(now, tally);
         wakes.workers = wakes.workers || paid.workers;
         match taken {
-            Take::Found { id, value, .. } => (Look::Found { id, value }, ToWake { wakes, told }),
+            Take::Found { id, value, .. } => (Look::Found { id, value }, Due { wakes, told }),
             Take::Empty { .. } => unreachable!(),
         }
     }

@@ -2,8 +2,8 @@
 ghost use Rattle.std.specs.Prelude.{◌≡◌, IfSome};
 
 use super::lent::Lent;
-use super::lined_book::LinedBook;
 use super::locking::Shared;
+use super::pool_state::PoolState;
 use crate::Extension;
 use crate::engine::TakeTotal;
 use crate::event::ReleaseReason;
@@ -14,7 +14,7 @@ use std::rt::Clock;
 use std::sync::Wait;
 
 impl<X: Drop, E: Extension + Drop, C: TakeTotal, M, K, R: Clock + Wait> Shared<
-    LinedBook<Payload<X, E>, C>,
+    PoolState<Payload<X, E>, C>,
     M,
     K,
     R,

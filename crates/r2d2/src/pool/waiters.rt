@@ -1,7 +1,8 @@
-// Who waits at the callers' variable, since when somebody waits, and who is to come first.
-ghost use Rattle.std.specs.Prelude.{◌≡◌, ◌-◌, true, false};
+// Who waits at the callers' variable, who of them was woken, and who is to come first.
+ghost use Rattle.std.specs.Prelude.{◌≡◌, ◌≤◌, ◌+◌, ◌-◌, ◌^◌, min, true, false, None};
 ghost use Rattle.std.specs.Duration.{as_nanos};
-ghost use Rattle.r2d2.specs.Failed.{one_more};
+ghost use Rattle.r2d2.specs.Waits.{IsSent, SleepOnlyUndue, WaitAsBefore, AllAreWoken, count_of};
+ghost use Rattle.r2d2.specs.Waits.{waiting_if, after_wait, one_if};
 
 use std::time::Duration;
 
@@ -9,12 +10,80 @@ use std::time::Duration;
 /// has the lock takes what is idle: nobody then waits for a thread that has yet to wake up.
 const BETWEEN_TURNS: u32 = 1_000_000;
 
-/// How many wait at the callers' variable, and since when somebody waits, there or in line.
+/// Whom a step is to wake at the callers' variable.
+#[derive(Clone, Copy)]
+pub enum Wake {
+    Nobody,
+    One,
+    All,
+}
+
+/// Whom to wake once the lock is free. It can't be let go: `Shared::wake` uses it up.
+pub struct ToWake {
+    pub callers: Wake,
+    /// All workers who rest.
+    pub workers: bool,
+    /// The slot of the caller in line that was told to look.
+    pub told: Option<u32>,
+}
+
+impl ToWake {
+    /// After a refusal, or a reading.
+    pub(super) fn nobody() -> ToWake
+        ensures callers { result.callers ≡ Wake.Nobody }
+        ensures workers { result.workers ≡ false }
+        ensures told { result.told ≡ None }
+    {
+        ToWake::workers_if(false)
+    }
+
+    /// The one in line at this slot, which was told to look.
+    pub(super) fn told(told: Option<u32>) -> ToWake
+        ensures callers { result.callers ≡ Wake.Nobody }
+        ensures workers { result.workers ≡ false }
+        ensures told { result.told ≡ told }
+    {
+        ToWake {
+            callers: Wake::Nobody,
+            workers: false,
+            told,
+        }
+    }
+
+    /// The workers, where something was ordered.
+    pub(super) fn workers_if(ordered: bool) -> ToWake
+        ensures callers { result.callers ≡ Wake.Nobody }
+        ensures workers { result.workers ≡ ordered }
+        ensures told { result.told ≡ None }
+    {
+        ToWake {
+            callers: Wake::Nobody,
+            workers: ordered,
+            told: None,
+        }
+    }
+}
+
+/// A caller who waits at the callers' variable, and is counted there. It can't be let go: its next
+/// look, or its giving up, uses it up.
+pub struct Waiting {
+    /// Since when somebody waited as it began to: if it waits again, that moment stays.
+    pub(super) since: Duration,
+}
+
+/// How many wait at the callers' variable, how many of them were woken, and since when somebody
+/// waits, there or in line.
 #[derive(Clone, Copy)]
 pub struct Waiters {
-    /// Those at the callers' variable who have not the lock again. So it is at least the number of
-    /// those whom a wake can reach.
-    pub(super) count: u64,
+    /// Callers who wait for a connection, or were woken and have not looked again.
+    pub(super) callers: u64,
+    /// Wakes that were sent to these, and not taken.
+    pub(super) woken: u64,
+    /// Whether the maker of the pool may sleep there, and was not woken since it looked.
+    pub(super) maker_sleeps: bool,
+    /// The same of those who drain; and how many do.
+    pub(super) drain_sleeps: bool,
+    pub(super) drains: u64,
     /// Since this moment there has been a caller waiting, without a break. It tells nothing where
     /// nobody waits.
     pub(super) since: Duration,
@@ -27,43 +96,99 @@ pub struct Waiters {
 impl Waiters {
     /// Nobody waits yet.
     pub(super) fn nobody() -> Waiters
-        ensures count { result.count ≡ 0 }
+        ensures callers { result.callers ≡ 0 }
+        ensures woken { result.woken ≡ 0 }
+        ensures maker { result.maker_sleeps ≡ false }
+        ensures drain { result.drain_sleeps ≡ false }
+        ensures drains { result.drains ≡ 0 }
         ensures since { as_nanos result.since ≡ 0 }
         ensures turn { result.has_turn ≡ false }
     {
         Waiters {
-            count: 0,
+            callers: 0,
+            woken: 0,
+            maker_sleeps: false,
+            drain_sleeps: false,
+            drains: 0,
             since: Duration::ZERO,
             has_turn: false,
             next_turn: Duration::ZERO,
         }
     }
 
-    /// One more waits there, and somebody waits since this moment.
-    pub(super) fn begin(&mut self, since: Duration)
-        ensures { self.new
-            ≡ record self.old { count = one_more self.old.count; since = since } }
+    /// How many wait there, those who drain among them.
+    pub(super) fn count(&self) -> u64
+        ensures { result ≡ count_of self.now }
     {
-        self.count = self.count.saturating_add(1);
-        self.since = since;
+        self.callers.saturating_add(self.drains)
     }
 
-    /// One less waits there. The moment stays: it is told only where somebody waits.
+    /// One caller more waits, if it does, and somebody since this moment.
+    pub(super) fn begin_if(&mut self, waits: bool, since: Duration)
+        ensures after { self.new ≡ waiting_if waits since self.old }
+        ensures at_least { self.old.callers ≤ self.new.callers }
+        ensures at_most { self.new.callers ≤ self.old.callers + one_if waits }
+        ensures rest { self.new
+            ≡ record self.old { callers = self.new.callers; since = self.new.since } }
+    {
+        if waits {
+            self.callers = self.callers.saturating_add(1);
+            self.since = since;
+        }
+    }
+
+    /// One caller has the lock again: it waits no more, and has taken a wake, if one was sent.
     pub(super) fn end(&mut self)
-        ensures { self.new ≡ record self.old { count = self.old.count - 1 } }
+        ensures { self.new ≡ after_wait self.old }
     {
-        self.count = self.count.saturating_sub(1);
+        self.callers = self.callers.saturating_sub(1);
+        self.woken = self.woken.saturating_sub(1);
     }
 
-    /// One was woken at this moment: it is to come first, where none was for a while. (How long that
-    /// is comes by chance, so that callers who keep time with it are not left out each time.)
-    pub(super) fn give_turn(&mut self, now: Duration)
+    /// Where a step left something for a caller at this moment, counts the wake that is to be sent,
+    /// and gives a turn. All are woken where somebody sleeps who does not wait for a connection, and
+    /// might have that wake.
+    pub(super) fn wake_if(&mut self, due: bool, now: Duration) -> Wake
+        requires { self.old.woken ≤ self.old.callers }
+        ensures sent { IsSent due result self.old self.new }
+        ensures within { self.new.woken ≤ self.old.callers }
+        ensures sleepers { SleepOnlyUndue due self.old self.new }
+        ensures waits { WaitAsBefore self.old self.new }
+    {
+        if !due {
+            return Wake::Nobody;
+        }
+        self.give_turn(now);
+        if self.maker_sleeps || self.drain_sleeps {
+            self.wake_all();
+            return Wake::All;
+        }
+        if self.woken < self.callers {
+            self.woken += 1;
+            return Wake::One;
+        }
+        Wake::Nobody
+    }
+
+    /// All are woken.
+    pub(super) fn wake_all(&mut self)
+        ensures { AllAreWoken self.old self.new }
+    {
+        self.woken = self.callers;
+        self.maker_sleeps = false;
+        self.drain_sleeps = false;
+    }
+
+    // Where somebody waits, one that is woken at this moment is to come first, if none was for a
+    // while. (How long that is comes by chance, so that callers who keep time with it are not left
+    // out each time.)
+    fn give_turn(&mut self, now: Duration)
         ensures { self.new ≡ record self.old {
           has_turn = self.new.has_turn;
           next_turn = self.new.next_turn;
         } }
     {
-        if now.as_nanos() < self.next_turn.as_nanos() {
+        if self.callers == 0 || now.as_nanos() < self.next_turn.as_nanos() {
             return;
         }
         self.has_turn = true;

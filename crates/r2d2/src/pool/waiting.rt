@@ -13,9 +13,10 @@ ghost use Rattle.r2d2.specs.Failures.{IsOfAGet};
 use super::Status;
 use super::call_time::CallTime;
 use super::lent::Lent;
-use super::lined_book::{LinedBook, ToWake};
-use super::locking::{Guarded, Shared, has_passed, pause};
-use crate::engine::{TakeCounter, TakeTotal, Wakes};
+use super::locking::{Shared, has_passed, pause};
+use super::pool_state::{PoolState, Turn};
+use super::waiters::{ToWake, Waiting};
+use crate::engine::{TakeCounter, TakeTotal};
 use crate::{Error, ErrorKind};
 use r2d2_core::Take;
 use std::alloc::AllocGlobal;
@@ -33,16 +34,14 @@ const LOOKS_FOR_OTHERS: u32 = 200;
 const PATIENCE_FOR_OTHERS: u128 = 1_000_000;
 
 impl<P: Drop, C: TakeCounter, M, K, R: Clock + Wait + AllocGlobal> Shared<
-    LinedBook<P, C>,
+    PoolState<P, C>,
     M,
     K,
     R,
 > {
-    /// Takes the idle connection that is lent next. Where there is none it orders one and waits,
-    /// until the call's timeout has passed, or until the pool is closed: each is an error. With no
-    /// timeout it neither orders nor waits, and answers None.
+    /// As `lend_until`; and with no timeout as `lend_once`.
     #[inline(always)]
-    pub(super) fn lend_until(
+    pub(super) fn lend(
         &self,
         timeout: Option<Duration>,
         time: &mut CallTime,
@@ -59,63 +58,133 @@ impl<P: Drop, C: TakeCounter, M, K, R: Clock + Wait + AllocGlobal> Shared<
         ensures at_once { IsNone timeout → IsOk result }
         ensures looks { IfOk result (λ found. IsSome found → IsSome time.new.start) }
     {
+        match timeout {
+            Some(timeout) => Ok(Some(self.lend_until(timeout, time, tally)?)),
+            None => Ok(self.lend_once(time, tally)),
+        }
+    }
+
+    /// Takes the idle connection that is lent next, if there is one that is kept for nobody, for a
+    /// call that never waits: it orders none.
+    #[inline(always)]
+    pub(super) fn lend_once(&self, time: &mut CallTime, tally: &mut C::Tally) -> Option<Lent<P>>
+        requires { 0 < C.parts tally.old }
+        ensures parts { C.parts tally.new ≡ C.parts tally.old }
+        ensures lent { MatchOption result (C.amount tally.new ≡ C.amount tally.old)
+            (λ _. C.amount tally.new ≡ C.amount tally.old + C.per_take) }
+        ensures looks { IsSome result → IsSome time.new.start }
+    {
+        let mut guarded = self.lock_for(time);
+        if !time.may_take(guarded.book().idle()) {
+            return None;
+        }
+        let now = self.look_at(&guarded, time);
+        let (taken, ordered) = guarded.look_once(now, tally);
+        drop(guarded);
+        self.wake(ToWake::workers_if(ordered));
+        match taken {
+            Take::Found { id, value, .. } => Some(Lent { id, payload: value }),
+            Take::Empty { .. } => None,
+        }
+    }
+
+    /// Takes the idle connection that is lent next. Where there is none it orders one and waits,
+    /// until the call's timeout has passed, or until the pool is closed: each is an error.
+    #[inline(always)]
+    pub(super) fn lend_until(
+        &self,
+        timeout: Duration,
+        time: &mut CallTime,
+        tally: &mut C::Tally,
+    ) -> Result<Lent<P>, Error>
+        requires { 0 < C.parts tally.old }
+        ensures parts { C.parts tally.new ≡ C.parts tally.old }
+        ensures lent { IfOk result (λ _. C.amount tally.new ≡ C.amount tally.old + C.per_take) }
+        ensures refused { OnErr result (C.amount tally.new ≡ C.amount tally.old) }
+        ensures error { IfErr result IsOfAGet }
+        ensures looks { IsOk result → IsSome time.new.start }
+    {
         // Modelled in model/waiting.pml: keep both alike.
         let mut guarded = self.lock_for(time);
-        if timeout.is_none() && !time.may_take(guarded.book.book().idle()) {
-            return Ok(None);
-        }
-        if timeout.is_some() && !guarded.is_free() {
+        if !guarded.is_free() {
             guarded = match self.look_before_wait(guarded, time) {
                 Some(guarded) => guarded,
                 None => return Err(Error::full()),
             };
         }
-        let mut since = None;
-        for _ in self.rt.forever() {
-            let now = self.moment();
-            time.look(now);
-            if self.tuning.asks_idle_times() {
-                time.find(guarded.book.book().next_idle_since());
-            }
-            let (taken, wakes) = guarded.book.lend(now, timeout.is_some(), tally);
-            let found = match taken {
-                Take::Found { id, value, .. } => Some(Lent { id, payload: value }),
-                Take::Empty { .. } => None,
-            };
-            let (Some(timeout), None) = (timeout, &found) else {
+        let now = self.look_at(&guarded, time);
+        let (turn, ordered) = guarded.look(now, time.start(), tally);
+        match turn {
+            Turn::Found { id, value } => {
                 drop(guarded);
-                self.wake(ToWake::these(wakes));
-                return Ok(found);
-            };
-            if guarded.book.book().is_closed() {
-                // So nothing was ordered, and there is nobody to wake.
-                return Err(Error::closed());
+                self.wake(ToWake::workers_if(ordered));
+                Ok(Lent { id, payload: value })
             }
-            // Before the wait, which lets the lock go.
-            self.wake(ToWake::these(wakes));
+            Turn::Waits(waiting) => {
+                self.wake(ToWake::workers_if(ordered));
+                self.wait_for_turn(guarded, waiting, timeout, time, tally)
+            }
+            // So nothing was ordered, and there is nobody to wake.
+            Turn::Closed => Err(Error::closed()),
+        }
+    }
+
+    // Waits, and looks again each time that it is woken.
+    fn wait_for_turn<'a>(
+        &'a self,
+        mut guarded: MutexGuard<'a, PoolState<P, C>>,
+        mut waiting: Waiting,
+        timeout: Duration,
+        time: &mut CallTime,
+        tally: &mut C::Tally,
+    ) -> Result<Lent<P>, Error>
+        requires parts { 0 < C.parts tally.old }
+        requires begun { IsSome time.old.start }
+        ensures parts { C.parts tally.new ≡ C.parts tally.old }
+        ensures lent { IfOk result (λ _. C.amount tally.new ≡ C.amount tally.old + C.per_take) }
+        ensures refused { OnErr result (C.amount tally.new ≡ C.amount tally.old) }
+        ensures error { IfErr result IsOfAGet }
+        ensures looks { IsSome time.new.start }
+    {
+        // Modelled in model/waiting.pml: keep both alike.
+        for _ in self.rt.forever() {
             let left = time.left_of(timeout);
-            guarded.begin_wait(since.unwrap_or(time.start()));
             let (again, outcome) = self.callers.wait_timeout(&self.rt, guarded, left);
             guarded = again;
-            guarded.waiting.end_turn();
+            guarded.end_turn();
             if outcome.timed_out() {
-                guarded.end_wait();
                 time.look(self.moment());
-                return Err(self.give_up(guarded, time.waited()));
+                let to_wake = guarded.give_up_wait(waiting, time.seen());
+                return Err(self.give_up(guarded, to_wake, time.waited()));
             }
             // It is counted meanwhile, so that nobody else takes its place.
             guarded = self.look_again(guarded, self.moment());
-            since = Some(guarded.end_wait());
+            guarded.end_turn();
+            let now = self.look_at(&guarded, time);
+            let (turn, ordered) = guarded.look_again(now, waiting, tally);
+            match turn {
+                Turn::Found { id, value } => {
+                    drop(guarded);
+                    self.wake(ToWake::workers_if(ordered));
+                    return Ok(Lent { id, payload: value });
+                }
+                Turn::Waits(still) => {
+                    // Before the wait, which lets the lock go.
+                    self.wake(ToWake::workers_if(ordered));
+                    waiting = still;
+                }
+                Turn::Closed => return Err(Error::closed()),
+            }
         }
         unreachable!()
     }
 }
 
-impl<P: Drop, C: TakeTotal, M, K, R: Clock + Wait + AllocGlobal> Shared<LinedBook<P, C>, M, K, R> {
+impl<P: Drop, C: TakeTotal, M, K, R: Clock + Wait + AllocGlobal> Shared<PoolState<P, C>, M, K, R> {
     /// Takes the lock for a call. One that has to wait for it, and looked at no clock before, does
     /// so first.
     #[inline(always)]
-    pub(super) fn lock_for(&self, time: &mut CallTime) -> MutexGuard<'_, Guarded<LinedBook<P, C>>>
+    pub(super) fn lock_for(&self, time: &mut CallTime) -> MutexGuard<'_, PoolState<P, C>>
         ensures { IsSome time.old.start → time.new ≡ time.old }
     {
         if let Some(guarded) = self.guarded.try_lock() {
@@ -139,9 +208,9 @@ impl<P: Drop, C: TakeTotal, M, K, R: Clock + Wait + AllocGlobal> Shared<LinedBoo
     // first: its time begins, and it looks again. None where as many wait as may.
     fn look_before_wait<'a>(
         &'a self,
-        mut guarded: MutexGuard<'a, Guarded<LinedBook<P, C>>>,
+        mut guarded: MutexGuard<'a, PoolState<P, C>>,
         time: &mut CallTime,
-    ) -> Option<MutexGuard<'a, Guarded<LinedBook<P, C>>>>
+    ) -> Option<MutexGuard<'a, PoolState<P, C>>>
         ensures begun { IsSome result → IsSome time.new.start }
         ensures once { IsSome time.old.start → time.new ≡ time.old }
     {
@@ -161,9 +230,9 @@ impl<P: Drop, C: TakeTotal, M, K, R: Clock + Wait + AllocGlobal> Shared<LinedBoo
     // as long as a wake takes.
     fn give_way<'a>(
         &'a self,
-        mut guarded: MutexGuard<'a, Guarded<LinedBook<P, C>>>,
+        mut guarded: MutexGuard<'a, PoolState<P, C>>,
         begun: Duration,
-    ) -> MutexGuard<'a, Guarded<LinedBook<P, C>>> {
+    ) -> MutexGuard<'a, PoolState<P, C>> {
         for looks in 0..LOOKS_FOR_OTHERS {
             if !guarded.is_anothers_turn() {
                 return guarded;
@@ -175,7 +244,7 @@ impl<P: Drop, C: TakeTotal, M, K, R: Clock + Wait + AllocGlobal> Shared<LinedBoo
                 break;
             }
         }
-        guarded.waiting.end_turn();
+        guarded.end_turn();
         guarded
     }
 
@@ -184,9 +253,9 @@ impl<P: Drop, C: TakeTotal, M, K, R: Clock + Wait + AllocGlobal> Shared<LinedBoo
     // read again after one look in four.
     fn look_again<'a>(
         &'a self,
-        mut guarded: MutexGuard<'a, Guarded<LinedBook<P, C>>>,
+        mut guarded: MutexGuard<'a, PoolState<P, C>>,
         begun: Duration,
-    ) -> MutexGuard<'a, Guarded<LinedBook<P, C>>> {
+    ) -> MutexGuard<'a, PoolState<P, C>> {
         if guarded.is_hurried(begun) {
             return guarded;
         }
@@ -204,26 +273,37 @@ impl<P: Drop, C: TakeTotal, M, K, R: Clock + Wait + AllocGlobal> Shared<LinedBoo
         guarded
     }
 
-    // Gives up after so long: the timeout has the latest error of an opening or a check, where one
-    // is known, and what the pool shows now.
+    // The moment of a look, with what it notes of the clock and of what is lent next.
+    #[inline(always)]
+    fn look_at(&self, guarded: &PoolState<P, C>, time: &mut CallTime) -> Duration
+        ensures begun { IsSome time.new.start }
+    {
+        let now = self.moment();
+        time.look(now);
+        if self.tuning.asks_idle_times() {
+            time.find(guarded.book().next_idle_since());
+        }
+        now
+    }
+
+    // Gives up after so long, as was counted: the timeout has the latest error of an opening or a
+    // check, where one is known, and what the pool shows now.
     fn give_up(
         &self,
-        mut guarded: MutexGuard<'_, Guarded<LinedBook<P, C>>>,
+        mut guarded: MutexGuard<'_, PoolState<P, C>>,
+        to_wake: ToWake,
         waited: Duration,
     ) -> Error
         ensures kind { result.kind ≡ ErrorKind.Timeout }
         ensures waited { IfSome result.waited (λ length. as_nanos length ≡ as_nanos waited) }
         ensures counted { IfSome result.status (λ status. status.timeouts
-            ≡ one_more (mutex_guard_value guarded.entry).failures.timeouts) }
+            ≡ (mutex_guard_value guarded.entry).failures.timeouts) }
     {
         // Modelled in model/waiting.pml: keep both alike.
-        guarded.give_up();
         let status = guarded.status();
-        let error = guarded.book.take_error();
-        // It is late by the clock, and may have been woken: that wake is another's now.
-        let wakes = guarded.needed_wakes(ToWake::these(Wakes::a_caller()));
+        let error = guarded.take_error();
         drop(guarded);
-        self.wake(wakes);
+        self.wake(to_wake);
         Error::timeout(self.rt.alloc(), error, status, waited, None)
     }
 
@@ -249,30 +329,28 @@ impl<P: Drop, C: TakeTotal, M, K, R: Clock + Wait + AllocGlobal> Shared<LinedBoo
         if !time.left_of(timeout).is_zero() {
             return None;
         }
-        Some(self.give_up(self.lock(), time.waited()))
+        let mut guarded = self.lock();
+        let to_wake = guarded.give_up_late(time.seen());
+        Some(self.give_up(guarded, to_wake, time.waited()))
     }
 
-    /// Waits until there are so many connections, and as long as this at most. Past that it is a
-    /// timeout, with the latest error of an opening or a check.
-    pub(super) fn wait_for(&self, wanted: u32, timeout: Duration) -> Result<(), Error>
+    /// Waits until there are as many connections as are wanted, and as long as this at most. Past
+    /// that it is a timeout, with the latest error of an opening or a check.
+    pub(super) fn wait_for_build(&self, timeout: Duration) -> Result<(), Error>
         ensures { IfErr result (λ error. error.kind ≡ ErrorKind.Timeout) }
     {
         // Modelled in model/waiting.pml: keep both alike.
         let mut time = CallTime::new(Some(self.moment()));
-        let mut guarded = self.guarded.lock(&self.rt);
-        guarded.begin_wait(time.start());
         let (mut guarded, outcome) = self.callers.wait_timeout_while(
             &self.rt,
-            guarded,
+            self.guarded.lock(&self.rt),
             timeout,
-            |guarded| guarded.book.book().connections() < wanted,
+            |guarded| guarded.has_to_build(),
         );
-        guarded.end_wait();
-        guarded.waiting.end_turn();
         if outcome.timed_out() {
             time.look(self.moment());
             let status = guarded.status();
-            let error = guarded.book.take_error();
+            let error = guarded.take_error();
             return Err(Error::timeout(self.rt.alloc(), error, status, time.waited(), None));
         }
         Ok(())
@@ -286,20 +364,15 @@ impl<P: Drop, C: TakeTotal, M, K, R: Clock + Wait + AllocGlobal> Shared<LinedBoo
         // Modelled in model/waiting.pml: keep both alike.
         let start = self.moment();
         let mut guarded = self.guarded.lock(&self.rt);
-        guarded.begin_wait(start);
+        guarded.begin_drain(start);
         let (mut guarded, _outcome) = self.callers.wait_timeout_while(
             &self.rt,
             guarded,
             timeout,
-            |guarded| guarded.status().lent > 0,
+            |guarded| guarded.has_to_drain(),
         );
-        guarded.end_wait();
+        guarded.end_drain();
         let status = guarded.status();
-        // The wake of the last return may have been this caller's, and others wait for that return
-        // too.
-        let wakes = guarded.needed_wakes(ToWake::these(Wakes::a_caller()));
-        drop(guarded);
-        self.wake(wakes);
         if status.lent > 0 {
             return Err(status);
         }

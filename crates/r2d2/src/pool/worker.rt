@@ -2,16 +2,12 @@
 ghost use Rattle.std.specs.Prelude.{◌≡◌, length, vec_len, vec_capacity};
 ghost use Rattle.std.specs.Duration.{as_nanos};
 ghost use Rattle.r2d2_core.specs.Limits.{seen_limits, has_reached};
-ghost use Rattle.r2d2_core.specs.BookSteps.{IsReap};
 ghost use Rattle.r2d2.specs.Events.{reason_of_reap};
-ghost use Rattle.r2d2.specs.Room.{HasRoom};
-ghost use Rattle.r2d2.specs.Waiting.{told_if, slot_if};
-ghost use Rattle.r2d2.specs.Wakes.{wakes_of_reap};
 
 use super::PoolRuntime;
 use super::evicting::has_room;
-use super::lined_book::{LinedBook, ToWake};
-use super::locking::{Guarded, SharedOf};
+use super::locking::SharedOf;
+use super::pool_state::PoolState;
 use crate::ManageConnection;
 use crate::engine::{Outcome, TakeTotal};
 use crate::error::text_of;
@@ -19,6 +15,7 @@ use crate::event::ReleaseReason;
 use crate::hooks::Hooks;
 use crate::payload::{Payload, PayloadOf, open};
 use r2d2_core::{Job, Limits, Refusal, Released};
+use std::sync::MutexGuard;
 use std::time::Duration;
 
 impl<C: TakeTotal, M: ManageConnection, K: Hooks<M>, R: PoolRuntime> SharedOf<C, M, K, R> {
@@ -31,17 +28,14 @@ impl<C: TakeTotal, M: ManageConnection, K: Hooks<M>, R: PoolRuntime> SharedOf<C,
             let mut guarded = self.lock();
             let now = self.moment();
             seen = seen.max(now);
-            match guarded.book.begin(now) {
+            match guarded.begin(now) {
                 Job::Open { tries } => {
                     drop(guarded);
                     self.open(tries);
                 }
                 Job::Reap => {
-                    let wakes = guarded.reap(self.moment(), &mut expired);
-                    let wakes = guarded.needed_wakes(wakes);
-                    let limits = guarded.book.book().limits();
-                    drop(guarded);
-                    self.wake(wakes);
+                    let limits = guarded.book().limits();
+                    self.reap(guarded, &mut expired);
                     self.release_expired(limits, &mut expired);
                 }
                 Job::Wait(due) => {
@@ -91,6 +85,21 @@ impl<C: TakeTotal, M: ManageConnection, K: Hooks<M>, R: PoolRuntime> SharedOf<C,
         }
     }
 
+    // Closes what is expired, into the list. It is empty and has room for all; but of a locked book
+    // its type alone is known, so this asks.
+    fn reap(
+        &self,
+        mut guarded: MutexGuard<'_, PoolState<PayloadOf<M>, C>>,
+        expired: &mut Vec<Released<PayloadOf<M>>>,
+    ) {
+        if !has_room(guarded.book(), expired) {
+            return;
+        }
+        let (_ordered, to_wake) = guarded.reap(self.moment(), expired);
+        drop(guarded);
+        self.wake(to_wake);
+    }
+
     // Releases what a reap closed.
     fn release_expired(&self, limits: Limits, expired: &mut Vec<Released<PayloadOf<M>>>)
         ensures empty { vec_len expired.new ≡ 0 }
@@ -112,26 +121,5 @@ pub fn reason_of_reap(limits: &Limits, age: Duration) -> ReleaseReason
         ReleaseReason::Lifetime
     } else {
         ReleaseReason::Idle
-    }
-}
-
-impl<P: Drop, C: TakeTotal> Guarded<LinedBook<P, C>> {
-    // Closes what is expired, into the list, which is empty and has room for all.
-    fn reap(&mut self, now: Duration, expired: &mut Vec<Released<P>>) -> ToWake
-        ensures step { HasRoom self.old.book.book.picture.on_order.limits.max_size expired.old
-            → (ordered : _) × (result.wakes ≡ wakes_of_reap (length expired.new.items) ordered)
-            × IsReap now expired.new.items ordered self.old.book.book self.new.book.book }
-        ensures told { result.told ≡ slot_if result.wakes.caller self.old.book.places }
-        ensures line { self.new.book.places ≡ told_if result.wakes.caller self.old.book.places }
-        ensures total { self.new.book.total ≡ self.old.book.total }
-        ensures kept { self.new.evicted_below ≡ self.old.evicted_below }
-        ensures waiting { self.new.waiting ≡ self.old.waiting }
-        ensures failures { self.new.failures ≡ self.old.failures }
-    {
-        if !has_room(self.book.book(), expired) {
-            return ToWake::nobody();
-        }
-        let (_ordered, wakes) = self.book.sweep(now, expired);
-        wakes
     }
 }

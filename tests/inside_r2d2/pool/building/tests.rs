@@ -87,7 +87,7 @@ fn a_line_has_room_for_thousands(rt: HostRuntime) -> Result<(), Fail> {
     assert_eq!(rt; shared.slots.len(), 3000);
     let mut guarded = shared.guarded.lock(&rt);
     for caller in 0..3001 {
-        let (look, to_wake) = guarded.book.look(Duration::ZERO, &mut None, true, &mut ());
+        let (look, to_wake) = guarded.look_in_line(Duration::ZERO, &mut None, true, &mut ());
         shared.wake(to_wake);
         assert_eq!(rt; is_full(look), caller == 3000, "{caller}");
     }

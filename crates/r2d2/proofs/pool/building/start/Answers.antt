@@ -8,7 +8,7 @@ use Rattle.std.specs.contracts.impls.GlobalAllocator.TheImpl as global_impl
 use Rattle.std.specs.contracts.sync.Arc as arc
 use Rattle.std.specs.contracts.vec.Vec as vec
 use Rattle.r2d2.specs.contracts.pool.locking.Shared as shared
-use Rattle.r2d2.specs.contracts.pool.lined_book.LinedBook as lined
+use Rattle.r2d2.specs.contracts.pool.pool_state.PoolState as state
 use Rattle.r2d2.specs.contracts.payload.Payload as payload
 use Rattle.r2d2_core.specs.contracts.machine.answers.Released as released
 
@@ -18,7 +18,7 @@ spawn-requires-static-F g c κs within =
     let t = c.type_bounds in
     let p = payload.the_row (param 4 g.row.M-Connection) (param 6 g.row.M-Extension) (param 7 g.row.M-Extension-Kind) g.M.Extension.Extension
     g.M.Extension.Kind.PartialEq in
-    let b = lined.the_row p (param 0 g.row.C) g.C.TakeTotal in
+    let b = state.the_row p (param 0 g.row.C) g.C.TakeTotal in
     let s = shared.the_row b (param 1 g.row.M) (param 2 g.row.K) (copied 3 g.row.R) in
     let a = arc.the_row s global.the_row global_impl.ghosts in
     let v = vec.the_row (released.the_row p) global.the_row global_impl.ghosts in

@@ -9,7 +9,7 @@ invariant_of-self g c =
     let ps = old.guarded.book.places in
     let step = c.pass_late in
     record {
-      awake = awake_passed (first_late (as_nanos c.args.now) c.deref.result.now ps) ps step.new.self.places c.in-Some.to_wake.told old.wakers c.wake.new.wakers
+      awake = awake_passed (first_late (as_nanos c.args.now) c.deref.result.now ps) ps step.new.self.book.places c.in-Some.to_wake.told old.wakers c.wake.new.wakers
           step.ensures.line (c.in-Some.ensures.told) old.awake c.wake.ensures.told c.wake.ensures.others;
     }
 
@@ -19,6 +19,6 @@ invariant_of-self-in-None g c =
     let ps = old.guarded.book.places in
     let step = c.pass_late in
     record {
-      awake = awake_none_passed (first_late (as_nanos c.args.now) c.deref.result.now ps) ps step.new.self.places old.wakers
+      awake = awake_none_passed (first_late (as_nanos c.args.now) c.deref.result.now ps) ps step.new.self.book.places old.wakers
           c.in-None.ensures.whether step.ensures.line old.awake;
     }
