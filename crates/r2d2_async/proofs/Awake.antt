@@ -8,8 +8,8 @@ use Rattle.r2d2.specs.declared.line.place.Place.{Place}
 use Rattle.r2d2.specs.declared.line.place.Standing.{Standing}
 use Rattle.r2d2.specs.declared.line.place.Standing.TheVariants.{Quiet, Told, Aside}
 use Rattle.r2d2.specs.Waiting.{place, told_at, told_first, first_quiet, told_if, slot_if, without, with_standing, left_by, told_by, passed_by, told_instead}
-use Rattle.r2d2.specs.Lined.{looked_by}
-use Rattle.r2d2_async.specs.Wakers.{waker_at, AreAwake}
+use Rattle.r2d2.specs.Lined.{looked_by, told_looked}
+use Rattle.r2d2_async.specs.Wakers.{waker_at, AreAwake, KeepsOthers}
 
 -- who is told after a change was told before, or is the one who is told by it
 told_at-first : (s : ℕ) (ps : List Place) → told_at s (told_first ps) ≡ true → (told_at s ps ≡ true) ⊎ (first_quiet ps ≡ Some s)
@@ -37,6 +37,13 @@ told_at-joined s x (p ∷ ps) told = grind (arith, told_at-joined s x ps)
 told_at-served : (x : ℕ) (ps : List Place) → told_at x (with_standing x Aside ps) ≡ false
 told_at-served x [] = refl
 told_at-served x (p ∷ ps) = grind (arith, told_at-served x ps)
+
+-- who has a connection passes nothing on, so a look tells nobody
+pub look_tells_nobody : (found keeps : Bool) (o : Option ℕ) (ps : List Place) → told_looked found keeps o ps ≡ None
+look_tells_nobody true true o ps = refl
+look_tells_nobody true false None ps = refl
+look_tells_nobody true false (Some x) ps = ap (λ b. slot_if b (without x (with_standing x Aside ps))) (told_at-served x ps)
+look_tells_nobody false keeps o ps = refl
 
 untold_by : (told : Bool) (o : Option Waker) → (told ≡ true → o ≡ None) → IsSome o → told ≡ false
 untold_by false o awake asleep = refl
@@ -164,3 +171,9 @@ module _ {A : Type 0} where
       → AreAwake ps old → IfSome o (λ x. waker_at old x ≡ None) → ((s : ℕ) → waker_at old s ≡ None → waker_at new s ≡ None) → AreAwake qs new
   awake_look found keeps o q ps qs old new line awake none stay =
       subst (λ rs. AreAwake rs new) (sym line) (awake_kept (looked_by found keeps o q ps) old new (awake_looked found keeps o q ps old awake none) stay)
+
+  -- a look wakes nobody
+  pub look_keeps : (found keeps : Bool) (o t : Option ℕ) (ps : List Place) (old new : Vec (Option Waker) A) → t ≡ told_looked found keeps o ps
+      → KeepsOthers t old new → (s : ℕ) → waker_at new s ≡ waker_at old s
+  look_keeps found keeps o t ps old new told kept s =
+      let none : t ≡ None = told ∙ look_tells_nobody found keeps o ps in kept s (λ e. none-some s (sym none ∙ e))

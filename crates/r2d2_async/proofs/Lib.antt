@@ -1,3 +1,5 @@
 pub mod Awake
 pub mod Passing
 pub mod Needs
+pub mod Drained
+pub mod Closed

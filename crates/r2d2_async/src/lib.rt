@@ -21,6 +21,7 @@ mod lent;
 mod pool;
 mod shared;
 mod task_book;
+mod wakers;
 mod work;
 
 pub use config::{Builder, Config};

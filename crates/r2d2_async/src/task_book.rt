@@ -5,15 +5,20 @@ ghost use Rattle.std.specs.Prelude.{IsSome, IsSomeAnd, IfSome, IfNone, IfOk, IsT
 ghost use Rattle.std.specs.Prelude.{vec_capacity, slice_get, is_some, if◌then◌else◌, ◌-◌};
 ghost use Rattle.futures.specs.Task.{Covers, Keeps};
 ghost use Rattle.futures.specs.Poll.{IfReady, OnPending};
+ghost use Rattle.futures.specs.WaitList.{value_of, IsParkedAt, IsQueued, SameQueue, Leaves};
 ghost use Rattle.r2d2.specs.Waiting.{told_at};
-ghost use Rattle.r2d2_async.specs.Wakers.{waker_at, AreAwake};
+ghost use Rattle.r2d2_async.specs.Wakers.{waker_at, AreAwake, SleepsAt, KeepsOthers};
+ghost use Rattle.r2d2_async.specs.Wakers.{HasPlace, NobodySleeps, AreDrained, AreUpOnceClosed};
 
+use crate::wakers::{
+    asleep_at, clear_at, lent_in, no_wakers, park, register, wake, wake_drains, wake_workers,
+};
 use futures::task::{Context, Poll, Source, Waker};
 use futures::util::wait_list::{Ticket, WaitList};
 use r2d2::Status;
 use r2d2::engine::{Outcome, Settled, Uncounted};
 use r2d2::event::ReleaseReason;
-use r2d2::internals::{LateSearch, LinedBook, Look, PoolState, ToWake, Tuning};
+use r2d2::internals::{LateSearch, LinedBook, Look, PoolState, Tuning};
 use r2d2_core::machine::Leftover;
 use r2d2_core::{Book, Job, Refusal, Released, Report, Returned, Take};
 use std::alloc::{AllocError, Global};
@@ -44,7 +49,8 @@ pub struct CallSpan {
 /// A book, the callers in line for what it lends, oldest first, and what wakes each of them.
 ///
 /// Of those who wait the first ones, as many as connections are idle, were told to look: that is
-/// `LinedBook`'s own fact. Here each who was told is awake: no waker of it is left.
+/// `LinedBook`'s own fact. Here each who was told is awake: no waker of it is left. No drain
+/// sleeps once nothing is lent, and nobody else in a closed pool.
 #[derive(Drop)]
 pub struct TaskBook<P> {
     guarded: PoolState<P, Uncounted>,
@@ -57,6 +63,8 @@ pub struct TaskBook<P> {
     // Who waits until nothing is lent.
     drains: WaitList<()>,
     ghost awake: { AreAwake guarded.book.places wakers },
+    ghost drained: { AreDrained guarded.book.book.picture.lent drains },
+    ghost up: { AreUpOnceClosed guarded.book.book.picture.on_order.closed wakers workers },
 }
 
 impl<P: Drop> TaskBook<P> {
@@ -68,13 +76,13 @@ impl<P: Drop> TaskBook<P> {
     ghost use Rattle.r2d2_core.specs.BookSteps.{IsClose};
     ghost use Rattle.r2d2.specs.declared.engine.Outcome.TheVariants as outcome;
     ghost use Rattle.r2d2.specs.Settled.{IsSettling, seen_settled, wakes_of_settled};
-    ghost use Rattle.r2d2.specs.Wakes.{wakes_of_return};
+    ghost use Rattle.r2d2.specs.Wakes.{wakes_of_return, wakes_of_reap};
     ghost use Rattle.r2d2.specs.Since.{since_with, since_if};
     ghost use Rattle.r2d2.specs.Status.{IsStatus, all_who_wait};
     ghost use Rattle.r2d2.specs.Waits.{WaitAsBefore, count_of};
     ghost use Rattle.r2d2.specs.Evicted.{is_to_close, evicted_of, after_eviction};
-    ghost use Rattle.r2d2.specs.Waiting.{before, left_by, told_if, is_kept, waiting_in};
-    ghost use Rattle.r2d2.specs.Waiting.{first_late, pass_first, passed_late};
+    ghost use Rattle.r2d2.specs.Waiting.{before, left_by, told_by, told_if, is_kept, waiting_in};
+    ghost use Rattle.r2d2.specs.Waiting.{first_late, pass_first, passed_late, slot_if};
     ghost use Rattle.r2d2.specs.Search.{AreSearches};
     ghost use Rattle.r2d2_core.specs.Connections.{pair_of};
     ghost use Rattle.r2d2_core.specs.Table.{next_of};
@@ -87,6 +95,7 @@ impl<P: Drop> TaskBook<P> {
     pub fn new(alloc: Global, book: Book<P>, room: u32) -> Result<TaskBook<P>, AllocError>
         ensures book { IfOk result (λ tasks. tasks.guarded.book.book ≡ book) }
         ensures line { IfOk result (λ tasks. tasks.guarded.book.places ≡ []) }
+        ensures slots { IfOk result (λ tasks. length tasks.wakers.items ≡ room) }
     {
         let guarded = PoolState::new(LinedBook::plain(alloc, book, room)?);
         Ok(TaskBook {
@@ -150,8 +159,7 @@ impl<P: Drop> TaskBook<P> {
     pub fn lent(&self) -> u32
         ensures { result ≡ length self.now.guarded.book.book.picture.lent }
     {
-        let book = self.guarded.book();
-        book.connections() - book.idle()
+        lent_in(self.guarded.book())
     }
 
     /// Whether a check failed that began after this moment, since when a connection is idle.
@@ -169,11 +177,14 @@ impl<P: Drop> TaskBook<P> {
             → result ≡ option_map pair_of (next_of self.old.guarded.book.book.picture) }
         ensures line { self.new.guarded.book.places ≡ self.old.guarded.book.places }
         ensures waiting { self.new.guarded.waiting ≡ self.old.guarded.waiting }
+        // Where it ordered, every worker is woken.
+        ensures workers { self.old.guarded.book.book.picture.on_order.pending
+            < self.new.guarded.book.book.picture.on_order.pending
+            → NobodySleeps self.new.workers }
+        ensures wakers { self.new.wakers ≡ self.old.wakers }
     {
         let (taken, ordered) = self.guarded.look_once(now, &mut ());
-        if ordered {
-            self.workers.wake_all();
-        }
+        wake_workers(&mut self.workers, ordered);
         match taken {
             Take::Found { id, value, .. } => Some((id, value)),
             Take::Empty { .. } => None,
@@ -251,9 +262,15 @@ impl<P: Drop> TaskBook<P> {
             → IsOneRefusalMore self.old.guarded.failures self.new.guarded.failures) }
         ensures closed { IfReady result
             (IsClosedLook self.old.guarded.book.book.picture.on_order.closed) }
-        // Who sleeps stands in an open pool's line, and was told nothing; it left its waker there.
+        // Who sleeps stands in an open pool's line, and was told nothing; it left its own waker at
+        // its own slot. Nobody else is woken, nor lies down.
         ensures sleeps { OnPending result (IsSomeAnd place.new
             (λ slot. told_at slot self.new.guarded.book.places ≡ false)) }
+        ensures left { OnPending result
+            (IfSome place.new (SleepsAt cx.old cx.new self.new.wakers)) }
+        ensures slots { length self.new.wakers.items ≡ length self.old.wakers.items }
+        ensures alone { self.old.guarded.book.book.picture.on_order.closed ≡ false
+            → KeepsOthers place.new self.old.wakers self.new.wakers }
         ensures open { OnPending result
             (self.old.guarded.book.book.picture.on_order.closed ≡ false) }
         ensures registered { OnPending result (Covers cx.new (λ s. s ≡ source.now.id)) }
@@ -270,6 +287,10 @@ impl<P: Drop> TaskBook<P> {
             (λ _. self.new.guarded.waiting ≡ self.old.guarded.waiting) }
         ensures count { count_of self.new.guarded.waiting ≡ count_of self.old.guarded.waiting }
         ensures kept { Keeps cx.old cx.new }
+        // Where it ordered, every worker is woken.
+        ensures workers { self.old.guarded.book.book.picture.on_order.pending
+            < self.new.guarded.book.book.picture.on_order.pending
+            → NobodySleeps self.new.workers }
     {
         if self.guarded.book().is_closed() {
             self.leave(place);
@@ -308,6 +329,12 @@ impl<P: Drop> TaskBook<P> {
             ≡ left_by place.old self.old.guarded.book.places }
         ensures book { self.new.guarded.book.book ≡ self.old.guarded.book.book }
         ensures waiting { self.new.guarded.waiting ≡ self.old.guarded.waiting }
+        // No waker is left at its slot; and nobody else is woken but the one who is told.
+        ensures left { IfSome place.old (λ slot. waker_at self.new.wakers slot ≡ None) }
+        ensures slots { length self.new.wakers.items ≡ length self.old.wakers.items }
+        ensures alone { (slot : ℕ) → place.old ≢ Some slot
+            → told_by place.old self.old.guarded.book.places ≢ Some slot
+            → waker_at self.new.wakers slot ≡ waker_at self.old.wakers slot }
     {
         clear_at(&mut self.wakers, *place);
         let to_wake = self.guarded.leave(place);
@@ -339,10 +366,15 @@ impl<P: Drop> TaskBook<P> {
             ≡ told_if (wakes_of_return (map_ok seen_returned result)).caller
             self.old.guarded.book.places }
         ensures waits { WaitAsBefore self.old.guarded.waiting self.new.guarded.waiting }
+        ensures workers { IsTrue (wakes_of_return (map_ok seen_returned result)).workers
+            → NobodySleeps self.new.workers }
+        ensures alone { KeepsOthers
+            (slot_if (wakes_of_return (map_ok seen_returned result)).caller
+            self.old.guarded.book.places) self.old.wakers self.new.wakers }
     {
         let (returned, to_wake) = self.guarded.give_back(now, id, payload, unfit, outlived);
         wake(&mut self.wakers, &mut self.workers, to_wake);
-        self.wake_drains();
+        wake_drains(&mut self.drains, self.guarded.book());
         returned
     }
 
@@ -372,10 +404,15 @@ impl<P: Drop> TaskBook<P> {
             ≡ told_if (wakes_of_settled (seen_settled result)).caller
             self.old.guarded.book.places }
         ensures waits { WaitAsBefore self.old.guarded.waiting self.new.guarded.waiting }
+        ensures workers { IsTrue (wakes_of_settled (seen_settled result)).workers
+            → NobodySleeps self.new.workers }
+        ensures alone { KeepsOthers
+            (slot_if (wakes_of_settled (seen_settled result)).caller
+            self.old.guarded.book.places) self.old.wakers self.new.wakers }
     {
         let (settled, to_wake) = self.guarded.settle(now, outcome);
         wake(&mut self.wakers, &mut self.workers, to_wake);
-        self.wake_drains();
+        wake_drains(&mut self.drains, self.guarded.book());
         settled
     }
 
@@ -389,6 +426,11 @@ impl<P: Drop> TaskBook<P> {
             ≡ told_if (wakes_of_settled (seen_settled result)).caller
             self.old.guarded.book.places }
         ensures waits { WaitAsBefore self.old.guarded.waiting self.new.guarded.waiting }
+        ensures workers { IsTrue (wakes_of_settled (seen_settled result)).workers
+            → NobodySleeps self.new.workers }
+        ensures alone { KeepsOthers
+            (slot_if (wakes_of_settled (seen_settled result)).caller
+            self.old.guarded.book.places) self.old.wakers self.new.wakers }
     {
         let (settled, to_wake) = self.guarded.fail(now, tries, text);
         wake(&mut self.wakers, &mut self.workers, to_wake);
@@ -412,10 +454,15 @@ impl<P: Drop> TaskBook<P> {
             ≡ told_if (wakes_of_settled (seen_settled result)).caller
             self.old.guarded.book.places }
         ensures waits { WaitAsBefore self.old.guarded.waiting self.new.guarded.waiting }
+        ensures workers { IsTrue (wakes_of_settled (seen_settled result)).workers
+            → NobodySleeps self.new.workers }
+        ensures alone { KeepsOthers
+            (slot_if (wakes_of_settled (seen_settled result)).caller
+            self.old.guarded.book.places) self.old.wakers self.new.wakers }
     {
         let (settled, to_wake) = self.guarded.fail_check(now, id, text, distrusted_before);
         wake(&mut self.wakers, &mut self.workers, to_wake);
-        self.wake_drains();
+        wake_drains(&mut self.drains, self.guarded.book());
         settled
     }
 
@@ -423,6 +470,7 @@ impl<P: Drop> TaskBook<P> {
     pub fn begin(&mut self, now: Duration) -> Job
         ensures step { IsBegin now result self.old.guarded.book.book self.new.guarded.book.book }
         ensures waiting { self.new.guarded.waiting ≡ self.old.guarded.waiting }
+        ensures wakers { self.new.wakers ≡ self.old.wakers }
     {
         self.guarded.begin(now)
     }
@@ -432,6 +480,7 @@ impl<P: Drop> TaskBook<P> {
         ensures step { IsNumbering tries result
             self.old.guarded.book.book self.new.guarded.book.book }
         ensures waiting { self.new.guarded.waiting ≡ self.old.guarded.waiting }
+        ensures wakers { self.new.wakers ≡ self.old.wakers }
     {
         self.guarded.number(tries)
     }
@@ -444,6 +493,13 @@ impl<P: Drop> TaskBook<P> {
         ensures step { (ordered : _) × IsReap now expired.new.items ordered
             self.old.guarded.book.book self.new.guarded.book.book }
         ensures waits { WaitAsBefore self.old.guarded.waiting self.new.guarded.waiting }
+        // Where it ordered, every worker is woken.
+        ensures workers { self.old.guarded.book.book.picture.on_order.pending
+            < self.new.guarded.book.book.picture.on_order.pending
+            → NobodySleeps self.new.workers }
+        ensures alone { KeepsOthers
+            (slot_if (wakes_of_reap (length expired.new.items) 0).caller
+            self.old.guarded.book.places) self.old.wakers self.new.wakers }
     {
         let (_ordered, to_wake) = self.guarded.reap(now, expired);
         wake(&mut self.wakers, &mut self.workers, to_wake);
@@ -460,6 +516,8 @@ impl<P: Drop> TaskBook<P> {
             ≡ after_eviction (as_nanos now) self.old.guarded.book.book }
         ensures line { self.new.guarded.book.places ≡ self.old.guarded.book.places }
         ensures waits { WaitAsBefore self.old.guarded.waiting self.new.guarded.waiting }
+        ensures workers { NobodySleeps self.new.workers }
+        ensures wakers { self.new.wakers ≡ self.old.wakers }
     {
         self.guarded.evict(now, &mut (), evicted);
         // What was ordered in their place.
@@ -470,6 +528,7 @@ impl<P: Drop> TaskBook<P> {
     pub fn take_error(&mut self) -> Option<String>
         ensures step { IsTelling result self.old.guarded.book.book self.new.guarded.book.book }
         ensures waiting { self.new.guarded.waiting ≡ self.old.guarded.waiting }
+        ensures wakers { self.new.wakers ≡ self.old.wakers }
     {
         self.guarded.take_error()
     }
@@ -480,22 +539,13 @@ impl<P: Drop> TaskBook<P> {
         ensures step { IsClose result self.old.guarded.book.book self.new.guarded.book.book }
         ensures nobody { (slot : ℕ) → waker_at self.new.wakers slot ≡ None }
         ensures waits { WaitAsBefore self.old.guarded.waiting self.new.guarded.waiting }
+        ensures workers { NobodySleeps self.new.workers }
     {
         self.wakers.clear();
         self.workers.wake_all();
         let left = self.guarded.close();
-        self.wake_drains();
+        wake_drains(&mut self.drains, self.guarded.book());
         left
-    }
-
-    // Wakes those who wait until nothing is lent, where nothing is.
-    fn wake_drains(&mut self)
-        ensures guarded { self.new.guarded ≡ self.old.guarded }
-        ensures wakers { self.new.wakers ≡ self.old.wakers }
-    {
-        if self.lent() == 0 {
-            self.drains.wake_all();
-        }
     }
 }
 
@@ -509,27 +559,47 @@ impl<P: Drop> TaskBook<P> {
     ghost use Rattle.r2d2.specs.Waits.{count_of};
 
     /// A place for a worker. The error is lack of memory.
-    pub fn add_worker(&mut self) -> Result<Ticket, AllocError> {
+    pub fn add_worker(&mut self) -> Result<Ticket, AllocError>
+        ensures place { IfOk result (λ ticket. HasPlace self.new.workers ticket.key) }
+        ensures queue { SameQueue self.old.workers self.new.workers }
+        ensures drains { self.new.drains ≡ self.old.drains }
+    {
         self.workers.insert(())
     }
 
     /// A worker sleeps until something is ordered.
     pub fn park_worker<U>(&mut self, cx: &mut Context<'_>, source: &Source, key: usize) -> Poll<U>
+        requires { self.old.guarded.book.book.picture.on_order.closed ≡ false }
         ensures pending { result ≡ Poll.Pending }
         ensures registered { Covers cx.new (λ s. s ≡ source.now.id) }
         ensures kept { Keeps cx.old cx.new }
+        ensures parked { HasPlace self.old.workers key
+            → IsParkedAt cx.old cx.new self.new.workers key }
+        ensures others { (other : ℕ) → IsQueued self.old.workers other
+            → IsQueued self.new.workers other }
+        ensures drains { self.new.drains ≡ self.old.drains }
+        ensures line { self.new.wakers ≡ self.old.wakers }
+        ensures guarded { self.new.guarded ≡ self.old.guarded }
     {
         park(&mut self.workers, cx, source, key)
     }
 
     /// A worker ends.
-    pub fn remove_worker(&mut self, ticket: Ticket) {
+    pub fn remove_worker(&mut self, ticket: Ticket)
+        ensures free { value_of self.new.workers ticket.key ≡ None }
+        ensures leaves { Leaves self.old.workers self.new.workers ticket.key }
+        ensures drains { self.new.drains ≡ self.old.drains }
+    {
         let key = self.workers.redeem(ticket);
         self.workers.remove(key);
     }
 
     /// A place for a drain. The error is lack of memory.
-    pub fn add_drain(&mut self) -> Result<Ticket, AllocError> {
+    pub fn add_drain(&mut self) -> Result<Ticket, AllocError>
+        ensures place { IfOk result (λ ticket. HasPlace self.new.drains ticket.key) }
+        ensures queue { SameQueue self.old.drains self.new.drains }
+        ensures workers { self.new.workers ≡ self.old.workers }
+    {
         self.drains.insert(())
     }
 
@@ -572,29 +642,30 @@ impl<P: Drop> TaskBook<P> {
 
     /// A drain sleeps until nothing is lent.
     pub fn park_drain<U>(&mut self, cx: &mut Context<'_>, source: &Source, key: usize) -> Poll<U>
+        requires { 0 < length self.old.guarded.book.book.picture.lent }
         ensures pending { result ≡ Poll.Pending }
         ensures registered { Covers cx.new (λ s. s ≡ source.now.id) }
         ensures kept { Keeps cx.old cx.new }
+        ensures parked { HasPlace self.old.drains key
+            → IsParkedAt cx.old cx.new self.new.drains key }
+        ensures others { (other : ℕ) → IsQueued self.old.drains other
+            → IsQueued self.new.drains other }
+        ensures workers { self.new.workers ≡ self.old.workers }
+        ensures line { self.new.wakers ≡ self.old.wakers }
+        ensures guarded { self.new.guarded ≡ self.old.guarded }
     {
         park(&mut self.drains, cx, source, key)
     }
 
     /// A drain ends.
-    pub fn remove_drain(&mut self, ticket: Ticket) {
+    pub fn remove_drain(&mut self, ticket: Ticket)
+        ensures free { value_of self.new.drains ticket.key ≡ None }
+        ensures leaves { Leaves self.old.drains self.new.drains ticket.key }
+        ensures workers { self.new.workers ≡ self.old.workers }
+    {
         let key = self.drains.redeem(ticket);
         self.drains.remove(key);
     }
-}
-
-// So many slots, at which nobody sleeps.
-fn no_wakers(alloc: Global, room: u32) -> Result<Vec<Option<Waker>>, AllocError>
-    ensures { IfOk result (λ wakers. (slot : ℕ) → waker_at wakers slot ≡ None) }
-{
-    let mut wakers = Vec::with_capacity(alloc, room as usize)?;
-    for _ in 0..room {
-        wakers.push(None)?;
-    }
-    Ok(wakers)
 }
 
 // So many ends, none of which comes.
@@ -616,94 +687,4 @@ fn note(ends: &mut Vec<Duration>, slot: u32, end: Duration)
     if index < ends.len() {
         ends[index] = end;
     }
-}
-
-// The slot of a caller in line, where it sleeps there.
-fn asleep_at(wakers: &Vec<Option<Waker>>, place: Option<u32>) -> Option<u32>
-    ensures asleep { IfSome result
-        (λ slot. (place ≡ Some slot) × IsSome (waker_at wakers.now slot)) }
-    ensures awake { IfNone result (IfSome place (λ slot. waker_at wakers.now slot ≡ None)) }
-{
-    let slot = place?;
-    match wakers.get(slot as usize) {
-        Some(Some(_)) => Some(slot),
-        _ => None,
-    }
-}
-
-// The caller at this slot sleeps there.
-fn register<U>(
-    wakers: &mut Vec<Option<Waker>>,
-    cx: &mut Context<'_>,
-    source: &Source,
-    slot: u32,
-) -> Poll<U>
-    ensures pending { result ≡ Poll.Pending }
-    ensures registered { Covers cx.new (λ s. s ≡ source.now.id) }
-    ensures kept { Keeps cx.old cx.new }
-    ensures others { (other : ℕ) → other ≢ slot
-        → waker_at wakers.new other ≡ waker_at wakers.old other }
-{
-    let index = slot as usize;
-    if index >= wakers.len() {
-        // Each slot has one.
-        return cx.yield_now();
-    }
-    cx.register(source, &mut wakers[index])
-}
-
-// Wakes the caller at this slot, if it sleeps.
-fn clear(wakers: &mut Vec<Option<Waker>>, slot: u32)
-    ensures cleared { waker_at wakers.new slot ≡ None }
-    ensures others { (other : ℕ) → other ≢ slot
-        → waker_at wakers.new other ≡ waker_at wakers.old other }
-{
-    let index = slot as usize;
-    if index < wakers.len() {
-        wakers[index] = None;
-    }
-}
-
-// The same, where it stands in line.
-fn clear_at(wakers: &mut Vec<Option<Waker>>, place: Option<u32>)
-    ensures cleared { IfSome place (λ slot. waker_at wakers.new slot ≡ None) }
-    ensures others { (other : ℕ) → waker_at wakers.old other ≡ None
-        → waker_at wakers.new other ≡ None }
-{
-    if let Some(slot) = place {
-        clear(wakers, slot);
-    }
-}
-
-// Wakes those for whom a step left something.
-fn wake(wakers: &mut Vec<Option<Waker>>, workers: &mut WaitList<()>, to_wake: ToWake)
-    ensures told { IfSome to_wake.told (λ slot. waker_at wakers.new slot ≡ None) }
-    ensures others { (other : ℕ) → waker_at wakers.old other ≡ None
-        → waker_at wakers.new other ≡ None }
-{
-    let ToWake {
-        callers: _,
-        workers: are_due,
-        told,
-    } = to_wake;
-    clear_at(wakers, told);
-    if are_due {
-        workers.wake_all();
-    }
-}
-
-// One who waits beside the line sleeps until the list is woken.
-fn park<U>(list: &mut WaitList<()>, cx: &mut Context<'_>, source: &Source, key: usize) -> Poll<U>
-    ensures pending { result ≡ Poll.Pending }
-    ensures registered { Covers cx.new (λ s. s ≡ source.now.id) }
-    ensures kept { Keeps cx.old cx.new }
-{
-    if !list.is_queued(key) {
-        if list.get(key).is_none() {
-            // Its ticket keeps its place.
-            return cx.yield_now();
-        }
-        list.enqueue(key);
-    }
-    list.register(cx, source, key)
 }

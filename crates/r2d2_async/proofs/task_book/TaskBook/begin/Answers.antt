@@ -1,7 +1,17 @@
+use Rattle.std.specs.Duration.{as_nanos}
+use Rattle.std.proofs.Common.{ap, ◌∙◌}
 use Rattle.r2d2_async.proofs.Awake.{awake_same}
+use Rattle.r2d2_core.specs.Picture.{Picture}
+use Rattle.r2d2_async.proofs.Drained.{drained_kept}
+use Rattle.r2d2_async.proofs.Closed.{up_kept, begin_same}
 use Rattle.r2d2_async.proofs.task_book.TaskBook.begin.Goals as goal
 
 pub invariant_of-self : goal.invariant_of-self
 invariant_of-self g c =
     let old = c.args.self.now in
-    record { awake = awake_same old.guarded.book.places c.begin.new.self.book.places old.wakers c.begin.ensures.line old.awake }
+    record {
+      awake = awake_same old.guarded.book.places c.begin.new.self.book.places old.wakers c.begin.ensures.line old.awake;
+      drained = drained_kept old.guarded.book.book.picture.lent c.begin.new.self.book.book.picture.lent old.drains (ap (λ (p : Picture _). p.lent) c.begin.ensures.step.of_core.after) old.drained;
+      up = up_kept old.guarded.book.book.picture.on_order.closed c.begin.new.self.book.book.picture.on_order.closed old.wakers old.wakers old.workers old.workers
+          (ap (λ (p : Picture _). p.on_order.closed) c.begin.ensures.step.of_core.after ∙ begin_same (as_nanos c.args.now) old.guarded.book.book.picture) (λ s none. none) (λ key queued. queued) old.up;
+    }

@@ -1,4 +1,11 @@
+use Rattle.r2d2.specs.Evicted.{is_to_close}
+use Rattle.std.specs.Duration.{as_nanos}
+use Rattle.r2d2_core.specs.Picture.{Picture}
+use Rattle.std.proofs.Common.{sym, ap, ◌∙◌}
 use Rattle.r2d2_async.proofs.Awake.{awake_after}
+use Rattle.r2d2_core.specs.Book.{SeenBook}
+use Rattle.r2d2_async.proofs.Drained.{drained_kept}
+use Rattle.r2d2_async.proofs.Closed.{up_kept, returned_same}
 use Rattle.r2d2_async.proofs.task_book.TaskBook.give_back.Goals as goal
 
 pub invariant_of-self : goal.invariant_of-self
@@ -8,4 +15,7 @@ invariant_of-self g c =
     record {
       awake = awake_after _ old.guarded.book.places step.new.self.book.places step.result.1.told old.wakers c.wake.new.wakers
           step.ensures.wakes.line step.ensures.wakes.told old.awake c.wake.ensures.told c.wake.ensures.others;
+      drained = drained_kept c.book.result.now.picture.lent _ c.wake_drains.new.drains (ap (λ (b : SeenBook _). b.picture.lent) (sym c.book.ensures.value)) c.wake_drains.ensures;
+      up = up_kept old.guarded.book.book.picture.on_order.closed step.new.self.book.book.picture.on_order.closed old.wakers c.wake.new.wakers old.workers c.wake.new.workers
+          (ap (λ (p : Picture _). p.on_order.closed) step.ensures.step.of_core.after ∙ returned_same (as_nanos c.args.now) c.args.id c.args.payload (is_to_close c.args.unfit c.args.outlived c.args.id old.guarded.evicted_below) old.guarded.book.book.picture) c.wake.ensures.others c.wake.ensures.fewer old.up;
     }

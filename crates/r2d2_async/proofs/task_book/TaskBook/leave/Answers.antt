@@ -1,4 +1,8 @@
+use Rattle.std.proofs.Common.{ap}
 use Rattle.r2d2_async.proofs.Awake.{awake_gone}
+use Rattle.r2d2_core.specs.Book.{SeenBook}
+use Rattle.r2d2_async.proofs.Drained.{drained_kept}
+use Rattle.r2d2_async.proofs.Closed.{up_kept}
 use Rattle.r2d2_async.proofs.task_book.TaskBook.leave.Goals as goal
 
 pub invariant_of-self : goal.invariant_of-self
@@ -8,4 +12,7 @@ invariant_of-self g c =
     record {
       awake = awake_gone c.args.place.now old.guarded.book.places left.new.self.book.places left.result.told old.wakers c.clear_at.new.wakers c.wake.new.wakers
           left.ensures.line left.ensures.told old.awake c.clear_at.ensures.cleared c.clear_at.ensures.others c.wake.ensures.told c.wake.ensures.others;
+      drained = drained_kept old.guarded.book.book.picture.lent left.new.self.book.book.picture.lent old.drains (ap (λ (b : SeenBook _). b.picture.lent) left.ensures.book) old.drained;
+      up = up_kept old.guarded.book.book.picture.on_order.closed left.new.self.book.book.picture.on_order.closed old.wakers c.wake.new.wakers old.workers c.wake.new.workers
+          (ap (λ (b : SeenBook _). b.picture.on_order.closed) left.ensures.book) (λ s none. c.wake.ensures.others s (c.clear_at.ensures.others s none)) c.wake.ensures.fewer old.up;
     }

@@ -1,6 +1,10 @@
+use Rattle.std.proofs.Common.{ap}
 use Rattle.std.specs.Duration.{as_nanos}
 use Rattle.r2d2.specs.Waiting.{first_late}
 use Rattle.r2d2_async.proofs.Awake.{awake_passed, awake_none_passed}
+use Rattle.r2d2_core.specs.Book.{SeenBook}
+use Rattle.r2d2_async.proofs.Drained.{drained_kept}
+use Rattle.r2d2_async.proofs.Closed.{up_kept}
 use Rattle.r2d2_async.proofs.task_book.TaskBook.pass_one.Goals as goal
 
 pub invariant_of-self : goal.invariant_of-self
@@ -11,6 +15,9 @@ invariant_of-self g c =
     record {
       awake = awake_passed (first_late (as_nanos c.args.now) c.deref.result.now ps) ps step.new.self.book.places c.in-Some.to_wake.told old.wakers c.wake.new.wakers
           step.ensures.line (c.in-Some.ensures.told) old.awake c.wake.ensures.told c.wake.ensures.others;
+      drained = drained_kept old.guarded.book.book.picture.lent step.new.self.book.book.picture.lent old.drains (ap (λ (b : SeenBook _). b.picture.lent) step.ensures.book) old.drained;
+      up = up_kept old.guarded.book.book.picture.on_order.closed step.new.self.book.book.picture.on_order.closed old.wakers c.wake.new.wakers old.workers c.wake.new.workers
+          (ap (λ (b : SeenBook _). b.picture.on_order.closed) step.ensures.book) c.wake.ensures.others c.wake.ensures.fewer old.up;
     }
 
 pub invariant_of-self-in-None : goal.invariant_of-self-in-None
@@ -21,4 +28,7 @@ invariant_of-self-in-None g c =
     record {
       awake = awake_none_passed (first_late (as_nanos c.args.now) c.deref.result.now ps) ps step.new.self.book.places old.wakers
           c.in-None.ensures.whether step.ensures.line old.awake;
+      drained = drained_kept old.guarded.book.book.picture.lent step.new.self.book.book.picture.lent old.drains (ap (λ (b : SeenBook _). b.picture.lent) step.ensures.book) old.drained;
+      up = up_kept old.guarded.book.book.picture.on_order.closed step.new.self.book.book.picture.on_order.closed old.wakers old.wakers old.workers old.workers
+          (ap (λ (b : SeenBook _). b.picture.on_order.closed) step.ensures.book) (λ s none. none) (λ key queued. queued) old.up;
     }

@@ -1,4 +1,8 @@
+use Rattle.std.proofs.Common.{ap}
 use Rattle.r2d2_async.proofs.Awake.{awake_after}
+use Rattle.r2d2_core.specs.Picture.{Picture}
+use Rattle.r2d2_async.proofs.Drained.{drained_kept}
+use Rattle.r2d2_async.proofs.Closed.{up_kept}
 use Rattle.r2d2_async.proofs.task_book.TaskBook.sweep.Goals as goal
 
 pub invariant_of-self : goal.invariant_of-self
@@ -8,4 +12,7 @@ invariant_of-self g c =
     record {
       awake = awake_after _ old.guarded.book.places step.new.self.book.places step.result.1.told old.wakers c.wake.new.wakers
           step.ensures.wakes.line step.ensures.wakes.told old.awake c.wake.ensures.told c.wake.ensures.others;
+      drained = drained_kept old.guarded.book.book.picture.lent step.new.self.book.book.picture.lent old.drains (ap (λ (p : Picture _). p.lent) step.ensures.step.of_core.after) old.drained;
+      up = up_kept old.guarded.book.book.picture.on_order.closed step.new.self.book.book.picture.on_order.closed old.wakers c.wake.new.wakers old.workers c.wake.new.workers
+          (ap (λ (p : Picture _). p.on_order.closed) step.ensures.step.of_core.after) c.wake.ensures.others c.wake.ensures.fewer old.up;
     }

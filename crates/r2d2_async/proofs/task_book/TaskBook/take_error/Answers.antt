@@ -1,7 +1,16 @@
+use Rattle.std.proofs.Common.{ap}
 use Rattle.r2d2_async.proofs.Awake.{awake_same}
+use Rattle.r2d2_core.specs.Picture.{Picture}
+use Rattle.r2d2_async.proofs.Drained.{drained_kept}
+use Rattle.r2d2_async.proofs.Closed.{up_kept}
 use Rattle.r2d2_async.proofs.task_book.TaskBook.take_error.Goals as goal
 
 pub invariant_of-self : goal.invariant_of-self
 invariant_of-self g c =
     let old = c.args.self.now in
-    record { awake = awake_same old.guarded.book.places c.take_error.new.self.book.places old.wakers c.take_error.ensures.line old.awake }
+    record {
+      awake = awake_same old.guarded.book.places c.take_error.new.self.book.places old.wakers c.take_error.ensures.line old.awake;
+      drained = drained_kept old.guarded.book.book.picture.lent c.take_error.new.self.book.book.picture.lent old.drains (ap (λ (p : Picture _). p.lent) c.take_error.ensures.step.of_core.after) old.drained;
+      up = up_kept old.guarded.book.book.picture.on_order.closed c.take_error.new.self.book.book.picture.on_order.closed old.wakers old.wakers old.workers old.workers
+          (ap (λ (p : Picture _). p.on_order.closed) c.take_error.ensures.step.of_core.after) (λ s none. none) (λ key queued. queued) old.up;
+    }
