@@ -25,7 +25,7 @@ LABEL, VARIABLE, GRAFANAS = re.compile(r"\{\{(\w+)\}\}"), re.compile(r"\$\{?(\w+
 # What Grafana puts in place of a variable for which all was chosen, and of the range that a rate needs.
 CHOSEN, RANGE = ".*", ("$__rate_interval", "5m")
 # What a page has once an error came, of which the example has none: as a test of the printer has it.
-LATEST = re.compile(r'^const LATEST: &str =\s+r#"(.*?)"#;', re.MULTILINE | re.DOTALL)
+LATEST = re.compile(r'^const LATEST: &str = "\s+(\w+) (\w+) (\S+): \\\s+(.*?)";', re.MULTILINE | re.DOTALL)
 
 
 class Page:
@@ -48,7 +48,9 @@ def read(name):
 def of_an_error():
     """What a page has besides, once an error came."""
     with open(os.path.join(TOP, "tests", "metrics", "printing.rs"), encoding="utf-8") as file:
-        return LATEST.search(file.read())[1]
+        kind, name, value, what = LATEST.search(file.read()).groups()
+    name = f"db_client_connection_{name}"
+    return f'# HELP {name} {what}\n# TYPE {name} {kind}\n{name}{{db_client_connection_pool_name="orders"}} {value}\n'
 
 
 def refused(what, path):
