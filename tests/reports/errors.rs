@@ -1,8 +1,8 @@
 // Each error of reading, with its text. Here ' stands for a quotation mark.
 
+use crate::books::Host;
 use pool_reports::from_json;
 use std::alloc::Global;
-use std::process::Abort;
 use std::test::Fail;
 
 const GOOD: &str = concat!(
@@ -28,34 +28,28 @@ fn said(alloc: Global, part: &str, change: &str) -> Result<String, Fail> {
     said_of(alloc, format!(in alloc; "{front}{change}{back}")?.as_str())
 }
 
-// Whether that is said of the good text with one part changed: behind an @ stands what is there in
+// A part of the good text, its change and what is said of that: behind an @ stands what is there in
 // the change, and what ends with dots is not all that is said.
-fn is_said<R: AllocGlobal + Abort>(rt: &R, row: (&str, &str, &str)) -> Result<(), Fail> {
-    let (alloc, (part, change, wanted)) = (rt.alloc(), row);
-    let said = said(alloc, part, change)?;
+fn is_said(rt: &impl Host, row: &str) -> Result<(), Fail> {
+    let (part, change) = row.trim_start().split_once(" => ").ok_or("a part")?;
+    let (change, wanted) = change.split_once(" => ").ok_or("a change")?;
+    let said = said(rt.alloc(), part, change)?;
     let begin = wanted.strip_suffix("..").unwrap_or(wanted);
     let text = match begin.split_once(" @ ") {
         Some((what, there)) => {
             let column = GOOD.find(part).unwrap_or(0) + change.find(there).unwrap_or(0) + 1;
-            format!(in alloc; "{what} at column {column}: {there}")?
+            format!(in rt.alloc(); "{what} at column {column}: {there}")?
         }
-        None => String::from_str(alloc, begin)?,
+        None => String::from_str(rt.alloc(), begin)?,
     };
-    let text = text.as_str().replace(alloc, "'", "\"")?;
+    let text = text.as_str().replace(rt.alloc(), "'", "\"")?;
     let begins = said.as_str().starts_with(text.as_str()) && wanted.ends_with("..");
-    let is_so = begins || said.as_str() == text.as_str();
-    assert!(rt; is_so, "{part} as {change}: {said} is not {text}");
+    assert!(rt; begins || said.as_str() == text.as_str(), "{row}: {said} is not {text}");
     Ok(())
 }
 
-// A part, its change and what is said of that on each line.
-fn each_is_said<R: AllocGlobal + Abort>(rt: &R, table: &str) -> Result<(), Fail> {
-    for row in table.trim().lines() {
-        let (part, row) = row.trim_start().split_once(" => ").ok_or("a part")?;
-        let (change, wanted) = row.split_once(" => ").ok_or("a change")?;
-        is_said(rt, (part, change, wanted))?;
-    }
-    Ok(())
+fn each_is_said(rt: &impl Host, table: &str) -> Result<(), Fail> {
+    table.trim().lines().try_for_each(|row| is_said(rt, row))
 }
 
 #[test]
@@ -79,19 +73,18 @@ fn numbers_have_their_ranges(rt: HostRuntime) -> Result<(), Fail> {
 // Moments are whole nanoseconds, and those of the wall clock are from 1970 on.
 #[test]
 fn the_wall_clock_shows_a_moment_from_1970_on(rt: HostRuntime) -> Result<(), Fail> {
-    let alloc = rt.alloc();
-    let others = "18446744073709551616000000000,+3,, 3,3s,000000000000000000000000000003";
-    for text in others.split(',') {
-        let change = format!(in alloc; "'at':'{text}'")?;
-        let wanted = format!(in alloc; "not whole nanoseconds @ '{text}'")?;
-        is_said(&rt, ("'at':3", change.as_str(), wanted.as_str()))?;
-    }
-    for text in ["noon", "1969-12-31T23:59:59Z"] {
-        let change = format!(in alloc; "'lost':2,'made_at':'{text}'")?;
-        let wanted = format!(in alloc; "not a moment of the wall clock @ '{text}'")?;
-        is_said(&rt, ("'lost':2", change.as_str(), wanted.as_str()))?;
-    }
-    let table = r"
+    let table = "
+        'at':3 => 'at':'18446744073709551616000000000' => \
+            not whole nanoseconds @ '18446744073709551616000000000'
+        'at':3 => 'at':'+3' => not whole nanoseconds @ '+3'
+        'at':3 => 'at':'' => not whole nanoseconds @ ''
+        'at':3 => 'at':' 3' => not whole nanoseconds @ ' 3'
+        'at':3 => 'at':'3s' => not whole nanoseconds @ '3s'
+        'at':3 => 'at':'000000000000000000000000000003' => \
+            not whole nanoseconds @ '000000000000000000000000000003'
+        'lost':2 => 'lost':2,'made_at':'noon' => not a moment of the wall clock @ 'noon'
+        'lost':2 => 'lost':2,'made_at':'1969-12-31T23:59:59Z' => \
+            not a moment of the wall clock @ '1969-12-31T23:59:59Z'
         'at':3 => 'at':18446744073709551616 => invalid value @ 18446744073709551616
         'at':3 => 'at':[3] => invalid type @ [3
         'at':3 => 'at':-3 => invalid value @ -3
@@ -99,7 +92,7 @@ fn the_wall_clock_shows_a_moment_from_1970_on(rt: HostRuntime) -> Result<(), Fai
         [[0,1,1]] => [[0,1,true]] => invalid type @ true
         'at':3 => 'at':'18446744073709551616' => read
         'at':3 => 'at':'18446744073709551615999999999' => read
-        'at':3 => 'at':'\u0033' => read";
+        'at':3 => 'at':'\\u0033' => read";
     each_is_said(&rt, table)
 }
 
@@ -185,38 +178,31 @@ fn other_versions_and_limits_are_refused(rt: HostRuntime) -> Result<(), Fail> {
 // Of a field that stands twice the last one counts, whatever the others say.
 #[test]
 fn of_fields_given_twice_the_last_one_counts(rt: HostRuntime) -> Result<(), Fail> {
-    let kept = "{'kind':'kept','at':3,'id':1}";
-    let lent = "{'kind':'lent','at':3,'id':1,'kind':'kept'}";
-    for (part, change) in [
-        ("'version':1", "'version':1,'records':7"),
-        ("'version':1", "'limits':[],'version':1"),
-        ("'version':1", "'records':{'a':[]},'version':1"),
-        ("'takes':2", "'takes':2,'records':[]"),
-        ("'takes':2", "'takes':2 , 'records' : [ ] "),
-        ("'at':3", "'at':'x','at':3"),
-        (kept, lent),
-        ("'records':[", " 'rec\\u006frds' : [\n"),
-        ("'at':3,'id':1}],", "'at':3,'id':1} \r\n]\t, "),
-    ] {
-        is_said(&rt, (part, change, "read"))?;
-    }
     let table = r"
+        'version':1 => 'version':1,'records':7 => read
+        'version':1 => 'limits':[],'version':1 => read
+        'version':1 => 'records':{'a':[]},'version':1 => read
+        'takes':2 => 'takes':2,'records':[] => read
+        'takes':2 => 'takes':2 , 'records' : [ ]  => read
+        'at':3 => 'at':'x','at':3 => read
+        {'kind':'kept','at':3,'id':1} => {'kind':'lent','at':3,'id':1,'kind':'kept'} => read
         'takes':2 => 'takes':2,'records':[7] => duplicate field `records` @ 'records':[7
         'takes':2 => 'takes':2,'records':null => duplicate field `records` @ 'records':null
         'max_size':3 => 'max_size':3,'max_size':0 => duplicate field `max_size` @ 'max_size':0";
-    each_is_said(&rt, table)
+    each_is_said(&rt, table)?;
+    is_said(&rt, "'records':[ =>  'rec\\u006frds' : [\n => read")?;
+    is_said(&rt, "'at':3,'id':1}], => 'at':3,'id':1} \r\n]\t,  => read")
 }
 
 #[test]
 fn texts_that_are_no_json_are_refused(rt: HostRuntime) -> Result<(), Fail> {
-    let negative = "invalid value at line 2, column 12: -1";
     for (text, wanted) in [
         ("", "not JSON at column 0"),
         ("[]", "invalid type at column 1: ["),
         ("{", "not JSON at column 1"),
         ("{}", "version: missing"),
         ("{\n,", "not JSON at line 2, column 1"),
-        ("{\n'version': -1}", negative),
+        ("{\n'version': -1}", "invalid value at line 2, column 12: -1"),
         ("nul", "not JSON at column 1"),
     ] {
         assert_eq!(rt; said_of(rt.alloc(), text)?.as_str(), wanted, "{text}");

@@ -1,30 +1,17 @@
 // Each reason in words, of a report that has that fault and no earlier one; and that it is true,
 // whichever number of a report is changed.
 
-use crate::books::seeded;
+use crate::books::{Host, seeded};
 use pool_reports::RecordReason::{self, NotNext, Ordered};
 use pool_reports::{Verdict, audit, from_json, to_json};
 use r2d2_core::Record;
 use std::alloc::{AllocError, Global};
-use std::process::Abort;
 use std::test::Fail;
-use std::time::Duration;
 
-// The order, `max_size`, `min_idle`, how many records were lost, and how many takes there were.
-type Head = (&'static str, u32, u32, u64, u64);
+// At 10, 2 is the oldest idle one and 7 the newest, 4 is lent, and nothing is pending.
+const BASE: &str = "newest 3 1 2 2 | [2,1,5],[7,1,6] [4,1] 3 0 | ";
 
-// The base, the records, and the counts.
-type Parts = (&'static str, &'static str, &'static str);
-
-const HEAD: Head = ("newest", 3, 1, 2, 2);
-
-// What stands: what is idle, what is lent, how many are connected and pending, and whether it is
-// closed. At 10, 2 is the oldest idle one and 7 the newest, 4 is lent, and nothing is pending.
-const BASE: &str = "[2,1,5],[7,1,6] [4,1] 3 0";
-
-// The counts of that base.
-const COUNTS: &str = "2,7 4 3 0";
-
+// What is idle, what is lent, how many are connected and pending, and whether it is closed.
 fn standing(alloc: Global, text: &str) -> Result<String, AllocError> {
     let mut json = String::new(alloc);
     let names = ["'idle':[", "],'lent':[", "],'connections':", ",'pending':"];
@@ -52,19 +39,22 @@ fn record(alloc: Global, text: &str) -> Result<String, Fail> {
     Ok(json)
 }
 
-// What is said of a report with a base at 10, ages of up to 100 and idle times of up to 50.
-fn said(
-    alloc: Global,
-    (order, max_size, min_idle, lost, takes): Head,
-    (base, records, counts): Parts,
-) -> Result<String, Fail> {
-    let sizes = format!(in alloc; "'max_size':{max_size},'min_idle':{min_idle}")?;
-    let lengths = "'max_lifetime':100,'idle_timeout':50,'connection_timeout':9,'reap_every':9";
-    let limits = format!(in alloc; "{{{sizes},{lengths},'order':'{order}_first'}}")?;
-    let mut text = format!(in alloc; "{{'version':1,'limits':{limits}")?;
+// What is said of a report with a base at 10, ages of up to 100 and idle times of up to 50: of its
+// order, `max_size`, `min_idle`, how many records were lost and how many takes there were; of its
+// base; of its records; and of its counts.
+fn said(alloc: Global, report: &str) -> Result<String, Fail> {
+    let mut parts = report.split(" | ");
+    let mut part = || parts.next().unwrap_or("-");
+    let (head, base, records, counts) = (part(), part(), part(), part());
+    let mut words = head.split(' ');
+    let mut word = || words.next().unwrap_or("-");
+    let (order, max_size, min_idle, lost, takes) = (word(), word(), word(), word(), word());
+    let mut text = format!(in alloc; "{{'version':1,'limits':{{'order':'{order}_first'")?;
+    write!(text, ",'max_size':{max_size},'min_idle':{min_idle},'max_lifetime':100")?;
+    write!(text, ",'idle_timeout':50,'connection_timeout':9,'reap_every':9}}")?;
     write!(text, ",'base':{{'at':10,{}}}", standing(alloc, base)?)?;
     write!(text, ",'lost':{lost},'takes':{takes},'records':[")?;
-    for (place, it) in records.split("; ").filter(|it| !it.is_empty()).enumerate() {
+    for (place, it) in records.split("; ").filter(|it| *it != "-").enumerate() {
         let comma = if place == 0 { "" } else { "," };
         write!(text, "{comma}{}", record(alloc, it)?)?;
     }
@@ -74,25 +64,19 @@ fn said(
     Ok(audit(alloc, &report)?.to_string(alloc)?)
 }
 
-// Of a row's front, its base, records and counts are made; what is said of them is what begins so
-// and goes on as its back.
-fn each_is_said<R: AllocGlobal + Abort, F: Fn(&'static str) -> Parts>(
-    rt: &R,
-    head: Head,
-    parts: F,
-    (begin, table): (&str, &'static str),
-) -> Result<(), Fail> {
+// Of each row the parts take the places of the @ in the report; what is said of it begins so, and
+// goes on as the row.
+fn each_is_said(rt: &impl Host, report: &str, begin: &str, table: &str) -> Result<(), Fail> {
     for row in table.trim().lines() {
-        let (front, wanted) = row.trim().split_once(" => ").ok_or("a row")?;
-        let said = said(rt.alloc(), head, parts(front))?;
+        let (parts, wanted) = row.trim().split_once(" => ").ok_or("a row")?;
+        let mut report = String::from_str(rt.alloc(), report)?;
+        for part in parts.split(" | ") {
+            report = report.as_str().replacen(rt.alloc(), "@", part, 1)?;
+        }
+        let said = said(rt.alloc(), report.as_str())?;
         assert_eq!(rt; said.as_str().strip_prefix(begin), Some(wanted), "{row}");
     }
     Ok(())
-}
-
-// Its two parts, if it has two.
-fn both(front: &'static str) -> (&'static str, &'static str) {
-    front.split_once(" | ").unwrap_or((front, ""))
 }
 
 #[test]
@@ -109,7 +93,7 @@ fn what_is_wrong_with_a_base(rt: HostRuntime) -> Result<(), Fail> {
         [2,1,5],[7,1,6] [4,1] 3 1 => connections and pending are 4 together, but max_size is 3
         [2,1,5],[7,1,6] [4,1] 3 0 closed => it is closed, but idle has 2
         - [4,1] 1 2 closed => it is closed, but pending is 2";
-    each_is_said(&rt, HEAD, |base| (base, "", COUNTS), ("the base: ", table))
+    each_is_said(&rt, "newest 3 1 2 2 | @ | - | 2,7 4 3 0", "the base: ", table)
 }
 
 #[test]
@@ -134,31 +118,31 @@ fn what_is_wrong_with_a_record(rt: HostRuntime) -> Result<(), Fail> {
             record 1: connection 2 is admitted, but there was one of that id before
         reaped 54 0 => record 0: a reap that closed none and ordered none makes no record
         reaped 56 0 => record 0: 0 were ordered where 1 was due
+        - => sound
         closed_all 10; closed_all 10 => record 1: the pool is closed, but it was closed before
         closed_all 10; kept 10 4 => record 1: connection 4 is kept, but the pool is closed
         closed_all 10; taken 10 7 0 => record 1: connection 7 is taken, but none is idle";
-    each_is_said(&rt, HEAD, |it| (BASE, it, COUNTS), ("", table))?;
-    let sound = said(rt.alloc(), HEAD, (BASE, "", COUNTS))?;
-    assert_eq!(rt; sound.as_str(), "sound");
+    let report = format!(in rt.alloc(); "{BASE}@ | 2,7 4 3 0")?;
+    each_is_said(&rt, report.as_str(), "", table)?;
     // Under another order the oldest is next.
     let oldest = "taken 10 7 0 => record 0: connection 7 is taken, but connection 2 is lent next";
-    let head = ("oldest", 3, 1, 2, 2);
-    each_is_said(&rt, head, |it| (BASE, it, COUNTS), ("", oldest))
+    let report = report.as_str().replace(rt.alloc(), "newest", "oldest")?;
+    each_is_said(&rt, report.as_str(), "", oldest)
 }
 
 #[test]
 fn what_is_wrong_with_the_counts(rt: HostRuntime) -> Result<(), Fail> {
     let table = "
-        2 4 3 0 => 1 is idle, but the records come to 2
-        7,2 4 3 0 => idle[0] is connection 7, but the records come to connection 2
-        2,7 4,5 3 0 => 2 are lent, but the records come to 1
-        2,7 5 3 0 => lent[0] is connection 5, but the records come to connection 4
-        2,7 4 4 0 => 4 are connected, but the records come to 3
-        2,7 4 3 2 => 2 are pending, but the records come to 0
-        2,7 4 3 0 closed => it is closed, but by the records it is open
-        - 4 1 0 | closed_all 10 => it is open, but by the records it is closed";
-    let parts = |front| (BASE, both(front).1, both(front).0);
-    each_is_said(&rt, HEAD, parts, ("the counts: ", table))
+        - | 2 4 3 0 => 1 is idle, but the records come to 2
+        - | 7,2 4 3 0 => idle[0] is connection 7, but the records come to connection 2
+        - | 2,7 4,5 3 0 => 2 are lent, but the records come to 1
+        - | 2,7 5 3 0 => lent[0] is connection 5, but the records come to connection 4
+        - | 2,7 4 4 0 => 4 are connected, but the records come to 3
+        - | 2,7 4 3 2 => 2 are pending, but the records come to 0
+        - | 2,7 4 3 0 closed => it is closed, but by the records it is open
+        closed_all 10 | - 4 1 0 => it is open, but by the records it is closed";
+    let report = format!(in rt.alloc(); "{BASE}@ | @")?;
+    each_is_said(&rt, report.as_str(), "the counts: ", table)
 }
 
 // A base without records, with so many lost, and counts that say the same.
@@ -170,15 +154,14 @@ fn a_base_that_no_pool_begins_with(rt: HostRuntime) -> Result<(), Fail> {
         [3,0,0] - 1 1 | 3 - 1 1 => idle has 1
         - - 0 2 | - - 0 2 => pending is 2 where 1 are wanted
         - - 0 0 closed | - - 0 0 closed => it is closed";
-    let parts = |front| (both(front).0, "", both(front).1);
-    each_is_said(&rt, ("newest", 4, 1, 0, 0), parts, (making, begun))?;
+    each_is_said(&rt, "newest 4 1 0 0 | @ | - | @", making, begun)?;
     // The last one wants more and opens none.
     let later = "
         - [0,0],[1,0],[2,0],[3,0] 4 0 | - 0,1,2,3 4 0 => sound
         - - 0 0 closed | - - 0 0 closed => sound
         - [8,0] 1 0 | - 8 1 0 => \
             the counts: wanted are 1, and there is room, but idle has 0, and pending is 0";
-    each_is_said(&rt, ("newest", 4, 1, 9, 9), parts, ("", later))
+    each_is_said(&rt, "newest 4 1 9 9 | @ | - | @", "", later)
 }
 
 // It is said of the end, and not of the base, where one more was pending.
@@ -186,65 +169,33 @@ fn a_base_that_no_pool_begins_with(rt: HostRuntime) -> Result<(), Fail> {
 fn a_starved_pool_is_told_as_it_ends(rt: HostRuntime) -> Result<(), Fail> {
     let starved = "admitted 11 9 => \
         the counts: wanted are 2, and there is room, but idle has 1, and pending is 0";
-    let parts = |it| ("- [8,0] 1 1", it, "9 8 2 0");
-    each_is_said(&rt, ("newest", 4, 2, 9, 9), parts, ("", starved))
+    each_is_said(&rt, "newest 4 2 9 9 | - [8,0] 1 1 | @ | 9 8 2 0", "", starved)
 }
 
 // A pool of three that wants one idle: one was opened, lent and put back.
 #[test]
 fn what_a_report_that_replays_may_still_lack(rt: HostRuntime) -> Result<(), Fail> {
     let records = "admitted 11 0; taken 12 0 1; kept 13 0";
-    let parts = ("- - 0 1", records, "0 - 1 1");
-    for (lost, takes, wanted) in [
-        (0, 1, "sound"),
-        (0, 0, "the counts: takes is 0, but the records tell of 1"),
-        (0, 2, "the counts: takes is 2, but the records tell of 1"),
-        (1, 2, "sound"),
-        (7, 1, "sound"),
-    ] {
-        let head = ("newest", 3, 1, lost, takes);
-        assert_eq!(rt; said(rt.alloc(), head, parts)?.as_str(), wanted, "{head:?}");
+    let report = format!(in rt.alloc(); "newest 3 1 @ | - - 0 1 | {records} | 0 - 1 1")?;
+    let table = "
+        0 1 => sound
+        0 0 => the counts: takes is 0, but the records tell of 1
+        0 2 => the counts: takes is 2, but the records tell of 1
+        1 2 => sound
+        7 1 => sound";
+    each_is_said(&rt, report.as_str(), "", table)
+}
+
+// Makes the record what the reason would have it; whether that says how.
+fn correct(record: &mut Record, reason: RecordReason) -> bool {
+    match (record, reason) {
+        (Record::Taken { id, .. }, NotNext { next, .. }) => *id = next,
+        (Record::Taken { ordered, .. }, Ordered { due, .. }) => *ordered = due,
+        (Record::Closed { ordered, .. }, Ordered { due, .. }) => *ordered = due,
+        (Record::Reaped { ordered, .. }, Ordered { due, .. }) if due > 0 => *ordered = due,
+        _ => return false,
     }
-    Ok(())
-}
-
-// Where the first number of the text from the place on begins, and where it ends.
-fn number_from(text: &str, from: usize) -> Option<(usize, usize)> {
-    let digits = |byte: &u8| byte.is_ascii_digit();
-    let begin = from + text[from..].bytes().position(|byte| digits(&byte))?;
-    let len = text[begin..].bytes().take_while(digits).count();
-    Some((begin, begin + len))
-}
-
-// The text with so much more in that number's place, or so much less.
-fn changed(
-    alloc: Global,
-    text: &str,
-    (begin, end): (usize, usize),
-    (more, less): (u128, u128),
-) -> Result<String, AllocError> {
-    let (front, back) = (&text[..begin], &text[end..]);
-    let number = text[begin..end].parse::<u128>().unwrap_or(0) + more;
-    format!(in alloc; "{front}{}{back}", number.saturating_sub(less))
-}
-
-fn taken(at: Duration, id: u64, ordered: u32) -> Record {
-    Record::Taken { at, id, ordered }
-}
-
-// The record as the reason would have it, where it says how.
-fn corrected(record: Record, reason: RecordReason) -> Option<Record> {
-    Some(match (record, reason) {
-        (Record::Taken { at, id, .. }, Ordered { due, .. }) => taken(at, id, due),
-        (Record::Taken { at, ordered, .. }, NotNext { next, .. }) => taken(at, next, ordered),
-        (Record::Closed { at, id, .. }, Ordered { due: ordered, .. }) => {
-            Record::Closed { at, id, ordered }
-        }
-        (Record::Reaped { at, .. }, Ordered { due: ordered, .. }) if ordered > 0 => {
-            Record::Reaped { at, ordered }
-        }
-        _ => return None,
-    })
+    true
 }
 
 // Whether the verdict is past the reason at that place.
@@ -267,24 +218,27 @@ fn is_true(alloc: Global, text: &str) -> Result<Option<bool>, Fail> {
     let Verdict::Record { place, reason } = audit(alloc, &report)? else {
         return Ok(None);
     };
-    let Some(right) = corrected(report.records[place], reason) else {
+    if !correct(&mut report.records[place], reason) {
         return Ok(None);
-    };
-    report.records[place] = right;
+    }
     Ok(Some(is_past(audit(alloc, &report)?, place, reason)))
 }
 
-// How many changes of the text could be corrected.
-fn corrections<R: AllocGlobal + Abort>(rt: &R, text: &str) -> Result<u32, Fail> {
+// How many changes of the text could be corrected: of each number to one more, and to one less.
+fn corrections(rt: &impl Host, text: &str) -> Result<u32, Fail> {
+    let is_digit = |it: char| it.is_ascii_digit();
     let (mut from, mut count) = (0, 0);
-    while let Some(number) = number_from(text, from) {
-        for change in [(1, 0), (0, 1)] {
-            let changed = changed(rt.alloc(), text, number, change)?;
+    while let Some(front) = text[from..].find(is_digit) {
+        let (front, rest) = text.split_at(from + front);
+        let back = rest.trim_start_matches(is_digit);
+        let number = rest[..rest.len() - back.len()].parse::<u128>()?;
+        for changed in [number + 1, number.saturating_sub(1)] {
+            let changed = format!(in rt.alloc(); "{front}{changed}{back}")?;
             let is_true = is_true(rt.alloc(), changed.as_str())?;
             assert!(rt; is_true != Some(false), "{changed}");
             count += u32::from(is_true.is_some());
         }
-        from = number.1;
+        from = text.len() - back.len();
     }
     Ok(count)
 }
@@ -292,11 +246,9 @@ fn corrections<R: AllocGlobal + Abort>(rt: &R, text: &str) -> Result<u32, Fail> 
 #[test]
 fn what_is_said_of_each_change_is_true(rt: HostRuntime) -> Result<(), Fail> {
     let mut count = 0;
-    for seed in 0..12 {
-        for room in [0usize, 4, 100] {
-            let report = seeded(rt.alloc(), seed, 50, room)?;
-            count += corrections(&rt, to_json(rt.alloc(), &report)?.as_str())?;
-        }
+    for seed in 0..36 {
+        let report = seeded(rt.alloc(), seed, 50, [0, 4, 100][seed as usize / 12])?;
+        count += corrections(&rt, to_json(rt.alloc(), &report)?.as_str())?;
     }
     assert!(rt; count > 100, "{count} corrected");
     Ok(())

@@ -1,19 +1,14 @@
 // What is told of several reports of a pool.
 
-use crate::lines::serve;
-use crate::outcome::Outcome::{Concerned, Sound, Unsound};
-use crate::tests::{LENT, NEW, asked, late, meant, named};
+use crate::tests::{late, meant, said};
 use pool_reports::from_json;
 use pool_reports::story::story_to_json;
 use std::alloc::Global;
-use std::str;
 use std::test::Fail;
 
-// What is written of the reports of a log.
-fn written(alloc: Global, arguments: &str, log: &str) -> Result<String, Fail> {
-    let (asked, mut written) = (asked(alloc, arguments)?.ok_or("asked")?, Vec::new(alloc));
-    serve(alloc, asked, log.as_bytes(), &mut written).map_err(|_| "a fault")?;
-    Ok(String::from_str(alloc, str::from_utf8(written.as_slice())?)?)
+fn story_of(alloc: Global, report: &str) -> Result<String, Fail> {
+    let report = from_json(alloc, meant(alloc, report)?.as_str())?;
+    Ok(story_to_json(alloc, &report, None)?)
 }
 
 // A page has what was found on each report, by pools, in the order in which these came, and the
@@ -21,42 +16,28 @@ fn written(alloc: Global, arguments: &str, log: &str) -> Result<String, Fail> {
 #[test]
 fn a_page_has_all_reports_of_each_pool(rt: HostRuntime) -> Result<(), Fail> {
     let alloc = rt.alloc();
-    let (orders, users) = (named(alloc, "a<b")?, named(alloc, "users")?);
-    let wrong = meant(alloc, "$WRONG")?;
-    let wrong = wrong
-        .as_str()
-        .replace(alloc, "1,\"limits", "1,\"name\":\"users\",\"limits")?;
-    let log = format!(in alloc; "{users}\n{LENT}\n{orders}\n{NEW}\n{wrong}\n")?;
-    let story = story_to_json(alloc, &from_json(alloc, NEW)?, None)?;
+    let log = "$USERS\n$LENT\n$NEW~'limits'~'name':'a<b','limits'~\n$NEW\n\
+        $WRONG~'limits'~'name':'users','limits'~\n";
+    let story = story_of(alloc, "$NEW")?;
     let wanted = "{'pools':[{'name':'users','reports':[$0,$4],'last':null},{'name':null,\
-        'reports':[$1,$3],'last':$STORY},{'name':'a<b','reports':[$2],'last':$STORY}]}\n";
+        'reports':[$1,$3],'last':$STORY},{'name':'a<b','reports':[$2],'last':$STORY}]}\n= Unsound";
     let wanted = meant(alloc, wanted)?;
     let mut wanted = wanted.as_str().replace(alloc, "$STORY", story.as_str())?;
-    let found = written(alloc, "--json", log.as_str())?;
+    let found = said(alloc, "--json", log)?;
     for (place, line) in found.as_str().lines().enumerate() {
         let word = format!(in alloc; "${place}")?;
         wanted = wanted.as_str().replace(alloc, word.as_str(), line)?;
     }
-    let page = written(alloc, "--html", log.as_str())?;
+    let page = said(alloc, "--html", log)?;
     assert_eq!(rt; page.as_str(), wanted.as_str());
-    let lent = story_to_json(alloc, &from_json(alloc, LENT)?, None)?;
-    let alone = written(alloc, "--html", LENT)?;
-    assert!(rt; alone.as_str().contains(lent.as_str()));
-    assert_eq!(rt; written(alloc, "--html", "")?.as_str(), "{\"pools\":[]}\n");
+    let alone = said(alloc, "--html", "$LENT")?;
+    assert!(rt; alone.as_str().contains(story_of(alloc, "$LENT")?.as_str()));
+    assert_eq!(rt; said(alloc, "--html", "")?.as_str(), "{\"pools\":[]}\n= Sound");
     Ok(())
 }
 
-// What is told besides of a pool of this name, at the end of a second, with so many timeouts by then.
-fn told(alloc: Global, name: &str, end: u64, timeouts: u64) -> Result<String, Fail> {
-    let head = format!(in alloc; ",'name':'{name}','reported_at':{end}000000000")?;
-    let counts = "'refused':1,'failed_openings':2,'failed_checks':0,'latest_failure':7000000";
-    let waits = "'connection_timeout':5000000000,'waiting':3,'waiting_since':null,'waits':null";
-    let status = format!(in alloc; "{waits},'timeouts':{timeouts},{counts}")?;
-    Ok(format!(in alloc; "{head},'status':{{{status}}},'latest_error':'no route'")?)
-}
-
-// What callers met is told since the latest report of the same pool that ends where this one begins,
-// so that it is all they met in the time of the report. A pool that was made anew begins anew.
+// What callers met is told since the latest report of the same pool that ends where this begins, so
+// that it is all they met in the time of the report. A pool that was made anew begins anew.
 #[test]
 fn tells_what_callers_met_in_the_time_of_a_report(rt: HostRuntime) -> Result<(), Fail> {
     let alloc = rt.alloc();
@@ -69,42 +50,40 @@ fn tells_what_callers_met_in_the_time_of_a_report(rt: HostRuntime) -> Result<(),
         ("a", 11, 17, 9),
         ("a", 12, 17, 8),
     ] {
-        let told = told(alloc, name, begin + 1, timeouts)?;
+        let end = begin + 1;
+        let told = format!(in alloc; ",'name':'{name}','reported_at':{end}000000000,'status':{{\
+            'connection_timeout':5000000000,'waiting':3,'waiting_since':null,'waits':null,\
+            'timeouts':{timeouts},'refused':1,'failed_openings':2,'failed_checks':0,\
+            'latest_failure':7000000}},'latest_error':'no route'")?;
         writeln!(log, "{}", late(alloc, told.as_str(), begin, takes)?)?;
     }
-    let said = written(alloc, "", log.as_str())?;
-    let mut lines = said.as_str().lines();
-    for (count, since) in [
-        ("4 of 15", "the pool was made"),
-        ("3 of 14", "the pool was made"),
-        ("5 of 10", "10 s after the creation"),
-        ("5 of 11", "10 s after the creation"),
-        ("8 of 26", "the pool was made"),
-    ] {
-        let wanted = format!(in alloc; "  ! {count} calls timed out since {since}")?;
-        let line = lines.find(|line| line.contains("calls timed out"));
-        let line = line.and_then(|line| line.strip_suffix(" (a concern from 1 on)"));
-        assert_eq!(rt; line, Some(wanted.as_str()));
+    let (said, mut told) = (said(alloc, "", log.as_str())?, String::new(alloc));
+    for line in said.as_str().lines().filter(|line| line.contains("calls timed out")) {
+        writeln!(told, "{line}")?;
     }
-    assert!(rt; !lines.any(|line| line.contains("calls timed out")));
+    let wanted = "  ! 4 of 15 calls timed out since the pool was made (a concern from 1 on)
+  ! 3 of 14 calls timed out since the pool was made (a concern from 1 on)
+  ! 5 of 10 calls timed out since 10 s after the creation (a concern from 1 on)
+  ! 5 of 11 calls timed out since 10 s after the creation (a concern from 1 on)
+  ! 8 of 26 calls timed out since the pool was made (a concern from 1 on)
+";
+    assert_eq!(rt; told.as_str(), wanted);
     Ok(())
 }
 
 // The outcome is the worst of what was found, in whichever order.
 #[test]
 fn the_outcome_is_the_worst_of_all(rt: HostRuntime) -> Result<(), Fail> {
-    let alloc = rt.alloc();
-    let asked = asked(alloc, "")?.ok_or("asked")?;
     for (log, outcome) in [
-        ("$NEW\n$NEW\n$NEW\n", Sound),
-        ("$NEW\n$LENT\n$NEW\n", Concerned),
-        ("$LENT\n$LENT\n$NEW\n", Concerned),
-        ("$LENT\n$WRONG\n$NEW\n", Unsound),
-        ("$WRONG\n$NEW\n$LENT\n", Unsound),
+        ("$NEW\n$NEW\n$NEW\n", "Sound"),
+        ("$NEW\n$LENT\n$NEW\n", "Concerned"),
+        ("$LENT\n$LENT\n$NEW\n", "Concerned"),
+        ("$LENT\n$WRONG\n$NEW\n", "Unsound"),
+        ("$WRONG\n$NEW\n$LENT\n", "Unsound"),
     ] {
-        let reports = meant(alloc, log)?;
-        let got = serve(alloc, asked, reports.as_str().as_bytes(), Vec::new(alloc));
-        assert_eq!(rt; got, Ok(outcome), "{log}");
+        let said = said(rt.alloc(), "", log)?;
+        let (_, got) = said.as_str().rsplit_once("= ").ok_or("an end")?;
+        assert_eq!(rt; got, outcome, "{log}");
     }
     Ok(())
 }

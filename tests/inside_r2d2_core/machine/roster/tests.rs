@@ -34,8 +34,7 @@ fn looks_of_turns(alloc: Global, first: u64) -> Result<u64, Fail> {
     }
     looks.set(0);
     for step in 0..STEPS {
-        let gone = list.remove(first.saturating_add(step)).ok_or("it is there")?;
-        drop(gone);
+        drop(list.remove(first.saturating_add(step)).ok_or("it is there")?);
         let id = ROOM.saturating_add(step);
         list.add(Watched { id, looks: &looks });
     }
