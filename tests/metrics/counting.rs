@@ -1,25 +1,17 @@
 // What is counted and timed over pools, and which connections somebody forgot to give back.
 
-use crate::clock::Place;
-use crate::ear::milliseconds;
-use crate::kinds::{ALL, BESIDE, Kind, Pool};
-use crate::manager::Manager;
-use crate::measured::{measured, seconds};
-use crate::world::on_each;
-use pool_metrics::{Distribution, LongLoan, Metrics, Scale, Scales, Timed, UpTo};
-use r2d2::{Builder, NopErrorHandler};
+use crate::measured::*;
+use pool_metrics::{LongLoan, Metrics, Scale, Scales, Timed, UpTo};
+use r2d2::Builder;
+use r2d2::event::{AcquireEvent, HandleEvent, ReleaseEvent};
 use std::array;
-use std::test::Fail;
-use std::time::Duration;
 
 #[test]
 fn known_traffic(rt: HostRuntime) -> Result<(), Fail> {
     on_each(rt, &ALL, |world| {
-        let (pool, metrics) = measured(rt, world, 2, |_| {})?;
+        let (pool, metrics) = measured(rt, world, full(2))?;
         let (first, second) = (pool.get()?, pool.get()?);
-        let mut vain = pool.begin(20)?;
-        world.pass(20);
-        assert!(rt; pool.ends(&mut vain) && pool.end(vain)?.is_err());
+        pool.gives_up(20)?;
         // Who had no time to wait waited in vain too.
         assert!(rt; pool.get_within(0).is_err());
         assert!(rt; pool.get_within(0).is_err());
@@ -27,41 +19,35 @@ fn known_traffic(rt: HostRuntime) -> Result<(), Fail> {
         assert!(rt; pool.try_get()?.is_some());
         drop(second);
         let seen = metrics.snapshot();
-        assert_eq!(rt; (seen.opened, seen.timeouts), (2, 3));
-        let waited = (seen.vain_waits.count(), seen.vain_waits.sum());
-        assert_eq!(rt; waited, (3, Duration::from_millis(20)));
-        assert_eq!(rt; (seen.waits.count(), seen.uses.count()), (3, 3));
-        assert_eq!(rt; (seen.ages.count(), seen.closed.total()), (0, 0));
-        assert!(rt; seen.openings.is_none());
+        let closed = seen.closed.total();
+        assert_eq!(rt; (seen.opened, closed, seen.timeouts), (2, 0, 3));
         // Two were lent for as long as the call waited in vain.
-        assert_eq!(rt; seen.uses.sum(), Duration::from_millis(40));
-        Ok(())
+        assert_eq!(rt; lengths(&seen), [(3, 0), (3, 20), (3, 40), (0, 0)]);
+        holds(seen.openings.is_none())
     })
 }
 
 #[test]
 fn opened_are_closed_or_still_there(rt: HostRuntime) -> Result<(), Fail> {
     on_each(rt, &ALL, |world| {
-        let (pool, metrics) = measured(rt, world, 3, |_| {})?;
+        let (pool, metrics) = measured(rt, world, full(3))?;
         world.breaks.goes("+-");
         for _ in 0..9 {
             drop(pool.get()?);
         }
         pool.until(|status| status.opening == 0)?;
-        let seen = metrics.snapshot();
+        let (seen, connections) = (metrics.snapshot(), pool.status().connections);
         let left = seen.ages.count();
         assert!(rt; left > 0);
-        assert_eq!(rt; seen.opened, left + u64::from(pool.status().connections));
-        assert_eq!(rt; seen.closed.broken, left);
-        assert_eq!(rt; seen.uses.count(), 9);
-        Ok(())
+        assert_eq!(rt; (seen.opened, seen.closed.broken), (left + u64::from(connections), left));
+        equal(seen.uses.count(), 9)
     })
 }
 
 #[test]
 fn no_more_came_back_than_were_lent_while_threads_count(rt: HostRuntime) -> Result<(), Fail> {
     on_each(rt, &BESIDE, |world| {
-        let (pool, metrics) = measured(rt, world, 4, |_| {})?;
+        let (pool, metrics) = measured(rt, world, full(4))?;
         let mut threads = Vec::new(rt.alloc());
         for _ in 0..4 {
             threads.push(pool.aside(move |calls| {
@@ -75,27 +61,9 @@ fn no_more_came_back_than_were_lent_while_threads_count(rt: HostRuntime) -> Resu
         for thread in threads {
             assert_eq!(rt; thread.join(&rt), 200);
         }
-        let seen = metrics.snapshot();
-        assert_eq!(rt; (seen.waits.count(), seen.uses.count()), (800, 800));
-        assert_eq!(rt; metrics.lent_longer_than(Duration::ZERO)?.len(), 0);
-        Ok(())
+        assert_eq!(rt; lengths(&metrics.snapshot()), [(800, 0), (0, 0), (800, 0), (0, 0)]);
+        equal(metrics.lent_longer_than(Duration::ZERO)?.len(), 0)
     })
-}
-
-#[test]
-fn where_the_buckets_end(rt: HostRuntime) -> Result<(), Fail> {
-    let short = "0.001 0.005 0.01 0.025 0.05 0.1 0.25 0.5 1 2.5 5 10 30 +Inf ";
-    let long = "1 10 30 60 300 600 1800 3600 7200 21600 43200 86400 604800 +Inf ";
-    for (scale, ends) in [(Scale::Short, short), (Scale::Long, long)] {
-        let mut text = String::new(rt.alloc());
-        let lengths = Distribution::of(scale, [0; 14], 1_500_000_000);
-        for bucket in lengths.buckets() {
-            write!(text, "{} ", bucket.up_to)?;
-        }
-        assert_eq!(rt; text.as_str(), ends);
-        assert_eq!(rt; lengths.sum(), Duration::from_millis(1500));
-    }
-    Ok(())
 }
 
 // Whether the buckets end where those of this scale do.
@@ -135,14 +103,23 @@ fn are(loans: Vec<LongLoan>, wanted: &[(u64, u64)]) -> bool {
     loans.len() == wanted.len() && pairs.all(|(loan, (id, lent))| loan == (*id, lent * 1_000))
 }
 
-// Those lent for so long are listed, or all; the longest loan is that of who was lent first.
+// All that are lent are listed, and those lent for so long; the longest loan is that of who was
+// lent first.
 #[test]
 fn finds_a_leak(rt: HostRuntime) -> Result<(), Fail> {
     on_each(rt, &ALL, |world| {
-        let (pool, metrics) = measured(rt, world, 3, |_| {})?;
-        let longest = || metrics.snapshot().longest_loan.as_secs();
-        let longer_than = |bound| metrics.lent_longer_than(seconds(bound));
-        assert_eq!(rt; (metrics.loans()?.len(), longest()), (0, 0));
+        let (pool, metrics) = measured(rt, world, full(3))?;
+        let shows = |lent: &[(u64, u64)]| -> Result<(), Fail> {
+            assert!(rt; are(metrics.loans()?, lent), "{lent:?}");
+            for bound in [0, 50, 60_000] {
+                let longer = lent.iter().filter(|it| it.1 > bound).count();
+                let listed = metrics.lent_longer_than(seconds(bound))?;
+                assert!(rt; are(listed, &lent[..longer]), "{lent:?} above {bound}");
+            }
+            let longest = lent.first().map_or(0, |it| it.1);
+            equal(metrics.snapshot().longest_loan, seconds(longest))
+        };
+        shows(&[])?;
         let first = pool.get()?;
         world.set(60);
         let second = pool.get()?;
@@ -150,23 +127,17 @@ fn finds_a_leak(rt: HostRuntime) -> Result<(), Fail> {
         drop(pool.get()?);
         let third = pool.get()?;
         let all = [(first.id(), 120), (second.id(), 60), (third.id(), 0)];
-        assert!(rt; are(metrics.loans()?, &all));
-        assert_eq!(rt; (longer_than(0)?.len(), longest()), (2, 120));
-        assert!(rt; are(longer_than(50)?, &all[..2]));
-        assert_eq!(rt; longer_than(60_000)?.len(), 0);
+        shows(&all)?;
         drop(first);
-        assert!(rt; are(longer_than(50)?, &all[1..2]));
-        assert!(rt; are(metrics.loans()?, &all[1..]));
-        assert_eq!(rt; longest(), 60);
+        shows(&all[1..])?;
         drop(second);
-        assert!(rt; are(metrics.loans()?, &all[2..]));
-        assert_eq!(rt; (longest(), metrics.unlisted()), (0, 0));
+        shows(&all[2..])?;
+        assert_eq!(rt; metrics.unlisted(), 0);
         // What is detached is not lent any more.
         let number = third.number();
         assert_eq!(rt; third.detach().number, number);
-        assert_eq!(rt; (metrics.loans()?.len(), longer_than(0)?.len()), (0, 0));
-        assert_eq!(rt; metrics.snapshot().ages.count(), 1);
-        Ok(())
+        shows(&[])?;
+        equal(metrics.snapshot().ages.count(), 1)
     })
 }
 
@@ -174,15 +145,14 @@ fn finds_a_leak(rt: HostRuntime) -> Result<(), Fail> {
 fn what_has_no_room_is_counted(rt: HostRuntime) -> Result<(), Fail> {
     on_each(rt, &ALL, |world| {
         let metrics = world.measure(rt, 1, NopErrorHandler)?;
-        let pool = Pool::new(rt, world, |own| own.sized(2, 2))?;
+        let pool = Pool::of(rt, world, full(2))?;
         let (first, second) = (pool.get()?, pool.get()?);
         world.set(5);
         let loans = metrics.lent_longer_than(Duration::ZERO)?;
         assert!(rt; are(loans, &[(first.id(), 5)]));
         assert_eq!(rt; metrics.unlisted(), 1);
         drop(second);
-        assert_eq!(rt; metrics.lent_longer_than(Duration::ZERO)?.len(), 1);
-        Ok(())
+        equal(metrics.lent_longer_than(Duration::ZERO)?.len(), 1)
     })
 }
 
@@ -191,7 +161,7 @@ fn what_has_no_room_is_counted(rt: HostRuntime) -> Result<(), Fail> {
 #[test]
 fn what_a_caller_waited_is_no_loan(rt: HostRuntime) -> Result<(), Fail> {
     on_each(rt, &ALL, |world| {
-        let (pool, metrics) = measured(rt, world, 1, |_| {})?;
+        let (pool, metrics) = measured(rt, world, full(1))?;
         world.set(5);
         world.readings.goes("1+*");
         let lent = pool.get()?;
@@ -205,8 +175,7 @@ fn what_a_caller_waited_is_no_loan(rt: HostRuntime) -> Result<(), Fail> {
         let since = seconds(50) - Duration::from_millis(lent.lent_at());
         assert!(rt; lent_for <= since, "{lent_for:?}");
         assert!(rt; lent_for >= since - seconds(later), "{lent_for:?}");
-        assert_eq!(rt; metrics.snapshot().longest_loan, lent_for);
-        Ok(())
+        equal(metrics.snapshot().longest_loan, lent_for)
     })
 }
 
@@ -241,7 +210,30 @@ fn openings_are_timed_and_all_else_is_the_managers(rt: HostRuntime) -> Result<()
         assert_eq!(rt; metrics.snapshot().ages.count(), 0);
         // It comes back broken.
         drop(lent);
-        assert_eq!(rt; metrics.snapshot().ages.count(), 1);
-        Ok(())
+        equal(metrics.snapshot().ages.count(), 1)
     })
+}
+
+// Another thread tells of a million connections, each opened and closed, while this one looks.
+#[test]
+fn no_more_are_closed_than_were_opened(rt: HostRuntime) -> Result<(), Fail> {
+    let metrics = Metrics::new(rt, 1)?;
+    let counting = metrics.try_clone()?;
+    // One that is so old is counted in the bucket that is read last.
+    let age = Duration::from_secs(1_000_000);
+    let thread = thread::spawn(&rt, move || {
+        for id in 0..1_000_000 {
+            counting.handle_acquire(AcquireEvent::of(id));
+            counting.handle_release(ReleaseEvent::of(id, age, PoolClosed));
+        }
+    })?;
+    let mut seen = metrics.snapshot();
+    while seen.closed.total() < 1_000_000 {
+        assert!(rt; seen.ages.count() <= seen.opened && seen.closed.total() <= seen.opened);
+        seen = metrics.snapshot();
+    }
+    thread.join(&rt);
+    let seen = metrics.snapshot();
+    let counts = (seen.opened, seen.ages.count(), seen.closed.total());
+    equal(counts, (1_000_000, 1_000_000, 1_000_000))
 }

@@ -1,14 +1,10 @@
 // A pool and its metrics, by a clock that the row moves.
 
-use crate::clock::{BEGIN, Place};
+use crate::clock::BEGIN;
 use crate::ear::{Hear, Heard};
-use crate::kinds::{Pool, Settings};
-use crate::manager::Sorry;
-use crate::world::{Host, World};
-use pool_metrics::{CountingErrorHandler, Metrics};
-use r2d2::{HandleError, HandleEvent, NopErrorHandler};
-use std::test::Fail;
-use std::time::Duration;
+pub(crate) use crate::rows::*;
+pub(crate) use pool_metrics::{CountingErrorHandler, Distribution, Metrics, Snapshot};
+pub(crate) use r2d2::{HandleError, HandleEvent, NopErrorHandler};
 
 /// The metrics of a world's pool.
 pub(crate) type Measure<R> = Metrics<Place<R>>;
@@ -48,20 +44,20 @@ impl World {
     }
 }
 
-/// A pool of so many connections, all idle since 0 s, and its metrics.
-pub(crate) fn measured<R: Host, F: FnOnce(&mut Settings)>(
+/// A pool with these settings, whose connections are checked as they are lent, and its metrics.
+pub(crate) fn measured<R: Host>(
     rt: R,
     world: &'static World,
-    size: u32,
-    change: F,
+    settings: Settings,
 ) -> Result<(Pool<R>, Measure<R>), Fail> {
-    let metrics = world.measure(rt, size, NopErrorHandler)?;
-    let pool = Pool::new(rt, world, |own| {
-        own.sized(size, size);
-        own.is_checked = true;
-        change(own);
-    })?;
-    Ok((pool, metrics))
+    let metrics = world.measure(rt, settings.max_size, NopErrorHandler)?;
+    Ok((Pool::of(rt, world, settings.checked())?, metrics))
+}
+
+/// How many waits, waits in vain, uses and ages were counted, and how many milliseconds together.
+pub(crate) fn lengths(seen: &Snapshot) -> [(u64, u64); 4] {
+    [seen.waits, seen.vain_waits, seen.uses, seen.ages]
+        .map(|lengths| (lengths.count(), milliseconds(lengths.sum())))
 }
 
 /// So many seconds.

@@ -7,18 +7,6 @@ use std::process::Abort;
 use std::test::Fail;
 use std::time::{Duration, SystemTime};
 
-/// For each reason another count.
-pub(crate) const CLOSED: Closings = Closings {
-    broken: 1,
-    check_failed: 2,
-    distrusted: 3,
-    lifetime: 4,
-    idle: 5,
-    evicted: 6,
-    detached: 7,
-    pool_closed: 8,
-};
-
 /// Of a pool of three, one of which is lent.
 pub(crate) fn reading(pool: &str, snapshot: Snapshot) -> Reading<'_> {
     let status = Status {
@@ -50,7 +38,17 @@ fn snapshot() -> Snapshot {
     let in_vain = [0, 0, 0, 0, 0, 0, 0, 0, 5, 0, 0, 0, 3, 0];
     Snapshot {
         opened: 12,
-        closed: CLOSED,
+        // For each reason another count.
+        closed: Closings {
+            broken: 1,
+            check_failed: 2,
+            distrusted: 3,
+            lifetime: 4,
+            idle: 5,
+            evicted: 6,
+            detached: 7,
+            pool_closed: 8,
+        },
         timeouts: 8,
         errors: None,
         latest_error: None,
@@ -137,13 +135,11 @@ fn write_lines(page: &mut String, pool: &str, metric: &str) -> Result<(), Fail> 
     Ok(())
 }
 
-/// The page has the lines of a metric, one after another, of each of these pools.
-pub(crate) fn tells<R>(rt: &R, page: &str, told: &[(&str, &str)]) -> Result<(), Fail>
-where
-    R: AllocGlobal + Abort,
-{
+/// The page has these lines, one after another, of metrics of pools.
+pub(crate) fn tells<R: AllocGlobal + Abort>(rt: &R, page: &str, told: &str) -> Result<(), Fail> {
     let mut lines = String::new(rt.alloc());
-    for (pool, metric) in told {
+    for metric in told.split(", ") {
+        let (pool, metric) = metric.split_once(' ').ok_or("a metric")?;
         write_lines(&mut lines, pool, metric)?;
     }
     assert!(rt; page.contains(lines.as_str()), "{lines} in {page}");
@@ -182,10 +178,8 @@ fn each_metric_stands_once_for_all_pools(rt: HostRuntime) -> Result<(), Fail> {
     let readings = [reading("orders", snapshot()), reading("users", timed)];
     let page = text(rt, &readings)?;
     assert_eq!(rt; page.as_str().matches("# TYPE").count(), 17);
-    let both = [("orders", "max 5"), ("users", "max 5")];
-    tells(&rt, page.as_str(), &both)?;
-    let times = "create_time_seconds sum=0.0035 count=12";
-    tells(&rt, page.as_str(), &[("users", times)])?;
+    tells(&rt, page.as_str(), "orders max 5, users max 5")?;
+    tells(&rt, page.as_str(), "users create_time_seconds sum=0.0035 count=12")?;
     let other = "_create_time_seconds_count{db_client_connection_pool_name=\"orders\"}";
     assert!(rt; !page.as_str().contains(other));
     Ok(())
@@ -197,51 +191,39 @@ const LATEST: &str = "
     gauge latest_error_timestamp_seconds 1796000000.012345: \
         When the latest of these errors came, in seconds since 1970.";
 
-// Where a handler tells of them: with the wall clock or without it, and before the first one.
-#[test]
-fn errors_are_printed_where_they_are_counted(rt: HostRuntime) -> Result<(), Fail> {
-    let (mut timeless, mut none) = (heard(54, NANOS), heard(0, NANOS));
-    (timeless.latest_error_at, none.latest_error_at) = (None, None);
-    none.latest_error = None;
-    let latest = page_of(rt, LATEST)?;
-    for (seen, count) in [(heard(54, NANOS), 54), (timeless, 54), (none, 0)] {
-        let page = text(rt, &[reading("orders", seen)])?;
-        let count = format!(in rt.alloc(); "errors_total {count}")?;
-        tells(&rt, page.as_str(), &[("orders", count.as_str())])?;
-        let tells = page.as_str().contains("latest_error");
-        assert_eq!(rt; tells, seen.latest_error_at.is_some(), "{count}");
-        assert_eq!(rt; page.as_str().contains(latest.as_str()), tells);
-    }
-    Ok(())
-}
-
-// How many lines of a page tell of errors, and how many when the latest came.
-fn told_of_errors(page: &str) -> [usize; 2] {
-    ["_errors_total{", "_error_timestamp_seconds{"].map(|name| page.matches(name).count())
-}
-
-// Of two pools, with one handler of errors or two.
+// Where a handler tells of them: with the wall clock or without it, before the first one, and of
+// one pool or both.
 #[test]
 fn errors_are_printed_of_each_pool_that_counts_them(rt: HostRuntime) -> Result<(), Fail> {
-    let one = heard(54, NANOS);
-    let mut readings = [reading("orders", snapshot()), reading("users", one)];
-    let page = text(rt, &readings)?;
-    assert_eq!(rt; told_of_errors(page.as_str()), [1, 1]);
-    tells(&rt, page.as_str(), &[("users", "errors_total 54")])?;
-    readings[0].snapshot = heard(3, 2 * NANOS);
-    let page = text(rt, &readings)?;
-    assert_eq!(rt; told_of_errors(page.as_str()), [2, 2]);
-    let counts = [("orders", "errors_total 3"), ("users", "errors_total 54")];
-    tells(&rt, page.as_str(), &counts)?;
-    let first = "latest_error_timestamp_seconds 3592000000.02469";
-    let other = "latest_error_timestamp_seconds 1796000000.012345";
-    tells(&rt, page.as_str(), &[("orders", first), ("users", other)])
+    let (seen, other) = (heard(54, NANOS), heard(3, 2 * NANOS));
+    let (mut timeless, mut none) = (seen, heard(0, NANOS));
+    (timeless.latest_error_at, none.latest_error_at) = (None, None);
+    none.latest_error = None;
+    let page = text(rt, &[reading("orders", seen)])?;
+    assert!(rt; page.as_str().contains(page_of(rt, LATEST)?.as_str()));
+    for (orders, users, counts, told) in [
+        (seen, snapshot(), [1, 1], "orders errors_total 54"),
+        (timeless, snapshot(), [1, 0], "orders errors_total 54"),
+        (none, snapshot(), [1, 0], "orders errors_total 0"),
+        (snapshot(), seen, [1, 1], "users errors_total 54"),
+        (other, seen, [2, 2], "orders errors_total 3, users errors_total 54"),
+    ] {
+        let page = text(rt, &[reading("orders", orders), reading("users", users)])?;
+        tells(&rt, page.as_str(), told)?;
+        let names = ["_errors_total{", "_error_timestamp_seconds{"];
+        assert_eq!(rt; names.map(|name| page.as_str().matches(name).count()), counts, "{told}");
+        assert_eq!(rt; page.as_str().contains("latest_error"), counts[1] > 0, "{told}");
+    }
+    let page = text(rt, &[reading("orders", other), reading("users", seen)])?;
+    let latest = "orders latest_error_timestamp_seconds 3592000000.02469, \
+        users latest_error_timestamp_seconds 1796000000.012345";
+    tells(&rt, page.as_str(), latest)
 }
 
 #[test]
 fn a_name_is_escaped(rt: HostRuntime) -> Result<(), Fail> {
     let text = text(rt, &[reading("a\\n\"b\"\nß", snapshot())])?;
-    tells(&rt, text.as_str(), &[("a\\\\n\\\"b\\\"\\nß", "max 5")])?;
+    tells(&rt, text.as_str(), "a\\\\n\\\"b\\\"\\nß max 5")?;
     // The line feed of the name begins no line.
     let mut lines = text.as_str().lines();
     assert!(rt; lines.all(|line| line.starts_with("db_client_") || line.starts_with("# ")));

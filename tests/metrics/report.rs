@@ -1,18 +1,11 @@
 // The line of a report, and what is read back of it.
 
-use crate::kinds::{Calls, Kind, Lent, Pool, QUIET};
-use crate::measured::{Measure, measured, seconds};
-use crate::world::{Host, World, on_each};
+use crate::measured::*;
 use pool_metrics::{report_of, status_of};
 use pool_reports::{Written, from_json_of_pool};
-use r2d2::{Error, ErrorKind, NopErrorHandler, Observe, Status};
+use r2d2::Observe;
 use r2d2_core::Report;
-use std::process::Abort;
-use std::test::Fail;
-use std::time::{Duration, SystemTime};
-
-/// More milliseconds than pass in a row.
-const LONG: u64 = 1_000_000;
+use std::time::SystemTime;
 
 // What the line says of a pool.
 fn read_of<P: Observe, R: Host>(rt: R, pool: &P, metrics: &Measure<R>) -> Result<Written, Fail> {
@@ -40,12 +33,12 @@ fn crowd<R: Host>(pool: &Pool<R>) -> Result<[Lent<R>; 2], Fail> {
     world.set(2);
     let second = pool.get()?;
     world.set(3);
-    let fails = |kind| pool.get_within(0).is_err_and(|error| error.kind() == kind);
-    let are_late = (0..3).all(|_| fails(ErrorKind::Timeout));
-    let waiting = pool.begin(LONG)?;
-    if !are_late || !(0..2).all(|_| fails(ErrorKind::Full)) {
-        return Err(Fail::from("another answer"));
+    for _ in 0..3 {
+        pool.gives_up(0)?;
     }
+    let waiting = pool.begin(LONG)?;
+    pool.refused()?;
+    pool.refused()?;
     world.set(9);
     drop(first);
     Ok([pool.end(waiting)??, second])
@@ -69,40 +62,6 @@ fn outage<R: Host>(pool: &Pool<R>, lent: Lent<R>) -> Result<(), Fail> {
     pool.until(|status| status.idle == 1)
 }
 
-fn says_all<R: Host + Abort>(rt: R, world: &'static World) -> Result<(), Fail> {
-    let (pool, metrics) = measured(rt, world, 2, |own| {
-        own.connection_timeout = 2_000;
-        own.retry_at_most = Some(100);
-        own.journal_room = 64;
-        own.room = 1;
-    })?;
-    let [first, second] = crowd(&pool)?;
-    outage(&pool, first)?;
-    world.set(16);
-    let third = pool.get()?;
-    let waiting = pool.begin(LONG)?;
-    world.set(20);
-
-    let said = read(rt, &pool, &metrics)?;
-    assert_eq!(rt; said.name.as_deref(), Some("orders"));
-    assert!(rt; said.made_at.is_some() && said.made_at == pool.made_at());
-    assert_eq!(rt; said.reported_at, Some(seconds(20)));
-    assert_eq!(rt; said.latest_error.as_deref(), Some("connect 2"));
-    let loans = [(second.id(), seconds(2)), (third.id(), seconds(16))];
-    assert_eq!(rt; said.loans.as_slice(), loans.as_slice());
-    let met = format!(in rt.alloc(); "{:?}", said.status.ok_or("a status")?)?;
-    assert_eq!(rt; met.as_str(), MET);
-    let (report, journal) = (&said.report, pool.journal()?);
-    let timeout = report.limits.connection_timeout().as_millis();
-    assert_eq!(rt; (timeout, report.takes), (200, 5));
-    assert_eq!(rt; report.records.as_slice(), journal.records.as_slice());
-    let lent = [second.id(), third.id()];
-    assert_eq!(rt; report.lent.as_slice(), lent.as_slice());
-    drop(third);
-    assert!(rt; pool.end(waiting)?.is_ok());
-    Ok(())
-}
-
 // What callers met by then. Of the four that were lent a connection one waited from 3 s to 9 s.
 const MET: &str = "PoolStatus { connection_timeout: 2s, waiting: 1, waiting_since: Some(16s), \
     timeouts: 3, refused: 2, failed_openings: 1, failed_checks: 1, latest_failure: Some(12s), \
@@ -111,7 +70,35 @@ const MET: &str = "PoolStatus { connection_timeout: 2s, waiting: 1, waiting_sinc
 #[test]
 fn the_line_says_what_callers_met(rt: HostRuntime) -> Result<(), Fail> {
     let kinds = [Kind::Limited, Kind::Counted, Kind::Polled, Kind::InLine];
-    on_each(rt, &kinds, |world| says_all(rt, world))
+    on_each(rt, &kinds, |world| {
+        let mut settings = full(2).waiting(2_000).recorded(64).room(1);
+        settings.retry_at_most = Some(100);
+        let (pool, metrics) = measured(rt, world, settings)?;
+        let [first, second] = crowd(&pool)?;
+        outage(&pool, first)?;
+        world.set(16);
+        let third = pool.get()?;
+        let waiting = pool.begin(LONG)?;
+        world.set(20);
+
+        let said = read(rt, &pool, &metrics)?;
+        assert_eq!(rt; said.name.as_deref(), Some("orders"));
+        assert!(rt; said.made_at.is_some() && said.made_at == pool.made_at());
+        assert_eq!(rt; said.reported_at, Some(seconds(20)));
+        assert_eq!(rt; said.latest_error.as_deref(), Some("connect 2"));
+        let loans = [(second.id(), seconds(2)), (third.id(), seconds(16))];
+        assert_eq!(rt; said.loans.as_slice(), loans.as_slice());
+        let met = format!(in rt.alloc(); "{:?}", said.status.ok_or("a status")?)?;
+        assert_eq!(rt; met.as_str(), MET);
+        let (report, journal) = (&said.report, pool.journal()?);
+        let timeout = report.limits.connection_timeout().as_millis();
+        assert_eq!(rt; (timeout, report.takes), (200, 5));
+        assert_eq!(rt; report.records.as_slice(), journal.records.as_slice());
+        let lent = [second.id(), third.id()];
+        assert_eq!(rt; report.lent.as_slice(), lent.as_slice());
+        drop(third);
+        holds(pool.end(waiting)?.is_ok())
+    })
 }
 
 // Nothing failed yet, and nobody hears of errors.
@@ -128,8 +115,7 @@ fn what_is_not_known_is_not_said(rt: HostRuntime) -> Result<(), Fail> {
         // Of the 30 s of a `get`, a bound that one can wait for and be served.
         let waits = status.waits.take().ok_or("waits")?;
         assert_eq!(rt; (waits.bound, waits.longer, waits.all), (seconds(10), 0, 0));
-        assert_eq!(rt; status_of(seconds(30), &pool.status(), None), status);
-        Ok(())
+        equal(status_of(seconds(30), &pool.status(), None), status)
     })
 }
 
@@ -176,7 +162,7 @@ impl<R: Host> Observe for Busy<'_, R> {
 fn no_less_is_said_than_happened(rt: HostRuntime) -> Result<(), Fail> {
     let kinds = [Kind::Plain, Kind::InLine, Kind::Counted, Kind::Polled];
     on_each(rt, &kinds, |world| {
-        let (pool, metrics) = measured(rt, world, 2, |own| own.journal_room = 64)?;
+        let (pool, metrics) = measured(rt, world, full(2).recorded(64))?;
         world.set(1);
         let lent = pool.get()?;
         world.set(5);
@@ -186,7 +172,6 @@ fn no_less_is_said_than_happened(rt: HostRuntime) -> Result<(), Fail> {
         let last = said.report.records.as_slice().last().ok_or("a record")?;
         assert_eq!(rt; last.at(), seconds(6));
         assert_eq!(rt; said.status.ok_or("a status")?.timeouts, 1);
-        assert_eq!(rt; said.loans.as_slice(), [(lent.id(), seconds(1))].as_slice());
-        Ok(())
+        equal(said.loans.as_slice(), [(lent.id(), seconds(1))].as_slice())
     })
 }

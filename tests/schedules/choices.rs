@@ -1,14 +1,11 @@
 // Which way a run goes. Over all runs each choice that is open is taken once in each way.
 
-use std::alloc::{AllocError, Global};
+use crate::*;
 
-/// A choice that was made: which, among how many.
-type Fork = (u64, u64);
-
-/// The choices of the present run.
+/// The choices of the present run: which, among how many.
 #[derive(Drop)]
 pub(crate) struct Choices {
-    forks: Vec<Fork>,
+    forks: Vec<(u64, u64)>,
     // How many of them this run has come to.
     passed: usize,
 }
@@ -22,10 +19,8 @@ impl Choices {
 
     /// The run that takes these; false where one is no number.
     pub(crate) fn follow(&mut self, taken: &str) -> bool {
-        taken.split('.').all(|word| match word.parse::<u64>() {
-            Ok(taken) => self.forks.push((taken, taken + 1)).is_ok(),
-            Err(_) => false,
-        })
+        let mut taken = taken.split('.').map(|word| word.parse::<u64>());
+        taken.all(|it| it.is_ok_and(|it| self.forks.push((it, it + 1)).is_ok()))
     }
 
     /// One of so many. Where there is no memory to write a choice down it is the first.
@@ -44,23 +39,21 @@ impl Choices {
     /// The next run takes another way; false where all were taken.
     pub(crate) fn turn(&mut self) -> bool {
         self.passed = 0;
-        for _ in 0..self.forks.len() {
-            if let Some((taken, among)) = self.forks.pop() {
-                if taken + 1 < among {
-                    return self.forks.push((taken + 1, among)).is_ok();
-                }
+        while let Some((taken, among)) = self.forks.pop() {
+            if taken + 1 < among {
+                return self.forks.push((taken + 1, among)).is_ok();
             }
         }
         false
     }
+}
 
-    /// The choices of the run, to be played again.
-    pub(crate) fn way(&self, alloc: Global) -> Result<String, AllocError> {
-        let mut way = String::new(alloc);
+/// As they are played again.
+impl fmt::Display for Choices {
+    fn fmt<W: fmt::Write>(&self, f: &mut fmt::Formatter<W>) -> fmt::Result {
         for (place, (taken, _)) in self.forks.iter().enumerate() {
-            let mark = if place > 0 { "." } else { "" };
-            way.push_str(format!(in alloc; "{mark}{taken}")?.as_str())?;
+            write!(f, "{}{taken}", if place > 0 { "." } else { "" })?;
         }
-        Ok(way)
+        Ok(())
     }
 }

@@ -1,7 +1,6 @@
 // What is judged of pools of both crates.
 
-use crate::world::{Count, World};
-use r2d2::{Error, ErrorKind, Status};
+use crate::*;
 
 /// How long a call took. It tells nothing where time went on meanwhile before it had to, since then
 /// the caller itself was slow.
@@ -29,7 +28,7 @@ impl Stopwatch {
     }
 
     /// The call took so long at least, and at most; where that is None it cannot be told.
-    pub(crate) fn check(&self, world: &World, what: &'static str, least: u64, most: Option<u64>) {
+    pub(crate) fn check(&self, world: &World, what: &str, least: u64, most: Option<u64>) {
         match self.seconds(world) {
             Some(taken) if taken < least || most.is_some_and(|most| taken > most) => {
                 world.tell_number("it ends after seconds:", taken);
@@ -43,25 +42,25 @@ impl Stopwatch {
 /// The sums of a status.
 pub(crate) fn sums(world: &World, status: &Status) {
     let held = status.connections + status.opening;
-    let is_sum = status.idle + status.lent == status.connections;
-    world.fault_if(!is_sum, "idle and lent are not the connections");
-    world.fault_if(held > status.max_size, "more are held than max_size");
     let is_short = status.idle + status.opening < status.wanted && held < status.max_size;
-    world.fault_if(!status.closed && is_short, "too few are idle or pending");
+    faults! { world;
+        "idle and lent are not the connections" if status.idle + status.lent != status.connections;
+        "more are held than max_size" if held > status.max_size;
+        "too few are idle or pending" if !status.closed && is_short;
+    }
 }
 
 /// Nobody can go on: so nobody may wait for what is there. So many callers wait, and drains; for
 /// some, who are left alone, what is idle may be kept.
 pub(crate) fn at_rest(world: &World, status: &Status, callers: u64, drains: u64, left: u64) {
     let waits = callers > 0 && !status.closed;
-    let is_idle = u64::from(status.idle) > left;
     let has_room = status.opening == 0 && status.connections < status.max_size;
-    let is_drained = drains > 0 && status.lent == 0;
-    let is_late = callers > 0 && status.closed;
-    world.fault_if(is_late, "a caller waits at a closed pool");
-    world.fault_if(waits && is_idle, "somebody waits beside an idle connection");
-    world.fault_if(waits && has_room, "somebody waits, and nothing is ordered");
-    world.fault_if(is_drained, "a drain waits, and nothing is lent");
+    faults! { world;
+        "a caller waits at a closed pool" if callers > 0 && status.closed;
+        "somebody waits beside an idle connection" if waits && u64::from(status.idle) > left;
+        "somebody waits, and nothing is ordered" if waits && has_room;
+        "a drain waits, and nothing is lent" if drains > 0 && status.lent == 0;
+    }
 }
 
 /// A `get` for so many seconds is told of an error.
@@ -82,10 +81,10 @@ pub(crate) fn refused(world: &World, error: &Error, watch: &Stopwatch, seconds: 
 
 /// Everything is to be gone.
 pub(crate) fn ends(world: &World) {
-    let is_left = world.count(Count::Ended) != 1;
-    world.fault_if(is_left, "a worker or a pool is left");
     let gone = world.count(Count::Dropped) + world.count(Count::Detached);
-    let is_all = world.count(Count::Opened) == gone;
-    world.fault_if(!is_all, "more is opened than dropped or detached");
-    world.fault_if(world.count(Count::Opening) != 0, "an opening is left");
+    faults! { world;
+        "a worker or a pool is left" if world.count(Count::Ended) != 1;
+        "more is opened than dropped or detached" if world.count(Count::Opened) != gone;
+        "an opening is left" if world.count(Count::Opening) != 0;
+    }
 }

@@ -1,15 +1,11 @@
 // The connections, their manager, and the handlers of a pool for threads.
 
-use crate::judge::Stopwatch;
-use crate::threads::sleep;
-use crate::world::{Count, NEVER, World};
+use crate::*;
 use r2d2::event::{
     AcquireEvent, CheckinEvent, CheckoutEvent, HandleEvent, ReleaseEvent, ReleaseReason,
     TimeoutEvent,
 };
 use r2d2::{CustomizeConnection, HandleError};
-use std::sync::atomic::{AtomicU64, Ordering};
-use std::{fmt, thread};
 
 /// How many seconds a handler stays: longer than any caller waits.
 pub(crate) const STAY: u64 = 5_000;
@@ -17,48 +13,39 @@ pub(crate) const STAY: u64 = 5_000;
 /// How many seconds less than others a connection may live.
 pub(crate) const JITTER: u64 = 6;
 
-#[derive(Clone, Copy, Debug)]
-pub(crate) struct Blammo;
-
-impl fmt::Display for Blammo {
-    fn fmt<W: fmt::Write>(&self, f: &mut fmt::Formatter<W>) -> fmt::Result {
-        f.write_str("blammo")
-    }
-}
-
 /// A connection.
 pub(crate) struct Line {
     world: &'static World,
-    users: AtomicU64,
-    seen: Seen,
+    pub(crate) seen: Seen,
 }
 
 /// What was seen of it.
 #[derive(Clone, Copy, Default)]
-struct Seen {
+pub(crate) struct Seen {
     /// How many were opened before it.
     number: u64,
+    users: u64,
     is_detached: bool,
     /// Since it was opened, and since it is idle, or was before it was lent; where that is judged.
     opened: Option<Stopwatch>,
     idle: Option<Stopwatch>,
     /// Whether it was checked since then, and what that showed.
-    is_checked: bool,
+    pub(crate) is_checked: bool,
     is_unsound: bool,
     /// Whether it was too old as it came back.
     is_old: bool,
 }
 
 impl Line {
-    pub(crate) fn open(world: &'static World) -> Result<Line, Blammo> {
+    pub(crate) fn open(world: &'static World) -> Result<Line, fmt::Error> {
         if world.goes_wrong(world.plan.fails) {
             world.tell("fails to open a connection");
-            return Err(Blammo);
+            return Err(fmt::Error);
         }
         world.tell("opens a connection");
-        let (users, seen) = (AtomicU64::new(0), Seen::default());
-        let mut line = Line { world, users, seen };
-        line.seen.number = world.add(Count::Opened);
+        let mut seen = Seen::default();
+        seen.number = world.add(Count::Opened);
+        let mut line = Line { world, seen };
         line.rests();
         line.seen.opened = line.seen.idle;
         Ok(line)
@@ -80,7 +67,7 @@ impl Line {
         self.seen.is_old = plan.ends_by_age() && age.is_some_and(|age| age >= world.lifetime);
         self.rests();
         self.seen.is_checked = false;
-        world.may_take(plan.slow_returns, 3);
+        world.takes(plan.slow_returns && world.choose(2) == 1, 3);
         let is_broken = world.goes_wrong(plan.breaks);
         if is_broken {
             world.tell("finds a connection broken");
@@ -88,13 +75,13 @@ impl Line {
         is_broken
     }
 
-    // It is idle no more: whether it was the next one to be lent.
+    // It is idle no more: it was the next one to be lent.
     fn is_taken(&self) {
         let world = self.world;
         let since = world.set_idle(self.seen.number, NEVER);
         let is_judged = since < NEVER && !world.plan.is_drawn();
-        let is_next = !is_judged || world.comes_first(since);
-        world.fault_if(!is_next, "another one is lent than the next");
+        let is_other = is_judged && !world.comes_first(since);
+        world.fault_if(is_other, "another one is lent than the next");
     }
 
     // Whether it was idle for so long that it has to be checked, where not all are.
@@ -111,59 +98,52 @@ impl Line {
         world.add(Count::Checks);
         self.is_taken();
         self.seen.is_checked = true;
-        let is_early = self.is_due() == Some(false);
-        world.fault_if(is_early, "what was idle for a moment is checked");
-        world.fault_if(self.is_distrusted(), "what is distrusted is checked");
+        faults! { world;
+            "what was idle for a moment is checked" if self.is_due() == Some(false);
+            "what is distrusted is checked" if self.is_distrusted();
+        }
     }
 
     // What a check shows that began in that millisecond.
-    pub(crate) fn ends_check(&mut self, began: u64) -> Result<(), Blammo> {
-        let world = self.world;
-        self.seen.is_unsound = world.goes_wrong(world.plan.checks && world.plan.within.is_none());
+    pub(crate) fn ends_check(&mut self, began: u64) -> Result<(), fmt::Error> {
+        let (world, plan) = (self.world, &self.world.plan);
+        self.seen.is_unsound = world.goes_wrong(plan.checks && plan.within.is_none());
         if !self.seen.is_unsound {
             return Ok(());
         }
         world.tell("finds a connection unsound");
-        if world.plan.is_served_in_order() {
-            world.queue.looks_again(world.now());
+        if plan.is_served_in_order() {
+            world.set(Count::Unsound, world.now() + 1);
         }
-        world.fails_check(began);
-        Err(Blammo)
-    }
-
-    pub(crate) fn itself(&self) -> &Line {
-        self
-    }
-
-    pub(crate) fn is_checked(&self) -> bool {
-        self.seen.is_checked
+        world.raise(Count::Distrusted, began);
+        Err(fmt::Error)
     }
 
     /// Whether a failed check told of it.
     pub(crate) fn is_distrusted(&self) -> bool {
-        let idle = self.seen.idle;
-        idle.is_some_and(|idle| self.world.is_distrusted(idle.begun))
+        let before = self.world.count(Count::Distrusted);
+        self.world.plan.distrusts && self.seen.idle.is_some_and(|idle| idle.begun < before)
     }
 
     /// It is lent now: to nobody else, young enough, and checked where that is due.
-    pub(crate) fn is_lent(&self) {
-        let world = self.world;
-        world.tell_number("is lent connection", self.seen.number);
+    pub(crate) fn is_lent(&mut self) {
+        self.seen.users += 1;
+        let (world, seen) = (self.world, &self.seen);
+        world.tell_number("is lent connection", seen.number);
         self.is_taken();
-        let others = self.users.fetch_add(1, Ordering::SeqCst);
-        world.fault_if(others > 0, "a connection is lent that is lent");
-        let lent = world.add(Count::Lent);
-        world.fault_if(lent >= world.plan.size, "more are lent than max_size");
-        world.fault_if(self.seen.is_old, "what is too old is kept");
-        let is_unchecked = !self.seen.is_checked && self.is_due() == Some(true);
-        world.fault_if(is_unchecked, "what was idle for long is lent unchecked");
+        faults! { world;
+            "a connection is lent that is lent" if seen.users > 1;
+            "more are lent than max_size" if world.add(Count::Lent) >= world.plan.size;
+            "what is too old is kept" if seen.is_old;
+            "what was idle for long is lent unchecked" if !seen.is_checked && self.is_due() == Some(true);
+        }
     }
 
     /// Its caller is done with it; whether it detaches it.
-    pub(crate) fn is_let_go(&self) -> bool {
+    pub(crate) fn is_let_go(&mut self) -> bool {
         let world = self.world;
         world.take_off(Count::Lent);
-        self.users.fetch_sub(1, Ordering::SeqCst);
+        self.seen.users -= 1;
         let ways = if world.plan.is_of_tasks { 2 } else { 3 };
         let detaches = world.plan.detaches && world.choose(ways) == 1;
         let what = if detaches { "detaches" } else { "gives back" };
@@ -182,11 +162,7 @@ impl Line {
 
 impl Drop for Line {
     fn drop(self) {
-        let Line {
-            world,
-            users: _,
-            seen,
-        } = self;
+        let Line { world, seen } = self;
         world.set_idle(seen.number, NEVER);
         if !seen.is_unsound {
             world.add(Count::Closes);
@@ -196,35 +172,22 @@ impl Drop for Line {
 }
 
 impl World {
-    fn is_busy_for(&self, seconds: u64) {
-        self.add(Count::Busy);
-        sleep(self, seconds);
-        self.take_off(Count::Busy);
-    }
-
-    // This takes so long now and then, where it may.
-    pub(crate) fn may_take(&self, may: bool, seconds: u64) {
-        if may && self.choose(2) == 1 {
-            self.is_busy_for(seconds);
-        }
-    }
-
-    // The first one keeps its handler for longer than any caller waits.
-    pub(crate) fn may_stay(&self, may: bool) {
-        if may && self.add(Count::Stayed) == 0 {
-            self.is_busy_for(STAY);
+    // This takes so long, if it does. A handler that stays is the first one.
+    fn takes(&self, does: bool, seconds: u64) {
+        if does && (seconds < STAY || self.add(Count::Stayed) == 0) {
+            self.add(Count::Busy);
+            sleep(self, seconds);
+            self.take_off(Count::Busy);
         }
     }
 }
 
 /// Opens lines and checks them. What goes wrong is a choice of the run.
-pub(crate) struct Manager {
-    pub(crate) world: &'static World,
-}
+pub(crate) struct Manager(pub(crate) &'static World);
 
 impl Drop for Manager {
     fn drop(self) {
-        let Manager { world } = self;
+        let Manager(world) = self;
         world.add(Count::Ended);
     }
 }
@@ -232,90 +195,79 @@ impl Drop for Manager {
 impl r2d2::ManageConnection for Manager {
     type Connection = Line;
 
-    type Error = Blammo;
+    type Error = fmt::Error;
 
     type Extension = ();
 
-    fn connect(&self) -> Result<Line, Blammo> {
-        let world = self.world;
+    fn connect(&self) -> Result<Line, fmt::Error> {
+        let (world, plan) = (self.0, &self.0.plan);
         world.calls("connect");
         world.add(Count::Opening);
-        world.may_take(world.plan.slow_openings, 3);
+        world.takes(plan.slow_openings && world.choose(2) == 1, 3);
         thread::yield_now();
         let opened = Line::open(world);
         world.take_off(Count::Opening);
         opened
     }
 
-    fn is_valid(&self, line: &mut Line) -> Result<(), Blammo> {
-        self.world.calls("is_valid");
+    fn is_valid(&self, line: &mut Line) -> Result<(), fmt::Error> {
+        let (world, plan) = (self.0, &self.0.plan);
+        world.calls("is_valid");
         line.begins_check();
-        self.world.may_take(self.world.plan.slow_checks, 2);
+        world.takes(plan.slow_checks && world.choose(2) == 1, 2);
         line.ends_check(0)
     }
 
     fn has_broken(&self, line: &mut Line) -> bool {
-        self.world.calls("has_broken");
+        self.0.calls("has_broken");
         line.comes_back()
     }
 }
 
 /// The handlers, each of which may call into its own pool.
-#[derive(Clone, Copy)]
-pub(crate) struct Ear {
-    pub(crate) world: &'static World,
-}
-
-impl fmt::Debug for Ear {
-    fn fmt<W: fmt::Write>(&self, f: &mut fmt::Formatter<W>) -> fmt::Result {
-        f.write_str("Ear")
+impl HandleError<fmt::Error> for Place {
+    fn handle_error(&self, _error: fmt::Error) {
+        self.0.calls("handle_error");
+        self.0.takes(self.0.plan.error_stays, STAY);
     }
 }
 
-impl HandleError<Blammo> for Ear {
-    fn handle_error(&self, _error: Blammo) {
-        self.world.calls("handle_error");
-        self.world.may_stay(self.world.plan.error_stays);
-    }
-}
-
-impl HandleEvent for Ear {
+impl HandleEvent for Place {
     fn handle_acquire(&self, _event: AcquireEvent) {
-        self.world.calls("handle_acquire");
+        self.0.calls("handle_acquire");
     }
 
     fn handle_release(&self, event: ReleaseEvent) {
-        let world = self.world;
+        let (world, plan) = (self.0, &self.0.plan);
         world.calls("handle_release");
-        let youngest = world.lifetime / 1_000 - JITTER;
-        if event.reason() == ReleaseReason::Lifetime && event.age().as_secs() < youngest {
-            world.fault("what is young is closed for its age");
-        }
-        world.may_stay(world.plan.release_stays);
-        world.may_take(world.plan.slow_releases, 3);
+        let is_young = event.age().as_secs() < world.lifetime / 1_000 - JITTER;
+        let is_early = event.reason() == ReleaseReason::Lifetime && is_young;
+        world.fault_if(is_early, "what is young is closed for its age");
+        world.takes(plan.release_stays, STAY);
+        world.takes(plan.slow_releases && world.choose(2) == 1, 3);
     }
 
     fn handle_checkout(&self, _event: CheckoutEvent) {
-        self.world.calls("handle_checkout");
+        self.0.calls("handle_checkout");
     }
 
     fn handle_timeout(&self, _event: TimeoutEvent) {
-        self.world.calls("handle_timeout");
+        self.0.calls("handle_timeout");
     }
 
     fn handle_checkin(&self, _event: CheckinEvent) {
-        self.world.calls("handle_checkin");
+        self.0.calls("handle_checkin");
     }
 }
 
-impl CustomizeConnection<Line, Blammo> for Ear {
-    fn on_acquire(&self, _line: &mut Line) -> Result<(), Blammo> {
-        self.world.calls("on_acquire");
+impl CustomizeConnection<Line, fmt::Error> for Place {
+    fn on_acquire(&self, _line: &mut Line) -> Result<(), fmt::Error> {
+        self.0.calls("on_acquire");
         Ok(())
     }
 
     fn on_release(&self, line: Line) {
         drop(line);
-        self.world.calls("on_release");
+        self.0.calls("on_release");
     }
 }

@@ -4,6 +4,13 @@
 //! whose choices `way=` names.
 #![tactic(auto)]
 
+// What is judged, and when it is a fault.
+macro_rules! faults {
+    ($world:expr; $($what:literal if $is_so:expr;)*) => {
+        $($world.fault_if($is_so, $what);)*
+    };
+}
+
 mod choices;
 mod judge;
 mod line;
@@ -11,19 +18,37 @@ mod nap;
 mod orders;
 mod plan;
 mod pools;
-mod queue;
 mod task;
 mod threads;
 mod within;
 mod world;
 
 use self::choices::Choices;
-use self::plan::Plan;
-use self::world::{Count, World};
-use r2d2::PoolRuntime;
-use std::env;
+use self::judge::Stopwatch;
+use self::line::{JITTER, Line, Manager, STAY};
+use self::nap::Place;
+use self::plan::{PATIENT, Plan};
+use self::pools::{
+    Lent, Pool, TaskDrain, TaskGet, TaskLent, TaskPool, TaskWork, builder_of, task_pool,
+    thread_pool,
+};
+use self::task::{Move, Step, Task, tasks_of};
+use self::threads::{join_all, sleep};
+use self::within::Own;
+use self::world::{Count, LONG, LONGEST_DELAY, NEVER, Wait, World, drawn};
+use futures::Future;
+use futures::spin::lock;
+use futures::task::{Context, Poll};
+use r2d2::{Error, ErrorKind, PoolRuntime, Status};
+use std::alloc::{Alloc, Global};
 use std::process::ExitCode;
+use std::rt::Clock;
+use std::sync::atomic::{AtomicU64, Ordering};
+use std::sync::{Arc, Mutex};
 use std::test::Fail;
+use std::thread::JoinHandle;
+use std::time::Duration;
+use std::{env, fmt, io, mem, thread};
 
 fn main(rt: HostRuntime) -> Result<ExitCode, Fail> {
     let mut words = env::args(&rt)?.skip(1);
@@ -35,11 +60,7 @@ fn main(rt: HostRuntime) -> Result<ExitCode, Fail> {
     for word in words {
         let way = word.as_str().strip_prefix("way=");
         is_told |= way.is_some();
-        let is_known = match way {
-            Some(way) => choices.follow(way),
-            None => plan.take(word.as_str()),
-        };
-        if !is_known {
+        if !way.map_or_else(|| plan.take(word.as_str()), |way| choices.follow(way)) {
             eprintln!(rt; "{word}: no word of a scenario")?;
             return Ok(ExitCode::from(2));
         }
@@ -47,9 +68,9 @@ fn main(rt: HostRuntime) -> Result<ExitCode, Fail> {
     if plan.within.is_some() {
         within::draw(&rt, &mut plan);
     }
-    let world = World::new(rt, plan, choices, is_told)?;
+    let world = World::new(rt, plan, choices, is_told);
     let went_well = play(rt, Box::leak(Box::new(rt.alloc(), world)?))?;
-    Ok(ExitCode::from(if went_well { 0 } else { 1 }))
+    Ok(ExitCode::from(u8::from(!went_well)))
 }
 
 // Whether the run went well, or all did.
@@ -65,7 +86,7 @@ fn play<R: PoolRuntime>(rt: R, world: &'static World) -> Result<bool, Fail> {
         if world.count(Count::Ended) == 1 {
             break;
         }
-        threads::sleep(world, 10);
+        sleep(world, 10);
     }
     judge::ends(world);
     Ok(!world.has_faults())

@@ -1,24 +1,20 @@
-// The runtime of pools for tasks, by the world's clock, and what tasks wait for.
+// What pools are given beside a manager, and what tasks wait for, by the world's clock.
 
-use crate::line::{Blammo, Line, Manager};
-use crate::world::{Count, World};
-use futures::Future;
-use futures::task::{Context, Poll};
-use r2d2_async::Timer;
-use std::alloc::{Alloc, Global};
-use std::io;
-use std::rt::Clock;
-use std::time::Duration;
+use crate::*;
 
-/// A runtime, and a timer.
+/// A runtime and a timer of pools for tasks, and the handlers of those for threads.
 #[derive(Clone, Copy)]
-pub(crate) struct Place {
-    pub(crate) world: &'static World,
+pub(crate) struct Place(pub(crate) &'static World);
+
+impl fmt::Debug for Place {
+    fn fmt<W: fmt::Write>(&self, f: &mut fmt::Formatter<W>) -> fmt::Result {
+        f.write_str("Place")
+    }
 }
 
 impl Clock for Place {
     fn monotonic(&self) -> io::Result<Duration> {
-        Ok(Duration::from_millis(self.world.now()))
+        Ok(Duration::from_millis(self.0.now()))
     }
 
     fn since_1970(&self) -> io::Result<Duration> {
@@ -26,7 +22,7 @@ impl Clock for Place {
     }
 
     fn sleep(&self, duration: Duration) {
-        self.world.rt.sleep(duration)
+        self.0.rt.sleep(duration)
     }
 }
 
@@ -34,51 +30,46 @@ impl Alloc for Place {
     type A = Global;
 
     fn alloc(&self) -> Global {
-        self.world.rt.alloc()
+        self.0.rt.alloc()
     }
 }
 
-/// A sleep. A run sees by itself which have ended: none has a waker.
+/// A sleep until then. A run sees by itself which have ended: none has a waker.
 #[derive(Drop)]
-pub(crate) struct Nap {
-    world: &'static World,
-    end: u64,
-}
+pub(crate) struct Nap(&'static World, u64);
 
 impl Future for Nap {
     type Output = ();
 
     fn poll(&mut self, _cx: &mut Context<'_>) -> Poll<()> {
-        if self.world.now() >= self.end {
+        if self.0.now() >= self.1 {
             return Poll::Ready(());
         }
-        self.world.sleeps_until(self.end);
+        self.0.sleeps_until(self.1);
         Poll::Pending
     }
 }
 
-impl Timer for Place {
+impl r2d2_async::Timer for Place {
     type Sleep = Nap;
 
     fn sleep(&self, length: Duration) -> Nap {
-        let world = self.world;
-        let end = world.now().saturating_add(length.as_millis() as u64);
-        Nap { world, end }
+        let now = self.0.now();
+        Nap(self.0, now.saturating_add(length.as_millis() as u64))
     }
 }
 
-/// An opening, which takes one poll, or two.
+/// An opening, which takes one poll, or two where it is slow.
 pub(crate) struct Opening {
     world: &'static World,
     is_slow: bool,
 }
 
 impl Future for Opening {
-    type Output = Result<Line, Blammo>;
+    type Output = Result<Line, fmt::Error>;
 
-    fn poll(&mut self, cx: &mut Context<'_>) -> Poll<Result<Line, Blammo>> {
-        if self.is_slow {
-            self.is_slow = false;
+    fn poll(&mut self, cx: &mut Context<'_>) -> Poll<Result<Line, fmt::Error>> {
+        if mem::replace(&mut self.is_slow, false) {
             return cx.yield_now();
         }
         Poll::Ready(Line::open(self.world))
@@ -101,9 +92,9 @@ pub(crate) struct Checking {
 }
 
 impl Future for Checking {
-    type Output = (Line, Result<(), Blammo>);
+    type Output = (Line, Result<(), fmt::Error>);
 
-    fn poll(&mut self, cx: &mut Context<'_>) -> Poll<(Line, Result<(), Blammo>)> {
+    fn poll(&mut self, cx: &mut Context<'_>) -> Poll<(Line, Result<(), fmt::Error>)> {
         let line = if self.is_slow { None } else { self.line.take() };
         self.is_slow = false;
         let Some(mut line) = line else {
@@ -117,7 +108,7 @@ impl Future for Checking {
 impl r2d2_async::ManageConnection for Manager {
     type Connection = Line;
 
-    type Error = Blammo;
+    type Error = fmt::Error;
 
     type Extension = ();
 
@@ -126,7 +117,7 @@ impl r2d2_async::ManageConnection for Manager {
     type Check = Checking;
 
     fn connect(&self) -> Opening {
-        let (world, is_slow) = (self.world, self.world.plan.slow_openings);
+        let (world, is_slow) = (self.0, self.0.plan.slow_openings);
         world.tell("begins to open a connection");
         world.add(Count::Opening);
         Opening { world, is_slow }
@@ -136,8 +127,8 @@ impl r2d2_async::ManageConnection for Manager {
         line.begins_check();
         Checking {
             line: Some(line),
-            is_slow: !self.world.plan.distrusts,
-            began: self.world.now(),
+            is_slow: !self.0.plan.distrusts,
+            began: self.0.now(),
         }
     }
 

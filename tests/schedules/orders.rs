@@ -1,32 +1,10 @@
 // All orders of the polls of tasks on one thread: which is polled next, which one gives up, is left
 // alone or moves, and when time goes on, is each a choice.
 
-use crate::judge;
-use crate::plan::Plan;
-use crate::pools::{TaskPool, task_pool};
-use crate::task::{Task, tasks_of};
-use crate::threads::sleep;
-use crate::world::{Count, LONG, LONGEST_DELAY, World};
-use futures::spin::lock;
-use r2d2::{PoolRuntime, Status};
-use std::test::Fail;
-use std::thread;
+use crate::*;
 
 /// More steps than a run has.
 const MOST: u64 = 1_000;
-
-/// What may come next, of a task.
-#[derive(Clone, Copy)]
-enum Move {
-    Poll,
-    GiveUp,
-    /// It is neither polled nor dropped from now on.
-    Leave,
-    /// Another executor polls it from now on.
-    Move,
-    /// Time goes on to the next moment at which a sleep ends.
-    Pass,
-}
 
 #[derive(Drop)]
 struct Run {
@@ -35,8 +13,8 @@ struct Run {
     pool: Option<TaskPool>,
     tasks: Vec<Task>,
     moves: Vec<(Move, usize)>,
-    // What of it may come yet beside polls of those who are woken.
-    left: Plan,
+    // How often each move may come yet that nothing asks for.
+    left: [u64; 5],
 }
 
 /// Whether all runs went well: in each another way is taken, until all were.
@@ -56,18 +34,19 @@ pub(crate) fn play(world: &'static World) -> Result<bool, Fail> {
 impl Run {
     fn new(world: &'static World) -> Result<Run, Fail> {
         world.begin();
-        let pool = task_pool(world)?;
-        let tasks = tasks_of(world, &pool)?;
+        let (pool, plan) = (task_pool(world)?, &world.plan);
         Ok(Run {
             world,
-            pool: if world.plan.last_drop {
-                None
-            } else {
-                Some(pool)
-            },
-            tasks,
+            tasks: tasks_of(world, &pool)?,
+            pool: (!plan.last_drop).then_some(pool),
             moves: Vec::new(world.rt.alloc()),
-            left: world.plan,
+            left: [
+                plan.needless,
+                plan.drops,
+                plan.leaves,
+                plan.moves,
+                plan.early,
+            ],
         })
     }
 
@@ -76,7 +55,7 @@ impl Run {
         for _ in 0..MOST {
             // All but the workers have ended, or are left alone.
             let mut others = self.tasks.iter().skip(self.world.plan.workers as usize);
-            if others.all(|task| task.is_over || task.is_left) {
+            if others.all(|task| matches!(task.step, Step::Left | Step::Over)) {
                 self.end();
                 return Ok(());
             }
@@ -84,8 +63,8 @@ impl Run {
                 break;
             }
         }
-        self.world
-            .fault_if(!self.world.has_faults(), "somebody waits for good");
+        let is_stuck = !self.world.has_faults();
+        self.world.fault_if(is_stuck, "somebody waits for good");
         Ok(())
     }
 
@@ -103,70 +82,48 @@ impl Run {
         let Some((chosen, place)) = self.moves.get(chosen).copied() else {
             return Ok(false);
         };
-        self.world.tick();
+        // A step takes no time, where nothing depends on that.
+        let now = self.world.now() + u64::from(self.world.plan.is_timed());
+        self.world.set(Count::Now, now);
         let task = &mut self.tasks[place];
-        match chosen {
-            Move::Poll => {
-                if !task.is_woken() {
-                    self.world
-                        .tell_of(task.who, "is polled, though nobody woke it");
-                    self.left.needless -= 1;
-                }
-                task.poll(status);
-            }
-            Move::GiveUp => {
-                self.left.drops -= 1;
-                task.give_up();
-            }
-            Move::Leave => {
-                self.left.leaves -= 1;
-                task.leave();
-            }
-            Move::Move => {
-                self.left.moves -= 1;
-                task.move_on();
-            }
-            Move::Pass => {
-                self.left.early -= u64::from(!rests);
-                self.world.pass();
+        let is_asked = match chosen {
+            Move::Poll => task.is_woken(),
+            Move::Pass => rests,
+            _ => false,
+        };
+        if !is_asked {
+            self.left[chosen as usize] -= 1;
+            if chosen == Move::Poll {
+                self.world
+                    .tell_of(task.who, "is polled, though nobody woke it");
             }
         }
+        task.makes(chosen, status);
         Ok(true)
     }
 
     // What may come next; whether nobody is woken.
     fn find_moves(&mut self) -> Result<bool, Fail> {
-        let (left, mut rests) = (&self.left, true);
+        let mut rests = true;
         self.moves.clear();
         for (place, task) in self.tasks.iter().enumerate() {
             // One before it that is like it in all need not come later.
-            if self
-                .tasks
-                .iter()
-                .take(place)
-                .any(|earlier| earlier.is_like(task))
-            {
+            let mut earlier = self.tasks.iter().take(place);
+            if earlier.any(|earlier| earlier.is_like(task)) {
                 continue;
             }
             rests &= !task.is_woken();
-            for (found, may_come) in [
-                (
-                    Move::Poll,
-                    task.is_woken() || left.needless > 0 && !task.is_over,
-                ),
-                (Move::GiveUp, left.drops > 0 && task.can_give_up()),
-                (Move::Leave, left.leaves > 0 && task.can_be_left()),
-                (Move::Move, left.moves > 0 && task.can_move()),
-            ] {
-                if may_come {
-                    self.moves.push((found, place))?;
+            for what in [Move::Poll, Move::GiveUp, Move::Leave, Move::Move] {
+                let is_asked = what == Move::Poll && task.is_woken();
+                if is_asked || self.left[what as usize] > 0 && task.can(what) {
+                    self.moves.push((what, place))?;
                 }
             }
         }
         // Time goes on where nobody is woken, and now and then before, but never past a long wait.
         if let Some(end) = self.world.next_end() {
             let length = end.saturating_sub(self.world.now());
-            if rests || left.early > 0 && length > 0 && length < LONG {
+            if rests || self.left[Move::Pass as usize] > 0 && length > 0 && length < LONG {
                 self.moves.push((Move::Pass, 0))?;
             }
         }
@@ -177,7 +134,10 @@ impl Run {
     fn status(&self) -> Option<Status> {
         match &self.pool {
             Some(pool) => Some(pool.status()),
-            None => self.tasks.iter().find_map(|task| task.status()),
+            None => self
+                .tasks
+                .iter()
+                .find_map(|it| Some(it.pool.as_ref()?.status())),
         }
     }
 
@@ -186,19 +146,19 @@ impl Run {
     fn judge(&self, status: &Status, rests: bool) {
         let world = self.world;
         judge::sums(world, status);
-        let (waiting, in_time) = world.queue.waiting(world.now());
         let drains = world.count(Count::Draining);
-        let is_told = in_time + drains <= status.waiting && status.waiting <= waiting + drains;
+        let waiting = |now| drains + world.waiting(now, |it| !it.checks);
+        let is_told = waiting(world.now()) <= status.waiting && status.waiting <= waiting(0);
         world.fault_if(!is_told, "as many are told to wait as do not");
         if !rests {
             return;
         }
-        let left = self.tasks.iter().filter(|task| task.is_left).count() as u64;
+        let left = self.tasks.iter().filter(|it| it.step == Step::Left).count() as u64;
         // It sleeps at most until an opening that failed is tried again.
         let is_idle = |task: &Task| task.is_worker() && !world.is_due_in(task.who, LONGEST_DELAY);
         let is_undone = status.opening > 0 && self.tasks.iter().any(is_idle);
         world.fault_if(is_undone, "a worker rests beside an opening");
-        judge::at_rest(world, status, world.queue.placed(), drains, left);
+        judge::at_rest(world, status, world.waiting(0, |_| true), drains, left);
         let rests = status.closed && world.count(Count::Workers) > 0;
         world.fault_if(rests, "a worker rests at a closed pool");
     }
@@ -206,11 +166,13 @@ impl Run {
     // The last pool goes, so the workers end.
     fn end(mut self) {
         self.world.add(Count::Over);
-        self.tasks.iter_mut().for_each(|task| task.drop_left());
+        for task in self.tasks.iter_mut().filter(|it| it.step == Step::Left) {
+            task.ends();
+        }
         self.pool = None;
         for _ in 0..4 {
             for task in self.tasks.iter_mut().filter(|task| task.is_woken()) {
-                task.poll(None);
+                task.makes(Move::Poll, None);
             }
         }
         let is_left = self.world.count(Count::Workers) > 0;
@@ -239,28 +201,22 @@ pub(crate) fn play_threads<R: PoolRuntime>(rt: R, world: &'static World) -> Resu
     for row in rows {
         threads.push(thread::spawn(&rt, move || work(rt, world, row))?)?;
     }
-    for thread in threads {
-        thread.join(&rt);
-    }
+    join_all(&rt, threads);
     Ok(())
 }
 
 // Polls the tasks that are woken, until all have ended.
 fn work<R: PoolRuntime>(rt: R, world: &World, mut row: Vec<Task>) {
-    let may_move = world.plan.moves > 0;
     for _ in 0..MOST_ROUNDS {
-        let moved = if may_move {
-            world.moving.lock(&rt).pop()
-        } else {
-            None
-        };
+        let moved = world.moving.lock(&rt).pop();
         let mut rests = moved.is_none_or(|task| row.push(task).is_err());
-        for task in row.iter_mut() {
-            rests &= !poll_or_drop(world, task);
+        for task in row.iter_mut().filter(|task| task.is_woken()) {
+            poll_or_drop(world, task);
+            rests = false;
         }
         move_on(rt, world, &mut row);
-        let is_over = row.iter().all(|task| task.is_over);
-        if is_over && (!may_move || world.moving.lock(&rt).is_empty()) {
+        let is_over = row.iter().all(|task| task.step == Step::Over);
+        if is_over && world.moving.lock(&rt).is_empty() {
             return;
         }
         if rests {
@@ -270,21 +226,14 @@ fn work<R: PoolRuntime>(rt: R, world: &World, mut row: Vec<Task>) {
     world.fault("somebody waits for good");
 }
 
-// Polls a task, or gives it up, where it is woken; whether it was.
-fn poll_or_drop(world: &World, task: &mut Task) -> bool {
-    if !task.is_woken() {
-        return false;
-    }
+// Polls a task, or gives it up.
+fn poll_or_drop(world: &World, task: &mut Task) {
     let plan = &world.plan;
     // One worker is left.
-    let can_go = task.can_give_up() && (!task.is_worker() || plan.drops < plan.workers);
+    let can_go = task.can(Move::GiveUp) && (!task.is_worker() || plan.drops < plan.workers);
     let may_go = can_go && world.count(Count::GivenUp) < plan.drops && world.choose(4) == 0;
-    if may_go && world.add(Count::GivenUp) < plan.drops {
-        task.give_up();
-    } else {
-        task.poll(None);
-    }
-    true
+    let goes = may_go && world.add(Count::GivenUp) < plan.drops;
+    task.makes(if goes { Move::GiveUp } else { Move::Poll }, None);
 }
 
 // A call moves to another thread now and then, or comes back to this one.
@@ -293,15 +242,13 @@ fn move_on<R: PoolRuntime>(rt: R, world: &World, row: &mut Vec<Task>) {
     if world.count(Count::Moved) >= plan.moves || world.choose(2) == 0 {
         return;
     }
-    let Some(place) = row
-        .iter()
-        .position(|task| task.can_move() && !task.is_worker())
-    else {
+    let can_move = |task: &Task| task.can(Move::Move) && !task.is_worker();
+    let Some(place) = row.iter().position(can_move) else {
         return;
     };
     if world.add(Count::Moved) < plan.moves {
         let mut task = row.swap_remove(place);
-        task.move_on();
+        task.makes(Move::Move, None);
         drop(world.moving.lock(&rt).push(task).ok());
     }
 }

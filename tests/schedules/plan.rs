@@ -1,6 +1,6 @@
 // What a run does: a scenario of tools/schedules/scenarios.txt, which says what its words mean.
 
-use crate::within;
+use crate::*;
 
 /// How many seconds a caller waits that has all the time in the world.
 pub(crate) const PATIENT: u64 = 1_000;
@@ -58,7 +58,7 @@ pub(crate) struct Plan {
     pub(crate) endless: bool,
     /// The callback that calls into its own pool, and the call that was drawn.
     pub(crate) within: Option<&'static str>,
-    pub(crate) call: Option<&'static str>,
+    pub(crate) call: &'static str,
 }
 
 // Sets what a word names, and answers true; false follows where there is no such word.
@@ -76,14 +76,15 @@ impl Plan {
     pub(crate) fn new(kind: &str) -> Plan {
         let is_counted = kind == "counted";
         let is_of_tasks = !is_counted && kind != "plain";
+        let (calls, line) = if is_of_tasks { (1, 8) } else { (2, 0) };
         Plan {
             is_of_tasks,
             is_counted,
             size: 1,
             workers: 1,
             callers: 2,
-            calls: if is_of_tasks { 1 } else { 2 },
-            line: if is_of_tasks { 8 } else { 0 },
+            calls,
+            line,
             ..Plan::default()
         }
     }
@@ -111,19 +112,12 @@ impl Plan {
         !self.is_of_tasks || self.threads > 0
     }
 
-    /// How many tasks there are.
-    pub(crate) fn tasks(&self) -> u64 {
-        self.workers + self.callers + self.closers + self.drainers + self.evictors
-    }
-
     /// How many seconds this caller waits.
     pub(crate) fn patience_of(&self, caller: u64) -> u64 {
-        if caller < self.impatient {
-            IMPATIENT
-        } else if caller + self.hasty >= self.callers {
-            0
-        } else {
-            PATIENT
+        match caller {
+            _ if caller < self.impatient => IMPATIENT,
+            _ if caller + self.hasty >= self.callers => 0,
+            _ => PATIENT,
         }
     }
 
@@ -153,24 +147,20 @@ impl Plan {
 
     /// Whether somebody closes the pool while others have it.
     pub(crate) fn closes(&self) -> bool {
-        self.closers > 0 || self.drainers > 0
+        self.closers + self.drainers > 0
     }
 
     /// How many seconds a caller's own checks take at most, if it makes no more than so many. None
     /// where no moment can be told, since a handler of its own call is slow.
     pub(crate) fn seconds_of_checks(&self, checks: u64) -> Option<u64> {
         let is_told = !self.error_stays && self.releases_at_once();
-        let each = if self.checks && self.slow_checks {
-            2
-        } else {
-            0
-        };
+        let each = 2 * u64::from(self.checks && self.slow_checks);
         (is_told || !self.checks).then_some(each * checks)
     }
 
     /// How many seconds a call yields at most that takes the lock.
     pub(crate) fn seconds_of_turns(&self) -> u64 {
-        if self.busy { TURNS } else { 0 }
+        TURNS * u64::from(self.busy)
     }
 
     /// By how many seconds a call outlasts its time at most that looks again: its time may end as it

@@ -1,16 +1,10 @@
 // The pools of a run, and their settings.
 
-use crate::line::{Ear, JITTER, Line, Manager};
-use crate::nap::Place;
-use crate::plan::{PATIENT, Plan};
-use crate::world::{LONGEST_DELAY, World};
-use r2d2::{Error, LendingOrder, PoolRuntime, Status};
+use crate::*;
+use r2d2::{CountedConnection, LendingOrder, PooledConnection};
 use r2d2_async::NoHandlers;
 use std::marker::Brand;
 use std::sync::ledger::{Blank, Share};
-use std::sync::{Arc, Mutex};
-use std::test::Fail;
-use std::time::Duration;
 
 /// More than there are calls at once.
 const PARTS: u64 = 1_000_000;
@@ -25,33 +19,33 @@ pub(crate) type TaskWork = r2d2_async::Work<Manager, Place, NoHandlers, Place>;
 
 pub(crate) type TaskDrain = r2d2_async::Drain<Manager, Place, NoHandlers, Place>;
 
-type CountedPool<R> = r2d2::CountedPool<Manager, Ear, Ear, Ear, R, Brand>;
+type CountedPool<R> = r2d2::CountedPool<Manager, Place, Place, Place, R, Brand>;
 
 /// A pool for threads. A counted one lends each call a part of its ledger.
 #[derive(Drop)]
 pub(crate) enum Pool<R: PoolRuntime> {
-    Plain(r2d2::Pool<Manager, Ear, Ear, Ear, R>),
+    Plain(r2d2::Pool<Manager, Place, Place, Place, R>),
     Counted(CountedPool<R>, Arc<Mutex<Share<Brand>>>, R),
 }
 
 #[derive(Drop)]
 pub(crate) enum Lent<R: PoolRuntime> {
-    Plain(r2d2::PooledConnection<Manager, Ear, Ear, Ear, R>),
-    Counted(r2d2::CountedConnection<Manager, Ear, Ear, Ear, R, Brand>),
+    Plain(PooledConnection<Manager, Place, Place, Place, R>),
+    Counted(CountedConnection<Manager, Place, Place, Place, R, Brand>),
 }
 
 impl<R: PoolRuntime> Lent<R> {
-    pub(crate) fn line(&self) -> &Line {
+    pub(crate) fn line(&mut self) -> &mut Line {
         match self {
-            Lent::Plain(lent) => lent.itself(),
-            Lent::Counted(lent) => lent.itself(),
+            Lent::Plain(lent) => lent,
+            Lent::Counted(lent) => lent,
         }
     }
 
     pub(crate) fn detach(self) -> Line {
         match self {
-            Lent::Plain(lent) => r2d2::PooledConnection::detach(lent),
-            Lent::Counted(lent) => r2d2::CountedConnection::detach(lent),
+            Lent::Plain(lent) => PooledConnection::detach(lent),
+            Lent::Counted(lent) => CountedConnection::detach(lent),
         }
     }
 }
@@ -135,13 +129,13 @@ macro_rules! set {
 }
 
 /// The settings of a pool for threads.
-pub(crate) fn builder_of(world: &'static World) -> r2d2::Builder<Manager, Ear, Ear, Ear> {
-    let (plan, ear) = (&world.plan, Ear { world });
+pub(crate) fn builder_of(world: &'static World) -> r2d2::Builder<Manager, Place, Place, Place> {
+    let plan = &world.plan;
     let mut builder = set!(r2d2::Builder::<Manager>::new(), world)
         .thread_pool(plan.workers as usize)
-        .error_handler(ear)
-        .event_handler(ear)
-        .connection_customizer(ear);
+        .error_handler(Place(world))
+        .event_handler(Place(world))
+        .connection_customizer(Place(world));
     if plan.jitter {
         builder = builder.lifetime_jitter(Duration::from_secs(JITTER));
     }
@@ -156,12 +150,12 @@ pub(crate) fn builder_of(world: &'static World) -> r2d2::Builder<Manager, Ear, E
 
 /// A pool for threads, with no connection yet.
 pub(crate) fn thread_pool<R: PoolRuntime>(rt: R, world: &'static World) -> Result<Pool<R>, Fail> {
-    let (builder, manager) = (builder_of(world), Manager { world });
+    let builder = builder_of(world);
     if !world.plan.is_counted {
-        return Ok(Pool::Plain(builder.build_unchecked(rt, manager)?));
+        return Ok(Pool::Plain(builder.build_unchecked(rt, Manager(world))?));
     }
     let (total, all) = Blank::new(PARTS).open::<Brand>();
-    let pool = builder.build_counted(rt, manager, total)?;
+    let pool = builder.build_counted(rt, Manager(world), total)?;
     Ok(Pool::Counted(pool, Arc::new(rt.alloc(), Mutex::new(all))?, rt))
 }
 
@@ -171,5 +165,5 @@ pub(crate) fn task_pool(world: &'static World) -> Result<TaskPool, Fail> {
         .max_waiting(world.plan.line as u32)
         .connection_timeout(Duration::from_secs(PATIENT))
         .retry_at_most(Duration::from_millis(LONGEST_DELAY));
-    Ok(builder.build(Place { world }, Manager { world }, Place { world })?)
+    Ok(builder.build(Place(world), Manager(world), Place(world))?)
 }

@@ -1,19 +1,9 @@
 // The tasks of a run, each with what wakes it: workers, those who get connections and give them
 // back, and those who evict, close the pool or drain it.
 
-use crate::judge::{self, Stopwatch};
-use crate::plan::PATIENT;
-use crate::pools::{TaskDrain, TaskGet, TaskLent, TaskPool, TaskWork};
-use crate::world::{Count, NEVER, World};
-use futures::Future;
-use futures::task::{Context, Poll};
+use crate::*;
 use futures::test::MockTask;
-use r2d2::{Error, ErrorKind, Status};
 use r2d2_async::PooledConnection;
-use std::mem;
-use std::sync::Arc;
-use std::test::Fail;
-use std::time::Duration;
 
 #[derive(Clone, Copy, PartialEq)]
 enum Deed {
@@ -34,28 +24,44 @@ enum Stage {
     Drains(TaskDrain),
 }
 
+/// What its executor has done with it.
+#[derive(Clone, Copy, PartialEq)]
+pub(crate) enum Step {
+    New,
+    Begun,
+    /// It is neither polled nor dropped any more.
+    Left,
+    Over,
+}
+
+/// What may come next, of a task.
+#[derive(Clone, Copy, PartialEq)]
+pub(crate) enum Move {
+    Poll,
+    GiveUp,
+    /// It is neither polled nor dropped from now on.
+    Leave,
+    /// Another executor polls it first from now on, whose waker is another one.
+    Move,
+    /// Time goes on to the next moment at which a sleep ends.
+    Pass,
+}
+
 #[derive(Drop)]
 pub(crate) struct Task {
     world: &'static World,
     pub(crate) who: u64,
     deed: Deed,
+    pub(crate) step: Step,
     stage: Stage,
-    // None once it needs it no more.
-    pool: Option<TaskPool>,
+    /// None once it needs it no more.
+    pub(crate) pool: Option<TaskPool>,
     // The pool before this poll; None where others are at work.
     before: Option<Status>,
     calls: u64,
     seconds: u64,
     watch: Stopwatch,
-    // The number among those who came to stand in line, while it stands there.
-    place: Option<u64>,
-    // Whether what it took is under check, or was closed since it is distrusted.
-    is_checking: bool,
     mock: Arc<MockTask>,
-    has_begun: bool,
-    pub(crate) is_over: bool,
-    /// Whether it is neither polled nor dropped any more.
-    pub(crate) is_left: bool,
 }
 
 /// The tasks of a run: workers, then callers, then keepers.
@@ -70,40 +76,131 @@ pub(crate) fn tasks_of(world: &'static World, pool: &TaskPool) -> Result<Vec<Tas
         (Deed::Evict, plan.evictors),
     ] {
         for _ in 0..count {
-            tasks.push(Task::new(world, tasks.len() as u64, deed, pool)?)?;
+            let who = tasks.len() as u64;
+            let (stage, pool) = match deed {
+                Deed::Work => (Stage::Works(pool.work()?), None),
+                _ => (Stage::Nothing, Some(pool.try_clone()?)),
+            };
+            tasks.push(Task {
+                world,
+                who,
+                deed,
+                step: Step::New,
+                stage,
+                pool,
+                before: None,
+                calls: plan.calls,
+                seconds: plan.patience_of(who.saturating_sub(plan.workers)),
+                watch: Stopwatch::begin(world),
+                mock: Arc::new(world.rt.alloc(), MockTask::new(&world.rt)?)?,
+            })?;
         }
     }
-    for _ in 0..plan.workers {
-        world.add(Count::Workers);
-    }
+    world.set(Count::Workers, plan.workers);
     Ok(tasks)
 }
 
+/// What its executor does with it.
 impl Task {
-    fn new(world: &'static World, who: u64, deed: Deed, pool: &TaskPool) -> Result<Task, Fail> {
-        let (stage, pool) = match deed {
-            Deed::Work => (Stage::Works(pool.work()?), None),
-            _ => (Stage::Nothing, Some(pool.try_clone()?)),
+    /// A worker that has not ended.
+    pub(crate) fn is_worker(&self) -> bool {
+        self.deed == Deed::Work && self.step != Step::Over
+    }
+
+    /// Whether its executor would poll it now.
+    pub(crate) fn is_woken(&self) -> bool {
+        match self.step {
+            Step::New => true,
+            Step::Begun => {
+                let may_sleep = self.is_worker() || !self.world.plan.is_drawn();
+                self.mock.is_woken() || may_sleep && self.world.is_due_in(self.who, 0)
+            }
+            Step::Left | Step::Over => false,
+        }
+    }
+
+    /// Whether this may come of it, though nothing asks for it. A worker, a call and a drain can be
+    /// dropped; once they have begun, they can move; and a caller who has little time may be left
+    /// alone in line.
+    pub(crate) fn can(&self, what: Move) -> bool {
+        let is_draining = matches!(self.stage, Stage::Drains(_));
+        let can_go = self.is_worker() || self.is_calling() || is_draining;
+        let has_begun = self.step == Step::Begun;
+        match what {
+            Move::Poll => self.step != Step::Over,
+            Move::GiveUp => self.step != Step::Over && can_go,
+            Move::Move => has_begun && can_go,
+            Move::Leave => {
+                let wait = self.world.wait_of(self.who);
+                has_begun && self.seconds < PATIENT && wait.is_some_and(|it| !it.checks)
+            }
+            Move::Pass => false,
+        }
+    }
+
+    /// Whether nothing tells the two tasks apart, of which neither has begun.
+    pub(crate) fn is_like(&self, other: &Task) -> bool {
+        let are_new = self.step == Step::New && other.step == Step::New;
+        are_new && self.deed == other.deed && self.seconds == other.seconds
+    }
+
+    /// This comes of it. The pool is so before it, where that can be told.
+    pub(crate) fn makes(&mut self, what: Move, before: Option<Status>) {
+        let world = self.world;
+        match what {
+            Move::Poll => self.poll(before),
+            Move::GiveUp => self.give_up(),
+            Move::Leave => {
+                world.tell_of(self.who, "is left alone");
+                world.set_sleep(self.who, NEVER);
+                self.step = Step::Left;
+            }
+            Move::Move => {
+                world.tell_of(self.who, "moves to another executor");
+                let mock = MockTask::new(&world.rt).ok();
+                if let Some(Ok(mock)) = mock.map(|mock| Arc::new(world.rt.alloc(), mock)) {
+                    self.mock = mock;
+                }
+            }
+            Move::Pass => world.pass(),
+        }
+    }
+
+    fn poll(&mut self, before: Option<Status>) {
+        let Ok(mock) = Arc::try_clone(&self.mock) else {
+            return;
         };
-        let caller = who.saturating_sub(world.plan.workers);
-        let seconds = world.plan.patience_of(caller);
-        Ok(Task {
-            world,
-            who,
-            deed,
-            stage,
-            pool,
-            before: None,
-            calls: world.plan.calls,
-            seconds,
-            watch: Stopwatch::begin(world),
-            place: None,
-            is_checking: false,
-            mock: Arc::new(world.rt.alloc(), MockTask::new(&world.rt)?)?,
-            has_begun: false,
-            is_over: false,
-            is_left: false,
-        })
+        self.step = Step::Begun;
+        self.world.poll(self.who);
+        self.before = before;
+        if mock.enter(|cx| self.goes(cx)).is_ready() {
+            self.world.tell("ends");
+            self.ends();
+        }
+    }
+
+    // One poll, as its executor makes it.
+    fn goes(&mut self, cx: &mut Context<'_>) -> Poll<()> {
+        let world = self.world;
+        if self.deed == Deed::Call {
+            return self.calls(cx);
+        }
+        if let Some(pool) = self.pool.take() {
+            self.keeps(pool);
+        }
+        match &mut self.stage {
+            Stage::Works(work) => work.poll(cx),
+            Stage::Drains(drain) => drain.poll(cx).map(|answer| {
+                let is_lent = answer.is_ok() && world.count(Count::Lent) > 0;
+                world.tell("has drained the pool");
+                world.take_off(Count::Draining);
+                faults! { world;
+                    "a drain with all the time gives up" if answer.is_err();
+                    "a drain ends, and something is lent" if is_lent;
+                }
+            }),
+            _ => Poll::Ready(()),
+        }
     }
 
     // It does at once what it does.
@@ -129,145 +226,38 @@ impl Task {
         }
     }
 
-    fn drained(&mut self, answer: Result<(), Status>) {
-        let world = self.world;
-        world.tell("has drained the pool");
-        world.take_off(Count::Draining);
-        let is_lent = answer.is_ok() && world.count(Count::Lent) > 0;
-        world.fault_if(answer.is_err(), "a drain with all the time gives up");
-        world.fault_if(is_lent, "a drain ends, and something is lent");
-    }
-
-    // One poll, as its executor makes it.
-    fn step(&mut self, cx: &mut Context<'_>) -> Poll<()> {
-        if self.deed == Deed::Call {
-            return self.calls(cx);
-        }
-        if let Some(pool) = self.pool.take() {
-            self.keeps(pool);
-        }
-        match &mut self.stage {
-            Stage::Works(work) => work.poll(cx),
-            Stage::Drains(drain) => drain.poll(cx).map(|answer| self.drained(answer)),
-            _ => Poll::Ready(()),
-        }
-    }
-}
-
-/// What its executor does with it.
-impl Task {
-    /// A worker that has not ended.
-    pub(crate) fn is_worker(&self) -> bool {
-        self.deed == Deed::Work && !self.is_over
-    }
-
-    /// Whether its executor would poll it now.
-    pub(crate) fn is_woken(&self) -> bool {
-        let may_be = !self.is_over && !self.is_left;
-        may_be && (!self.has_begun || self.mock.is_woken() || self.is_due())
-    }
-
-    fn is_due(&self) -> bool {
-        let may_sleep = self.is_worker() || !self.world.plan.is_drawn();
-        may_sleep && self.world.is_due_in(self.who, 0)
-    }
-
-    /// Whether it may be left alone: a caller in line who has little time.
-    pub(crate) fn can_be_left(&self) -> bool {
-        let is_in_line = self.place.is_some() && !self.is_checking;
-        !self.is_left && !self.is_over && self.seconds < PATIENT && is_in_line
-    }
-
-    /// Whether there is a future to be dropped: a worker, a call, or a drain.
-    pub(crate) fn can_give_up(&self) -> bool {
-        let is_draining = matches!(self.stage, Stage::Drains(_));
-        !self.is_over && (self.is_worker() || self.is_calling() || is_draining)
-    }
-
-    /// Whether it may move to another executor: a call, a worker or a drain that has begun.
-    pub(crate) fn can_move(&self) -> bool {
-        self.has_begun && !self.is_left && self.can_give_up()
-    }
-
-    /// Whether nothing tells the two tasks apart, of which neither has begun.
-    pub(crate) fn is_like(&self, other: &Task) -> bool {
-        let have_begun = self.has_begun || other.has_begun || self.is_over || other.is_over;
-        !have_begun && self.deed == other.deed && self.seconds == other.seconds
-    }
-
-    /// What the pool shows that its task has.
-    pub(crate) fn status(&self) -> Option<Status> {
-        Some(self.pool.as_ref()?.status())
-    }
-
-    /// From now on it is neither polled nor dropped.
-    pub(crate) fn leave(&mut self) {
-        self.world.tell_of(self.who, "is left alone");
-        self.world.set_sleep(self.who, NEVER);
-        self.is_left = true;
-    }
-
-    /// It moves to another executor, which polls it first, and whose waker is another one.
-    pub(crate) fn move_on(&mut self) {
-        self.world.tell_of(self.who, "moves to another executor");
-        let mock = MockTask::new(&self.world.rt).ok();
-        if let Some(Ok(mock)) = mock.map(|mock| Arc::new(self.world.rt.alloc(), mock)) {
-            self.mock = mock;
-        }
-    }
-
-    /// One poll of its task. The pool is so before it, where that can be told.
-    pub(crate) fn poll(&mut self, before: Option<Status>) {
-        let (false, Ok(mock)) = (self.is_over, Arc::try_clone(&self.mock)) else {
-            return;
-        };
-        self.has_begun = true;
-        self.is_left = false;
+    // Its task is dropped, or what it waits for.
+    fn give_up(&mut self) {
         self.world.poll(self.who);
-        self.before = before;
-        if mock.enter(|cx| self.step(cx)).is_ready() {
-            self.world.tell("ends");
+        self.world.tell("gives up");
+        let is_calling = self.is_calling();
+        let dropped = match mem::replace(&mut self.stage, Stage::Nothing) {
+            Stage::Nothing if is_calling => self.begins().map_or(Stage::Nothing, Stage::Waits),
+            dropped => dropped,
+        };
+        if matches!(dropped, Stage::Drains(_)) {
+            self.world.take_off(Count::Draining);
+        }
+        if is_calling {
+            self.end_call();
+        }
+        self.step = Step::New;
+        if !self.is_calling() {
             self.ends();
         }
     }
 
-    // Nothing of it is left.
-    fn ends(&mut self) {
+    /// Nothing of it is left.
+    pub(crate) fn ends(&mut self) {
         if self.is_worker() {
             self.world.take_off(Count::Workers);
         }
-        self.is_over = true;
+        self.world.set_wait(self.who, None);
+        self.step = Step::Over;
         self.stage = Stage::Nothing;
         self.pool = None;
         if !self.world.plan.is_drawn() {
             self.world.set_sleep(self.who, NEVER);
-        }
-    }
-
-    /// Its task is dropped, or what it waits for.
-    pub(crate) fn give_up(&mut self) {
-        self.world.poll(self.who);
-        self.world.tell("gives up");
-        self.is_left = false;
-        if let (Stage::Nothing, true) = (&self.stage, self.is_calling()) {
-            self.begin();
-        }
-        match mem::replace(&mut self.stage, Stage::Nothing) {
-            Stage::Drains(_) => self.world.take_off(Count::Draining),
-            Stage::Waits(_) => self.end_call(),
-            _ => {}
-        }
-        if self.is_calling() {
-            self.has_begun = false;
-        } else {
-            self.ends();
-        }
-    }
-
-    /// It is dropped, if it is left alone.
-    pub(crate) fn drop_left(&mut self) {
-        if self.is_left {
-            self.ends();
         }
     }
 }
@@ -279,33 +269,23 @@ impl Task {
         self.deed == Deed::Call && self.pool.is_some() && !matches!(self.stage, Stage::Holds(_))
     }
 
-    // Its number among the callers.
-    fn number(&self) -> u64 {
-        self.who - self.world.plan.workers
-    }
-
     fn end_call(&mut self) {
-        self.leave_line();
+        self.world.set_wait(self.who, None);
         self.calls -= 1;
         if self.calls == 0 {
             self.pool = None;
         }
     }
 
-    fn leave_line(&mut self) {
-        self.place = None;
-        self.is_checking = false;
-        self.world.queue.ends(self.number());
-    }
-
     // A call begins.
-    fn begin(&mut self) {
+    fn begins(&mut self) -> Option<TaskGet> {
         self.watch = Stopwatch::begin(self.world);
-        let length = Duration::from_secs(self.seconds);
-        match self.pool.as_ref().map(|pool| pool.get_timeout(length)) {
-            Some(Ok(get)) => self.stage = Stage::Waits(get),
-            _ => self.world.fault("a get is refused memory"),
-        }
+        let get = self
+            .pool
+            .as_ref()?
+            .get_timeout(Duration::from_secs(self.seconds));
+        self.world.fault_if(get.is_err(), "a get is refused memory");
+        get.ok()
     }
 
     // One poll of its call.
@@ -313,42 +293,43 @@ impl Task {
         let world = self.world;
         let polled = get.poll(cx);
         let closes = polled.is_pending() && world.count(Count::Closes) > 0;
-        self.is_checking = world.count(Count::Checks) > 0 || closes;
-        if self.is_checking {
+        // Whether what it took is under check, or was closed since it is distrusted.
+        let checks = world.count(Count::Checks) > 0 || closes;
+        if checks {
             self.is_its_turn();
         }
         match polled {
             Poll::Pending => {
                 self.stage = Stage::Waits(get);
-                self.stands();
+                self.stands(checks);
                 return Poll::Pending;
             }
             Poll::Ready(Ok(lent)) => self.holds(lent),
             Poll::Ready(Err(error)) => self.refused(error),
         }
-        self.leave_line();
+        world.set_wait(self.who, None);
         self.goes_on(cx)
     }
 
     // One that took at once stands nowhere, also if its check fails then.
-    fn stands(&mut self) {
-        let (world, queue) = (self.world, &self.world.queue);
-        if self.place.is_none() && !self.is_checking {
-            world.tell("stands in line");
-            self.place = Some(world.add(Count::Joined) + 1);
-        }
-        if let Some(place) = self.place {
-            queue.begins(self.number(), place, &self.watch, self.seconds);
-            if self.is_checking {
-                queue.checks(self.number());
+    fn stands(&self, checks: bool) {
+        let (world, watch, seconds) = (self.world, self.watch, self.seconds);
+        let since = match world.wait_of(self.who) {
+            Some(wait) => wait.since,
+            None if checks => return,
+            None => {
+                world.tell("stands in line");
+                world.add(Count::Joined)
             }
-        }
+        };
+        let wait = Wait::of(since, watch, seconds);
+        world.set_wait(self.who, Some(Wait { checks, ..wait }));
     }
 
-    fn holds(&mut self, lent: TaskLent) {
+    fn holds(&mut self, mut lent: TaskLent) {
         lent.is_lent();
         let plan = &self.world.plan;
-        if !plan.checks || plan.after_idle && !lent.is_checked() {
+        if !plan.checks || plan.after_idle && !lent.seen.is_checked {
             self.is_its_turn();
         }
         self.stage = Stage::Holds(lent);
@@ -356,11 +337,13 @@ impl Task {
 
     // Whether it was its turn to take, in this poll.
     fn is_its_turn(&self) {
-        let (world, own) = (self.world, self.place.unwrap_or(u64::MAX));
+        let world = self.world;
         if let Some(before) = &self.before {
-            world.fault_if(before.closed, "a closed pool lends");
-            let is_late = world.queue.ahead_of(own, world.now(), 0) >= u64::from(before.idle);
-            world.fault_if(is_late, "a caller is served out of turn");
+            let own = world.wait_of(self.who).map_or(u64::MAX, |it| it.since);
+            faults! { world;
+                "a closed pool lends" if before.closed;
+                "a caller is served out of turn" if world.ahead_of(own) >= u64::from(before.idle);
+            }
         }
     }
 
@@ -371,15 +354,17 @@ impl Task {
         let is_early = kind == ErrorKind::Timeout && has_time;
         world.fault_if(is_early, "a caller with all the time gives up");
         if let Some(before) = &self.before {
+            let has_room = world.waiting(0, |_| true) < world.plan.line;
             let is_open = kind == ErrorKind::Closed && !before.closed;
-            world.fault_if(is_open, "a get is told of a close that was not");
-            let has_room = kind == ErrorKind::Full && world.queue.placed() < world.plan.line;
-            world.fault_if(has_room, "a get is refused where one more may wait");
+            faults! { world;
+                "a get is told of a close that was not" if is_open;
+                "a get is refused where one more may wait" if kind == ErrorKind::Full && has_room;
+            }
         }
         self.end_call();
     }
 
-    fn give_back(&mut self, lent: TaskLent) {
+    fn give_back(&mut self, mut lent: TaskLent) {
         if lent.is_let_go() {
             PooledConnection::detach(lent).leaves();
         } else {
@@ -411,8 +396,7 @@ impl Task {
             Stage::Waits(get) => return self.waits(cx, get),
             _ if self.world.plan.tries && self.world.choose(2) == 1 => self.tries(),
             _ => {
-                self.begin();
-                if let Stage::Waits(get) = mem::replace(&mut self.stage, Stage::Nothing) {
+                if let Some(get) = self.begins() {
                     return self.waits(cx, get);
                 }
             }

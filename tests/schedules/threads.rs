@@ -1,20 +1,18 @@
 // What the threads of a run do with their pool, and what is judged.
 
-use crate::judge::{self, Stopwatch};
-use crate::line::{Manager, STAY};
-use crate::plan::PATIENT;
-use crate::pools::{Lent, Pool, builder_of, thread_pool};
-use crate::world::{Count, World};
-use r2d2::{Error, ErrorKind, PoolRuntime};
-use std::test::Fail;
-use std::thread;
-use std::time::Duration;
+use crate::*;
 
 /// A sleep of so many seconds ends where nobody else can go on.
 const WATCH: u64 = 77_777;
 
 pub(crate) fn sleep(world: &World, seconds: u64) {
     thread::sleep(&world.rt, Duration::from_secs(seconds));
+}
+
+pub(crate) fn join_all<R: PoolRuntime>(rt: &R, threads: Vec<JoinHandle<()>>) {
+    for thread in threads {
+        thread.join(rt);
+    }
 }
 
 pub(crate) fn play<R: PoolRuntime>(rt: R, world: &'static World) -> Result<(), Fail> {
@@ -24,7 +22,7 @@ pub(crate) fn play<R: PoolRuntime>(rt: R, world: &'static World) -> Result<(), F
     let wait = if world.choose(2) == 0 { 2 } else { PATIENT };
     let builder = builder_of(world).connection_timeout(Duration::from_secs(wait));
     let watch = Stopwatch::begin(world);
-    let made = builder.build(rt, Manager { world });
+    let made = builder.build(rt, Manager(world));
     watch.check(world, "build ends later than its timeout", 0, Some(wait));
     let Ok(pool) = made else {
         watch.check(world, "build gives up before its timeout", wait, None);
@@ -45,20 +43,14 @@ fn shared<R: PoolRuntime>(rt: R, world: &'static World, pool: Pool<R>) -> Result
     }
     if world.plan.last_drop {
         drop(pool);
-        for thread in threads {
-            thread.join(&rt);
-        }
+        join_all(&rt, threads);
         return Ok(());
     }
     let theirs = pool.try_clone()?;
     let watcher = thread::spawn(&rt, move || watches(world, theirs))?;
-    for thread in threads {
-        thread.join(&rt);
-    }
-    world.fault_if(
-        pool.status().waiting != 0,
-        "somebody waits, and all have ended",
-    );
+    join_all(&rt, threads);
+    let is_left = pool.status().waiting != 0;
+    world.fault_if(is_left, "somebody waits, and all have ended");
     // Time for what failed to be tried again.
     sleep(world, 100);
     rests(world, &pool);
@@ -73,11 +65,11 @@ fn rests<R: PoolRuntime>(world: &World, pool: &Pool<R>) {
     judge::sums(world, &status);
     let is_busy = plan.reaps || plan.jitter || plan.error_stays || plan.release_stays;
     let is_undone = !is_busy && !status.closed && status.opening != 0;
-    world.fault_if(is_undone, "an opening is left at the end");
-    let keeps = status.closed && status.connections != 0;
-    world.fault_if(keeps, "a closed pool keeps a connection");
-    let is_so = status.closed == plan.closes();
-    world.fault_if(!is_so, "it is not as its callers left it: open, or closed");
+    faults! { world;
+        "an opening is left at the end" if is_undone;
+        "a closed pool keeps a connection" if status.closed && status.connections != 0;
+        "it is not as its callers left it: open, or closed" if status.closed != plan.closes();
+    }
 }
 
 // Looks where nobody else can go on. At a closed pool only drains wait.
@@ -129,12 +121,12 @@ fn gets<R: PoolRuntime>(world: &World, pool: &Pool<R>, who: u64) {
     world.tell_number("calls get, for seconds:", wait);
     let was_closed = world.count(Count::Closed) > 0;
     let watch = Stopwatch::begin(world);
-    world.queue.begins(who, watch.begun + 1, &watch, wait);
+    world.set_wait(who, Some(Wait::of(watch.begun, watch, wait)));
     let found = pool.get(wait);
     if plan.is_served_in_order() && found.is_ok() {
         is_in_order(world, who);
     }
-    world.queue.ends(who);
+    world.set_wait(who, None);
     // It may be at its check as its time ends, or look again, and does so no other time then.
     let most = wait + plan.seconds_of_a_look();
     let most = plan.seconds_of_checks(1).map(|own| own + most);
@@ -178,14 +170,16 @@ fn is_refused_in_time(world: &World, error: &Error, watch: &Stopwatch, has_time:
 // Of those who wait longer than one that is served, each holds another connection. Who finds its own
 // unsound holds none, and may be passed until it looks again.
 fn is_in_order(world: &World, who: u64) {
-    let (plan, queue) = (&world.plan, &world.queue);
+    let plan = &world.plan;
     let seconds = plan.seconds_of_checks(1).unwrap_or(0);
     let mut most = plan.size - 1;
-    if plan.checks && queue.may_look_again(world.now(), seconds) {
+    if plan.checks && world.now() < world.count(Count::Unsound) + seconds * 1_000 {
         most += world.count(Count::Bad);
     }
-    let ahead = queue.ahead_of(queue.since(who), world.now(), world.jumps());
-    world.fault_if(ahead > most, "a caller is served out of turn");
+    let is_passing = world
+        .wait_of(who)
+        .is_some_and(|it| world.ahead_of(it.since) > most);
+    world.fault_if(is_passing, "a caller is served out of turn");
 }
 
 fn tries<R: PoolRuntime>(world: &World, pool: &Pool<R>) {
@@ -203,7 +197,7 @@ fn tries<R: PoolRuntime>(world: &World, pool: &Pool<R>) {
     }
 }
 
-fn holds<R: PoolRuntime>(world: &World, lent: Lent<R>, was_closed: bool) {
+fn holds<R: PoolRuntime>(world: &World, mut lent: Lent<R>, was_closed: bool) {
     let plan = &world.plan;
     lent.line().is_lent();
     world.fault_if(was_closed, "a closed pool lends");

@@ -1,15 +1,7 @@
 // A callback that calls into its own pool: docs/GUIDE.md, "Handlers", says what may be called from
 // where, and this judges each of it.
 
-use crate::judge::Stopwatch;
-use crate::plan::{PATIENT, Plan};
-use crate::pools::{Lent, Pool, thread_pool};
-use crate::threads::sleep;
-use crate::world::{Count, World, drawn};
-use futures::spin::lock;
-use r2d2::PoolRuntime;
-use std::rt::Clock;
-use std::test::Fail;
+use crate::*;
 
 /// The callbacks: of an opening, of what is lent, and others.
 const OF_OPENINGS: &str = "connect on_acquire handle_acquire handle_error";
@@ -18,54 +10,44 @@ const OF_LOANS: &str = "is_valid handle_checkout has_broken handle_checkin";
 
 const OTHERS: &str = "handle_release on_release handle_timeout";
 
-/// The callback with this name.
-pub(crate) fn named(name: &str) -> Option<&'static str> {
-    let all = [OF_OPENINGS, OF_LOANS, OTHERS];
-    all.iter().find_map(|some| one_of(some, name))
-}
-
-// The one of these words that is this.
-fn one_of(words: &'static str, name: &str) -> Option<&'static str> {
-    words.split(' ').find(|it| *it == name)
-}
-
 /// The calls, of which the schedule draws one.
 const CALLS: &str = "try_get get get-and-detach evict close drain drop";
 
-const EVICT: u64 = 3;
-
 /// Openings without an end are this many at least.
 const ENOUGH: u64 = 50;
+
+/// The callback with this name.
+pub(crate) fn named(name: &str) -> Option<&'static str> {
+    let all = [OF_OPENINGS, OF_LOANS, OTHERS];
+    all.iter()
+        .find_map(|some| some.split(' ').find(|it| *it == name))
+}
 
 /// What the schedule draws of such a run: the call, and whether there is one connection and one
 /// worker, or two. Without end it is an eviction.
 pub(crate) fn draw<R: Clock>(rt: &R, plan: &mut Plan) {
     plan.checks = true;
-    plan.size = if plan.endless { 2 } else { 1 + drawn(rt, 2) };
-    plan.workers = if plan.endless { 1 } else { plan.size };
-    plan.wanted = if plan.endless { 2 } else { 0 };
-    let call = if plan.endless {
-        EVICT
+    if plan.endless {
+        plan.size = 2;
+        plan.wanted = 2;
+        plan.call = "evict";
     } else {
-        drawn(rt, 12) % 7
-    };
-    plan.call = CALLS.split(' ').nth(call as usize);
+        plan.size = 1 + drawn(rt, 2);
+        plan.workers = plan.size;
+        plan.call = CALLS
+            .split(' ')
+            .nth(drawn(rt, 12) as usize % 7)
+            .unwrap_or("");
+    }
 }
 
 /// The pool that a callback calls.
-pub(crate) trait Own: Drop + Send {
-    fn another(&self, world: &World) -> Option<Box<dyn Own>>;
-
+pub(crate) trait Own: Drop + Send + Sync {
     /// Whether the call, for a second, is met as it is to be.
     fn is_met(&self, world: &World, call: &str, waits_out: bool) -> bool;
 }
 
 impl<R: PoolRuntime> Own for Pool<R> {
-    fn another(&self, world: &World) -> Option<Box<dyn Own>> {
-        let another: Box<dyn Own> = Box::new(world.rt.alloc(), self.try_clone().ok()?).ok()?;
-        Some(another)
-    }
-
     fn is_met(&self, world: &World, call: &str, waits_out: bool) -> bool {
         match call {
             "get" => self.get(1).is_ok() != waits_out,
@@ -86,10 +68,8 @@ impl World {
     /// This callback is called, which calls into its own pool where the run is about it, and it has
     /// not often enough.
     pub(crate) fn calls(&self, callback: &str) {
-        let (Some(within), Some(call)) = (self.plan.within, self.plan.call) else {
-            return;
-        };
-        if callback != within || (self.add(Count::Called) > 0 && !self.plan.endless) {
+        let (plan, call) = (&self.plan, self.plan.call);
+        if plan.within != Some(callback) || self.add(Count::Called) > 0 && !plan.endless {
             return;
         }
         let (Some(pool), true) = (self.own_pool(call == "drop"), call != "drop") else {
@@ -97,30 +77,31 @@ impl World {
         };
         self.tell(call);
         let watch = Stopwatch::begin(self);
-        let waits_out = self.waits_out(within, call);
+        let waits_out = self.waits_out(callback, call);
         let is_met = pool.is_met(self, call, waits_out);
         // Nothing is said where time went on meanwhile before it had to.
         if let Some(taken) = watch.seconds(self) {
-            let is_late = taken != u64::from(waits_out);
-            self.fault_if(is_late, "a call within a callback takes another time");
-            self.fault_if(!is_met, "a call within a callback answers otherwise");
+            faults! { self;
+                "a call within a callback takes another time" if taken != u64::from(waits_out);
+                "a call within a callback answers otherwise" if !is_met;
+            }
         }
     }
 
     // The pool itself, or another one.
-    fn own_pool(&self, takes_it: bool) -> Option<Box<dyn Own>> {
+    fn own_pool(&self, takes_it: bool) -> Option<Arc<Box<dyn Own>>> {
         let mut held = lock(&self.own)?;
         if takes_it {
             held.take()
         } else {
-            held.as_ref()?.another(self)
+            Arc::try_clone(held.as_ref()?).ok()
         }
     }
 
     // The table: whether such a call waits for what its own callback keeps.
     fn waits_out(&self, within: &str, call: &str) -> bool {
-        let is_lent = one_of(OF_LOANS, within).is_some();
-        let is_opening = one_of(OF_OPENINGS, within).is_some();
+        let is_among = |words: &str| words.split(' ').any(|it| it == within);
+        let (is_lent, is_opening) = (is_among(OF_LOANS), is_among(OF_OPENINGS));
         // Where a caller gives up, all is lent, as this program has it.
         let gives_up = within == "handle_timeout";
         match call {
@@ -135,7 +116,8 @@ impl World {
 pub(crate) fn play<R: PoolRuntime>(rt: R, world: &'static World) -> Result<(), Fail> {
     let pool = thread_pool(rt, world)?;
     if let Some(mut held) = lock(&world.own) {
-        *held = pool.another(world);
+        let own: Box<dyn Own> = Box::new(rt.alloc(), pool.try_clone()?)?;
+        *held = Some(Arc::new(rt.alloc(), own)?);
     }
     if world.plan.endless {
         opens_for_ever(world, &pool);
@@ -154,16 +136,12 @@ pub(crate) fn play<R: PoolRuntime>(rt: R, world: &'static World) -> Result<(), F
 fn uses<R: PoolRuntime>(world: &World, pool: Pool<R>) {
     let gives_up = world.plan.within == Some("handle_timeout");
     let first = pool.get(PATIENT).ok();
-    let second = if gives_up && world.plan.size > 1 {
-        pool.get(PATIENT).ok()
-    } else {
-        None
-    };
+    let second = (gives_up && world.plan.size > 1).then(|| pool.get(PATIENT).ok());
     if gives_up {
         drop(pool.get(1).ok());
     }
-    let is_last = world.plan.call == Some("drop") && world.choose(2) == 0;
-    let kept = if is_last { None } else { Some(pool) };
+    let is_last = world.plan.call == "drop" && world.choose(2) == 0;
+    let kept = (!is_last).then_some(pool);
     drop(first);
     drop(second);
     // Time for a worker's callback.

@@ -1,15 +1,6 @@
 // What the threads or tasks of a run share: its clock, its choices, and what was seen of it.
 
-use crate::choices::Choices;
-use crate::plan::Plan;
-use crate::queue::Queue;
-use crate::task::Task;
-use crate::within::Own;
-use futures::spin::lock;
-use std::alloc::{AllocError, Global};
-use std::rt::Clock;
-use std::sync::Mutex;
-use std::sync::atomic::{AtomicU64, Ordering};
+use crate::*;
 
 /// The milliseconds of no moment.
 pub(crate) const NEVER: u64 = u64::MAX;
@@ -20,10 +11,10 @@ pub(crate) const LONG: u64 = 500_000;
 /// The milliseconds after which an opening of tasks that failed is tried again, at the most.
 pub(crate) const LONGEST_DELAY: u64 = 1_000;
 
-/// More than there are connections at once.
-const PLACES: u64 = 8;
+/// More than there are callers, tasks, or connections at once.
+const PLACES: usize = 16;
 
-/// What is counted in a run.
+/// What is counted in a run, or kept.
 #[derive(Clone, Copy)]
 pub(crate) enum Count {
     Faults,
@@ -52,28 +43,50 @@ pub(crate) enum Count {
     /// Futures that threads dropped before their end, or moved.
     GivenUp,
     Moved,
-    /// What the task that is polled began to check in that poll, and what it closed unchecked.
+    /// The task that is polled, what it began to check in that poll, and what it closed unchecked.
+    Polled,
     Checks,
     Closes,
     /// Calls of a callback into its own pool.
     Called,
+    /// The milliseconds of the clock of one thread.
+    Now,
+    /// The millisecond after the latest check that failed; 0 where none did.
+    Unsound,
+    /// What has been idle since before this moment is distrusted.
+    Distrusted,
 }
 
-/// So many, of which each is this.
-pub(crate) fn all(alloc: Global, count: u64, value: u64) -> Result<Vec<AtomicU64>, AllocError> {
-    let mut all = Vec::new(alloc);
-    for _ in 0..count {
-        all.push(AtomicU64::new(value))?;
+/// A call of `get` that waits, as its caller tells it.
+#[derive(Clone, Copy)]
+pub(crate) struct Wait {
+    /// Since when it waits, or which one it was of those who came to wait.
+    pub(crate) since: u64,
+    /// How long its call has lasted, and for how many seconds it may.
+    pub(crate) watch: Stopwatch,
+    pub(crate) seconds: u64,
+    /// It keeps its place during its check.
+    pub(crate) checks: bool,
+}
+
+impl Wait {
+    pub(crate) fn of(since: u64, watch: Stopwatch, seconds: u64) -> Wait {
+        let checks = false;
+        Wait {
+            since,
+            watch,
+            seconds,
+            checks,
+        }
     }
-    Ok(all)
 }
 
 pub(crate) fn of(it: &AtomicU64) -> u64 {
     it.load(Ordering::SeqCst)
 }
 
-pub(crate) fn set(it: &AtomicU64, value: u64) {
-    it.store(value, Ordering::SeqCst);
+fn zeros<const N: usize>() -> [AtomicU64; N] {
+    [(); N].map(|()| AtomicU64::new(0))
 }
 
 /// One of so many, as the scheduler chooses: it answers the wall clock.
@@ -86,9 +99,8 @@ pub(crate) struct World {
     pub(crate) rt: HostRuntime,
     pub(crate) plan: Plan,
     pub(crate) choices: Mutex<Choices>,
-    pub(crate) queue: Queue,
     /// The pool that a callback calls.
-    pub(crate) own: Mutex<Option<Box<dyn Own>>>,
+    pub(crate) own: Mutex<Option<Arc<Box<dyn Own>>>>,
     /// The tasks that no thread has yet to which they move.
     pub(crate) moving: Mutex<Vec<Task>>,
     /// Whether each step is told, where no scheduler does.
@@ -97,60 +109,57 @@ pub(crate) struct World {
     pub(crate) lifetime: u64,
     /// For how many milliseconds a connection is idle that is checked, where not all are.
     pub(crate) after_idle: u64,
-    // The milliseconds of its clock, and the task that is polled now.
-    now: AtomicU64,
-    polled: AtomicU64,
+    counts: [AtomicU64; 24],
+    // By caller.
+    waits: Mutex<[Option<Wait>; PLACES]>,
     // By task: when the sleep ends that its latest poll left.
-    sleeps: Vec<AtomicU64>,
+    sleeps: [AtomicU64; PLACES],
     // Since when connections are idle, by their numbers; NEVER where they are not.
-    idle: Vec<AtomicU64>,
-    counts: Vec<AtomicU64>,
-    // What has been idle since before this moment is distrusted.
-    distrusted_before: AtomicU64,
+    idle: [AtomicU64; PLACES],
 }
 
 impl World {
-    pub(crate) fn new(
-        rt: HostRuntime,
-        plan: Plan,
-        choices: Choices,
-        is_told: bool,
-    ) -> Result<World, AllocError> {
+    pub(crate) fn new(rt: HostRuntime, plan: Plan, choices: Choices, is_told: bool) -> World {
         let (lifetime, after_idle) = [(5, 3), (8_000, 4_000)][usize::from(plan.is_drawn())];
-        Ok(World {
+        let world = World {
             rt,
             plan,
             choices: Mutex::new(choices),
-            queue: Queue::new(rt.alloc())?,
             own: Mutex::new(None),
             moving: Mutex::new(Vec::new(rt.alloc())),
             is_told,
             lifetime,
             after_idle,
-            now: AtomicU64::new(0),
-            polled: AtomicU64::new(0),
-            sleeps: all(rt.alloc(), plan.tasks(), NEVER)?,
-            idle: all(rt.alloc(), PLACES, NEVER)?,
-            counts: all(rt.alloc(), Count::Called as u64 + 1, 0)?,
-            distrusted_before: AtomicU64::new(0),
-        })
+            counts: zeros(),
+            waits: Mutex::new([None; PLACES]),
+            sleeps: zeros(),
+            idle: zeros(),
+        };
+        world.begin();
+        world
     }
 
-    /// A run of tasks begins.
+    /// A run begins.
     pub(crate) fn begin(&self) {
-        set(&self.now, 1_000);
-        set(&self.distrusted_before, 0);
-        self.queue.clear();
-        for it in self.sleeps.iter().chain(self.idle.iter()) {
-            set(it, NEVER);
+        for count in &self.counts {
+            count.store(0, Ordering::SeqCst);
         }
-        for count in self.counts.iter() {
-            set(count, 0);
+        for moment in self.sleeps.iter().chain(self.idle.iter()) {
+            moment.store(NEVER, Ordering::SeqCst);
         }
+        self.set(Count::Now, 1_000);
     }
 
     pub(crate) fn count(&self, what: Count) -> u64 {
         of(&self.counts[what as usize])
+    }
+
+    pub(crate) fn set(&self, what: Count, to: u64) {
+        self.counts[what as usize].store(to, Ordering::SeqCst);
+    }
+
+    pub(crate) fn raise(&self, what: Count, to: u64) {
+        self.counts[what as usize].fetch_max(to, Ordering::SeqCst);
     }
 
     /// One more; it answers how many there were.
@@ -170,11 +179,6 @@ impl World {
         lock(&self.choices).map_or(0, |mut choices| choices.choose(among))
     }
 
-    // The choices of this run, to be played again.
-    fn way(&self) -> Result<String, AllocError> {
-        lock(&self.choices).ok_or(AllocError)?.way(self.rt.alloc())
-    }
-
     /// Whether this goes wrong, where it may.
     pub(crate) fn goes_wrong(&self, may: bool) -> bool {
         let is_over = self.plan.is_of_tasks && self.count(Count::Over) > 0;
@@ -188,20 +192,20 @@ impl World {
         does
     }
 
+    pub(crate) fn fault_if(&self, is_so: bool, what: &str) {
+        if is_so {
+            self.fault(what);
+        }
+    }
+
     /// A fault is told at once; of an order the first, with the way there.
-    pub(crate) fn fault(&self, what: &'static str) {
+    pub(crate) fn fault(&self, what: &str) {
         self.tell(what);
         let is_first = self.add(Count::Faults) == 0;
         if self.plan.is_drawn() {
             drop(eprintln!(self.rt; "{what}; ").ok());
-        } else if let (true, Ok(way)) = (is_first, self.way()) {
-            drop(println!(self.rt; "fault {way}: {what}").ok());
-        }
-    }
-
-    pub(crate) fn fault_if(&self, is_so: bool, what: &'static str) {
-        if is_so {
-            self.fault(what);
+        } else if let (true, Some(choices)) = (is_first, lock(&self.choices)) {
+            drop(println!(self.rt; "fault {}: {what}", *choices).ok());
         }
     }
 
@@ -214,15 +218,13 @@ impl World {
         if self.plan.is_drawn() {
             drop(println!(self.rt; "{what}").ok());
         } else {
-            self.tell_of(of(&self.polled), what);
+            self.tell_of(self.count(Count::Polled), what);
         }
     }
 
     pub(crate) fn tell_number(&self, what: &str, number: u64) {
-        if self.plan.is_drawn() {
-            drop(println!(self.rt; "{what} {number}").ok());
-        } else {
-            self.tell(what);
+        if let Ok(said) = format!(in self.rt.alloc(); "{what} {number}") {
+            self.tell(said.as_str());
         }
     }
 
@@ -239,19 +241,9 @@ impl World {
         }
     }
 
-    /// A check failed that began then.
-    pub(crate) fn fails_check(&self, began: u64) {
-        self.distrusted_before.fetch_max(began, Ordering::SeqCst);
-    }
-
-    /// Whether a failed check tells of what has been idle since then.
-    pub(crate) fn is_distrusted(&self, since: u64) -> bool {
-        self.plan.distrusts && since < of(&self.distrusted_before)
-    }
-
     /// The connection with this number is idle since then, or NEVER. It answers since when it was.
     pub(crate) fn set_idle(&self, number: u64, since: u64) -> u64 {
-        self.idle[(number % PLACES) as usize].swap(since, Ordering::SeqCst)
+        self.idle[number as usize % PLACES].swap(since, Ordering::SeqCst)
     }
 
     /// Whether the lending order has what is idle since then come before all else.
@@ -261,12 +253,45 @@ impl World {
     }
 }
 
+/// Who waits.
+impl World {
+    /// A caller waits, or does no more.
+    pub(crate) fn set_wait(&self, who: u64, wait: Option<Wait>) {
+        if let Some(mut waits) = lock(&self.waits) {
+            waits[who as usize] = wait;
+        }
+    }
+
+    pub(crate) fn wait_of(&self, who: u64) -> Option<Wait> {
+        lock(&self.waits).and_then(|waits| waits[who as usize])
+    }
+
+    /// How many have a place of which this is so, and whose time ends after this moment.
+    pub(crate) fn waiting<F: Fn(&Wait) -> bool>(&self, now: u64, is_so: F) -> u64 {
+        let has_time = |it: &Wait| now < it.watch.begun + it.seconds * 1_000;
+        lock(&self.waits).map_or(0, |waits| {
+            let placed = waits.iter().flatten();
+            placed.filter(|it| has_time(it) && is_so(it)).count() as u64
+        })
+    }
+
+    /// How many whose time is not over wait for longer than since then. Where time went on before it
+    /// had to, such a one may not have come to its wait.
+    pub(crate) fn ahead_of(&self, own: u64) -> u64 {
+        let (now, jumps) = (self.now(), self.jumps());
+        self.waiting(
+            now,
+            |it| !it.checks && it.since < own && it.watch.jumps == jumps,
+        )
+    }
+}
+
 /// Time.
 impl World {
     /// The milliseconds of its clock.
     pub(crate) fn now(&self) -> u64 {
         if !self.plan.is_drawn() {
-            return of(&self.now);
+            return self.count(Count::Now);
         }
         self.rt.monotonic().map_or(0, |now| now.as_millis() as u64)
     }
@@ -280,15 +305,10 @@ impl World {
         time.map_or(0, |time| u64::from(time.subsec_nanos()))
     }
 
-    /// A step takes no time, where nothing depends on that.
-    pub(crate) fn tick(&self) {
-        set(&self.now, of(&self.now) + u64::from(self.plan.is_timed()));
-    }
-
     /// Time goes on to the next moment at which a sleep ends.
     pub(crate) fn pass(&self) {
         let moment = self.next_end().unwrap_or(0);
-        self.now.fetch_max(moment, Ordering::SeqCst);
+        self.raise(Count::Now, moment);
         if self.is_told {
             drop(println!(self.rt; "{moment:>9}  time goes on").ok());
         }
@@ -297,26 +317,24 @@ impl World {
     /// This task is polled, and has no sleep yet that the poll leaves. Where threads poll, a sleep
     /// is one of all workers, since it is not told which task it is of.
     pub(crate) fn poll(&self, who: u64) {
-        if self.plan.is_drawn() {
-            if who < self.plan.workers && self.is_due_in(who, 0) {
-                self.set_sleep(who, NEVER);
-            }
-            return;
+        let is_worker = who < self.plan.workers;
+        for (what, to) in [(Count::Polled, who), (Count::Checks, 0), (Count::Closes, 0)] {
+            self.set(what, to);
         }
-        set(&self.polled, who);
-        set(&self.counts[Count::Checks as usize], 0);
-        set(&self.counts[Count::Closes as usize], 0);
-        self.set_sleep(who, NEVER);
+        if !self.plan.is_drawn() || is_worker && self.is_due_in(who, 0) {
+            self.set_sleep(who, NEVER);
+        }
     }
 
     pub(crate) fn set_sleep(&self, who: u64, end: u64) {
-        set(&self.sleeps[who as usize], end);
+        self.sleeps[who as usize].store(end, Ordering::SeqCst);
     }
 
     /// The task that is polled sleeps until then.
     pub(crate) fn sleeps_until(&self, end: u64) {
         if !self.plan.is_drawn() {
-            self.sleeps[of(&self.polled) as usize].fetch_min(end, Ordering::SeqCst);
+            let polled = self.count(Count::Polled) as usize;
+            self.sleeps[polled].fetch_min(end, Ordering::SeqCst);
         } else if end.saturating_sub(self.now()) < LONG {
             for sleep in self.sleeps.iter().take(self.plan.workers as usize) {
                 sleep.fetch_min(end, Ordering::SeqCst);

@@ -18,12 +18,8 @@ fn given_up<R: Host>(build: Building<R>) -> Result<Error, Fail> {
 // Each later opening would fail.
 #[test]
 fn test_max_size_ok(rt: HostRuntime) -> Result<(), Fail> {
-    on_each(rt, &ALL, |world| {
-        world.connects.goes("+++++-*");
-        let pool = Pool::built(rt, world, full(5))?;
-        let _lent = pool.several(5)?;
-        equal(pool.status().connections, 5)
-    })
+    let row = "connects +++++-*; built; get a b c d e; is connections=5";
+    on_text(rt, &ALL, full(5), row)
 }
 
 #[test]
@@ -50,15 +46,9 @@ fn test_initialization_failure(rt: HostRuntime) -> Result<(), Fail> {
 // The first try was over before the call.
 #[test]
 fn test_lazy_initialization_failure(rt: HostRuntime) -> Result<(), Fail> {
-    on_each(rt, &ALL, |world| {
-        world.connects.goes("-~-");
-        let pool = Pool::of(rt, world, full(1).unawaited().waiting(1_000))?;
-        pool.until(|status| status.failed_openings == 1)?;
-        let get = pool.begin_plainly()?;
-        world.pass(1_000);
-        let text = pool.late(get)?.to_string(rt.alloc())?;
-        equal(text.as_str(), TIMED_OUT)
-    })
+    let row = "connects -~-; made; until failed_openings=1; ask p=own; pass 1000; late p
+        prints timed out waiting for connection: connect 0";
+    on_text(rt, &ALL, full(1).unawaited().waiting(1_000), row)
 }
 
 // It waits for three. Two are opened meanwhile, the third opening fails, and is tried again.
@@ -150,12 +140,8 @@ fn a_build_without_memory(rt: HostRuntime) -> Result<(), Fail> {
 
 #[test]
 fn a_million_connections_at_most(rt: HostRuntime) -> Result<(), Fail> {
-    on_each(rt, &ALL, |world| {
-        let pool = Pool::built(rt, world, SMALL.most(1_000_000))?;
-        assert_eq!(rt; pool.status().connections, 0);
-        drop(pool.get()?);
-        equal(pool.status().connections, 1)
-    })
+    let row = "built; is connections=0; use; is connections=1";
+    on_text(rt, &ALL, SMALL.most(1_000_000), row)
 }
 
 // Lengths of some nanoseconds, and of some seconds.

@@ -32,11 +32,6 @@ impl World {
         self.ring(|end| end.is_some_and(|end| end <= now));
     }
 
-    /// Whether the clock can be read from now on.
-    pub(crate) fn let_read(&self, is_read: bool) {
-        self.readings.goes(if is_read { "" } else { "-*" });
-    }
-
     /// Moves the clock back.
     pub(crate) fn turn_back(&self, milliseconds: u64) {
         let back = milliseconds * NANOSECONDS;

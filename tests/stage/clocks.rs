@@ -58,90 +58,38 @@ fn a_caller_gives_up_in_time_whichever_reading_fails(rt: HostRuntime) -> Result<
     let readings = [
         "-", "+-", "++-", "+++-", "++++-", "+++++-", "++++++-", "+++++++-",
     ];
-    on_rows(rt, &ALL, readings, |world, readings| {
-        let pool = Pool::of(rt, world, SMALL)?;
-        let lent = pool.get()?;
-        world.pass(1_000_000);
-        world.breaks.goes("-");
-        world.connects.goes("~+");
-        let mut get = pool.begin(100)?;
-        world.readings.goes(readings);
-        drop(lent);
-        get.has_ended();
-        pool.until(|status| world.connects.hung() == 1 || status.timeouts == 1)?;
-        world.pass(100);
-        pool.late(get).map(drop)
-    })
+    let row = "get a; pass 1000000; breaks -; connects ~+; ask p=100; readings $1; back a
+        beside p connects.hung=1|timeouts=1; pass 100; late p";
+    on_texts(rt, &ALL, readings.map(|readings| (SMALL, readings)), row)
 }
 
 // Its opening fails twice, when the pool is a thousand seconds old, and is due again 50 ms later.
 // The reading after the second failure fails.
 #[test]
 fn a_worker_is_in_time_though_a_reading_fails(rt: HostRuntime) -> Result<(), Fail> {
-    on_each(rt, &ALL, |world| {
-        world.connects.goes("1000-~-");
-        let pool = Pool::of(rt, world, full(1).retried().unawaited())?;
-        pool.until(|status| status.failed_openings == 1)?;
-        world.pass(50);
-        pool.until_opening(1)?;
-        world.readings.goes("+-");
-        world.let_go(&world.connects);
-        pool.until(|status| status.failed_openings == 2)?;
-        world.pass(50);
-        pool.until(|status| status.idle == 1)
-    })
+    let row = "connects 1000-~-; made; until failed_openings=1; pass 50; opening 1; readings +-
+        go connects; until failed_openings=2; pass 50; until idle=1";
+    on_text(rt, &ALL, full(1).retried().unawaited(), row)
 }
 
-// A pool that has lent two of three connections; and its only worker is at an opening until the
-// end, and so reads no clock.
-fn two_lent<R: Host>(rt: R, world: &'static World) -> Result<(Pool<R>, Lent<R>, Lent<R>), Fail> {
-    let pool = Pool::of(rt, world, full(1).most(3))?;
-    world.connects.goes("+~+");
-    let (one, other) = (pool.get()?, pool.get()?);
-    pool.until_opening(1)?;
-    Ok((pool, one, other))
-}
-
-// Where one step stops at its reading, no other one comes to its own. A return reads the clock for
-// its event before.
+// The only worker is at an opening until the end, and so reads no clock. Where one step stops at
+// its reading, no other one comes to its own. A return reads the clock for its event before.
 #[test]
 fn a_step_reads_its_moment_under_the_lock(rt: HostRuntime) -> Result<(), Fail> {
-    on_each(rt, &ALL, |world| {
-        let (_pool, one, other) = two_lent(rt, world)?;
-        let before = world.readings();
-        world.readings.goes("+~+");
-        let one = thread::spawn(&rt, move || drop(one))?;
-        world.watch(|| world.readings.hung() == 1);
-        let other = thread::spawn(&rt, move || drop(other))?;
-        world.watch(|| world.readings() >= before + 3);
-        assert!(rt; !world.glimpse(|| world.readings() > before + 3));
-        world.let_go(&world.readings);
-        one.join(&rt);
-        other.join(&rt);
-        equal(world.readings(), before + 4)
-    })
+    let row = "connects +~+; get a b; opening 1; mark readings; readings +~+; away a
+        watch readings.hung=1; away b; watch readings.more>=3; never readings.more>=4
+        go readings; join; is readings.more=4";
+    on_text(rt, &ALL, full(1).most(3), row)
 }
 
 // An eviction has to wait for its memory until a return stops. So it comes to its own reading only
 // after that.
 #[test]
 fn an_eviction_reads_its_moment_under_the_lock(rt: HostRuntime) -> Result<(), Fail> {
-    on_each(rt, &ALL, |world| {
-        let (pool, one, _other) = two_lent(rt, world)?;
-        let before = world.readings();
-        world.allocs.goes("~+");
-        let eviction = pool.aside(move |calls| calls.evict(rt).is_ok_and(|count| count == 1))?;
-        world.watch(|| world.allocs.hung() == 1);
-        world.readings.goes("+~+");
-        let one = thread::spawn(&rt, move || drop(one))?;
-        world.watch(|| world.readings.hung() == 1);
-        world.let_go(&world.allocs);
-        assert!(rt; !world.glimpse(|| world.readings() > before + 2));
-        world.let_go(&world.readings);
-        one.join(&rt);
-        assert!(rt; eviction.join(&rt));
-        equal(world.readings(), before + 3)
-    })
+    let row = "connects +~+; get a b; opening 1; mark readings; allocs ~+; evicting 1
+        watch allocs.hung=1; readings +~+; away a; watch readings.hung=1; go allocs
+        never readings.more>=3; go readings; join; is readings.more=3";
+    on_text(rt, &ALL, full(1).most(3), row)
 }
 
 fn kinds_of(is_quiet: bool) -> &'static [Kind] {

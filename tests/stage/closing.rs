@@ -7,11 +7,7 @@ use r2d2::PlainPool;
 // The second pool is one with no settings.
 #[test]
 fn test_drop_on_broken(rt: HostRuntime) -> Result<(), Fail> {
-    on_pools(rt, &ALL, SMALL, |world, pool| {
-        world.breaks.goes("-");
-        drop(pool.get()?);
-        equal(world.dropped(), 1)
-    })?;
+    on_text(rt, &ALL, SMALL, "breaks -; use; is dropped=1")?;
     on_each(rt, &[Kind::Plain], |world| {
         let pool = PlainPool::new(Place { world, rt }, Manager { world })?;
         world.breaks.goes("-");
@@ -40,132 +36,53 @@ fn workers_end_after_the_last_drop(rt: HostRuntime) -> Result<(), Fail> {
 // In this thread, or in another one; and broken.
 #[test]
 fn close_by_return(rt: HostRuntime) -> Result<(), Fail> {
-    let rows = [(false, "+"), (true, "+"), (false, "-")];
-    on_rows(rt, &ALL, rows, |world, (is_beside, breaks)| {
-        let mut pool = Pool::of(rt, world, SMALL)?;
-        let mut lent = pool.get()?;
-        drop(pool.go());
-        lent.write(3);
-        assert_eq!(rt; (lent.mark(), world.dropped()), (3, 0));
-        world.heard(&[Shown(0), Acquire(0), Checkout(0, 0)])?;
-        world.tell_drops();
-        world.breaks.goes(breaks);
-        if is_beside {
-            thread::spawn(&rt, move || drop(lent))?.join(&rt);
-        } else {
-            drop(lent);
-        }
-        assert_eq!(rt; world.dropped(), 1);
-        pool.ended()?;
-        assert_eq!(rt; world.dropped(), 1);
-        let gone = [Checkin(0, 0), Release(0, 0, Broken), Ended(0), Dropped(0)];
-        if breaks == "-" {
-            world.heard(&gone)
-        } else {
-            world.heard(&[gone[0], gone[3]])
-        }
-    })
+    let row = "get a; part; write a=3; reads a=3; is dropped=0; hear s0 a0 c0; tell_drops; breaks $1
+        $2; is dropped=1; end; is dropped=1; hear $3";
+    let rows = [
+        (SMALL, "+ / back a / r0 d0"),
+        (SMALL, "+ / away a; join / r0 d0"),
+        (SMALL, "- / back a / r0 g0,0,Broken e0 d0"),
+    ];
+    on_texts(rt, &ALL, rows, row)
 }
 
 // The drop of the first connection ends after that of the second one, with which a worker comes
 // meanwhile.
 #[test]
 fn what_is_idle_at_a_close_is_dropped_without_the_lock(rt: HostRuntime) -> Result<(), Fail> {
-    on_each(rt, &ALL, |world| {
-        world.connects.goes("+~+");
-        let mut pool = Pool::of(rt, world, full(2).unawaited())?;
-        pool.until(|status| status.idle == 1 && world.connects.hung() == 1)?;
-        world.tell_drops();
-        world.hang_at(Dropped(0));
-        let calls = pool.go();
-        let other = thread::spawn(&rt, move || drop(calls))?;
-        assert!(rt; world.once_hung());
-        world.let_go(&world.connects);
-        pool.work();
-        assert!(rt; world.watch(|| world.dropped() == 2));
-        world.let_go(&world.tells);
-        other.join(&rt);
-        pool.ended()
-    })
-}
-
-// Its opening hangs there as the pool goes away, and then goes on. This was told.
-fn goes_amid<R: Host>(
-    rt: R,
-    world: &'static World,
-    script: &Script,
-    told: &[Told],
-) -> Result<(), Fail> {
-    let mut pool = Pool::of(rt, world, full(1).unawaited())?;
-    pool.until(|_| script.hung() == 1)?;
-    drop(pool.go());
-    world.let_go(script);
-    pool.ended()?;
-    if world.dropped() != 1 {
-        return Err(Fail::from("it was not dropped once"));
-    }
-    world.heard(told)
+    let row = "connects +~+; made; until idle=1 connects.hung=1; tell_drops; hang d0; parting; hung
+        go connects; work; watch dropped=2; go tells; join; end";
+    on_text(rt, &ALL, full(2).unawaited(), row)
 }
 
 // At its connect, and at its customizing; as it has its id, and is not admitted; and at a check.
 #[test]
 fn close_amid_opening(rt: HostRuntime) -> Result<(), Fail> {
-    on_each(rt, &ALL, |world| {
-        world.connects.goes("~+");
-        goes_amid(rt, world, &world.connects, &[Shown(0)])
-    })?;
-    on_each(rt, &BESIDE, |world| {
-        world.shows.goes("~+");
-        goes_amid(rt, world, &world.shows, &[Shown(0)])
-    })?;
-    on_each(rt, &BESIDE, |world| {
-        world.hang_at(Acquire(0));
-        goes_amid(rt, world, &world.tells, &[Shown(0), Acquire(0)])
-    })?;
-    on_pools(rt, &ALL, full(1).checked(), |world, mut pool| {
-        world.checks.goes("~+");
-        let get = pool.begin(LONG)?;
-        drop(pool.go());
-        world.let_go(&world.checks);
-        pool.serves(get)?;
-        pool.ended()?;
-        assert_eq!(rt; world.dropped(), 1);
-        world.heard(&[Shown(0), Acquire(0), Checkout(0, 0), Checkin(0, 0)])
-    })
+    let row = "$1; made; until $2.hung=1; part; go $2; end; is dropped=1; hear $3";
+    let one = full(1).unawaited();
+    on_texts(rt, &ALL, [(one, "connects ~+ / connects / s0")], row)?;
+    let rows = [
+        (one, "shows ~+ / shows / s0"),
+        (one, "hang a0 / tells / s0 a0"),
+    ];
+    on_texts(rt, &BESIDE, rows, row)?;
+    let row = "checks ~+; ask p; part; go checks; serve p; end; is dropped=1; hear s0 a0 c0 r0";
+    on_text(rt, &ALL, full(1).checked(), row)
 }
 
 // Who waits has the pool too, and what is lent has it after that. Two give up, and four are served.
 #[test]
 fn close_amid_waiting(rt: HostRuntime) -> Result<(), Fail> {
-    on_lent(rt, &ALL, SMALL, |world, mut pool, lent| {
-        let (hasty, mut patient) = (pool.callers(2, 50)?, pool.line(4)?);
-        drop(pool.go());
-        world.pass(50);
-        for call in hasty {
-            pool.late(call)?;
-        }
-        assert!(rt; world.ended() == 0 && world.dropped() == 0);
-        drop(lent);
-        for _ in 0..4 {
-            drop(first_ended(world, rt, &mut patient, || ())??);
-        }
-        pool.ended()?;
-        equal((world.opened(), world.dropped()), (1, 1))
-    })
+    let row = "get a; ask p=50 q=50 r s t u; part; pass 50; late p q; is ended=0 dropped=0
+        back a; all r s t u; end; is opened=1 dropped=1";
+    on_text(rt, &ALL, SMALL, row)
 }
 
 #[test]
 fn close_by_two_at_once(rt: HostRuntime) -> Result<(), Fail> {
     for _ in 0..20 {
-        on_lent(rt, &ALL, SMALL.most(2), |world, mut pool, one| {
-            let other = pool.get()?;
-            drop(pool.go());
-            let beside = thread::spawn(&rt, move || drop(other))?;
-            drop(one);
-            beside.join(&rt);
-            pool.ended()?;
-            equal(world.dropped(), 2)
-        })?;
+        let row = "get a b; part; away b; back a; join; end; is dropped=2";
+        on_text(rt, &ALL, SMALL.most(2), row)?;
     }
     Ok(())
 }
@@ -173,55 +90,27 @@ fn close_by_two_at_once(rt: HostRuntime) -> Result<(), Fail> {
 // Nothing is told of a call that is refused so.
 #[test]
 fn a_closed_pool_lends_nothing(rt: HostRuntime) -> Result<(), Fail> {
-    on_pools(rt, &ALL, full(3), |world, pool| {
-        world.forget();
-        pool.close();
-        assert_eq!(rt; world.dropped(), 3);
-        let mut get = pool.begin(LONG)?;
-        assert!(rt; get.has_ended());
-        let error = pool.closed(get)?;
-        assert!(rt; error.status().is_none() && error.waited().is_none());
-        assert!(rt; error.ahead().is_none());
-        let text = error.to_string(rt.alloc())?;
-        assert_eq!(rt; text.as_str(), "the pool is closed");
-        assert!(rt; pool.try_get()?.is_none() && pool.evict()? == 0);
-        let status = pool.status();
-        assert_eq!(rt; (status.connections, status.opening), (0, 0));
-        assert_eq!(rt; (status.waiting, status.closed), (0, true));
-        pool.ended()?;
-        assert_eq!(rt; world.connects.asked(), 3);
-        world.heard(&[])
-    })
+    let row = "forget; close; is dropped=3; ask p; ends p; closed p; bare
+        prints the pool is closed; none; evict 0; is connections=0 opening=0 waiting=0 closed=1
+        end; is connects.asked=3; hear";
+    on_text(rt, &ALL, full(3), row)
 }
 
 // A second close does nothing. Nothing is told of those who wait, and what is lent is closed at its
 // return.
 #[test]
 fn all_who_wait_are_told_of_a_close(rt: HostRuntime) -> Result<(), Fail> {
-    on_lent(rt, &ALL, SMALL.recorded(100), |world, pool, lent| {
-        let mut calls = Vec::new(rt.alloc());
-        for waiting in 0..3 {
-            assert_eq!(rt; pool.status().waiting, waiting);
-            calls.push(pool.begin(LONG)?)?;
-        }
-        assert_eq!(rt; pool.status().waiting, 3);
-        world.heard(&[Shown(0), Acquire(0), Checkout(0, 0)])?;
-        pool.close();
-        pool.try_clone()?.close();
-        let report = pool.journal()?;
+    on_play(rt, &ALL, SMALL.recorded(100), |mut play| {
+        play.run("get a; is waiting=0; ask p; is waiting=1; ask q; is waiting=2; ask r")?;
+        play.run("is waiting=3; hear s0 a0 c0; close")?;
+        play.pool.try_clone()?.close();
+        let report = play.pool.journal()?;
         let records = report.records.as_slice().iter();
         let closes = records.filter(|record| matches!(record, Record::ClosedAll { .. }));
         assert_eq!(rt; (closes.count(), report.connections), (1, 1));
         assert!(rt; report.closed && report.replays()?);
-        for call in calls {
-            pool.closed(call)?;
-        }
-        assert_eq!(rt; pool.status().waiting, 0);
-        assert_eq!(rt; (world.dropped(), pool.status().lent), (0, 1));
-        world.pass(7_000);
-        drop(lent);
-        assert_eq!(rt; (world.dropped(), pool.status().lent), (1, 0));
-        world.heard(&[Checkin(0, 7_000), Release(0, 7_000, PoolClosed), Ended(0)])
+        play.run("closed p q r; is waiting=0 dropped=0 lent=1; pass 7000; back a")?;
+        play.run("is dropped=1 lent=0; hear r0,7000 g0,7000,PoolClosed e0")
     })
 }
 
@@ -229,61 +118,24 @@ fn all_who_wait_are_told_of_a_close(rt: HostRuntime) -> Result<(), Fail> {
 // would be one more is told of the close.
 #[test]
 fn a_drain_waits_for_the_last_return(rt: HostRuntime) -> Result<(), Fail> {
-    on_pools(rt, &ALL, SMALL.most(2).room(3), |world, pool| {
-        world.pass(7_000);
-        let (first, second) = (pool.get()?, pool.get()?);
-        let (line, mut drains) = (pool.line(2)?, Vec::new(rt.alloc()));
-        drains.push(pool.drain(LONG)?)?;
-        for caller in line {
-            pool.closed(caller)?;
-        }
-        pool.until(|status| status.waiting == 1)?;
-        for timeout in [LONG, u64::MAX] {
-            drains.push(pool.drain(timeout)?)?;
-        }
-        drop(first);
-        assert!(rt; !world.glimpse(|| drains.iter_mut().any(|it| it.has_ended())));
-        assert_eq!(rt; pool.status().waiting, 3);
-        pool.closed(pool.begin(LONG)?)?;
-        drop(second);
-        for drain in drains {
-            assert_eq!(rt; pool.drained(drain)?, Ok(()));
-        }
-        assert_eq!(rt; pool.status().connections, 0);
-        equal((pool.status().waiting, world.dropped()), (0, 2))
-    })
+    let row = "pass 7000; get a b; ask p q; drain d; closed p q; until waiting=1
+        drain e f=max; back a; settle; waits d e f; is waiting=3; ask r; closed r
+        back b; drained d e f; is connections=0 waiting=0 dropped=2";
+    on_text(rt, &ALL, SMALL.most(2).room(3), row)
 }
 
 #[test]
 fn a_drain_tells_what_is_lent_past_its_timeout(rt: HostRuntime) -> Result<(), Fail> {
-    on_lent(rt, &ALL, full(3), |world, pool, first| {
-        let second = pool.get()?;
-        let mut drain = pool.drain(50)?;
-        world.pass(49);
-        assert!(rt; !world.glimpse(|| drain.has_ended()));
-        world.pass(1);
-        let status = pool.undrained(drain)?;
-        assert_eq!(rt; (status.lent, status.idle, status.closed), (2, 0, true));
-        assert_eq!(rt; (status.waiting, pool.status().waiting), (0, 0));
-        assert_eq!(rt; (status.timeouts, pool.status().timeouts), (0, 0));
-        let _wire = first.detach();
-        let status = pool.undrained(pool.drain(0)?)?;
-        assert_eq!(rt; (status.lent, pool.evict()?), (1, 0));
-        drop(second);
-        assert_eq!(rt; pool.drained(pool.drain(0)?)?, Ok(()));
-        equal(world.dropped(), 2)
-    })
+    let row = "get a b; drain d=50; pass 49; settle; waits d; pass 1; undrained d
+        with lent=2 idle=0 closed=1 waiting=0 timeouts=0; is waiting=0 timeouts=0
+        detach a; drain e=0; undrained e; with lent=1; evict 0
+        back b; drain f=0; drained f; is dropped=2";
+    on_text(rt, &ALL, full(3), row)
 }
 
 #[test]
 fn a_drain_of_what_is_not_lent_ends_at_once(rt: HostRuntime) -> Result<(), Fail> {
-    on_pools(rt, &ALL, full(2), |world, pool| {
-        for timeout in [0, LONG] {
-            let mut drain = pool.drain(timeout)?;
-            assert!(rt; drain.has_ended());
-            assert_eq!(rt; pool.drained(drain)?, Ok(()));
-            assert_eq!(rt; world.dropped(), 2);
-        }
-        Ok(())
-    })
+    let row = "drain d=0; ends d; drained d; is dropped=2; drain d; ends d; drained d
+        is dropped=2";
+    on_text(rt, &ALL, full(2), row)
 }

@@ -6,72 +6,40 @@ use crate::rows::*;
 // Several times, so that workers wait as they are evicted.
 #[test]
 fn what_is_idle_is_closed_at_once(rt: HostRuntime) -> Result<(), Fail> {
-    on_pools(rt, &ALL, full(3), |world, pool| {
-        for dropped in [3, 6, 9, 12, 15] {
-            assert_eq!(rt; (pool.evict()?, world.dropped()), (3, dropped));
-            pool.until(|status| status.idle == 3)?;
-            assert_eq!(rt; world.connects.asked(), dropped + 3);
-        }
-        for _ in 0..3 {
-            assert!(rt; pool.get()?.id() >= 15);
-        }
-        equal(world.dropped(), 15)
-    })
+    let row = "evict 3; is dropped=3; until idle=3; is connects.asked=6
+        evict 3; is dropped=6; until idle=3; is connects.asked=9
+        evict 3; is dropped=9; until idle=3; is connects.asked=12
+        evict 3; is dropped=12; until idle=3; is connects.asked=15
+        evict 3; is dropped=15; until idle=3; is connects.asked=18
+        get a; id a=17; back a; get a; id a=17; back a; get a; id a=17; back a; is dropped=15";
+    on_text(rt, &ALL, full(3), row)
 }
 
 // What is opened afterwards stays.
 #[test]
 fn what_is_lent_is_closed_as_it_comes_back(rt: HostRuntime) -> Result<(), Fail> {
-    on_lent(rt, &ALL, SMALL.most(3), |world, pool, first| {
-        let second = pool.get()?;
-        assert_eq!(rt; pool.evict()?, 0);
-        let new = pool.get()?;
-        assert_eq!(rt; (first.id(), second.id(), new.id()), (0, 1, 2));
-        let status = pool.status();
-        assert_eq!(rt; (status.connections, status.lent), (3, 3));
-        drop(new);
-        assert_eq!(rt; (pool.status().idle, world.dropped()), (1, 0));
-        drop(first);
-        assert_eq!(rt; (pool.status().connections, world.dropped()), (2, 1));
-        drop(second);
-        assert_eq!(rt; (pool.status().connections, world.dropped()), (1, 2));
-        assert_eq!(rt; pool.get()?.id(), 2);
-        equal((pool.evict()?, world.dropped()), (1, 3))
-    })
+    let row = "get a b; evict 0; get c; id a=0 b=1 c=2; is connections=3 lent=3
+        back c; is idle=1 dropped=0; back a; is connections=2 dropped=1
+        back b; is connections=1 dropped=2; get d; id d=2; back d; evict 1; is dropped=3";
+    on_text(rt, &ALL, SMALL.most(3), row)
 }
 
 // Later, what comes in the place of an evicted one fails once, and then does not come.
 #[test]
 fn who_waits_is_served_by_a_new_one(rt: HostRuntime) -> Result<(), Fail> {
-    on_lent(rt, &ALL, full(1), |world, pool, lent| {
-        let mut get = pool.begin(LONG)?;
-        assert!(rt; pool.evict()? == 0 && !get.has_ended());
-        drop(lent);
-        assert_eq!(rt; pool.end(get)??.id(), 1);
-        world.connects.goes("-~+");
-        assert_eq!(rt; pool.evict()?, 1);
-        pool.until(|status| status.failed_openings == 1)?;
-        assert_eq!(rt; pool.gives_up(50)?.message(), Some("connect 2"));
-        equal((pool.status().connections, pool.status().opening), (0, 1))
-    })
+    let row = "get a; ask p; evict 0; waits p; back a; take p; id p=1; back p; connects -~+; evict 1
+        until failed_openings=1; ask q=50; pass 50; late q; says connect 2
+        is connections=0 opening=1";
+    on_text(rt, &ALL, full(1), row)
 }
 
 // They are opened at 3 s, and evicted at 10 s.
 #[test]
 fn events_and_the_customizer_are_told_in_the_lending_order(rt: HostRuntime) -> Result<(), Fail> {
-    let orders = [(NewestFirst, 1, 0), (OldestFirst, 0, 1)];
-    on_rows(rt, &ALL, orders, |world, (order, first, last)| {
-        let pool = Pool::of(rt, world, SMALL.most(2).ordered(order))?;
-        world.pass(3_000);
-        let (one, other) = (pool.get()?, pool.get()?);
-        drop(one);
-        drop(other);
-        world.pass(7_000);
-        world.forget();
-        assert_eq!(rt; pool.evict()?, 2);
-        let gone = |id| Release(id, 7_000, Evicted);
-        world.heard(&[gone(first), Ended(first), gone(last), Ended(last)])
-    })
+    let row = "pass 3000; get a b; back a b; pass 7000; forget; evict 2
+        hear g$1,7000,Evicted e$1 g$2,7000,Evicted e$2";
+    let [newest, oldest] = [NewestFirst, OldestFirst].map(|order| SMALL.most(2).ordered(order));
+    on_texts(rt, &ALL, [(newest, "1/0"), (oldest, "0/1")], row)
 }
 
 // A take and a return, at one moment.
@@ -114,21 +82,11 @@ fn a_detached_connection_is_the_callers(rt: HostRuntime) -> Result<(), Fail> {
 // For one that waits, and for one that comes later. Nothing is wrong where the pool is gone.
 #[test]
 fn another_one_is_opened_in_its_place(rt: HostRuntime) -> Result<(), Fail> {
-    on_lent(rt, &ALL, full(1), |world, mut pool, lent| {
-        let mut get = pool.begin(LONG)?;
-        assert!(rt; !get.has_ended());
-        let _first = lent.detach();
-        let lent = pool.end(get)??;
-        assert_eq!(rt; lent.id(), 1);
-        let _second = lent.detach();
-        let lent = pool.get()?;
-        assert_eq!(rt; (lent.id(), world.connects.asked()), (2, 3));
-        assert_eq!(rt; pool.status().connections, 1);
-        drop(pool.go());
-        let wire = lent.detach();
-        pool.ended()?;
+    on_play(rt, &ALL, full(1), |mut play| {
+        play.run("get a; ask p; waits p; detach a; take p; id p=1; detach p; get b=2; id b=2")?;
+        play.run("is connects.asked=3 connections=1; part; detach b; end")?;
         // A worker may have come with one more.
-        equal((wire.number, world.opened() - world.dropped()), (2, 3))
+        equal(play.world.opened() - play.world.dropped(), 3)
     })
 }
 

@@ -67,8 +67,7 @@ fn values_of_a_run(rt: HostRuntime) -> Result<(), Fail> {
     if let Ok((core, answers)) = run(rt.alloc(), limits, now, steps) {
         assert_eq!(rt; (core.connections(), answers.len()), (1, 9));
     }
-    assert_eq!(rt; drops.load(Ordering::SeqCst), 5);
-    Ok(())
+    equal(drops.load(Ordering::SeqCst), 5)
 }
 
 // Of two connections that are idle and one that comes, a take removes the newest, or the oldest, or
@@ -85,8 +84,7 @@ fn a_comparison(rt: HostRuntime) -> Result<(), Fail> {
     let compared = || compare(rt.alloc(), &idle, &moves, &[1], now, limit);
     let answer = compared().or_else(|_| compared());
     let is_right = |of: &Comparison| (of.newest_first, of.oldest_first, of.other) == (2, 1, 1);
-    assert!(rt; matches!(&answer, Ok(Some(of)) if is_right(of)));
-    Ok(())
+    holds(matches!(&answer, Ok(Some(of)) if is_right(of)))
 }
 
 #[test]
@@ -101,8 +99,7 @@ fn building(rt: HostRuntime) -> Result<(), Fail> {
             }
         }
         assert!(rt; world.watch(|| world.ended() == 1));
-        assert_eq!(rt; world.dropped(), world.opened());
-        Ok(())
+        equal(world.dropped(), world.opened())
     })
 }
 
@@ -155,16 +152,14 @@ fn a_journal(rt: HostRuntime) -> Result<(), Fail> {
         assert!(rt; matches!(records[0], Record::Admitted { id: 0, .. }));
         assert!(rt; matches!(records[1], Record::Taken { id: 0, .. }));
         assert_eq!(rt; (report.connections, report.pending), (1, 0));
-        assert_eq!(rt; report.lost, 0);
-        Ok(())
+        equal(report.lost, 0)
     })
 }
 
 #[test]
 fn an_eviction(rt: HostRuntime) -> Result<(), Fail> {
     on_pools(rt, &KINDS, full(1).recorded(8), |_, pool| {
-        assert_eq!(rt; at_last(rt, &pool, || pool.calls.evict(rt))?, 1);
-        Ok(())
+        equal(at_last(rt, &pool, || pool.calls.evict(rt))?, 1)
     })
 }
 
@@ -175,8 +170,7 @@ fn lending_and_cloning(rt: HostRuntime) -> Result<(), Fail> {
         assert_eq!(rt; clone.status().idle, 1);
         drop(at_last(rt, &pool, || pool.calls.get(rt))?);
         assert!(rt; !pool.finds_none());
-        assert_eq!(rt; pool.status().idle, 1);
-        Ok(())
+        equal(pool.status().idle, 1)
     })
 }
 
@@ -195,8 +189,7 @@ fn texts_of_errors(rt: HostRuntime) -> Result<(), Fail> {
         drop(lent);
         assert_eq!(rt; world.hears.asked(), 10);
         assert_eq!(rt; (world.opened(), world.dropped()), (2, 1));
-        assert_eq!(rt; pool.status().connections, 1);
-        Ok(())
+        equal(pool.status().connections, 1)
     })
 }
 

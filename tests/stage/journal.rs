@@ -6,14 +6,9 @@ use crate::rows::*;
 // It comes back broken the second time.
 #[test]
 fn journal_shows_take(rt: HostRuntime) -> Result<(), Fail> {
-    on_each(rt, &ALL, |world| {
-        world.breaks.goes("+-");
-        let pool = Pool::of(rt, world, full(1).recorded(100))?;
-        world.pass(7_000);
-        drop(pool.get()?);
-        drop(pool.get()?);
-        let _lent = pool.get()?;
-        let report = pool.journal()?;
+    on_play(rt, &ALL, full(1).recorded(100), |mut play| {
+        play.run("breaks +-; pass 7000; use; use; get a")?;
+        let report = play.pool.journal()?;
         let (made, at, id, ordered) = (length(0), length(7_000), 0, 0);
         let wanted = [
             Record::Admitted { at: made, id },

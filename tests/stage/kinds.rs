@@ -221,17 +221,25 @@ pub(crate) enum Calls<R: Host> {
     Gone,
 }
 
-// The same of a pool of any kind.
-macro_rules! of_pool {
-    ($calls:expr, $it:ident, $what:expr) => {
+// The same of a pool of any kind, but for these.
+macro_rules! of_others {
+    ($calls:expr, $it:ident, $what:expr, $($other:pat => $answer:expr),*) => {
         match $calls {
+            $($other => $answer,)*
             Calls::Thread($it) => $what,
-            Calls::Counted($it, _) => $what,
             Calls::Task($it) => $what,
             Calls::QuietThread($it) => $what,
             Calls::QuietTask($it) => $what,
-            Calls::Gone => unreachable!(),
         }
+    };
+}
+
+// The same of a pool of any kind.
+macro_rules! of_pool {
+    ($calls:expr, $it:ident, $what:expr) => {
+        of_others!(
+            $calls, $it, $what, Calls::Counted($it, _) => $what, Calls::Gone => unreachable!()
+        )
     };
 }
 
@@ -324,14 +332,11 @@ impl<R: Host> Calls<R> {
     }
 
     pub(crate) fn evict(&self, rt: R) -> Result<usize, Error> {
-        match self {
-            Calls::Thread(pool) => pool.evict(),
+        of_others!(
+            self, pool, pool.evict(),
             Calls::Counted(pool, parts) => counted!(parts, rt, part, pool.evict(part)),
-            Calls::Task(pool) => pool.evict(),
-            Calls::QuietThread(pool) => pool.evict(),
-            Calls::QuietTask(pool) => pool.evict(),
-            Calls::Gone => Ok(0),
-        }
+            Calls::Gone => Ok(0)
+        )
     }
 
     // In a thread.
@@ -352,7 +357,7 @@ impl<R: Host> Calls<R> {
 #[derive(Drop)]
 pub(crate) struct Pool<R: Host> {
     pub(crate) world: &'static World,
-    rt: R,
+    pub(crate) rt: R,
     pub(crate) calls: Calls<R>,
     // The workers that are polled by hand.
     hands: Mutex<Vec<Hand<TaskWork<R>>>>,

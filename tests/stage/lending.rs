@@ -7,139 +7,73 @@ use std::sync::atomic::{AtomicU64, Ordering};
 
 #[test]
 fn test_acquire_release(rt: HostRuntime) -> Result<(), Fail> {
-    on_each(rt, &ALL, |world| {
-        let pool = Pool::built(rt, world, full(2))?;
-        let (first, second) = (pool.get()?, pool.get()?);
-        drop(first);
-        let third = pool.get()?;
-        drop(second);
-        drop(third);
-        equal(pool.status().idle, 2)
-    })
+    let row = "built; get a b; back a; get c; back b c; is idle=2";
+    on_text(rt, &ALL, full(2), row)
 }
 
 // It orders none, and checks none, where none is to be checked.
 #[test]
 fn try_get(rt: HostRuntime) -> Result<(), Fail> {
-    on_pools(rt, &ALL, SMALL.most(2), |world, pool| {
-        assert!(rt; pool.try_get()?.is_none());
-        assert_eq!(rt; (pool.status().connections, pool.status().opening), (0, 0));
-        drop(pool.several(2)?);
-        let (first, second, third) = (pool.try_get()?, pool.try_get()?, pool.try_get()?);
-        assert!(rt; first.is_some() && second.is_some() && third.is_none());
-        drop(first);
-        assert!(rt; pool.try_get()?.is_some());
-        equal(world.checks.asked(), 0)
-    })
+    let row = "none; is connections=0 opening=0; get a b; back a b; find c d; none; back c; some
+        is checks.asked=0";
+    on_text(rt, &ALL, SMALL.most(2), row)
 }
 
 // One comes back in time, and another one does not. A call may wait for no time.
 #[test]
 fn get_timeout(rt: HostRuntime) -> Result<(), Fail> {
-    on_lent(rt, &ALL, SMALL.waiting(60_000), |world, pool, lent| {
-        let get = pool.begin(20_000)?;
-        world.pass(19_999);
-        drop(lent);
-        let lent = pool.end(get)??;
-        let mut get = pool.begin(100)?;
-        world.pass(99);
-        assert!(rt; !get.has_ended());
-        world.pass(1);
-        assert_eq!(rt; pool.late(get)?.waited(), Some(length(100)));
-        pool.late(pool.begin(0)?)?;
-        drop(lent);
-        pool.serves(pool.begin(0)?)
-    })
+    let row = "get a; ask p=20000; pass 19999; back a; take p; ask q=100; pass 99; waits q; pass 1
+        late q; with waited=100; ask r=0; late r; back p; ask s=0; serve s";
+    on_text(rt, &ALL, SMALL.waiting(60_000), row)
 }
 
 // A moment of the pool, which is a thousand seconds old, is no length of time.
 #[test]
 fn test_get_global_timeout(rt: HostRuntime) -> Result<(), Fail> {
-    on_lent(rt, &ALL, SMALL.waiting(1_000), |world, pool, _lent| {
-        world.pass(1_000_000);
-        let get = pool.begin_plainly()?;
-        world.pass(1_000);
-        let error = pool.late(get)?;
-        assert_eq!(rt; error.message(), None);
-        equal(error.waited(), Some(length(1_000)))
-    })
+    let row = "get a; pass 1000000; ask p=own; pass 1000; late p; says nothing; with waited=1000";
+    on_text(rt, &ALL, SMALL.waiting(1_000), row)
 }
 
 // The pool's and a call's own: where one is idle, and where it comes back after thirty years.
 #[test]
 fn longest_timeout(rt: HostRuntime) -> Result<(), Fail> {
-    on_rows(rt, &ALL, [false, true], |world, is_given| {
-        let pool = Pool::of(rt, world, SMALL.waiting(u64::MAX))?;
-        let begin = || {
-            if is_given {
-                pool.begin(u64::MAX)
-            } else {
-                pool.begin_plainly()
-            }
-        };
-        let lent = pool.end(begin()?)??;
-        let mut get = begin()?;
-        world.pass(1_000_000_000_000);
-        assert!(rt; !get.has_ended());
-        drop(lent);
-        pool.serves(get)
-    })
+    let row = "ask p=$1; take p; ask q=$1; pass 1000000000000; waits q; back p; serve q";
+    let longest = SMALL.waiting(u64::MAX);
+    on_texts(rt, &ALL, [(longest, "own"), (longest, "max")], row)
 }
 
 // Each connection is too old as it comes back, and another one is opened.
 #[test]
 fn lengths_of_a_nanosecond(rt: HostRuntime) -> Result<(), Fail> {
-    on_each(rt, &ALL, |world| {
-        let mut settings = SMALL.living(1).expiring(1).waiting(1);
-        settings.unit = 1;
-        let pool = Pool::of(rt, world, settings)?;
-        for number in 0..3 {
-            let lent = pool.end(pool.begin(LONG)?)??;
-            assert_eq!(rt; lent.number(), number);
-            let get = pool.begin_plainly()?;
-            world.pass(1);
-            pool.late(get)?;
-            drop(lent);
-        }
-        Ok(())
-    })
+    let mut settings = SMALL.living(1).expiring(1).waiting(1);
+    settings.unit = 1;
+    let row = "ask p; take p=0; ask q=own; pass 1; late q; back p
+        ask p; take p=1; ask q=own; pass 1; late q; back p
+        ask p; take p=2; ask q=own; pass 1; late q; back p";
+    on_text(rt, &ALL, settings, row)
 }
 
 // Six calls, one after the other, of three connections that were opened in turn.
 #[test]
 fn which_one_is_lent_next(rt: HostRuntime) -> Result<(), Fail> {
-    let orders = [(OldestFirst, [0, 1, 2, 0, 1, 2]), (NewestFirst, [2; 6])];
-    on_rows(rt, &ALL, orders, |world, (order, wanted)| {
-        let pool = Pool::of(rt, world, full(3).ordered(order))?;
-        for number in wanted {
-            assert_eq!(rt; pool.get()?.number(), number);
-        }
-        Ok(())
-    })
+    let [oldest, newest] = [OldestFirst, NewestFirst].map(|order| full(3).ordered(order));
+    let row = "use $1; use $2; use $3; use $1; use $2; use $3";
+    on_texts(rt, &ALL, [(oldest, "0/1/2"), (newest, "2/2/2")], row)
 }
 
 // Another one is lent while a check goes on.
 #[test]
 fn test_issue_2_unlocked_during_is_valid(rt: HostRuntime) -> Result<(), Fail> {
-    on_pools(rt, &ALL, full(2).checked(), |world, pool| {
-        world.checks.goes("~+");
-        let first = pool.begin(LONG)?;
-        assert_eq!(rt; world.checks.hung(), 1);
-        let second = pool.get()?;
-        world.let_go(&world.checks);
-        holds(pool.end(first)??.number() != second.number())
-    })
+    let row = "checks ~+; ask p; is checks.hung=1; get a=0; go checks; take p=1";
+    on_text(rt, &ALL, full(2).checked(), row)
 }
 
 // Twenty callers at once are served by fifteen connections.
 #[test]
 fn readme_example(rt: HostRuntime) -> Result<(), Fail> {
-    on_pools(rt, &ALL, full(15), |world, pool| {
-        let callers = pool.line(20)?;
-        assert_eq!(rt; pool.status().waiting, 5);
-        assert_eq!(rt; pool.all_end(callers)?, 20);
-        equal((pool.status().connections, world.opened()), (15, 15))
-    })
+    let row = "ask a b c d e f g h i j k l m n o p q r s t; is waiting=5
+        all a b c d e f g h i j k l m n o p q r s t; is connections=15 opened=15";
+    on_text(rt, &ALL, full(15), row)
 }
 
 // Each is lent it fifty times, and nobody else has it then.

@@ -3,172 +3,86 @@
 
 use crate::rows::*;
 
-// A pool that is 7 s old, whose connection was opened then.
-fn opened<R: Host>(rt: R, world: &'static World, settings: Settings) -> Result<Pool<R>, Fail> {
-    let pool = Pool::of(rt, world, settings)?;
-    world.pass(7_000);
-    drop(pool.get()?);
-    world.forget();
-    Ok(pool)
-}
-
 // One comes at once, and the next waits for its return. It is held since its lending, whatever it
 // is used for. The last use takes 5 s, and asking whether it broke 4 s more.
 #[test]
 fn how_long_events_say(rt: HostRuntime) -> Result<(), Fail> {
-    on_each(rt, &ALL, |world| {
-        let pool = opened(rt, world, SMALL)?;
-        world.pass(2_000);
-        let mut lent = pool.try_get()?.ok_or("none")?;
-        world.heard(&[Checkout(0, 0)])?;
-        let get = pool.begin(LONG)?;
-        world.pass(3_000);
-        lent.keep(Kept::number(7));
-        world.pass(1_000);
-        drop(lent);
-        let lent = pool.end(get)??;
-        assert_eq!(rt; lent.lent_at(), 13_000);
-        world.heard(&[Checkin(0, 4_000), Checkout(0, 4_000)])?;
-        world.pass(5_000);
-        world.breaks.goes("4-");
-        drop(lent);
-        world.heard(&[Checkin(0, 5_000), Release(0, 15_000, Broken), Ended(0)])
-    })
+    let row = "pass 7000; use; forget; pass 2000; find a; hear c0; ask p; pass 3000; keep a=7
+        pass 1000; back a; take p; at p=13000; hear r0,4000 c0,4000; pass 5000; breaks 4-; back p
+        hear r0,5000 g0,15000,Broken e0";
+    on_text(rt, &ALL, SMALL, row)
 }
 
 // The connection is 3 s old as its check begins, which takes 2 s. That of the next one takes 3 s,
 // and asking whether it broke 4 s. The wait is from the call to the lending.
 #[test]
 fn a_failed_check_tells_the_age_at_its_end(rt: HostRuntime) -> Result<(), Fail> {
-    on_each(rt, &ALL, |world| {
-        let pool = opened(rt, world, SMALL.checked())?;
-        world.pass(3_000);
-        world.checks.goes("2-3+");
-        world.breaks.goes("4-");
-        world.connects.goes("~+");
-        let get = pool.begin(LONG)?;
-        world.heard(&[Failed(Check(1)), Release(0, 5_000, CheckFailed), Ended(0)])?;
-        pool.until_opening(1)?;
-        world.let_go(&world.connects);
-        let lent = pool.end(get)??;
-        assert_eq!(rt; lent.lent_at(), 15_000);
-        world.heard(&[Shown(1), Acquire(1), Checkout(1, 5_000)])?;
-        drop(lent);
-        world.heard(&[Checkin(1, 0), Release(1, 7_000, Broken), Ended(1)])
-    })
+    let row = "pass 7000; use; forget; pass 3000; checks 2-3+; breaks 4-; connects ~+; ask p
+        hear K1 g0,5000,CheckFailed e0; opening 1; go connects; take p; at p=15000
+        hear s1 a1 c1,5000; back p; hear r1 g1,7000,Broken e1";
+    on_text(rt, &ALL, SMALL.checked(), row)
 }
 
 // It takes 15 s to tell something. The second time it is detached: it is as old as at the step
 // after its event, and nobody asks whether it is broken.
 #[test]
 fn one_is_lent_before_its_event(rt: HostRuntime) -> Result<(), Fail> {
-    on_each(rt, &ALL, |world| {
-        let pool = opened(rt, world, SMALL)?;
-        world.hears.goes("15+*");
-        let lent = pool.get()?;
-        assert_eq!(rt; lent.lent_at(), 7_000);
-        world.pass(1_000);
-        drop(lent);
-        world.heard(&[Checkout(0, 0), Checkin(0, 16_000)])?;
-        let lent = pool.get()?;
-        world.heard(&[Checkout(0, 0)])?;
-        world.pass(4_000);
-        world.breaks.goes("-");
-        let wire = lent.detach();
-        world.heard(&[Checkin(0, 19_000), Release(0, 65_000, Detached)])?;
-        assert_eq!(rt; world.breaks.asked(), 2);
-        equal((wire.number, world.dropped()), (0, 0))
-    })
+    let row = "pass 7000; use; forget; hears 15+*; get a; at a=7000; pass 1000; back a
+        hear c0 r0,16000; get b=0; hear c0; pass 4000; breaks -; detach b
+        hear r0,19000 g0,65000,Detached; is breaks.asked=2 dropped=0";
+    on_text(rt, &ALL, SMALL, row)
 }
 
 // Two connections are opened 7 s after the pool was made. 200 s later one of them comes back
 // broken, which wakes the workers, and the other one is expired.
 #[test]
 fn a_reap_tells_why_and_the_age(rt: HostRuntime) -> Result<(), Fail> {
+    let two = full(2);
     let rows = [
-        (full(2).expiring(100_000), Idle),
-        (full(2).living(100_000), Lifetime),
-        (full(2).living(200_000).expiring(200_000), Lifetime),
-        (full(2).living(200_001).expiring(200_000), Idle),
-        (full(2).living(200_000).expiring(200_001), Lifetime),
+        (two.expiring(100_000), "Idle"),
+        (two.living(100_000), "Lifetime"),
+        (two.living(200_000).expiring(200_000), "Lifetime"),
+        (two.living(200_001).expiring(200_000), "Idle"),
+        (two.living(200_000).expiring(200_001), "Lifetime"),
     ];
-    on_rows(rt, &ALL, rows, |world, (settings, why)| {
-        let pool = Pool::of(rt, world, settings)?;
-        world.pass(7_000);
-        assert_eq!(rt; pool.evict()?, 2);
-        pool.until(|status| status.idle == 2)?;
-        let lent = pool.get()?;
-        assert_eq!(rt; lent.number(), 3);
-        world.breaks.goes("-");
-        world.pass(200_000);
-        drop(lent);
-        pool.until(|status| status.idle == 2)?;
-        holds(world.once_heard(&[Release(3, 200_000, Broken), Release(2, 200_000, why)]))
-    })
+    let row = "pass 7000; evict 2; until idle=2; get a=3; breaks -; pass 200000; back a
+        until idle=2; once g3,200000,Broken g2,200000,$1";
+    on_texts(rt, &ALL, rows, row)?;
+    let row = "until idle=2; get a=1 b=0; back b; pass 5; back a; forget; pass 119995
+        until idle=2; hear g0,120000,Idle e0 g1,120000,Idle e1 s2 a2 s3 a3";
+    on_text(rt, &BY_HAND, two.expiring(100_000), row)
 }
 
 // It is lent at 0, and comes back after 10,000 s. Meanwhile it broke, there was an eviction, the
 // pool was closed, and its lifetime ended. A jitter is no lifetime.
 #[test]
 fn of_several_reasons_the_first_is_told(rt: HostRuntime) -> Result<(), Fail> {
-    let (age, old, mut ageless) = (10_000_000, SMALL.living(10_000_000), SMALL);
+    let (old, mut ageless) = (SMALL.living(10_000_000), SMALL);
     ageless.lifetime_jitter = Some(180_000);
     let rows = [
-        (false, false, false, SMALL, None),
-        (false, false, false, ageless, None),
-        (true, false, false, SMALL, Some(Broken)),
-        (false, true, false, SMALL, Some(Evicted)),
-        (false, false, true, SMALL, Some(PoolClosed)),
-        (false, false, false, old, Some(Lifetime)),
-        (true, true, true, old, Some(Broken)),
-        (false, true, true, old, Some(Evicted)),
-        (false, false, true, old, Some(PoolClosed)),
+        (SMALL, "+ / / "),
+        (ageless, "+ / / "),
+        (SMALL, "- / / g0,10000000,Broken e0"),
+        (SMALL, "+ / evict 0 / g0,10000000,Evicted e0"),
+        (SMALL, "+ / close / g0,10000000,PoolClosed e0"),
+        (old, "+ / / g0,10000000,Lifetime e0"),
+        (old, "- / evict 0; close / g0,10000000,Broken e0"),
+        (old, "+ / evict 0; close / g0,10000000,Evicted e0"),
+        (old, "+ / close / g0,10000000,PoolClosed e0"),
     ];
-    on_rows(rt, &ALL, rows, |world, row| {
-        let (breaks, evicts, closes, settings, told) = row;
-        let pool = Pool::of(rt, world, settings)?;
-        let lent = pool.get()?;
-        world.breaks.goes(if breaks { "-" } else { "+" });
-        world.pass(age);
-        if evicts {
-            assert_eq!(rt; pool.evict()?, 0);
-        }
-        if closes {
-            pool.close();
-        }
-        world.forget();
-        drop(lent);
-        let back = Checkin(0, age);
-        match told {
-            Some(reason) => world.heard(&[back, Release(0, age, reason), Ended(0)]),
-            None => world.heard(&[back]),
-        }
-    })
+    let row = "get a; breaks $1; pass 10000000; $2; forget; back a; hear r0,10000000 $3";
+    on_texts(rt, &ALL, rows, row)
 }
 
 // The first connection comes back broken at 10,000 s, and another is opened then. Its own lifetime
 // is 1,620 s to 1,800 s.
 #[test]
 fn a_lifetime_begins_with_the_opening(rt: HostRuntime) -> Result<(), Fail> {
+    let row = "breaks -; get a; pass 10000000; back a; once g0,10000000,Broken; until idle=1
+        pass 1619000; use; is idle=1; get b; pass 181000; connects ~+; forget; back b
+        hear r1,181000 g1,1800000,Lifetime e1";
     let settings = jittered(1_800_000, Some(180_000)).most(1).idle(1);
-    on_pools(rt, &ALL, settings, |world, pool| {
-        world.breaks.goes("-");
-        let lent = pool.get()?;
-        world.pass(10_000_000);
-        drop(lent);
-        assert!(rt; world.once_heard(&[Release(0, 10_000_000, Broken)]));
-        pool.until(|status| status.idle == 1)?;
-        world.pass(1_619_000);
-        drop(pool.get()?);
-        assert_eq!(rt; pool.status().idle, 1);
-        let lent = pool.get()?;
-        world.pass(181_000);
-        world.connects.goes("~+");
-        world.forget();
-        drop(lent);
-        let gone = Release(1, 1_800_000, Lifetime);
-        world.heard(&[Checkin(1, 181_000), gone, Ended(1)])
-    })
+    on_text(rt, &ALL, settings, row)
 }
 
 // Sixty-four connections are opened together, and live so long.

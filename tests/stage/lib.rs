@@ -21,6 +21,7 @@ mod line;
 mod manager;
 mod outage;
 mod passing;
+mod play;
 mod polls;
 mod rows;
 mod script;

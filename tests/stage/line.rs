@@ -36,20 +36,10 @@ fn who_came_first_is_served_first(rt: HostRuntime) -> Result<(), Fail> {
 // one is anybody's.
 #[test]
 fn as_many_are_told_as_are_idle(rt: HostRuntime) -> Result<(), Fail> {
-    on_pools(rt, &ORDERED, SMALL.most(2), |_, pool| {
-        let lent = pool.several(2)?;
-        let mut line = pool.line(3)?;
-        drop(lent);
-        assert!(rt; pool.ends(&mut line[0]) && pool.ends(&mut line[1]));
-        assert!(rt; !line[2].has_ended());
-        assert_eq!(rt; pool.status().waiting, 1);
-        assert_eq!(rt; pool.all_end(line)?, 3);
-        for round in 0..10 {
-            let lent = pool.several(2)?;
-            let line = pool.line(1)?;
-            drop(lent);
-            assert!(rt; pool.try_get()?.is_some(), "round {round}");
-            pool.in_turn(line)?;
+    on_play(rt, &ORDERED, SMALL.most(2), |mut play| {
+        play.run("get a b; ask p q r; back a b; comes p q; waits r; is waiting=1; all p q r")?;
+        for _ in 0..10 {
+            play.run("get a b; ask p; back a b; some; turns p")?;
         }
         Ok(())
     })
@@ -60,166 +50,71 @@ fn as_many_are_told_as_are_idle(rt: HostRuntime) -> Result<(), Fail> {
 // orders another.
 #[test]
 fn the_line_stays_in_order(rt: HostRuntime) -> Result<(), Fail> {
-    on_lent(rt, &ORDERED, SMALL, |world, pool, lent| {
-        let line = pool.line(3)?;
-        assert_eq!(rt; pool.evict()?, 0);
-        pool.until(|status| status.waiting == 3)?;
-        drop(lent);
-        pool.in_turn(line)?;
-        assert_eq!(rt; world.opened(), 2);
-
-        let lent = pool.get()?;
-        let mut line = pool.line(2)?;
-        line.push(pool.again(lent)?)?;
-        pool.in_turn(line)?;
-
-        let lent = pool.get()?;
-        let mut line = pool.line(1)?;
-        let hasty = pool.begin(50)?;
-        line.append(&mut pool.line(2)?)?;
-        world.pass(50);
-        pool.late(hasty)?;
-        assert_eq!(rt; pool.status().waiting, 3);
-        drop(lent);
-        pool.in_turn(line)?;
-
-        let lent = pool.get()?;
-        let line = pool.line(3)?;
-        world.breaks.goes("-*");
-        drop(lent);
-        pool.in_turn(line)?;
-        equal(world.opened(), 5)
-    })
+    let row = "get a; ask p q r; evict 0; until waiting=3; back a; turns p q r; is opened=2
+        get a; ask p q; again a; turns p q a
+        get a; ask p q=50 r s; pass 50; late q; is waiting=3; back a; turns p r s
+        get a; ask p q r; breaks -*; back a; turns p q r; is opened=5";
+    on_text(rt, &ORDERED, SMALL, row)
 }
 
 // The check of the first one fails while another one waits. It waits again, at its place, before
 // the next connection is opened.
 #[test]
 fn who_finds_one_unsound_keeps_its_place(rt: HostRuntime) -> Result<(), Fail> {
-    on_lent(rt, &ORDERED, SMALL.checked(), |world, pool, lent| {
-        let mut line = pool.line(2)?;
-        world.checks.goes("~-");
-        world.connects.goes("~+");
-        drop(lent);
-        line[0].has_ended();
-        // It has one, and is at its check.
-        pool.until(|status| status.waiting == 1 && world.checks.hung() == 1)?;
-        world.let_go(&world.checks);
-        line[0].has_ended();
-        pool.until(|status| status.waiting == 2 && world.connects.hung() == 1)?;
-        world.let_go(&world.connects);
-        pool.in_turn(line)
-    })
+    let row = "get a; ask p q; checks ~-; connects ~+; back a; waits p
+        until waiting=1 checks.hung=1; go checks; waits p; until waiting=2 connects.hung=1
+        go connects; turns p q";
+    on_text(rt, &ORDERED, SMALL.checked(), row)
 }
 
 // The time of the first one is over as its check fails. The next one was told by that, and a place
 // in a line of two is free.
 #[test]
 fn who_is_late_after_its_check_leaves_the_line(rt: HostRuntime) -> Result<(), Fail> {
-    on_lent(rt, &ORDERED, SMALL.checked().room(2), |world, pool, lent| {
-        let mut late = pool.begin(60_000)?;
-        let mut line = pool.line(1)?;
-        world.checks.goes("~-");
-        world.connects.goes("~+");
-        drop(lent);
-        late.has_ended();
-        pool.until(|status| status.waiting == 1 && world.checks.hung() == 1)?;
-        world.pass(100_000);
-        world.let_go(&world.checks);
-        pool.late(late)?;
-        line.append(&mut pool.line(1)?)?;
-        pool.until_opening(1)?;
-        world.let_go(&world.connects);
-        pool.in_turn(line)
-    })
+    let row = "get a; ask p=60000 q; checks ~-; connects ~+; back a; waits p
+        until waiting=1 checks.hung=1; pass 100000; go checks; late p; ask r; opening 1
+        go connects; turns q r";
+    on_text(rt, &ORDERED, SMALL.checked().room(2), row)
 }
 
 // The first of two waited as its connection was opened for it. What the second ordered as one was
 // idle is opened once none is.
 #[test]
 fn what_a_kept_one_hides_is_ordered_later(rt: HostRuntime) -> Result<(), Fail> {
-    let settings = SMALL.most(3).workers(3);
-    on_lent(rt, &ORDERED, settings, |world, pool, lent| {
-        world.connects.goes("~+*");
-        let mut first = pool.begin(LONG)?;
-        // Its own order, which does not come.
-        pool.until_opening(1)?;
-        let second = pool.again(lent)?;
-        assert!(rt; pool.ends(&mut first));
-        pool.until(|status| status.waiting == 1 && world.connects.hung() == 2)?;
-        assert_eq!(rt; pool.end(first)??.number(), 0);
-        world.let_go(&world.connects);
-        drop(pool.end(second)??);
-        Ok(())
-    })
+    let row = "get a; connects ~+*; ask p; opening 1; again a; comes p
+        until waiting=1 connects.hung=2; serve p=0; go connects; serve a";
+    on_text(rt, &ORDERED, SMALL.most(3).workers(3), row)
 }
 
 // One gives up, and one is served. Three more ask for no memory.
 #[test]
 fn events_in_line_are_those_of_any_call(rt: HostRuntime) -> Result<(), Fail> {
-    on_lent(rt, &ALL, SMALL, |world, pool, lent| {
-        let late = pool.begin(50)?;
-        let line = pool.line(1)?;
-        world.forget();
-        world.pass(50);
-        assert!(rt; pool.end(late)?.is_err());
-        world.heard(&[Timeout(50)])?;
-        drop(lent);
-        pool.in_turn(line)?;
-        world.heard(&[Checkin(0, 50), Checkout(0, 50), Checkin(0, 0)])?;
-        let lent = pool.get()?;
-        let asked = world.allocs.asked();
-        let line = pool.line(3)?;
-        drop(lent);
-        equal((pool.all_end(line)?, world.allocs.asked()), (3, asked))
-    })
+    let row = "get a; ask p=50 q; forget; pass 50; late p; hear T50; back a; turns q
+        hear r0,50 c0,50 r0; get b; mark allocs; ask r s t; back b; all r s t; is allocs.more=0";
+    on_text(rt, &ALL, SMALL, row)
 }
 
 // `build` waits where drains do.
 #[test]
 fn a_build_takes_no_place_in_line(rt: HostRuntime) -> Result<(), Fail> {
-    on_each(rt, &[Kind::Limited, Kind::InLine], |world| {
-        let pool = Pool::built(rt, world, full(3).room(1))?;
-        assert_eq!(rt; pool.status().idle, 3);
-        let lent = pool.several(3)?;
-        let line = pool.line(1)?;
-        drop(lent);
-        pool.in_turn(line)
-    })
+    let row = "built; is idle=3; get a b c; ask p; back a b c; turns p";
+    on_text(rt, &[Kind::Limited, Kind::InLine], full(3).room(1), row)
 }
 
 // During its check a task does not wait, and yet it takes up the only place. Once it is lent its
 // connection that place is free again.
 #[test]
 fn one_under_check_keeps_its_place(rt: HostRuntime) -> Result<(), Fail> {
-    on_pools(rt, &TASKS, SMALL.checked().room(1), |world, pool| {
-        world.checks.goes("~+");
-        let mut checks = pool.begin(LONG)?;
-        pool.until_beside(&mut checks, |_| world.checks.hung() == 1)?;
-        assert_eq!(rt; (pool.status().lent, pool.status().waiting), (1, 0));
-        pool.refused()?;
-        world.let_go(&world.checks);
-        let lent = pool.end(checks)??;
-        let next = pool.begin(LONG)?;
-        assert_eq!(rt; pool.status().waiting, 1);
-        drop(lent);
-        pool.serves(next)
-    })
+    let row = "checks ~+; ask p; beside p checks.hung=1; is lent=1 waiting=0; refused; go checks
+        take p; ask q; is waiting=1; back p; serve q";
+    on_text(rt, &TASKS, SMALL.checked().room(1), row)
 }
 
 // The check of a task took the rest of its time, and not who came before it: it is given up, and
 // its connection with it.
 #[test]
 fn one_whose_time_runs_out_as_it_is_told(rt: HostRuntime) -> Result<(), Fail> {
-    on_lent(rt, &TASKS, SMALL.checked(), |world, pool, lent| {
-        let (mut checks, next) = (pool.begin(10)?, pool.begin(LONG)?);
-        world.checks.goes("~+");
-        drop(lent);
-        pool.until_beside(&mut checks, |_| world.checks.hung() == 1)?;
-        world.pass(10);
-        let error = pool.late(checks)?;
-        assert_eq!(rt; error.ahead(), None);
-        assert_eq!(rt; error.status().ok_or("no status")?.timeouts, 1);
-        equal((world.dropped(), pool.end(next)??.number()), (1, 1))
-    })
+    let row = "get a; ask p=10 q; checks ~+; back a; beside p checks.hung=1; pass 10; late p
+        with ahead=- timeouts=1; is dropped=1; serve q=1";
+    on_text(rt, &TASKS, SMALL.checked(), row)
 }

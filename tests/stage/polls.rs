@@ -26,121 +26,73 @@ fn each_is_served_in_its_turn(rt: HostRuntime) -> Result<(), Fail> {
 
 #[test]
 fn one_that_sleeps_orders_once(rt: HostRuntime) -> Result<(), Fail> {
-    on_pools(rt, &BY_HAND, SMALL.most(5), |_, pool| {
-        let mut call = pool.begin(LONG)?;
-        for _ in 0..10 {
-            assert!(rt; !call.poll());
-        }
-        equal((pool.status().opening, pool.status().waiting), (1, 1))
-    })
+    let row = "ask p; pending p p p p p p p p p p; is opening=1 waiting=1";
+    on_text(rt, &BY_HAND, SMALL.most(5), row)
 }
 
 // Both are due at once.
 #[test]
 fn what_was_opened_comes_before_the_end_of_its_time(rt: HostRuntime) -> Result<(), Fail> {
-    on_pools(rt, &BY_HAND, SMALL, |world, pool| {
-        let (late, later) = (pool.begin(70)?, pool.begin(71)?);
-        world.pass(70);
-        assert!(rt; late.is_woken() && !later.is_woken());
-        assert!(rt; pool.end(late)?.is_err());
-        assert_eq!(rt; pool.status().waiting, 1);
-        world.pass(1_000);
-        pool.work();
-        pool.serves(later)
-    })
+    let row = "ask p=70 q=71; pass 70; woken p; asleep q; late p; is waiting=1; pass 1000; work
+        serve q";
+    on_text(rt, &BY_HAND, SMALL, row)
 }
 
 // Seven give up, the last one first, and the eighth is dropped.
 #[test]
 fn who_is_dropped_is_not_counted_among_those_who_gave_up(rt: HostRuntime) -> Result<(), Fail> {
-    on_pools(rt, &BY_HAND, SMALL, |world, pool| {
-        let mut line = pool.callers(8, 70)?;
-        world.pass(70);
-        drop(line.pop());
-        for before in 0..7usize {
-            assert_eq!(rt; pool.status().timeouts, before as u64);
-            let error = pool.late(line.pop().ok_or("none")?)?;
-            assert_eq!(rt; error.ahead(), Some(6 - before));
-            let status = error.status().ok_or("no status")?;
-            assert_eq!(rt; status.timeouts, before as u64 + 1);
-        }
-        let status = pool.status();
-        assert_eq!(rt; (status.timeouts, status.refused), (7, 0));
-        equal(status.waiting, 0)
-    })
+    let row = "ask p=70 q=70 r=70 s=70 t=70 u=70 v=70 w=70; pass 70; leave w
+        is timeouts=0; late v; with ahead=6 timeouts=1; is timeouts=1
+        late u; with ahead=5 timeouts=2; is timeouts=2; late t; with ahead=4 timeouts=3
+        is timeouts=3; late s; with ahead=3 timeouts=4; is timeouts=4
+        late r; with ahead=2 timeouts=5; is timeouts=5; late q; with ahead=1 timeouts=6
+        is timeouts=6; late p; with ahead=0 timeouts=7; is timeouts=7 refused=0 waiting=0";
+    on_text(rt, &BY_HAND, SMALL, row)
 }
 
 // It was made earlier. Another one waits on as it goes. A drain counts from its first poll, and
 // waits since its call: one that is polled later may have come earlier.
 #[test]
 fn somebody_waits_since_the_first_caller_looked(rt: HostRuntime) -> Result<(), Fail> {
-    on_pools(rt, &BY_HAND, SMALL, |world, pool| {
-        let mut first = pool.comes(LONG)?;
-        world.pass(5);
-        assert_eq!(rt; (pool.waits(), first.poll()), ((0, None), false));
-        assert_eq!(rt; pool.waits(), (1, Some(5)));
-        world.pass(3);
-        let mut second = pool.begin(LONG)?;
-        world.pass(1);
-        assert!(rt; !first.poll() && !second.poll());
-        assert_eq!(rt; pool.waits(), (2, Some(5)));
-        drop(first);
-        assert_eq!(rt; pool.waits(), (1, Some(5)));
-        drop(second);
-        assert_eq!(rt; pool.waits(), (0, None));
-
-        let lent = pool.get()?;
-        let mut first = pool.drains(LONG)?;
-        world.pass(3);
-        let (mut second, unpolled) = (pool.drains(LONG)?, pool.drains(LONG)?);
-        assert_eq!(rt; pool.waits(), (0, None));
-        assert_eq!(rt; (second.poll(), pool.waits()), (false, (1, Some(12))));
-        assert_eq!(rt; (first.poll(), pool.waits()), (false, (2, Some(9))));
-        // At its next poll it is counted already.
-        assert_eq!(rt; (first.poll(), pool.waits()), (false, (2, Some(9))));
-        drop(unpolled);
-        assert_eq!(rt; pool.waits(), (2, Some(9)));
-        drop(first);
-        assert_eq!(rt; pool.waits(), (1, Some(9)));
-        drop(lent);
-        assert_eq!(rt; (second.has_ended(), pool.waits()), (true, (0, None)));
-        holds(pool.drained(second)?.is_ok())
-    })
+    let row = "come p; pass 5; is waiting=0 since=-; pending p; is waiting=1 since=5; pass 3; ask q
+        pass 1; pending p q; is waiting=2 since=5; leave p; is waiting=1 since=5
+        leave q; is waiting=0 since=-; get a; drains d; pass 3; drains e f; is waiting=0 since=-
+        pending e; is waiting=1 since=12; pending d; is waiting=2 since=9
+        pending d; is waiting=2 since=9; leave f; is waiting=2 since=9; leave d
+        is waiting=1 since=9; back a; ends e; is waiting=0 since=-; drained e";
+    on_text(rt, &BY_HAND, SMALL, row)
 }
 
 // Something is looked for every 30 s. What is idle since 7 s is closed at the look of 120 s, and
 // another one is opened in its place. A poll in between changes nothing.
 #[test]
 fn a_worker_sleeps_until_the_next_look(rt: HostRuntime) -> Result<(), Fail> {
-    on_pools(rt, &BY_HAND, full(1).expiring(100_000), |world, pool| {
-        let begun = world.sleeps_begun();
+    on_play(rt, &BY_HAND, full(1).expiring(100_000), |mut play| {
+        let begun = play.world.sleeps_begun();
         assert!(rt; begun > 0);
         for _ in 0..3 {
-            pool.poll_workers();
-            assert!(rt; !pool.is_to_work());
-            assert_eq!(rt; world.sleeps_begun(), begun);
+            play.run("poll; idles")?;
+            assert_eq!(rt; play.world.sleeps_begun(), begun);
         }
-        assert_eq!(rt; world.slept(), Some(30_000));
-        world.pass(7_000);
-        drop(pool.get()?);
-        world.forget();
-        for passes in [23_000, 30_000, 30_000] {
-            world.pass(passes);
-            pool.work();
-            assert_eq!(rt; world.slept(), Some(30_000));
-            world.heard(&[])?;
-        }
-        world.pass(29_999);
-        pool.work();
-        world.heard(&[])?;
-        world.pass(1);
-        pool.work();
-        world.heard(&[Release(0, 120_000, Idle), Ended(0), Shown(1), Acquire(1)])?;
-        equal((world.opened(), world.dropped()), (2, 1))
+        play.run("is slept=30000; pass 7000; use; forget; pass 23000; work; is slept=30000; hear")?;
+        play.run("pass 30000; work; is slept=30000; hear; pass 30000; work; is slept=30000; hear")?;
+        play.run("pass 29999; work; hear; pass 1; work; hear g0,120000,Idle e0 s1 a1")?;
+        play.run("is opened=2 dropped=1")
     })
 }
 
 // It is tried after each delay, and not before.
+#[test]
+fn a_worker_may_sleep_for_hours(rt: HostRuntime) -> Result<(), Fail> {
+    let mut patient = SMALL;
+    patient.retry_at_most = Some(2 * HOUR);
+    on_play(rt, &BY_HAND, patient, |mut play| {
+        play.run("connects -*; ask p")?;
+        (0..16).try_for_each(|_| play.run("work; pass 7200000"))?;
+        play.run("work; is slept=7200000")
+    })
+}
+
 #[test]
 fn an_opening_that_failed_is_tried_again_later(rt: HostRuntime) -> Result<(), Fail> {
     let rows = [(SMALL, [400, 800, 1_600]), (SMALL.retried(), [50; 3])];
@@ -166,16 +118,8 @@ fn an_opening_that_failed_is_tried_again_later(rt: HostRuntime) -> Result<(), Fa
 
 #[test]
 fn a_drain_may_take_hours(rt: HostRuntime) -> Result<(), Fail> {
-    on_lent(rt, &TASKS, SMALL, |world, pool, lent| {
-        let (mut late, mut patient) = (pool.drain(2 * HOUR)?, pool.drain(5_000 * HOUR)?);
-        world.pass(2 * HOUR - 1);
-        assert!(rt; !late.has_ended() && !patient.has_ended());
-        world.pass(1);
-        let status = pool.undrained(late)?;
-        assert_eq!(rt; (status.lent, status.closed, status.timeouts), (1, true, 0));
-        assert_eq!(rt; pool.status().timeouts, 0);
-        assert!(rt; !patient.has_ended());
-        drop(lent);
-        holds(pool.drained(patient)?.is_ok() && pool.drained(pool.drain(0)?)?.is_ok())
-    })
+    let row = "get a; drain d=7200000 e=18000000000; pass 7199999; waits d e; pass 1; undrained d
+        with lent=1 closed=1 timeouts=0; is timeouts=0; waits e; back a; drained e
+        drain f=0; drained f";
+    on_text(rt, &TASKS, SMALL, row)
 }

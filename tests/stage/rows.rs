@@ -11,6 +11,7 @@ pub(crate) use crate::kinds::{
 };
 pub(crate) use crate::manager::Sorry::{self, Check, Connect};
 pub(crate) use crate::manager::{Kept, KeptKind, Manager, Wire};
+pub(crate) use crate::play::{on_play, on_text, on_texts};
 pub(crate) use crate::script::Script;
 pub(crate) use crate::world::{Host, World, on_each};
 pub(crate) use r2d2::LendingOrder::{self, NewestFirst, OldestFirst};
@@ -198,13 +199,15 @@ impl<R: Host> Pool<R> {
         self.until(|_| self.world.connects.hung() == count)
     }
 
-    /// So many are lent, one after the other.
-    pub(crate) fn several(&self, count: u64) -> Result<Vec<Lent<R>>, Fail> {
-        let mut lent = Vec::new(self.world.rt.alloc());
-        for _ in 0..count {
-            lent.push(self.get()?)?;
-        }
-        Ok(lent)
+    /// A caller begins to wait in a thread, and has read the clock for it: at its start, five times
+    /// as it looks again if all are lent, at its take, and for the wait.
+    pub(crate) fn begun(&self, timeout: u64) -> Result<Get<R>, Fail> {
+        let (world, before) = (self.world, self.world.readings());
+        let looks_again = world.kind != Kind::InLine && self.status().lent > 0;
+        let get = self.begin(timeout)?;
+        let readings = if looks_again { 8 } else { 3 };
+        world.watch(|| world.readings() >= before + readings);
+        Ok(get)
     }
 
     /// Fails unless a call is lent a connection, and gives that back.
@@ -213,8 +216,8 @@ impl<R: Host> Pool<R> {
         Ok(())
     }
 
-    // Why a call ends that is lent none.
-    fn vain(&self, call: Get<R>, kind: ErrorKind) -> Result<Error, Fail> {
+    /// Why a call ends that is lent none.
+    pub(crate) fn vain(&self, call: Get<R>, kind: ErrorKind) -> Result<Error, Fail> {
         let error = self.end(call)?.err().ok_or("a connection")?;
         if error.kind() != kind {
             return Err(Fail::new(error));
@@ -242,10 +245,5 @@ impl<R: Host> Pool<R> {
     /// The same of one that is made now, and would be one more than may wait.
     pub(crate) fn refused(&self) -> Result<Error, Fail> {
         self.vain(self.begin(LONG)?, ErrorKind::Full)
-    }
-
-    /// What a drain is told that gives up.
-    pub(crate) fn undrained(&self, call: Drain<R>) -> Result<Status, Fail> {
-        Ok(self.drained(call)?.err().ok_or("drained")?)
     }
 }

@@ -23,34 +23,12 @@ fn a_pool_tells_when_it_was_made_and_its_moment(rt: HostRuntime) -> Result<(), F
 // Who waited for the first one as the pool was made is not counted.
 #[test]
 fn a_status_tells_what_there_is(rt: HostRuntime) -> Result<(), Fail> {
-    on_each(rt, &ALL, |world| {
-        let pool = Pool::built(rt, world, SMALL.most(3).idle(1))?;
-        let mut lent = pool.several(3)?;
-        let all_lent = Status {
-            max_size: 3,
-            wanted: 1,
-            connections: 3,
-            idle: 0,
-            lent: 3,
-            opening: 0,
-            waiting: 0,
-            waiting_since: None,
-            failed_openings: 0,
-            failed_checks: 0,
-            refused: 0,
-            timeouts: 0,
-            latest_failure: None,
-            closed: false,
-        };
-        assert_eq!(rt; pool.status(), all_lent);
-        drop(lent.remove(0));
-        let one_back = Status {
-            idle: 1,
-            lent: 2,
-            ..all_lent
-        };
-        equal(pool.status(), one_back)
-    })
+    let row = "built; get a b c; is max_size=3 wanted=1 connections=3 idle=0 lent=3 opening=0
+        is waiting=0 since=- failed_openings=0 failed_checks=0 refused=0 timeouts=0
+        is latest=- closed=0; back a; is max_size=3 wanted=1 connections=3 idle=1 lent=2 opening=0
+        is waiting=0 since=- failed_openings=0 failed_checks=0 refused=0 timeouts=0
+        is latest=- closed=0";
+    on_text(rt, &ALL, SMALL.most(3).idle(1), row)
 }
 
 // One at a time, and several at once; but neither one that does not wait, nor one that is served.
@@ -79,80 +57,33 @@ fn all_who_give_up_are_counted(rt: HostRuntime) -> Result<(), Fail> {
 
 #[test]
 fn somebody_waits_since_the_first_caller_came(rt: HostRuntime) -> Result<(), Fail> {
-    on_lent(rt, &ALL, SMALL, |world, pool, lent| {
-        let mut callers = Vec::new(rt.alloc());
-        assert_eq!(rt; pool.waits(), (0, None));
-        for (passes, waiting) in [(3_000, 1), (4_000, 2)] {
-            world.pass(passes);
-            callers.push(pool.begin(LONG)?)?;
-            assert_eq!(rt; pool.waits(), (waiting, Some(3_000)));
-        }
-        // One of them is served, and the other waits on.
-        world.pass(2_000);
-        drop(lent);
-        let lent = first_ended(world, rt, &mut callers, || ())??;
-        assert_eq!(rt; pool.waits(), (1, Some(3_000)));
-        drop(lent);
-        drop(first_ended(world, rt, &mut callers, || ())??);
-        assert_eq!(rt; pool.waits(), (0, None));
-        // That was a break.
-        let lent = pool.get()?;
-        world.pass(3_000);
-        let third = pool.begin(LONG)?;
-        assert_eq!(rt; pool.waits(), (1, Some(12_000)));
-        drop(lent);
-        pool.serves(third)?;
-        // So does a drain, since its call began.
-        let lent = pool.get()?;
-        world.pass(10_000);
-        let first = pool.drain(LONG)?;
-        assert_eq!(rt; pool.waits(), (1, Some(22_000)));
-        world.pass(10_000);
-        let second = pool.drain(LONG)?;
-        assert_eq!(rt; pool.waits(), (2, Some(22_000)));
-        drop(lent);
-        assert!(rt; pool.drained(first)?.is_ok() && pool.drained(second)?.is_ok());
-        equal(pool.waits(), (0, None))
-    })
+    // One of them is served, and the other waits on. Then there is a break. A drain waits since its
+    // call began, too.
+    let row = "get a; is waiting=0 since=-; pass 3000; ask p; is waiting=1 since=3000; pass 4000
+        ask q; is waiting=2 since=3000; pass 2000; back a; either p q; is waiting=1 since=3000
+        back p; serve q; is waiting=0 since=-
+        get a; pass 3000; ask p; is waiting=1 since=12000; back a; serve p
+        get a; pass 10000; drain d; is waiting=1 since=22000; pass 10000; drain e
+        is waiting=2 since=22000; back a; drained d e; is waiting=0 since=-";
+    on_text(rt, &ALL, SMALL, row)
 }
 
 // The first caller gives up once its time is over. Then the connection comes back broken: the
 // second one is woken, finds none, and orders one, which does not come.
 #[test]
 fn who_is_woken_in_vain_makes_no_break(rt: HostRuntime) -> Result<(), Fail> {
-    on_lent(rt, &ALL, SMALL, |world, pool, lent| {
-        world.pass(3_000);
-        let hasty = pool.begin(50)?;
-        world.pass(40);
-        let mut patient = pool.begin(LONG)?;
-        world.pass(3_000);
-        assert!(rt; pool.end(hasty)?.is_err());
-        assert_eq!(rt; pool.waits(), (1, Some(3_000)));
-        world.breaks.goes("-");
-        world.connects.goes("~+*");
-        drop(lent);
-        pool.until_beside(&mut patient, |status| status.opening == 1)?;
-        assert_eq!(rt; pool.waits(), (1, Some(3_000)));
-        pool.close();
-        assert!(rt; pool.end(patient)?.is_err());
-        equal(pool.waits(), (0, None))
-    })
+    let row = "get a; pass 3000; ask p=50; pass 40; ask q; pass 3000; late p
+        is waiting=1 since=3000; breaks -; connects ~+*; back a; beside q opening=1
+        is waiting=1 since=3000; close; closed q; is waiting=0 since=-";
+    on_text(rt, &ALL, SMALL, row)
 }
 
 // The check ends at 15 s.
 #[test]
 fn one_whose_check_failed_waits_since_its_call_began(rt: HostRuntime) -> Result<(), Fail> {
-    on_pools(rt, &ALL, SMALL.checked(), |world, pool| {
-        drop(pool.get()?);
-        world.pass(10_000);
-        world.checks.goes("5-");
-        world.connects.goes("~+*");
-        let caller = pool.begin(LONG)?;
-        assert_eq!(rt; world.checks.asked(), 2);
-        assert_eq!(rt; pool.waits(), (1, Some(10_000)));
-        pool.close();
-        pool.closed(caller).map(drop)
-    })
+    let row = "use; pass 10000; checks 5-; connects ~+*; ask p; is checks.asked=2
+        is waiting=1 since=10000; close; closed p";
+    on_text(rt, &ALL, SMALL.checked(), row)
 }
 
 /// Keeps to the default bodies.

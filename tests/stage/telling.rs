@@ -9,50 +9,28 @@ use std::sync::{Arc, Mutex, Wait};
 
 #[test]
 fn events(rt: HostRuntime) -> Result<(), Fail> {
-    on_pools(rt, &ALL, SMALL, |world, pool| {
-        world.breaks.goes("-*");
-        let lent = pool.get()?;
-        pool.gives_up(123)?;
-        world.heard(&[Shown(0), Acquire(0), Checkout(0, 0), Timeout(123)])?;
-        drop(lent);
-        world.heard(&[Checkin(0, 123), Release(0, 123, Broken), Ended(0)])?;
-        let _lent = pool.get()?;
-        world.heard(&[Shown(1), Acquire(1), Checkout(1, 0)])
-    })
+    let row = "breaks -*; get a; ask p=123; pass 123; late p; hear s0 a0 c0 T123; back a
+        hear r0,123 g0,123,Broken e0; get b; hear s1 a1 c1";
+    on_text(rt, &ALL, SMALL, row)
 }
 
 // Who finds none did not wait, and is told of nowhere. One that comes again is shown to nobody.
 #[test]
 fn event_on_try_get(rt: HostRuntime) -> Result<(), Fail> {
-    on_pools(rt, &ALL, full(1), |world, pool| {
-        let lent = pool.try_get()?.ok_or("none")?;
-        assert!(rt; lent.shown() == 1 && pool.try_get()?.is_none());
-        world.heard(&[Shown(0), Acquire(0), Checkout(0, 0)])?;
-        drop(lent);
-        assert_eq!(rt; pool.get()?.shown(), 1);
-        world.heard(&[Checkin(0, 0), Checkout(0, 0), Checkin(0, 0)])
-    })
+    let row = "find a; shown a=1; none; hear s0 a0 c0; back a; get b; shown b=1; back b
+        hear r0 c0 r0";
+    on_text(rt, &ALL, full(1), row)
 }
 
 // The first opening fails. What was set before the handlers still holds.
 #[test]
 fn they_may_be_set_in_any_order(rt: HostRuntime) -> Result<(), Fail> {
-    on_rows(rt, &ALL, [false, true], |world, is_backwards| {
-        let mut settings = SMALL.checked_after(1_000).retried();
-        settings.is_backwards = is_backwards;
-        let pool = Pool::of(rt, world, settings)?;
-        world.connects.goes("-");
-        let get = pool.begin(LONG)?;
-        pool.until(|status| status.failed_openings == 1)?;
-        world.heard(&[Failed(Connect(0))])?;
-        world.pass(50);
-        pool.serves(get)?;
-        world.heard(&[Shown(0), Acquire(0), Checkout(0, 50), Checkin(0, 0)])?;
-        assert_eq!(rt; world.checks.asked(), 0);
-        world.pass(1_000);
-        drop(pool.get()?);
-        equal(world.checks.asked(), 1)
-    })
+    let settings = SMALL.checked_after(1_000).retried();
+    let mut backwards = settings;
+    backwards.is_backwards = true;
+    let row = "connects -; ask p; until failed_openings=1; hear C0; pass 50; serve p
+        hear s0 a0 c0,50 r0; is checks.asked=0; pass 1000; use; is checks.asked=1";
+    on_texts(rt, &ALL, [(settings, ""), (backwards, "")], row)
 }
 
 // A check takes 2 s, and tells when the connection is lent: the moment after it.
@@ -72,81 +50,48 @@ fn a_quiet_pool_lends_after_the_check(rt: HostRuntime) -> Result<(), Fail> {
 // comes back broken is given to it.
 #[test]
 fn test_connection_customizer(rt: HostRuntime) -> Result<(), Fail> {
-    on_pools(rt, &ALL, SMALL.retried(), |world, pool| {
-        world.pass(7_000);
-        world.shows.goes("-");
-        let begun = world.sleeps_begun();
-        let get = pool.begin(LONG)?;
-        pool.until(|status| status.failed_openings == 1)?;
+    on_play(rt, &ALL, SMALL.retried(), |mut play| {
+        play.run("pass 7000; shows -")?;
+        let (world, begun) = (play.world, play.world.sleeps_begun());
+        play.run("ask p; until failed_openings=1")?;
         // The call sleeps until its end, and a worker in a thread until it tries again.
         world.watch(|| world.kind != Kind::Spawned || world.sleeps_begun() >= begun + 2);
-        world.heard(&[Shown(0), Failed(Sorry::Shown(0))])?;
-        world.watch(|| world.dropped() == 1);
-        assert_eq!(rt; (world.opened(), world.dropped()), (1, 1));
-        world.pass(50);
-        let lent = pool.end(get)??;
-        assert_eq!(rt; (lent.number(), lent.shown()), (1, 1));
-        world.heard(&[Shown(1), Acquire(0), Checkout(0, 50)])?;
-        world.breaks.goes("-");
-        drop(lent);
-        world.heard(&[Checkin(0, 0), Release(0, 0, Broken), Ended(1)])
+        play.run("hear s0 S0; watch dropped=1; is opened=1 dropped=1; pass 50; take p=1")?;
+        play.run("shown p=1; hear s1 a0 c0,50; breaks -; back p; hear r0 g0,0,Broken e1")
     })
 }
 
 #[test]
 fn who_gives_up_is_told_what_it_refused(rt: HostRuntime) -> Result<(), Fail> {
-    on_pools(rt, &ALL, SMALL, |world, pool| {
-        world.shows.goes("-*");
-        let get = pool.begin(50)?;
-        pool.until(|status| status.failed_openings == 1)?;
-        assert!(rt; world.once_told(2));
-        world.pass(50);
-        assert_eq!(rt; pool.late(get)?.message(), Some("shown 0"));
-        world.heard(&[Shown(0), Failed(Sorry::Shown(0)), Timeout(50)])
-    })
+    let row = "shows -*; ask p=50; until failed_openings=1; once s0 S0; pass 50; late p
+        says shown 0; hear s0 S0 T50";
+    on_text(rt, &ALL, SMALL, row)
 }
 
 #[test]
 fn a_customizer_that_fails_each_second_time(rt: HostRuntime) -> Result<(), Fail> {
-    on_each(rt, &ALL, |world| {
-        world.shows.goes("-+-+-+");
-        let pool = Pool::of(rt, world, full(3).retried().unawaited())?;
-        let failed = |number| Failed(Sorry::Shown(number));
-        pool.until(|status| status.failed_openings == 2)?;
-        world.heard(&[
-            Shown(0),
-            failed(0),
-            Shown(1),
-            Acquire(0),
-            Shown(2),
-            failed(2),
-        ])?;
-        world.pass(50);
-        pool.until(|status| status.failed_openings == 3)?;
-        world.heard(&[Shown(3), Acquire(1), Shown(4), failed(4)])?;
-        world.pass(50);
-        pool.until(|status| status.idle == 3)?;
-        world.heard(&[Shown(5), Acquire(2)])?;
-        assert_eq!(rt; (world.opened(), world.dropped()), (6, 3));
-        drop(pool);
-        holds(world.watch(|| world.ended() == 1 && world.dropped() == 6))
-    })
+    let row = "shows -+-+-+; made; until failed_openings=2; hear s0 S0 s1 a0 s2 S2; pass 50
+        until failed_openings=3; hear s3 a1 s4 S4; pass 50; until idle=3; hear s5 a2
+        is opened=6 dropped=3; vanish; watch ended=1 dropped=6";
+    on_text(rt, &ALL, full(3).retried().unawaited(), row)
+}
+
+// A handler is told of what failed once that is counted, and of what came before it is there.
+#[test]
+fn an_opening_is_told_of_between_its_steps(rt: HostRuntime) -> Result<(), Fail> {
+    let (failed, came) = ("-+/~+/failed_openings=1", "+/+~+/connections=0 opening=1");
+    let rows = [failed, came].map(|words| (SMALL.retried(), words));
+    let row = "connects $1; hears $2; ask p; watch hears.hung=1; is $3; waits p; go hears
+        pass 50; serve p";
+    on_texts(rt, &BESIDE, rows, row)
 }
 
 // All three are told at once, and each of them holds up its caller.
 #[test]
 fn a_slow_handler_holds_up_its_own_caller_alone(rt: HostRuntime) -> Result<(), Fail> {
-    on_pools(rt, &BESIDE, full(3), |world, pool| {
-        world.hears.goes("~+~+~+");
-        let mut calls = Vec::new(rt.alloc());
-        for hung in 1..4 {
-            calls.push(pool.begin(LONG)?)?;
-            assert_eq!(rt; world.hears.hung(), hung);
-        }
-        assert!(rt; !calls.iter_mut().any(|call| call.has_ended()));
-        world.let_go(&world.hears);
-        equal(pool.all_end(calls)?, 3)
-    })
+    let row = "hears ~+~+~+; ask p; is hears.hung=1; ask q; is hears.hung=2; ask r; is hears.hung=3
+        waits p q r; go hears; all p q r";
+    on_text(rt, &BESIDE, full(3), row)
 }
 
 /// A writer whose bytes others can read.

@@ -34,47 +34,22 @@ fn an_opening_is_tried_again_soon(rt: HostRuntime) -> Result<(), Fail> {
 // Another one is not opened in its place until then. A pool for tasks checks none here.
 #[test]
 fn try_get_looks_on_after_a_failed_check(rt: HostRuntime) -> Result<(), Fail> {
-    on_pools(rt, &THREADS, full(2).checked(), |world, pool| {
-        world.checks.goes("-");
-        world.connects.goes("~+*");
-        assert_eq!(rt; pool.try_get()?.ok_or("none")?.number(), 0);
-        equal(world.checks.asked(), 2)
-    })
+    let row = "checks -; connects ~+*; find a=0; is checks.asked=2";
+    on_text(rt, &THREADS, full(2).checked(), row)
 }
 
 // A detached connection failed no check, and the customizer refuses the one after it. Later what
 // comes back is broken, and the first opening in its place fails: twice.
 #[test]
 fn what_failed_is_counted(rt: HostRuntime) -> Result<(), Fail> {
-    on_pools(rt, &ALL, full(1).checked().retried(), |world, pool| {
-        assert_eq!(rt; pool.status().failed_openings, 0);
-        world.shows.goes("-");
-        drop(pool.get()?.detach());
-        pool.until(|status| status.failed_openings == 1)?;
-        world.pass(50);
-        pool.until(|status| status.idle == 1)?;
-        let status = pool.status();
-        assert_eq!(rt; (status.failed_openings, status.failed_checks), (1, 0));
-        world.checks.goes("-");
-        drop(pool.get()?);
-        let status = pool.status();
-        assert_eq!(rt; (status.failed_openings, status.failed_checks), (1, 1));
-        for (count, at) in [(2, 20_050), (3, 220_050)] {
-            let lent = pool.get()?;
-            world.pass(20_000);
-            world.breaks.goes("-");
-            world.connects.goes("-");
-            let failed = Some(length(at));
-            assert!(rt; pool.status().latest_failure < failed);
-            drop(lent);
-            pool.until(|status| status.failed_openings == count)?;
-            assert_eq!(rt; pool.status().latest_failure, failed);
-            world.pass(180_000);
-            pool.until(|status| status.idle == 1)?;
-            assert_eq!(rt; pool.status().latest_failure, failed);
-        }
-        Ok(())
-    })
+    let row = "is failed_openings=0; shows -; get a; detach a; shed; until failed_openings=1
+        pass 50; until idle=1; is failed_openings=1 failed_checks=0
+        checks -; use; is failed_openings=1 failed_checks=1
+        get a; pass 20000; breaks -; connects -; is latest=50; back a; until failed_openings=2
+        is latest=20050; pass 180000; until idle=1; is latest=20050
+        get a; pass 20000; breaks -; connects -; is latest=20050; back a; until failed_openings=3
+        is latest=220050; pass 180000; until idle=1; is latest=220050";
+    on_text(rt, &ALL, full(1).checked().retried(), row)
 }
 
 // A check begins at 20 s, and fails once it took its five seconds; the next is that of a new
@@ -82,22 +57,10 @@ fn what_failed_is_counted(rt: HostRuntime) -> Result<(), Fail> {
 // Later steps do not fail.
 #[test]
 fn a_status_tells_when_a_check_failed(rt: HostRuntime) -> Result<(), Fail> {
-    on_pools(rt, &ALL, full(1).checked().retried(), |world, pool| {
-        world.pass(1_000);
-        drop(pool.get()?);
-        assert_eq!(rt; pool.status().latest_failure, None);
-        world.pass(19_000);
-        world.checks.goes("5-");
-        let lent = pool.end(pool.begin_plainly()?)??;
-        assert_eq!(rt; (lent.number(), world.checks.asked()), (1, 3));
-        let status = pool.status();
-        assert_eq!(rt; (status.failed_openings, status.failed_checks), (0, 1));
-        assert_eq!(rt; status.latest_failure, Some(length(25_000)));
-        world.pass(75_000);
-        drop(lent);
-        drop(pool.get()?);
-        equal(pool.status().latest_failure, Some(length(25_000)))
-    })
+    let row = "pass 1000; use; is latest=-; pass 19000; checks 5-; ask p=own; take p=1
+        is checks.asked=3 failed_openings=0 failed_checks=1 latest=25000
+        pass 75000; back p; use; is latest=25000";
+    on_text(rt, &ALL, full(1).checked().retried(), row)
 }
 
 #[test]

@@ -59,87 +59,36 @@ fn unlocked_in_a_return_an_eviction_and_a_reap(rt: HostRuntime) -> Result<(), Fa
 
 #[test]
 fn a_failed_check_wakes_before_its_release(rt: HostRuntime) -> Result<(), Fail> {
-    let ends = [Release(0, 0, CheckFailed), Ended(0)];
-    on_rows(rt, &BESIDE, ends, |world, told| {
-        let pool = Pool::of(rt, world, SMALL.checked())?;
-        drop(pool.get()?);
-        world.checks.goes("~-");
-        let (late, other) = (pool.begin(LONG)?, pool.begin(LONG)?);
-        world.hang_at(told);
-        world.let_go(&world.checks);
-        assert!(rt; world.once_hung());
-        assert_eq!(rt; pool.end(other)??.number(), 1);
-        world.let_go(&world.tells);
-        pool.serves(late)
-    })
+    let row = "use; checks ~-; ask p q; hang $1; go checks; hung; serve q=1; go tells; serve p";
+    let one = SMALL.checked();
+    on_texts(rt, &BESIDE, [(one, "g0,0,CheckFailed"), (one, "e0")], row)
 }
 
 #[test]
 fn a_return_wakes_before_its_release(rt: HostRuntime) -> Result<(), Fail> {
-    let ends = [Release(0, 0, Broken), Ended(0)];
-    on_rows(rt, &BESIDE, ends, |world, told| {
-        let pool = Pool::of(rt, world, SMALL)?;
-        let lent = pool.get()?;
-        let other = pool.begin(LONG)?;
-        world.breaks.goes("-");
-        world.hang_at(told);
-        let back = thread::spawn(&rt, move || drop(lent))?;
-        assert!(rt; world.once_hung());
-        assert_eq!(rt; pool.end(other)??.number(), 1);
-        world.let_go(&world.tells);
-        back.join(&rt);
-        Ok(())
-    })
+    let row = "get a; ask p; breaks -; hang $1; away a; hung; serve p=1; go tells; join";
+    on_texts(rt, &BESIDE, [(SMALL, "g0,0,Broken"), (SMALL, "e0")], row)
 }
 
 // One of two workers hangs as it tells the error, so the other one has to try again.
 #[test]
 fn a_failed_opening_wakes_before_its_error_is_told(rt: HostRuntime) -> Result<(), Fail> {
-    on_pools(rt, &BESIDE, SMALL.workers(2).retried(), |world, pool| {
-        world.connects.goes("~-");
-        let mut get = pool.begin(LONG)?;
-        pool.until_opening(1)?;
-        world.hang_at(Failed(Connect(0)));
-        world.let_go(&world.connects);
-        assert!(rt; world.once_hung() && pool.ends_in_time(&mut get));
-        assert_eq!(rt; pool.end(get)??.number(), 0);
-        equal(world.connects.asked(), 2)
-    })
+    let row = "connects ~-; ask p; opening 1; hang C0; go connects; hung; in_time p; serve p=0
+        is connects.asked=2";
+    on_text(rt, &BESIDE, SMALL.workers(2).retried(), row)
 }
 
 #[test]
 fn an_eviction_wakes_before_its_releases(rt: HostRuntime) -> Result<(), Fail> {
-    let ends = [Release(0, 0, Evicted), Ended(0)];
-    on_rows(rt, &BESIDE, ends, |world, told| {
-        let pool = Pool::of(rt, world, full(1))?;
-        world.hang_at(told);
-        let eviction = pool.aside(move |calls| calls.evict(rt).ok())?;
-        assert!(rt; world.once_hung());
-        assert_eq!(rt; pool.get()?.number(), 1);
-        world.let_go(&world.tells);
-        assert_eq!(rt; eviction.join(&rt), Some(1));
-        Ok(())
-    })
+    let row = "hang $1; evicting 1; hung; use 1; go tells; join";
+    let one = full(1);
+    on_texts(rt, &BESIDE, [(one, "g0,0,Evicted"), (one, "e0")], row)
 }
 
 #[test]
 fn nobody_is_lent_what_is_still_told_of(rt: HostRuntime) -> Result<(), Fail> {
-    on_pools(rt, &BESIDE, SMALL, |world, pool| {
-        world.hang_at(Acquire(0));
-        let get = pool.begin(LONG)?;
-        assert!(rt; world.once_hung() && pool.try_get()?.is_none());
-        world.let_go(&world.tells);
-        let lent = pool.end(get)??;
-        world.heard(&[Shown(0), Acquire(0), Checkout(0, 0)])?;
-        world.hang_at(Checkin(0, 0));
-        let back = thread::spawn(&rt, move || drop(lent))?;
-        assert!(rt; world.once_hung() && pool.try_get()?.is_none());
-        let get = pool.begin(LONG)?;
-        // Its own return is to hang no more.
-        world.tells.goes("");
-        world.let_go(&world.tells);
-        back.join(&rt);
-        let _lent = pool.end(get)??;
-        world.heard(&[Checkin(0, 0), Checkout(0, 0)])
-    })
+    // Its own return is to hang no more.
+    let row = "hang a0; ask p; hung; none; go tells; take p; hear s0 a0 c0
+        hang r0; away p; hung; none; ask q; tells; go tells; join; take q; hear r0 c0";
+    on_text(rt, &BESIDE, SMALL, row)
 }

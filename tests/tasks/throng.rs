@@ -4,9 +4,9 @@
 use futures::future::{Pending, pending};
 use futures::task::{Context, Poll};
 use futures::{Future, ready};
-use r2d2::{ErrorKind, NopConnectionCustomizer, NopErrorHandler, NopEventHandler};
+use r2d2::ErrorKind;
 use r2d2_async::{
-    Builder, Drain, Get, Handlers, ManageConnection, Pool, PooledConnection, Timer, Work,
+    Builder, Drain, Get, ManageConnection, NoHandlers, PlainPool, PooledConnection, Timer, Work,
 };
 use std::alloc::{Alloc, AllocError, Global};
 use std::rt::Clock;
@@ -53,17 +53,20 @@ const EVERY: u64 = 20;
 
 const LAST: u64 = 400;
 
-#[derive(Drop)]
+/// The runtime, the timer and the manager of a pool: connections, openings and checks fail now and
+/// then, and take some polls.
+#[derive(Clone, Copy)]
 pub(crate) struct World {
     rt: HostRuntime,
-    counts: [AtomicU64; 17],
+    counts: &'static [AtomicU64; 17],
 }
 
 impl World {
-    /// It stays for as long as the program: so its tasks borrow nothing that ends.
-    pub(crate) fn new(rt: HostRuntime, seed: u64) -> Result<&'static World, AllocError> {
+    /// Its counts stay for as long as the program: so its tasks borrow nothing that ends.
+    pub(crate) fn new(rt: HostRuntime, seed: u64) -> Result<World, AllocError> {
         let counts = [(); 17].map(|()| AtomicU64::new(0));
-        let world = Box::leak(Box::new(rt.alloc(), World { rt, counts })?);
+        let counts = Box::leak(Box::new(rt.alloc(), counts)?);
+        let world = World { rt, counts };
         world.add_all(Count::Rolls, seed.wrapping_mul(0x5851_f42d_4c95_7f2d));
         Ok(world)
     }
@@ -79,6 +82,10 @@ impl World {
 
     fn add(&self, what: Count) -> u64 {
         self.add_all(what, 1)
+    }
+
+    fn add_if(&self, is_so: bool, what: Count) {
+        self.add_all(what, u64::from(is_so));
     }
 
     // The greatest one before.
@@ -98,16 +105,17 @@ impl World {
     fn is_one_in(&self, times: u64) -> bool {
         self.roll() % times == 0
     }
+
+    // That it fails, once in so many times.
+    fn fails_in(&self, times: u64) -> Result<(), fmt::Error> {
+        let is_well = !self.is_one_in(times);
+        is_well.then_some(()).ok_or(fmt::Error)
+    }
 }
 
-/// The runtime, the timer and the manager of a pool: connections, openings and checks fail now and
-/// then, and take some polls.
-#[derive(Clone, Copy)]
-pub(crate) struct Place(&'static World);
-
-impl Clock for Place {
+impl Clock for World {
     fn monotonic(&self) -> io::Result<Duration> {
-        Ok(Duration::from_millis(self.0.count(Count::Ticks)))
+        Ok(Duration::from_millis(self.count(Count::Ticks)))
     }
 
     fn since_1970(&self) -> io::Result<Duration> {
@@ -115,21 +123,21 @@ impl Clock for Place {
     }
 
     fn sleep(&self, duration: Duration) {
-        self.0.rt.sleep(duration)
+        self.rt.sleep(duration)
     }
 }
 
-impl Alloc for Place {
+impl Alloc for World {
     type A = Global;
 
     fn alloc(&self) -> Global {
-        self.0.rt.alloc()
+        self.rt.alloc()
     }
 }
 
 #[derive(Drop)]
 pub(crate) enum Nap {
-    Until(&'static World, u64),
+    Until(World, u64),
     Never(Pending<()>),
 }
 
@@ -145,27 +153,24 @@ impl Future for Nap {
     }
 }
 
-impl Timer for Place {
+impl Timer for World {
     type Sleep = Nap;
 
     fn sleep(&self, length: Duration) -> Nap {
-        if length.as_secs() < NEVER {
-            let now = self.0.count(Count::Ticks);
-            return Nap::Until(self.0, now.saturating_add(length.as_millis() as u64));
+        if length.as_secs() >= NEVER {
+            return Nap::Never(pending());
         }
-        Nap::Never(pending())
+        let now = self.count(Count::Ticks);
+        Nap::Until(*self, now.saturating_add(length.as_millis() as u64))
     }
 }
 
 /// A connection, and how many have it.
-pub(crate) struct Wire {
-    world: &'static World,
-    users: u64,
-}
+pub(crate) struct Wire(World, u64);
 
 impl Drop for Wire {
     fn drop(self) {
-        let Wire { world, users: _ } = self;
+        let Wire(world, _) = self;
         world.add_all(Count::Open, u64::MAX);
         world.add(Count::Dropped);
     }
@@ -185,83 +190,65 @@ impl Polls {
     }
 }
 
+/// An answer after so many polls.
 #[derive(Drop)]
-pub(crate) struct Opening(&'static World, Polls);
+pub(crate) struct Later<T>(Option<T>, Polls);
 
-impl Future for Opening {
-    type Output = Result<Wire, fmt::Error>;
+impl<T: Drop> Future for Later<T> {
+    type Output = T;
 
-    fn poll(&mut self, cx: &mut Context<'_>) -> Poll<Result<Wire, fmt::Error>> {
+    fn poll(&mut self, cx: &mut Context<'_>) -> Poll<T> {
         ready!(self.1.poll(cx));
-        let world = self.0;
-        if world.is_one_in(8) {
-            return Poll::Ready(Err(fmt::Error));
-        }
-        world.add(Count::Opened);
-        world.raise(Count::Most, world.add(Count::Open) + 1);
-        Poll::Ready(Ok(Wire { world, users: 0 }))
+        self.0.take().map_or_else(|| cx.yield_now(), Poll::Ready)
     }
 }
 
-#[derive(Drop)]
-pub(crate) struct Checking(Option<Wire>, Polls);
-
-impl Future for Checking {
-    type Output = (Wire, Result<(), fmt::Error>);
-
-    fn poll(&mut self, cx: &mut Context<'_>) -> Poll<(Wire, Result<(), fmt::Error>)> {
-        ready!(self.1.poll(cx));
-        let Some(wire) = self.0.take() else {
-            return cx.yield_now();
-        };
-        let is_unsound = wire.world.is_one_in(32);
-        Poll::Ready((wire, if is_unsound { Err(fmt::Error) } else { Ok(()) }))
-    }
-}
-
-impl ManageConnection for Place {
+impl ManageConnection for World {
     type Connection = Wire;
 
     type Error = fmt::Error;
 
     type Extension = ();
 
-    type Connect = Opening;
+    type Connect = Later<Result<Wire, fmt::Error>>;
 
-    type Check = Checking;
+    type Check = Later<(Wire, Result<(), fmt::Error>)>;
 
-    fn connect(&self) -> Opening {
-        Opening(self.0, Polls(self.0.roll() % 5))
+    fn connect(&self) -> Later<Result<Wire, fmt::Error>> {
+        let opened = self.fails_in(8).map(|()| {
+            self.add(Count::Opened);
+            self.raise(Count::Most, self.add(Count::Open) + 1);
+            Wire(*self, 0)
+        });
+        Later(Some(opened), Polls(self.roll() % 5))
     }
 
-    fn check(&self, wire: Wire) -> Checking {
-        Checking(Some(wire), Polls(self.0.roll() % 4))
+    fn check(&self, wire: Wire) -> Later<(Wire, Result<(), fmt::Error>)> {
+        Later(Some((wire, self.fails_in(32))), Polls(self.roll() % 4))
     }
 
     fn has_broken(&self, _wire: &mut Wire) -> bool {
-        self.0.is_one_in(64)
+        self.is_one_in(64)
     }
 }
 
-type Nobody = Handlers<NopErrorHandler, NopEventHandler, NopConnectionCustomizer>;
-
-type PoolOf = Pool<Place, Place, Nobody, Place>;
+type Lent = PooledConnection<World, World, NoHandlers, World>;
 
 /// A task that gets connections, and drops some of its calls before their end. It may evict or drain.
 #[derive(Drop)]
 pub(crate) struct Caller {
-    world: &'static World,
-    pool: PoolOf,
+    world: World,
+    pool: PlainPool<World, World, World>,
     rounds: u64,
-    get: Option<Get<Place, Place, Nobody, Place>>,
-    lent: Option<PooledConnection<Place, Place, Nobody, Place>>,
+    get: Option<Get<World, World, NoHandlers, World>>,
+    lent: Option<Lent>,
     // The number among those who came to stand in line.
     place: Option<u64>,
     // After how many polls it gives its call up, if it does.
     patience: Option<Polls>,
     hold: Polls,
     drains: bool,
-    drain: Option<Drain<Place, Place, Nobody, Place>>,
+    drain: Option<Drain<World, World, NoHandlers, World>>,
 }
 
 impl Caller {
@@ -271,36 +258,23 @@ impl Caller {
         self.place = None;
         self.hold = Polls(world.roll() % 4);
         self.patience = world.is_one_in(4).then(|| Polls(world.roll() % 7));
-        let begun = if world.is_one_in(16) {
-            self.pool
-                .get_timeout(Duration::from_millis(world.roll() % 500))
-        } else {
-            self.pool.get()
-        };
-        match begun {
-            Ok(get) => self.get = Some(get),
-            Err(_) => {
-                world.add(Count::Odd);
-            }
-        }
+        let is_short = world.is_one_in(16);
+        let length = is_short.then(|| Duration::from_millis(world.roll() % 500));
+        let begun = length.map_or_else(|| self.pool.get(), |length| self.pool.get_timeout(length));
+        self.get = begun.ok();
+        world.add_if(self.get.is_none(), Count::Odd);
     }
 
-    fn take(&mut self, mut lent: PooledConnection<Place, Place, Nobody, Place>) {
+    fn take(&mut self, mut lent: Lent) {
         let world = self.world;
-        if let Some(place) = self.place {
-            if world.raise(Count::Latest, place) > place {
-                world.add(Count::Passed);
-            }
-        }
-        lent.users += 1;
-        if lent.users > 1 {
-            world.add(Count::Twice);
-        }
+        let is_late = |place| world.raise(Count::Latest, place) > place;
+        world.add_if(self.place.is_some_and(is_late), Count::Passed);
+        lent.1 += 1;
+        world.add_if(lent.1 > 1, Count::Twice);
         self.lent = Some(lent);
         let served = world.add(Count::Served) + 1;
-        if served <= LAST && served % EVERY == 0 && self.pool.evict().is_err() {
-            world.add(Count::Odd);
-        }
+        let evicts = served <= LAST && served % EVERY == 0;
+        world.add_if(evicts && self.pool.evict().is_err(), Count::Odd);
         if served == LAST && self.drains {
             self.drain = self.pool.drain(Duration::from_secs(NEVER)).ok();
         }
@@ -308,23 +282,17 @@ impl Caller {
 
     // A poll of its call, unless it gives it up.
     fn wait(&mut self, cx: &mut Context<'_>) -> Poll<()> {
-        let world = self.world;
-        if self.get.is_some() && matches!(self.patience, Some(Polls(0))) {
-            self.get = None;
-            world.add(Count::Cancelled);
-        }
-        let Some(get) = &mut self.get else {
+        let (world, gives_up) = (self.world, matches!(self.patience, Some(Polls(0))));
+        world.add_if(self.get.is_some() && gives_up, Count::Cancelled);
+        let Some(mut get) = self.get.take().filter(|_| !gives_up) else {
             return Poll::Ready(());
         };
         match get.poll(cx) {
             Poll::Pending => {
-                if self.place.is_none() {
-                    self.place = Some(world.add(Count::Joined));
-                }
-                return match &mut self.patience {
-                    Some(polls) => polls.poll(cx),
-                    None => Poll::Pending,
-                };
+                self.get = Some(get);
+                self.place = self.place.or_else(|| Some(world.add(Count::Joined)));
+                let patience = self.patience.as_mut();
+                return patience.map_or(Poll::Pending, |polls| polls.poll(cx));
             }
             Poll::Ready(Ok(lent)) => self.take(lent),
             Poll::Ready(Err(error)) => {
@@ -336,7 +304,6 @@ impl Caller {
                 });
             }
         }
-        self.get = None;
         Poll::Ready(())
     }
 
@@ -346,11 +313,7 @@ impl Caller {
         if self.get.is_none() && self.lent.is_none() {
             if let Some(drain) = &mut self.drain {
                 let is_drained = ready!(drain.poll(cx)).is_ok();
-                world.add(if is_drained {
-                    Count::Drained
-                } else {
-                    Count::Odd
-                });
+                world.add([Count::Odd, Count::Drained][usize::from(is_drained)]);
                 return Poll::Ready(());
             }
             if self.rounds == 0 {
@@ -363,7 +326,7 @@ impl Caller {
             ready!(self.hold.poll(cx));
         }
         if let Some(mut lent) = self.lent.take() {
-            lent.users -= 1;
+            lent.1 -= 1;
             if world.is_one_in(16) {
                 drop(PooledConnection::detach(lent));
                 world.add(Count::Detached);
@@ -376,7 +339,7 @@ impl Caller {
 /// Who is spawned.
 #[derive(Drop)]
 pub(crate) enum Task {
-    Worker(Work<Place, Place, Nobody, Place>),
+    Worker(Work<World, World, NoHandlers, World>),
     Caller(Caller),
 }
 
@@ -393,16 +356,15 @@ impl Future for Task {
 
 /// Three workers, and so many callers, each for two rounds.
 pub(crate) fn throng(
-    world: &'static World,
+    world: World,
     settings: Builder,
     callers: u64,
     drains: bool,
 ) -> Result<Vec<Task>, Fail> {
-    let place = Place(world);
     let pool = settings
         .connection_timeout(Duration::from_secs(NEVER))
         .retry_at_most(Duration::from_millis(40))
-        .build(place, place, place)?;
+        .build(world, world, world)?;
     let mut tasks = Vec::new(world.rt.alloc());
     for _ in 0..3 {
         tasks.push(Task::Worker(pool.work()?))?;

@@ -9,6 +9,8 @@ mod good;
 mod kinds;
 mod manager;
 mod measured;
+mod play;
+mod rows;
 mod script;
 mod service;
 mod stops;

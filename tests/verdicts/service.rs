@@ -13,37 +13,28 @@ use std::test::Fail;
 use std::time::Duration;
 
 /// How a call goes.
-#[derive(Clone, Copy)]
+#[derive(Clone, Copy, Default)]
 pub(crate) struct Call {
-    /// For how many milliseconds it waits at most.
-    pub(crate) patience: u64,
-    /// For how many it keeps what it is lent; None: it never gives it back.
-    pub(crate) holds: Option<u64>,
+    // For how many milliseconds it waits at most.
+    patience: u64,
+    // For how many it keeps what it is lent; None: it never gives it back.
+    holds: Option<u64>,
     /// How often it calls again, where it failed.
     pub(crate) retries: u32,
 }
-
-impl Call {
-    /// One that waits for so many milliseconds, and holds what it is lent for so many.
-    pub(crate) fn of(patience: u64, holds: u64) -> Call {
-        Call {
-            patience,
-            holds: Some(holds),
-            retries: 0,
-        }
-    }
-}
-
-/// Calls one after the other: the milliseconds between two looks, at how many one comes, and how.
-pub(crate) type Load = (u64, u64, Call);
 
 /// A service, and what was said of its pool so far.
 #[derive(Drop)]
 pub(crate) struct Service<R: Host> {
     rt: R,
-    pub(crate) world: &'static World,
-    pub(crate) pool: Pool<R>,
+    world: &'static World,
+    settings: Settings,
+    pool: Pool<R>,
     metrics: Measure<R>,
+    /// How calls go that come now.
+    pub(crate) call: Call,
+    // How many milliseconds there are between two looks, and at how many one call comes.
+    pace: (u64, u64),
     callers: Vec<(Call, Get<R>)>,
     // What is lent, and until which moment.
     held: Vec<(Lent<R>, Option<u64>)>,
@@ -52,98 +43,116 @@ pub(crate) struct Service<R: Host> {
     failures: Vec<Duration>,
     // What callers had met up to the reports so far, as `pool-audit` keeps it.
     history: Vec<reports::Calls>,
-    // What tells its row from others: how long callers wait, by how much lives differ, whether the
-    // idle ones are distrusted, the room of the journal, and at how many looks a call comes.
-    row: (u64, Option<u64>, bool, usize, u64),
-}
-
-/// A world of its own for a service.
-pub(crate) fn world(rt: HostRuntime) -> Result<&'static World, AllocError> {
-    World::new(rt, Kind::Polled)
 }
 
 impl<R: Host + Abort> Service<R> {
     /// Over a pool of this size, with room for so many records, and with a change of its settings.
     pub(crate) fn new<F: FnOnce(&mut Settings)>(
         rt: R,
-        world: &'static World,
         (size, room): (u32, usize),
         change: F,
     ) -> Result<Service<R>, Fail> {
+        let world = World::new(rt.host(), Kind::Polled)?;
         let metrics = world.measure(rt, size, NopErrorHandler)?;
         world.connects.goes("5~+*");
-        let mut row = (0, None, false, room, 0);
-        let pool = Pool::new(rt, world, |own| {
+        let settings = Settings::small(|own| {
             own.sized(size, size);
             own.workers = 4;
-            own.is_unchecked = true;
-            own.is_checked = true;
-            own.max_lifetime = Some(1_800_000);
-            own.idle_timeout = Some(600_000);
+            (own.is_unchecked, own.is_checked) = (true, true);
+            (own.max_lifetime, own.idle_timeout) = (Some(1_800_000), Some(600_000));
             own.journal_room = room;
             change(own);
-            let (jitter, distrusts) = (own.lifetime_jitter, own.distrust_idle);
-            row = (own.connection_timeout, jitter, distrusts, room, 0);
-        })?;
+        });
         Ok(Service {
             rt,
             world,
-            pool,
+            settings,
+            pool: Pool::of(rt, world, settings)?,
             metrics,
+            call: Call::default(),
+            pace: (1, 1),
             callers: Vec::new(rt.alloc()),
             held: Vec::new(rt.alloc()),
             served: 0,
             failures: Vec::new(rt.alloc()),
             history: Vec::new(rt.alloc()),
-            row,
         })
     }
 
-    /// The server goes down: what it had is lost, and it refuses what comes.
-    pub(crate) fn go_down(&self) {
-        self.world.lose_all();
-        self.world.connects.goes("-*");
-    }
-
-    pub(crate) fn call(&mut self, call: Call) -> Result<(), Fail> {
-        let get = self.pool.comes(call.patience)?;
-        Ok(self.callers.push((call, get))?)
-    }
-
-    /// So many calls at once, and then so many milliseconds without one.
-    pub(crate) fn crowd(&mut self, calls: (u64, Call), rest: (u64, u64)) -> Result<(), Fail> {
-        for _ in 0..calls.0 {
-            self.call(calls.1)?;
-        }
-        self.rest(rest.0, rest.1)
-    }
-
-    // What comes of the next milliseconds.
-    fn pass(&mut self, milliseconds: u64) -> Result<(), Fail> {
-        self.world.pass(milliseconds);
-        let (now, held) = (self.world.now(), &mut self.held);
-        held.retain(|(_, until)| until.is_none_or(|until| now < until));
-        self.pool.work();
-        self.answer()
-    }
-
-    /// So many milliseconds of this load.
-    pub(crate) fn go_on(&mut self, load: Load, milliseconds: u64) -> Result<(), Fail> {
-        let (tick, every, call) = load;
-        self.row.4 = every;
-        for turn in 0..milliseconds / tick {
-            if turn % every == 0 {
-                self.call(call)?;
+    /// Plays a script: after a semicolon its next part, and the steps of one as often as its end
+    /// says. They are
+    ///
+    /// - `each 500 2 50 9`: at each second look, which is made every 500 ms, comes a call from now
+    ///   on, which waits for 50 ms and holds what it is lent for 9; `-` stands for as long as the
+    ///   pool says, and for ever;
+    /// - `go 90` and `rest 10 90`: so many milliseconds with such calls, or none, with a look every
+    ///   10 ms;
+    /// - `crowd 8`: so many calls at once;
+    /// - `says This|That`: one of these is what a report says first that is made now; `only This`:
+    ///   it says nothing else; `report` makes one;
+    /// - `connects -*`, `checks -*` and `breaks -*`: the server does so from now on;
+    /// - `lose`: it loses what it had; `evict`: the pool closes what it has.
+    pub(crate) fn plays(&mut self, script: &'static str) -> Result<(), Fail> {
+        for part in script.split("; ") {
+            let (steps, times) = part.split_once(" x").unwrap_or((part, "1"));
+            for _ in 0..times.parse::<u32>()? {
+                for step in steps.split(", ") {
+                    self.step(step)?;
+                }
             }
-            self.pass(tick)?;
         }
         Ok(())
     }
 
-    /// So many milliseconds in which nobody calls.
-    pub(crate) fn rest(&mut self, tick: u64, milliseconds: u64) -> Result<(), Fail> {
-        for _ in 0..milliseconds / tick {
-            self.pass(tick)?;
+    fn step(&mut self, step: &'static str) -> Result<(), Fail> {
+        let (verb, words) = step.split_once(' ').unwrap_or((step, ""));
+        let mut numbers = words.split(' ').map(|word| word.parse::<u64>().ok());
+        let mut next = || numbers.next().flatten();
+        let (first, second) = (next().unwrap_or(0), next().unwrap_or(1));
+        let (call, pace) = (self.call, self.pace);
+        match verb {
+            "each" => {
+                self.pace = (first, second);
+                self.call.patience = next().unwrap_or(self.settings.connection_timeout);
+                self.call.holds = next();
+            }
+            "go" => self.look(first, pace.0, Some(pace.1))?,
+            "rest" => self.look(second, first, None)?,
+            "crowd" => (0..first).try_for_each(|_| self.ask(call))?,
+            "says" => drop(self.says(words)?),
+            "only" => {
+                let (rt, said) = (self.rt, self.says(words)?);
+                assert_eq!(rt; said.concerns().iter().flatten().count(), 1);
+            }
+            "report" => drop(self.report()?),
+            "connects" => self.world.connects.goes(words),
+            "checks" => self.world.checks.goes(words),
+            "breaks" => self.world.breaks.goes(words),
+            "lose" => self.world.lose_all(),
+            "evict" => drop(self.pool.evict()?),
+            _ => return Err(Fail::from("no step")),
+        }
+        Ok(())
+    }
+
+    fn ask(&mut self, call: Call) -> Result<(), Fail> {
+        let get = self.pool.comes(call.patience)?;
+        Ok(self.callers.push((call, get))?)
+    }
+
+    // What comes of the next milliseconds, at looks so many of them apart, and of a call at each so
+    // many of these.
+    fn look(&mut self, length: u64, tick: u64, every: Option<u64>) -> Result<(), Fail> {
+        let call = self.call;
+        for turn in 0..length / tick {
+            if every.is_some_and(|every| turn % every == 0) {
+                self.ask(call)?;
+            }
+            self.world.pass(tick);
+            let (now, held) = (self.world.now(), &mut self.held);
+            held.retain(|(_, until)| until.is_none_or(|until| now < until));
+            self.pool.work();
+            self.answer()?;
         }
         Ok(())
     }
@@ -174,40 +183,33 @@ impl<R: Host + Abort> Service<R> {
     }
 
     fn refuse(&mut self, kind: ErrorKind, call: Call) -> Result<(), Fail> {
-        if !matches!(kind, ErrorKind::Timeout | ErrorKind::Full) {
-            return Err(Fail::from("another error"));
-        }
+        let rt = self.rt;
+        assert!(rt; matches!(kind, ErrorKind::Timeout | ErrorKind::Full), "{kind:?}");
         self.failures.push(self.moment())?;
         if call.retries == 0 {
             return Ok(());
         }
         let retries = call.retries - 1;
-        self.call(Call { retries, ..call })
+        self.ask(Call { retries, ..call })
     }
 
     /// What a report that is made now says, after it was written and read again. It fails where the
     /// report is unsound, or where all is well though a caller failed.
     pub(crate) fn report(&mut self) -> Result<Summary, Fail> {
-        let (alloc, Calls::Task(pool)) = (self.rt.alloc(), &self.pool.calls) else {
+        let (rt, Calls::Task(pool)) = (self.rt, &self.pool.calls) else {
             return Err(Fail::from("no pool for tasks"));
         };
-        let text = report_of(alloc, "pool", pool, &self.metrics)?;
-        let written = from_json_of_pool(alloc, text.as_str())?;
+        let text = report_of(rt.alloc(), "pool", pool, &self.metrics)?;
+        let written = from_json_of_pool(rt.alloc(), text.as_str())?;
         let (report, history) = (&written.report, &mut self.history);
-        if audit(alloc, report)? != Verdict::Sound {
-            return Err(Fail::from("an unsound report"));
-        }
+        assert_eq!(rt; audit(rt.alloc(), report)?, Verdict::Sound);
         let earlier = reports::Calls::before(history.as_slice(), report.base.at);
-        let said = summarize(alloc, report, &written.origin(), earlier.as_ref())?;
+        let said = summarize(rt.alloc(), report, &written.origin(), earlier.as_ref())?;
         if let Some(status) = &written.status {
             history.push(reports::Calls::of(report.takes, status, said.until))?;
         }
-        if report.takes < self.served {
-            return Err(Fail::from("fewer takes than were served"));
-        }
-        if self.failed_in(&said) && said.state() == State::Well {
-            return Err(Fail::from("all is well, though callers failed"));
-        }
+        assert!(rt; report.takes >= self.served, "fewer takes than were served");
+        assert!(rt; !self.failed_in(&said) || said.state() != State::Well, "{said:?}");
         Ok(said)
     }
 
@@ -218,27 +220,13 @@ impl<R: Host + Abort> Service<R> {
         failures.any(|at| since < *at && *at <= said.until)
     }
 
-    /// The same after so many milliseconds of this load.
-    pub(crate) fn after(&mut self, load: Load, milliseconds: u64) -> Result<Summary, Fail> {
-        self.go_on(load, milliseconds)?;
-        self.report()
-    }
-
-    /// A report that is made now says this first.
-    pub(crate) fn says(&mut self, first: &str) -> Result<Summary, Fail> {
+    // What a report says that is made now, which begins with one of these.
+    fn says(&mut self, firsts: &str) -> Result<Summary, Fail> {
         let (rt, said) = (self.rt, self.report()?);
-        let (row, at, told) = (self.row, self.moment(), first_of(rt.alloc(), &said)?);
-        assert_eq!(rt; told.as_str(), first, "{row:?} at {at:?}");
+        let (settings, at, told) = (self.settings, self.moment(), first_of(rt.alloc(), &said)?);
+        let is_so = firsts.split('|').any(|first| first == told.as_str());
+        assert!(rt; is_so, "{told} is not {firsts}: {settings:?} at {at:?}");
         Ok(said)
-    }
-
-    /// So many reports say this first, each after so many milliseconds of this load.
-    pub(crate) fn says_each(&mut self, said: (&str, u64), of: (Load, u64)) -> Result<(), Fail> {
-        for _ in 0..said.1 {
-            self.go_on(of.0, of.1)?;
-            self.says(said.0)?;
-        }
-        Ok(())
     }
 }
 

@@ -167,4 +167,9 @@ impl<R: Host> Pool<R> {
         let first = self.hands.lock(&self.rt).remove(0);
         drop(first);
     }
+
+    /// All of them are.
+    pub(crate) fn dismiss_all(&self) {
+        self.hands.lock(&self.rt).clear();
+    }
 }

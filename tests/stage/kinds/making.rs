@@ -244,18 +244,19 @@ impl<R: Host> Pool<R> {
     /// Drops it, and waits until its workers ended, and its manager and handlers with them.
     pub(crate) fn ended(mut self) -> Result<(), Fail> {
         drop(self.go());
+        self.at_end()
+    }
+
+    /// The same of a pool that is gone.
+    pub(crate) fn at_end(&mut self) -> Result<(), Fail> {
         self.work();
-        let Pool {
-            world,
-            rt,
-            hands,
-            ..
-        } = self;
-        if !hands.lock(&rt).iter().all(|hand| hand.output.is_some()) {
+        let mut hands = self.hands.lock(&self.rt);
+        if !hands.iter().all(|hand| hand.output.is_some()) {
             return Err(Fail::from("a worker goes on"));
         }
+        hands.clear();
         drop(hands);
-        if !world.once_ended() {
+        if !self.world.once_ended() {
             return Err(Fail::from("something is left of the pool"));
         }
         Ok(())
