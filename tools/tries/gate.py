@@ -107,6 +107,7 @@ def try_what_is_kept():
     prove.Part.is_anew = True
     anew = prove.proofs(["r2d2_core"]).words
     check("--anew is handed to the toolchain, and only then", "--anew" in anew and "--anew" not in words, (words, anew))
+    try_what_is_named(prove)
     with contextlib.redirect_stdout(io.StringIO()) as said:
         above = prove.within_budget([part], 1e-6)
     check("a proof that has no figure yet fails nothing", above.failed == 0 and "| crate mid | 3.0 |" in said.getvalue(), said.getvalue())
@@ -114,6 +115,22 @@ def try_what_is_kept():
     with contextlib.redirect_stdout(io.StringIO()):
         above = prove.within_budget([part], 1.0)
     check("one above its budget fails", (above.passed, above.failed) == (0, 1), (above.passed, above.failed))
+
+
+def try_what_is_named(prove):
+    """The crates that each run of the toolchain's gate is given: in CI it takes none."""
+    def named(is_anew, in_ci):
+        prove.Part.is_anew = is_anew
+        os.environ["CI"] = "true" if in_ci else "false"
+        return [[it for it in part.words if it in prove.crates()] for part in prove.all_proofs("pool_steps")]
+
+    was = os.environ.get("CI")
+    check("the longest chain comes first", named(False, False) == [["r2d2_async"], ["pool_steps"]])
+    check("with --anew all is one run", named(True, False) == [["r2d2_async", "pool_steps"]])
+    check("in CI it is one of all crates", named(False, True) == named(True, True) == [[]])
+    del os.environ["CI"]
+    if was is not None:
+        os.environ["CI"] = was
 
 
 def types_of(module, budget):
