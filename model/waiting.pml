@@ -1,5 +1,5 @@
-/* Who waits in a pool, and who wakes whom: the code of crates/r2d2/src/pool, as Spin can look at all of its
-   interleavings. Each step names the function that it stands for. `tools/model` runs it, over a table of sizes and
+/* Who waits in a pool, and who wakes whom: the code of crates/r2d2 and crates/pool_state, as Spin can look at all
+   of its interleavings. Each step names the function that it stands for. `tools/model` runs it, over a table of sizes and
    with each of the wrong bodies that stand here as switches, which it has to find.
 
    Spin finds no state

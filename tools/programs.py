@@ -222,7 +222,7 @@ def pool_steps(script):
 
 def examples(script):
     """The program of examples, for a script of this name."""
-    return Program(script, "examples", ["r2d2_core", "r2d2", "pool_reports", "pool_lines", "pool_metrics"], b"")
+    return Program(script, "examples", ["r2d2_core", "pool_state", "r2d2", "pool_reports", "pool_lines", "pool_metrics"], b"")
 
 
 def raise_ended(number, _):

@@ -9,60 +9,24 @@ use std::sync::atomic::{AtomicU64, Ordering};
 use std::test::Fail;
 use std::time::Duration;
 
-/// Opens numbers, and always can.
-#[derive(Drop)]
-pub(crate) struct Numbers;
-
-impl ManageConnection for Numbers {
-    type Connection = u32;
-
-    type Error = &'static str;
-
-    type Extension = ();
-
-    fn connect(&self) -> Result<u32, &'static str> {
-        Ok(7)
-    }
-
-    fn is_valid(&self, _connection: &mut u32) -> Result<(), &'static str> {
-        Ok(())
-    }
-
-    fn has_broken(&self, _connection: &mut u32) -> bool {
-        false
-    }
-}
-
-/// Keeps to the default bodies.
-#[derive(Debug, Drop)]
-struct Listener {
-    name: char,
-}
-
-impl HandleEvent for Listener {}
-
-impl CustomizeConnection<u32, &'static str> for Listener {}
-
 /// Counts what is released, and keeps to the other default bodies.
 #[derive(Debug, Drop)]
-struct Releases {
-    seen: AtomicU64,
-}
+struct Releases(AtomicU64);
 
 impl HandleEvent for Releases {
     fn handle_release(&self, _event: ReleaseEvent) {
-        self.seen.fetch_add(1, Ordering::SeqCst);
+        self.0.fetch_add(1, Ordering::SeqCst);
     }
 }
 
+impl CustomizeConnection<u32, &'static str> for Releases {}
+
 #[test]
 fn events_and_what_does_nothing(rt: HostRuntime) -> Result<(), Fail> {
-    let acquire = AcquireEvent { id: 1 };
+    let acquire = AcquireEvent::of(1);
     let release = ReleaseEvent::of(2, Duration::from_millis(1500), ReleaseReason::Idle);
     let checkout = CheckoutEvent::of(3, Duration::from_millis(7), Duration::from_millis(12));
-    let timeout = TimeoutEvent {
-        timeout: Duration::from_millis(123),
-    };
+    let timeout = TimeoutEvent::of(Duration::from_millis(123));
     let checkin = CheckinEvent::of(4, Duration::from_secs(3), Duration::from_secs(5));
     let shown = format!(in rt.alloc();
         "{acquire:?} {release:?} {checkout:?} {timeout:?} {checkin:?}"
@@ -70,24 +34,20 @@ fn events_and_what_does_nothing(rt: HostRuntime) -> Result<(), Fail> {
     assert_eq!(rt;
         shown.as_str(),
         "AcquireEvent { id: 1 } ReleaseEvent { id: 2, age: 1.5s, reason: Idle } CheckoutEvent { \
-         id: 3, duration: 5ms } TimeoutEvent { timeout: 123ms } CheckinEvent { id: 4, duration: 2s }"
+        id: 3, duration: 5ms } TimeoutEvent { timeout: 123ms } CheckinEvent { id: 4, duration: 2s }"
     );
-    let releases = Releases {
-        seen: AtomicU64::new(0),
-    };
-    releases.handle_checkin(CheckinEvent::of(4, Duration::ZERO, Duration::ZERO));
-    assert_eq!(rt; releases.seen.load(Ordering::SeqCst), 0);
-    let listener = Listener { name: 'v' };
-    listener.handle_acquire(acquire);
-    listener.handle_release(release);
-    listener.handle_checkout(checkout);
-    listener.handle_timeout(timeout);
-    listener.handle_checkin(checkin);
+    let releases = Releases(AtomicU64::new(0));
+    releases.handle_acquire(acquire);
+    releases.handle_checkout(checkout);
+    releases.handle_timeout(timeout);
+    releases.handle_checkin(checkin);
+    assert_eq!(rt; releases.0.load(Ordering::SeqCst), 0);
+    NopEventHandler.handle_release(release);
 
-    let mut connection = Numbers.connect()?;
-    assert_eq!(rt; listener.on_acquire(&mut connection), Ok(()));
+    let mut connection = 7;
+    assert_eq!(rt; releases.on_acquire(&mut connection), Ok(()));
     assert_eq!(rt; connection, 7);
-    listener.on_release(connection);
+    releases.on_release(connection);
     NopErrorHandler.handle_error("blammo");
     Ok(())
 }
@@ -114,32 +74,25 @@ fn both_lent() -> Status {
 
 #[test]
 fn error_texts(rt: HostRuntime) -> Result<(), Fail> {
-    let waited = Duration::from_secs(6);
-    let plain = Error::timeout(rt.alloc(), None, both_lent(), waited, None);
-    assert_eq!(rt;
-        plain.to_string(rt.alloc())?.as_str(),
-        "timed out waiting for connection"
-    );
-    let text = String::from_str(rt.alloc(), "blammo")?;
-    let told = Error::timeout(rt.alloc(), Some(text), both_lent(), waited, Some(2));
-    assert_eq!(rt;
-        told.to_string(rt.alloc())?.as_str(),
-        "timed out waiting for connection: blammo"
-    );
-    assert_eq!(rt; told.message(), Some("blammo"));
-    assert_eq!(rt; (told.status(), told.waited()), (Some(both_lent()), Some(waited)));
-    assert_eq!(rt; (told.ahead(), plain.ahead()), (Some(2), None));
+    let (alloc, waited) = (rt.alloc(), Duration::from_secs(6));
+    let plain = Error::timeout(alloc, None, both_lent(), waited, None);
+    let text = String::from_str(alloc, "blammo")?;
+    let told = Error::timeout(alloc, Some(text), both_lent(), waited, Some(2));
     let memory = Error::memory();
+    for (error, text) in [
+        (&plain, "timed out waiting for connection"),
+        (&told, "timed out waiting for connection: blammo"),
+        (&memory, "out of memory"),
+        (&Error::threads(), "a worker could not be started"),
+        (&Error::closed(), "the pool is closed"),
+        (&Error::full(), "too many callers are waiting"),
+    ] {
+        assert_eq!(rt; error.to_string(alloc)?.as_str(), text);
+    }
+    assert_eq!(rt; (told.status(), told.waited()), (Some(both_lent()), Some(waited)));
+    assert_eq!(rt; (told.message(), told.ahead(), plain.ahead()), (Some("blammo"), Some(2), None));
     assert_eq!(rt; (memory.status(), memory.waited()), (None, None));
-    assert_eq!(rt;
-        Error::memory().to_string(rt.alloc())?.as_str(),
-        "out of memory"
-    );
-    assert_eq!(rt;
-        Error::threads().to_string(rt.alloc())?.as_str(),
-        "a worker could not be started"
-    );
-    let shown = format!(in rt.alloc(); "{told:?} {:?}", Error::memory())?;
+    let shown = format!(in alloc; "{told:?} {memory:?}")?;
     assert_eq!(rt;
         shown.as_str(),
         "Error { kind: Timeout, message: Some(\"blammo\") } Error { kind: Memory, message: None }"

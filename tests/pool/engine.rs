@@ -1,8 +1,10 @@
 // Each call beside the book's own step on a second book, and what opening calls, of which no clause
 // can speak.
 
-use crate::managers::{Blammo, Sevens};
-use pairs::{Call, Stage, row};
+use crate::surface::user_types::{Blammo, Numbers};
+use pairs::Call::{Failed, GiveBack, GiveBackBroken, Lend, LendOrOrder, Opened, Sweep, Unsound};
+use pairs::Stage::{Idle, Lent, Numbered, Opening};
+use pairs::{Pair, shown};
 use r2d2::engine::{Wakes, open};
 use r2d2::{CustomizeConnection, NopConnectionCustomizer};
 use r2d2_core::{LendingOrder, LimitSettings, Limits};
@@ -11,8 +13,28 @@ use std::time::Duration;
 
 mod pairs;
 
+const NOBODY: Wakes = Wakes {
+    caller: false,
+    workers: false,
+};
+
+const CALLER: Wakes = Wakes {
+    caller: true,
+    workers: false,
+};
+
+const WORKERS: Wakes = Wakes {
+    caller: false,
+    workers: true,
+};
+
+const BOTH: Wakes = Wakes {
+    caller: true,
+    workers: true,
+};
+
 /// Limits of a core: no age is limited, and each other length of time is a second.
-pub(crate) fn limits_of(max_size: u32, min_idle: Option<u32>) -> Option<Limits> {
+pub(crate) fn limits_of(max_size: u32, min_idle: Option<u32>) -> Result<Limits, Fail> {
     let second = Duration::from_secs(1);
     let limits = LimitSettings {
         max_size,
@@ -23,116 +45,52 @@ pub(crate) fn limits_of(max_size: u32, min_idle: Option<u32>) -> Option<Limits> 
         reap_every: second,
         order: LendingOrder::NewestFirst,
     };
-    limits.limits()
+    Ok(limits.limits().ok_or("limits")?)
 }
 
-/// Adds two.
+/// Adds so many, or turns each connection away.
 #[derive(Debug, Drop)]
-struct Raises;
+struct Adds(Result<u32, Blammo>);
 
-impl CustomizeConnection<u32, Blammo> for Raises {
+impl CustomizeConnection<u32, Blammo> for Adds {
     fn on_acquire(&self, connection: &mut u32) -> Result<(), Blammo> {
-        *connection = connection.wrapping_add(2);
+        *connection += self.0?;
         Ok(())
     }
 }
 
-/// Turns each connection away.
-#[derive(Debug, Drop)]
-struct TurnsAway;
-
-impl CustomizeConnection<u32, Blammo> for TurnsAway {
-    fn on_acquire(&self, _connection: &mut u32) -> Result<(), Blammo> {
-        Err(Blammo)
-    }
-}
-
-fn wakes(caller: bool, workers: bool) -> Wakes {
-    Wakes { caller, workers }
-}
-
 #[test]
 fn opens(rt: HostRuntime) -> Result<(), Fail> {
-    assert!(rt; open(&Sevens, &NopConnectionCustomizer) == Ok(7));
-    assert!(rt; open(&Sevens, &Raises) == Ok(9));
-    assert!(rt; open(&Sevens, &TurnsAway) == Err(Blammo));
+    assert!(rt; open(&Numbers, &NopConnectionCustomizer) == Ok(7));
+    assert!(rt; open(&Numbers, &Adds(Ok(2))) == Ok(9));
+    assert!(rt; open(&Numbers, &Adds(Err(Blammo))) == Err(Blammo));
     Ok(())
 }
 
+// From this stage on each call answers what the book's own step does, and wakes these; then both
+// books noted the same, and show the same.
 #[test]
-fn settles_an_opening(rt: HostRuntime) -> Result<(), Fail> {
-    row(
-        &rt,
-        Stage::Numbered,
-        [
-            (Call::Opened, wakes(true, false)),
-            (Call::Opened, wakes(false, false)),
-        ],
-    )
-}
-
-#[test]
-fn settles_a_failed_opening(rt: HostRuntime) -> Result<(), Fail> {
-    row(
-        &rt,
-        Stage::Opening,
-        [
-            (Call::Failed, wakes(false, true)),
-            (Call::Failed, wakes(false, false)),
-        ],
-    )
-}
-
-#[test]
-fn settles_a_failed_check(rt: HostRuntime) -> Result<(), Fail> {
-    row(
-        &rt,
-        Stage::Lent,
-        [
-            (Call::Unsound, wakes(true, true)),
-            (Call::Unsound, wakes(false, false)),
-        ],
-    )
-}
-
-#[test]
-fn lends_and_misses(rt: HostRuntime) -> Result<(), Fail> {
-    row(
-        &rt,
-        Stage::Idle,
-        [
-            (Call::Lend { or_order: true }, wakes(false, true)),
-            (Call::Lend { or_order: false }, wakes(false, false)),
-            (Call::Lend { or_order: true }, wakes(false, true)),
-        ],
-    )
-}
-
-#[test]
-fn gives_back_what_is_sound(rt: HostRuntime) -> Result<(), Fail> {
-    row(
-        &rt,
-        Stage::Lent,
-        [
-            (Call::GiveBack { broken: false }, wakes(true, false)),
-            (Call::GiveBack { broken: false }, wakes(false, false)),
-        ],
-    )
-}
-
-#[test]
-fn gives_back_what_is_broken(rt: HostRuntime) -> Result<(), Fail> {
-    row(
-        &rt,
-        Stage::Lent,
-        [
-            (Call::GiveBack { broken: true }, wakes(true, true)),
-            (Call::GiveBack { broken: true }, wakes(false, false)),
-        ],
-    )
-}
-
-#[test]
-fn sweeps_what_is_expired(rt: HostRuntime) -> Result<(), Fail> {
-    row(&rt, Stage::Idle, [(Call::Sweep, wakes(true, true))])
+fn calls_are_the_books_own_steps(rt: HostRuntime) -> Result<(), Fail> {
+    for (stage, calls) in [
+        (Opening, &[(Failed, WORKERS), (Failed, NOBODY)][..]),
+        (Opening, &[(Opened, NOBODY), (Unsound, NOBODY), (GiveBack, NOBODY), (Failed, WORKERS)]),
+        (Numbered, &[(Opened, CALLER), (Opened, NOBODY)]),
+        (Numbered, &[(Lend, NOBODY), (Failed, NOBODY), (Opened, CALLER), (LendOrOrder, WORKERS)]),
+        (Idle, &[(LendOrOrder, WORKERS), (Lend, NOBODY), (LendOrOrder, WORKERS)]),
+        (Idle, &[(GiveBack, NOBODY), (Unsound, NOBODY), (Lend, WORKERS)]),
+        (Idle, &[(Sweep, BOTH), (Sweep, WORKERS), (LendOrOrder, WORKERS), (Sweep, NOBODY)]),
+        (Lent, &[(Unsound, BOTH), (Unsound, NOBODY), (GiveBack, NOBODY)]),
+        (Lent, &[(GiveBack, CALLER), (GiveBack, NOBODY)]),
+        (Lent, &[(GiveBackBroken, BOTH), (GiveBackBroken, NOBODY), (GiveBack, NOBODY)]),
+    ] {
+        let mut pair = Pair::at(rt.alloc(), stage)?;
+        for (call, wakes) in calls {
+            let (woken, answer, own) = pair.call(rt.alloc(), *call)?;
+            assert_eq!(rt; answer.as_str(), own.as_str(), "{stage:?} {call:?}");
+            assert_eq!(rt; woken, *wakes, "{stage:?} {call:?}: {answer}");
+        }
+        let (one, other) = (pair.by_engine.report()?, pair.by_itself.report()?);
+        assert_eq!(rt; shown(&one), shown(&other));
+    }
+    Ok(())
 }

@@ -2,9 +2,5 @@
 //! it.
 #![tactic(auto)]
 
-#[cfg(test)]
 mod engine;
-#[cfg(test)]
-mod managers;
-#[cfg(test)]
 mod surface;

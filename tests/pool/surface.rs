@@ -6,5 +6,5 @@ mod counted_calls;
 mod engine_calls;
 mod pool_calls;
 mod pool_uses;
-mod user_types;
+pub(crate) mod user_types;
 mod written_types;

@@ -13,7 +13,7 @@ from tally import Tally
 
 CRATES = ["redis", "postgres", "first_redis", "first_postgres", "first_tokio"]
 # What they stand on, whose proofs this repository may have kept.
-BELOW = ["r2d2_core", "r2d2", "r2d2_async"]
+BELOW = ["r2d2_core", "pool_state", "r2d2", "r2d2_async"]
 # What the redis manager asks at a return.
 HAS_BROKEN = "connection.is_broken() || connection.session() != Session::Fresh"
 # A function, a passage of its file, and what somebody could write in its place. The prover refuses each.

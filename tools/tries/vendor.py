@@ -109,8 +109,8 @@ def runs(mine):
 def try_an_empty_folder(mine, lines):
     os.mkdir(mine)
     answers("an empty folder", 0, "put there: crates/r2d2", mine)
-    arrives(mine, "r2d2_core")
-    arrives(mine, "r2d2")
+    for crate in ("r2d2_core", "pool_state", "r2d2"):
+        arrives(mine, crate)
     check("the lines arrive", read(mine, "crates.txt") == lines, read(mine, "crates.txt"))
     check("the handles arrive", read(mine, "HANDLES") == read(TOP, "HANDLES"))
     before = files(mine)
@@ -124,15 +124,15 @@ def try_a_repository(theirs, lines):
     os.mkdir(theirs)
     write("# mine\nown: anyhow", theirs, "crates.txt")
     shutil.copy(os.path.join(TOP, "HANDLES"), theirs)
-    answers("a repository with crates", 0, "put there: crates.txt: two lines more", theirs)
+    answers("a repository with crates", 0, "put there: crates.txt: three lines more", theirs)
     check("its lines stay", read(theirs, "crates.txt") == "# mine\nown: anyhow\n" + lines, read(theirs, "crates.txt"))
 
 
 def try_reports(logged):
     """With what writes reports of the journal as text."""
     os.mkdir(logged)
-    answers("with reports", 0, "put there: crates.txt: made, with three lines", "--reports", logged)
-    lines = re.findall(r"^(?:r2d2|r2d2_core|pool_reports)[ :].*\n", read(TOP, "crates.txt"), re.M)
+    answers("with reports", 0, "put there: crates.txt: made, with four lines", "--reports", logged)
+    lines = re.findall(r"^(?:r2d2|r2d2_core|pool_state|pool_reports)[ :].*\n", read(TOP, "crates.txt"), re.M)
     check("the lines of all arrive", sorted(read(logged, "crates.txt").splitlines(True)) == sorted(lines), read(logged, "crates.txt"))
     arrives(logged, "pool_reports")
 
@@ -140,7 +140,7 @@ def try_reports(logged):
 def try_metrics(measured):
     """With what counts and times, which stands on what writes reports."""
     os.mkdir(measured)
-    answers("with metrics", 0, "put there: crates.txt: made, with four lines", "--metrics", measured)
+    answers("with metrics", 0, "put there: crates.txt: made, with five lines", "--metrics", measured)
     arrives(measured, "pool_metrics")
     arrives(measured, "pool_reports")
 
@@ -151,10 +151,10 @@ def try_options(place):
     os.mkdir(mine)
     words = ["--postgres", "--async", "--redis", "--reports", mine, "--metrics"]
     answers("with all options", 0, "put there: HANDLES: made; it reads 'Handles allowed: Threads, Wait, Net.'", *words)
-    for crate in ["r2d2_core", "r2d2", *crates]:
+    for crate in ["r2d2_core", "pool_state", "r2d2", *crates]:
         arrives(mine, crate)
     listed = [line.partition(":")[0].split()[0] for line in read(mine, "crates.txt").splitlines()]
-    check("each has its line", sorted(listed) == sorted(["r2d2_core", "r2d2", *crates]), listed)
+    check("each has its line", sorted(listed) == sorted(["r2d2_core", "pool_state", "r2d2", *crates]), listed)
 
 
 def try_an_adapter(place):
@@ -217,7 +217,7 @@ def try_nobody_who_reads(mine):
 
 
 def tried():
-    lines = "".join(re.findall(r"^r2d2(?:_core)?[ :].*\n", read(TOP, "crates.txt"), re.M))
+    lines = "".join(re.findall(r"^(?:r2d2|r2d2_core|pool_state)[ :].*\n", read(TOP, "crates.txt"), re.M))
     with tempfile.TemporaryDirectory() as place:
         try_an_empty_folder(os.path.join(place, "mine"), lines)
         try_a_repository(os.path.join(place, "theirs"), lines)

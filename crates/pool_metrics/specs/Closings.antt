@@ -1,7 +1,7 @@
 -- How many left a pool, by the reason.
 use Rattle.std.specs.Prelude.{ℕ, ◌+◌}
-use Rattle.r2d2.specs.declared.event.ReleaseReason.{ReleaseReason}
-use Rattle.r2d2.specs.declared.event.ReleaseReason.TheVariants as reason
+use Rattle.pool_state.specs.declared.reason.ReleaseReason.{ReleaseReason}
+use Rattle.pool_state.specs.declared.reason.ReleaseReason.TheVariants as reason
 use Rattle.pool_metrics.specs.declared.closings.Closings.{Closings}
 
 abbrev pub count_for : ReleaseReason → Closings → ℕ

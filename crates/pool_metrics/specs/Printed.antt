@@ -4,7 +4,7 @@ use Rattle.std.specs.Duration.{as_nanos}
 use Rattle.std.specs.Time.{system_time_nanos}
 use Rattle.std.specs.declared.time.Duration.{Duration}
 use Rattle.std.specs.declared.time.SystemTime.{SystemTime}
-use Rattle.r2d2.specs.declared.pool.state.Status.{Status}
+use Rattle.pool_state.specs.declared.status.Status.{Status}
 use Rattle.pool_metrics.specs.declared.histogram.Distribution.{Distribution}
 use Rattle.pool_metrics.specs.declared.recording.Snapshot.{Snapshot}
 use Rattle.pool_metrics.specs.declared.text.Figure.{Figure}

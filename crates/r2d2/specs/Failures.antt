@@ -2,7 +2,7 @@
 use Rattle.std.specs.Prelude.{◌≡◌, ◌⊎◌, ℕ, List, ◌++◌, Option, Some, None, codes}
 use Rattle.std.specs.declared.time.Duration.{Duration}
 use Rattle.r2d2.specs.declared.error.ErrorKind.{ErrorKind}
-use Rattle.r2d2.specs.declared.pool.state.Status.{Status}
+use Rattle.pool_state.specs.declared.status.Status.{Status}
 use Rattle.r2d2.specs.declared.error.ErrorKind.TheVariants.{Timeout, Memory, Threads, Closed, Full}
 
 -- what a contract sees of an error: why the call failed, and the bytes of the latest error of an

@@ -1,14 +1,15 @@
 -- The settings of a pool. Lengths of time are compared in nanoseconds.
-use Rattle.std.specs.Prelude.{◌≡◌, ℕ, ◌*◌, ◌<◌, Bool, true, false, if◌then◌else◌, Option, Some, None, option_map, MatchOption, min}
+use Rattle.std.specs.Prelude.{◌≡◌, ℕ, ◌*◌, ◌<◌, true, false, Some, None, option_map, MatchOption, min}
 use Rattle.std.specs.Option.{ForSome}
 use Rattle.std.specs.Duration.{as_nanos, max_nanos}
 use Rattle.std.specs.declared.time.Duration.{Duration}
 use Rattle.r2d2_core.specs.declared.schedule.limits.LendingOrder.TheVariants.{NewestFirst}
 use Rattle.r2d2_core.specs.declared.schedule.limits.LimitSettings.{LimitSettings}
 use Rattle.r2d2_core.specs.Limits.{settings, with_order}
+use Rattle.pool_state.specs.Tuning.{IsOff}
 use Rattle.r2d2.specs.declared.config.Config.{Config}
 use Rattle.r2d2.specs.declared.config.Settings.{Settings}
-use Rattle.r2d2.specs.declared.tuning.Tuning.{Tuning}
+use Rattle.pool_state.specs.declared.tuning.Tuning.{Tuning}
 
 -- a number of seconds, in nanoseconds
 abbrev pub seconds : ℕ → ℕ
@@ -27,15 +28,6 @@ pub record AreDefaults {H V Z : Type 0} (config : Config H V Z) : Type 0 where
   pub reaper_rate : as_nanos config.reaper_rate ≡ seconds 30
   pub lending_order : config.lending_order ≡ NewestFirst
 
--- and those that r2d2 has not: each is off
-pub record IsOff (tuning : Tuning) : Type 0 where
-  pub check_after_idle : tuning.check_after_idle ≡ None
-  pub distrust_idle : tuning.distrust_idle ≡ false
-  pub retry_at_most : tuning.retry_at_most ≡ None
-  pub lifetime_jitter : tuning.lifetime_jitter ≡ None
-  pub max_waiting : tuning.max_waiting ≡ None
-  pub in_line : tuning.in_line ≡ false
-
 -- all that a builder begins with
 pub record AreNew {H V Z : Type 0} (settings : Settings H V Z) : Type 0 where
   pub config : AreDefaults settings.config
@@ -51,11 +43,6 @@ changed config s = record { config = config; tuning = s.tuning; first_id = s.fir
 abbrev pub IsTimeoutOfBook : {H V Z : Type 0} → Config H V Z → Tuning → Duration → Type 0
 IsTimeoutOfBook config tuning timeout = MatchOption tuning.retry_at_most (timeout ≡ config.connection_timeout)
     (λ longest. as_nanos timeout ≡ min (as_nanos longest * 2) max_nanos)
-
--- how many callers a line has room for, where they wait in line
-abbrev pub room_in_line : Option ℕ → Bool → ℕ
-room_in_line None in_line = 0
-room_in_line (Some callers) in_line = if in_line then callers else 0
 
 -- what a builder keeps: its sizes and lengths of time are positive
 pub record ArePositive {H V Z : Type 0} (config : Config H V Z) : Type 0 where

@@ -5,10 +5,10 @@ ghost use Rattle.std.specs.Duration.{as_nanos};
 ghost use Rattle.r2d2_core.specs.Limits.{seen_limits};
 
 use crate::event::{HandleEvent, NopEventHandler};
-use crate::tuning::Tuning;
 use crate::{
     CustomizeConnection, HandleError, ManageConnection, NopConnectionCustomizer, NopErrorHandler,
 };
+use pool_state::Tuning;
 use r2d2_core::{LendingOrder, LimitSettings, Limits};
 use std::fmt;
 use std::marker::{Model, PhantomData};

@@ -3,9 +3,9 @@ ghost use Rattle.std.specs.Prelude.{◌≡◌, ◌↔◌, None, IsSome, IfSome, 
 ghost use Rattle.std.specs.Prelude.{string_bytes};
 ghost use Rattle.r2d2.specs.declared.error.ErrorKind.TheVariants.{Timeout};
 ghost use Rattle.r2d2.specs.Failures.{Failure};
-ghost use Rattle.r2d2.specs.Status.{IsStatus};
+ghost use Rattle.pool_state.specs.Status.{IsStatus};
 
-use crate::pool::Status;
+use pool_state::Status;
 use std::alloc::{Allocator, Global};
 use std::fmt;
 use std::marker::Model;
@@ -225,11 +225,3 @@ impl fmt::Display for Error {
 }
 
 impl std::error::Error for Error {}
-
-/// The text of a manager's or a customizer's error; None where memory for it is refused.
-pub fn text_of<E: fmt::Display, A: Allocator>(alloc: A, error: &E) -> Option<String<A>>
-    ensures { IfSome result
-        (λ text. IfSome (E.output error.now) (λ bytes. string_bytes text ≡ bytes)) }
-{
-    error.to_string(alloc).ok()
-}

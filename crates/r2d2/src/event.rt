@@ -2,6 +2,7 @@
 ghost use Rattle.std.specs.Prelude.{◌≡◌, ◌-◌};
 ghost use Rattle.std.specs.Duration.{as_nanos};
 
+pub use pool_state::ReleaseReason;
 use std::fmt;
 use std::marker::Model;
 use std::time::Duration;
@@ -60,27 +61,6 @@ impl AcquireEvent {
     {
         self.id
     }
-}
-
-/// Why a connection leaves its pool.
-#[derive(Clone, Copy, PartialEq, Eq, Debug)]
-pub enum ReleaseReason {
-    /// It came back broken, as `ManageConnection::has_broken` says.
-    Broken,
-    /// Its check failed.
-    CheckFailed,
-    /// It was idle as a check began that failed: see `Builder::distrust_idle`.
-    Distrusted,
-    /// It reached its lifetime.
-    Lifetime,
-    /// It was idle for `idle_timeout`.
-    Idle,
-    /// It was there when `Pool::evict` was called.
-    Evicted,
-    /// It is its caller's now: see `PooledConnection::detach`.
-    Detached,
-    /// It came back after the pool was closed.
-    PoolClosed,
 }
 
 /// A connection leaves the pool: to be closed, or detached.

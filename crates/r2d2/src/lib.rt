@@ -34,13 +34,9 @@ mod error;
 pub mod event;
 mod extensions;
 mod hooks;
-#[doc(hidden)]
-pub mod internals;
-mod line;
 mod observe;
 mod payload;
 mod pool;
-mod tuning;
 
 pub use config::{Builder, Config};
 pub use error::{Error, ErrorKind};

@@ -3,7 +3,7 @@ ghost use Rattle.std.specs.Prelude.{◌≡◌, IfOk, IfErr};
 ghost use Rattle.std.specs.declared.time.Duration.{Duration};
 ghost use Rattle.r2d2_core.specs.Reports.{IsSoundReport};
 ghost use Rattle.r2d2.specs.Failures.{IsOfMemory};
-ghost use Rattle.r2d2.specs.Status.{IsStatus};
+ghost use Rattle.pool_state.specs.Status.{IsStatus};
 
 use crate::{Error, Status};
 use r2d2_core::Report;

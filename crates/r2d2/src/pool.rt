@@ -4,17 +4,9 @@ ghost use Rattle.std.specs.Arc.{arc_value};
 ghost use Rattle.r2d2_core.specs.Reports.{IsSoundReport};
 
 use self::closing::Closer;
-pub use self::evicting::has_room;
-pub use self::failures::Failures;
 use self::lent::AnyConnection;
-pub use self::lined_book::{LinedBook, Look};
 use self::locking::SharedOf;
-pub use self::pool_state::PoolState;
-pub use self::state::{State, Status};
-pub use self::waiters::ToWake;
-pub use self::worker::reason_of_reap;
 use crate::config::{Builder, Config};
-use crate::engine::{LedgerCounter, TakeCounter, TakeTotal, Uncounted};
 use crate::event::{HandleEvent, NopEventHandler};
 use crate::hooks::Hooks;
 use crate::payload::PayloadOf;
@@ -22,6 +14,8 @@ use crate::{
     CustomizeConnection, Error, HandleError, ManageConnection, NopConnectionCustomizer,
     NopErrorHandler,
 };
+use pool_state::engine::{LedgerCounter, TakeCounter, TakeTotal, Uncounted};
+pub use pool_state::{State, Status};
 use r2d2_core::Report;
 use std::alloc::AllocGlobal;
 use std::fmt;
@@ -37,17 +31,12 @@ mod checking;
 mod closing;
 mod counting;
 mod evicting;
-mod failures;
 mod in_line;
 mod lending;
 mod lent;
-mod lined_book;
 mod locking;
 mod observing;
-mod pool_state;
 mod returning;
-mod state;
-mod waiters;
 mod waiting;
 mod worker;
 
@@ -102,7 +91,7 @@ impl<C: TakeTotal, M: ManageConnection, K: Hooks<M>, R: PoolRuntime> Model for A
 
 impl<C: TakeTotal, M: ManageConnection, K: Hooks<M>, R: PoolRuntime> AnyPool<C, M, K, R> {
     ghost use Rattle.r2d2.specs.Failures.{IsOfMemory};
-    ghost use Rattle.r2d2.specs.Status.{IsStatus};
+    ghost use Rattle.pool_state.specs.Status.{IsStatus};
 
     // What it shares with its workers and with what it lends.
     fn shared(&self) -> &SharedOf<C, M, K, R>

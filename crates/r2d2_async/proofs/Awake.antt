@@ -4,11 +4,11 @@ use Rattle.std.specs.Prelude.{zero, suc, IfSome, IsSome, Vec, slice_index_or, is
 use Rattle.std.proofs.lemmas.Option.{none-some}
 use Rattle.std.proofs.lemmas.Bool.{cases_eq}
 use Rattle.futures.specs.declared.task.waker.Waker.{Waker}
-use Rattle.r2d2.specs.declared.line.place.Place.{Place}
-use Rattle.r2d2.specs.declared.line.place.Standing.{Standing}
-use Rattle.r2d2.specs.declared.line.place.Standing.TheVariants.{Quiet, Told, Aside}
-use Rattle.r2d2.specs.Waiting.{place, told_at, told_first, first_quiet, told_if, slot_if, without, with_standing, left_by, told_by, passed_by, told_instead}
-use Rattle.r2d2.specs.Lined.{looked_by, told_looked}
+use Rattle.pool_state.specs.declared.line.place.Place.{Place}
+use Rattle.pool_state.specs.declared.line.place.Standing.{Standing}
+use Rattle.pool_state.specs.declared.line.place.Standing.TheVariants.{Quiet, Told, Aside}
+use Rattle.pool_state.specs.Waiting.{place, told_at, told_first, first_quiet, told_if, slot_if, without, with_standing, left_by, told_by, passed_by, told_instead}
+use Rattle.pool_state.specs.Lined.{looked_by, told_looked}
 use Rattle.r2d2_async.specs.Wakers.{waker_at, AreAwake, KeepsOthers}
 
 -- who is told after a change was told before, or is the one who is told by it

@@ -11,13 +11,13 @@ use Rattle.r2d2_core.specs.OnOrder.{SeenOnOrder, begun_by, job_at, number_refusa
 use Rattle.r2d2_core.specs.Picture.{Picture}
 use Rattle.r2d2_core.specs.Book.{SeenBook}
 use Rattle.r2d2_core.specs.Table.{taken, next_of, raised_to, after_take, after_begin, after_number, after_return, lent_refusal, lent_birth, is_closing, returned_by, returned}
-use Rattle.r2d2.specs.declared.engine.Outcome.{Outcome}
-use Rattle.r2d2.specs.declared.engine.Outcome.TheVariants as outcome
-use Rattle.r2d2.specs.declared.pool.lined_book.Look.{Look}
-use Rattle.r2d2.specs.declared.pool.lined_book.Look.TheVariants as look
-use Rattle.r2d2.specs.Evicted.{book_taken}
-use Rattle.r2d2.specs.Settled.{after_settle}
-use Rattle.r2d2.specs.Lined.{book_asked, book_looked, paid_of, one_more_owed}
+use Rattle.pool_state.specs.declared.engine.Outcome.{Outcome}
+use Rattle.pool_state.specs.declared.engine.Outcome.TheVariants as outcome
+use Rattle.pool_state.specs.declared.lined_book.Look.{Look}
+use Rattle.pool_state.specs.declared.lined_book.Look.TheVariants as look
+use Rattle.pool_state.specs.Evicted.{book_taken}
+use Rattle.pool_state.specs.Settled.{after_settle}
+use Rattle.pool_state.specs.Lined.{book_asked, book_looked, paid_of, one_more_owed}
 use Rattle.r2d2_async.specs.Wakers.{waker_at, AreUpOnceClosed}
 
 begun_same : (j : SeenJob) (o : SeenOnOrder) → (begun_by j o).closed ≡ o.closed

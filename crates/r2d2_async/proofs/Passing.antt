@@ -2,8 +2,8 @@
 use Rattle.std.proofs.Common.{◌≡◌, ℕ, suc, ◌+◌, ◌-◌, ◌<◌, false, List, Option, Some, None, refl, sym, ◌∙◌, ap, subst, arith}
 use Rattle.std.specs.Prelude.{zero, is_some}
 use Rattle.std.specs.declared.time.Duration.{Duration}
-use Rattle.r2d2.specs.declared.line.place.Place.{Place}
-use Rattle.r2d2.specs.Waiting.{first_late, passed_by, pass_first, passed_late}
+use Rattle.pool_state.specs.declared.line.place.Place.{Place}
+use Rattle.pool_state.specs.Waiting.{first_late, passed_by, pass_first, passed_late}
 
 none_late : (t : ℕ) (ends : List Duration) (ps : List Place) → first_late t ends ps ≡ None → pass_first t ends ps ≡ ps
 none_late t ends ps none = ap (λ (o : Option ℕ). passed_by o ps) none

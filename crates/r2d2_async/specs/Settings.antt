@@ -6,7 +6,8 @@ use Rattle.std.specs.declared.time.Duration.{Duration}
 use Rattle.r2d2_core.specs.declared.schedule.limits.LendingOrder.TheVariants.{NewestFirst}
 use Rattle.r2d2_core.specs.declared.schedule.limits.LimitSettings.{LimitSettings}
 use Rattle.r2d2_core.specs.Limits.{settings, with_order}
-use Rattle.r2d2.specs.Settings.{seconds, IsOff}
+use Rattle.pool_state.specs.Tuning.{IsOff}
+use Rattle.r2d2.specs.Settings.{seconds}
 use Rattle.r2d2_async.specs.declared.config.Config.{Config}
 use Rattle.r2d2_async.specs.declared.config.Settings.{Settings}
 

@@ -4,8 +4,8 @@ use Rattle.futures.specs.Slot.{IsLeftIn}
 use Rattle.futures.specs.WaitList.{WaitList, value_of, IsQueued}
 use Rattle.futures.specs.declared.task.context.Context.{Context}
 use Rattle.futures.specs.declared.task.waker.Waker.{Waker}
-use Rattle.r2d2.specs.declared.line.place.Place.{Place}
-use Rattle.r2d2.specs.Waiting.{told_at}
+use Rattle.pool_state.specs.declared.line.place.Place.{Place}
+use Rattle.pool_state.specs.Waiting.{told_at}
 
 -- what wakes the caller at a slot, where it sleeps
 abbrev pub waker_at : {A : Type 0} → Vec (Option Waker) A → ℕ → Option Waker

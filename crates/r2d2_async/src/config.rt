@@ -12,8 +12,8 @@ use crate::shared::{Closer, Shared};
 use crate::task_book::TaskBook;
 use crate::{AsyncRuntime, ManageConnection, Timer};
 use futures::task::Source;
+use pool_state::Tuning;
 use r2d2::event::{HandleEvent, NopEventHandler};
-use r2d2::internals::Tuning;
 use r2d2::{
     CustomizeConnection, Error, HandleError, LendingOrder, NopConnectionCustomizer, NopErrorHandler,
 };

@@ -2,7 +2,7 @@
 ghost use Rattle.std.specs.Prelude.{◌≡◌, ◌⊎◌, ◌<◌, ℕ, true, None, IfSome, IsSomeAnd, IfOk, IfErr};
 ghost use Rattle.futures.specs.Task.{Covers, Hears, IsArmed, Keeps};
 ghost use Rattle.futures.specs.Poll.{IfReady, OnPending};
-ghost use Rattle.r2d2.specs.Status.{IsStatus};
+ghost use Rattle.pool_state.specs.Status.{IsStatus};
 ghost use Rattle.r2d2_async.specs.Sources.{returns_of};
 
 use crate::hooks::Hooks;

@@ -2,7 +2,7 @@
 ghost use Rattle.std.specs.Prelude.{◌≡◌, ◌≤◌, None, Some, IsSome, IfSome, IfOk, IfErr};
 ghost use Rattle.r2d2_core.specs.Reports.{IsSoundReport};
 ghost use Rattle.r2d2.specs.Failures.{IsOfMemory, IsOfAGet};
-ghost use Rattle.r2d2.specs.Status.{IsStatus};
+ghost use Rattle.pool_state.specs.Status.{IsStatus};
 
 use crate::config::Config;
 use crate::drain::Drain;
@@ -13,8 +13,8 @@ use crate::shared::{CloserOf, PayloadOf, SharedOf, Taken};
 use crate::work::Work;
 use crate::{AsyncRuntime, ManageConnection, Timer};
 use futures::spin::lock;
+use pool_state::has_room;
 use r2d2::event::ReleaseReason;
-use r2d2::internals::has_room;
 use r2d2::{Error, Observe, Status};
 use r2d2_core::{Released, Report};
 use std::marker::Model;

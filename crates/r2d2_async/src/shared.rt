@@ -1,6 +1,6 @@
 // What pools, workers, gets and lent connections share.
 ghost use Rattle.std.specs.Prelude.{◌≡◌, IfSome};
-ghost use Rattle.r2d2.specs.Status.{IsStatus};
+ghost use Rattle.pool_state.specs.Status.{IsStatus};
 
 use crate::config::Config;
 use crate::hooks::Hooks;
@@ -8,10 +8,10 @@ use crate::task_book::TaskBook;
 use crate::{AsyncRuntime, ManageConnection};
 use futures::spin::lock;
 use futures::task::Source;
+use pool_state::Tuning;
 use r2d2::Status;
 use r2d2::engine::{Outcome, Payload, Settled};
 use r2d2::event::ReleaseReason;
-use r2d2::internals::Tuning;
 use r2d2_core::machine::Leftover;
 use r2d2_core::{Gone, Refusal, Released, Returned};
 use std::rt::Clock;

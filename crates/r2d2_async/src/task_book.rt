@@ -6,7 +6,7 @@ ghost use Rattle.std.specs.Prelude.{vec_capacity, slice_get, is_some, ifâ—Œthenâ
 ghost use Rattle.futures.specs.Task.{Covers, Keeps};
 ghost use Rattle.futures.specs.Poll.{IfReady, OnPending};
 ghost use Rattle.futures.specs.WaitList.{value_of, IsParkedAt, IsQueued, SameQueue, Leaves};
-ghost use Rattle.r2d2.specs.Waiting.{told_at};
+ghost use Rattle.pool_state.specs.Waiting.{told_at};
 ghost use Rattle.r2d2_async.specs.Wakers.{waker_at, AreAwake, SleepsAt, KeepsOthers};
 ghost use Rattle.r2d2_async.specs.Wakers.{HasPlace, NobodySleeps, AreDrained, AreUpOnceClosed};
 
@@ -15,10 +15,10 @@ use crate::wakers::{
 };
 use futures::task::{Context, Poll, Source, Waker};
 use futures::util::wait_list::{Ticket, WaitList};
+use pool_state::{LateSearch, LinedBook, Look, PoolState, Tuning};
 use r2d2::Status;
 use r2d2::engine::{Outcome, Settled, Uncounted};
 use r2d2::event::ReleaseReason;
-use r2d2::internals::{LateSearch, LinedBook, Look, PoolState, Tuning};
 use r2d2_core::machine::Leftover;
 use r2d2_core::{Book, Job, Refusal, Released, Report, Returned, Take};
 use std::alloc::{AllocError, Global};
@@ -74,21 +74,21 @@ impl<P: Drop> TaskBook<P> {
     ghost use Rattle.r2d2_core.specs.Reports.{IsSoundReport};
     ghost use Rattle.r2d2_core.specs.BookSteps.{IsBegin, IsNumbering, IsReturn, IsReap, IsTelling};
     ghost use Rattle.r2d2_core.specs.BookSteps.{IsClose};
-    ghost use Rattle.r2d2.specs.declared.engine.Outcome.TheVariants as outcome;
-    ghost use Rattle.r2d2.specs.Settled.{IsSettling, seen_settled, wakes_of_settled};
-    ghost use Rattle.r2d2.specs.Wakes.{wakes_of_return, wakes_of_reap};
-    ghost use Rattle.r2d2.specs.Since.{since_with, since_if};
-    ghost use Rattle.r2d2.specs.Status.{IsStatus, all_who_wait};
-    ghost use Rattle.r2d2.specs.Waits.{WaitAsBefore, count_of};
-    ghost use Rattle.r2d2.specs.Evicted.{is_to_close, evicted_of, after_eviction};
-    ghost use Rattle.r2d2.specs.Waiting.{before, left_by, told_by, told_if, is_kept, waiting_in};
-    ghost use Rattle.r2d2.specs.Waiting.{first_late, pass_first, passed_late, slot_if};
-    ghost use Rattle.r2d2.specs.Search.{AreSearches};
+    ghost use Rattle.pool_state.specs.declared.engine.Outcome.TheVariants as outcome;
+    ghost use Rattle.pool_state.specs.Settled.{IsSettling, seen_settled, wakes_of_settled};
+    ghost use Rattle.pool_state.specs.Wakes.{wakes_of_return, wakes_of_reap};
+    ghost use Rattle.pool_state.specs.Since.{since_with, since_if};
+    ghost use Rattle.pool_state.specs.Status.{IsStatus, all_who_wait};
+    ghost use Rattle.pool_state.specs.Waits.{WaitAsBefore, count_of};
+    ghost use Rattle.pool_state.specs.Evicted.{is_to_close, evicted_of, after_eviction};
+    ghost use Rattle.pool_state.specs.Waiting.{before, left_by, told_by, told_if, is_kept, waiting_in};
+    ghost use Rattle.pool_state.specs.Waiting.{first_late, pass_first, passed_late, slot_if};
+    ghost use Rattle.pool_state.specs.Search.{AreSearches};
     ghost use Rattle.r2d2_core.specs.Connections.{pair_of};
     ghost use Rattle.r2d2_core.specs.Table.{next_of};
     ghost use Rattle.r2d2_async.specs.Looks.{is_found, is_refused, pair_found, IsClosedLook, IsServed};
-    ghost use Rattle.r2d2.specs.Failed.{IsOneRefusalMore, IsOneTimeoutMore, IsOneOpeningMore};
-    ghost use Rattle.r2d2.specs.Failed.{IsOneCheckMore};
+    ghost use Rattle.pool_state.specs.Failed.{IsOneRefusalMore, IsOneTimeoutMore, IsOneOpeningMore};
+    ghost use Rattle.pool_state.specs.Failed.{IsOneCheckMore};
 
     /// A book for which nobody waits yet, with room for so many in line. The error is lack of
     /// memory: all that the line needs is taken here.
@@ -553,10 +553,10 @@ impl<P: Drop> TaskBook<P> {
 // its place from its making on, so that waiting takes no memory.
 impl<P: Drop> TaskBook<P> {
     ghost use Rattle.std.specs.Duration.{as_nanos};
-    ghost use Rattle.r2d2.specs.Failed.{one_more};
-    ghost use Rattle.r2d2.specs.Since.{since_with};
-    ghost use Rattle.r2d2.specs.Status.{all_who_wait};
-    ghost use Rattle.r2d2.specs.Waits.{count_of};
+    ghost use Rattle.pool_state.specs.Failed.{one_more};
+    ghost use Rattle.pool_state.specs.Since.{since_with};
+    ghost use Rattle.pool_state.specs.Status.{all_who_wait};
+    ghost use Rattle.pool_state.specs.Waits.{count_of};
 
     /// A place for a worker. The error is lack of memory.
     pub fn add_worker(&mut self) -> Result<Ticket, AllocError>

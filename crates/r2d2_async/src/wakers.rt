@@ -9,7 +9,7 @@ ghost use Rattle.r2d2_async.specs.Wakers.{NobodySleeps, AreDrained};
 
 use futures::task::{Context, Poll, Source, Waker};
 use futures::util::wait_list::WaitList;
-use r2d2::internals::ToWake;
+use pool_state::ToWake;
 use r2d2_core::Book;
 use std::alloc::{AllocError, Global};
 

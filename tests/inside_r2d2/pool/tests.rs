@@ -4,33 +4,16 @@
 
 use super::*;
 use std::alloc::{Alloc, AllocError, Global};
-use std::io;
 use std::sync::atomic::{AtomicU64, Ordering};
 use std::test::Fail;
-use std::thread;
+use std::{io, thread};
 
 mod expiring;
 mod unlocked;
 
-/// The error of each manager.
-#[derive(Clone, Copy, Debug)]
-struct Blammo;
-
-impl fmt::Display for Blammo {
-    fn fmt<W: fmt::Write>(&self, f: &mut fmt::Formatter<W>) -> fmt::Result {
-        f.write_str("blammo")
-    }
-}
-
 /// How often a test looks, 10 ms apart, for what is to come: for twenty seconds, and for as much
 /// longer as others have the processor.
 const LOOKS: u32 = 2_000;
-
-/// The same of what a test holds back: for longer than it looks for all that comes meanwhile.
-const LOOKS_WHILE_HELD: u32 = 6_000;
-
-/// The same of what is not to come.
-const GLANCES: u32 = 30;
 
 /// Looks so often at most until something is so. It answers whether it is, at last.
 fn comes_within<R: Clock, F: Fn() -> bool>(rt: &R, looks: u32, is_so: F) -> bool {
@@ -49,6 +32,59 @@ pub(crate) fn watched<R: Clock>(rt: &R, count: &AtomicU64, awaited: u64) -> u64 
     count.load(Ordering::SeqCst)
 }
 
+/// What all of a test may hold, as it begins: a count is zero.
+pub(crate) fn shared<T: Default + Drop>(alloc: Global) -> Result<&'static T, AllocError> {
+    Ok(Box::leak(Box::new(alloc, T::default())?))
+}
+
+/// A connection, which counts its drop.
+pub(crate) struct Line(&'static AtomicU64);
+
+impl Drop for Line {
+    fn drop(self) {
+        let Line(dropped) = self;
+        dropped.fetch_add(1, Ordering::SeqCst);
+    }
+}
+
+/// Opens so many lines; each later opening fails.
+#[derive(Clone, Copy)]
+pub(crate) struct Lines {
+    pub(crate) opened: &'static AtomicU64,
+    dropped: &'static AtomicU64,
+    most: u64,
+}
+
+impl Lines {
+    pub(crate) fn new(alloc: Global, most: u64) -> Result<Lines, AllocError> {
+        let (opened, dropped) = (shared(alloc)?, shared(alloc)?);
+        Ok(Lines { opened, dropped, most })
+    }
+}
+
+impl ManageConnection for Lines {
+    type Connection = Line;
+
+    type Error = &'static str;
+
+    type Extension = ();
+
+    fn connect(&self) -> Result<Line, &'static str> {
+        if self.opened.fetch_add(1, Ordering::SeqCst) >= self.most {
+            return Err("blammo");
+        }
+        Ok(Line(self.dropped))
+    }
+
+    fn is_valid(&self, _line: &mut Line) -> Result<(), &'static str> {
+        Ok(())
+    }
+
+    fn has_broken(&self, _line: &mut Line) -> bool {
+        false
+    }
+}
+
 /// A clock that shows so many milliseconds. Who waits for a moment of it looks again after as much
 /// true time, and waits on where the clock stands.
 #[derive(Clone, Copy)]
@@ -58,16 +94,11 @@ struct Hand<R> {
 }
 
 impl<R: PoolRuntime> Hand<R> {
-    // It stands at zero.
     fn new(rt: R) -> Result<Hand<R>, AllocError> {
-        Ok(Hand {
-            rt,
-            shows: Box::leak(Box::new(rt.alloc(), AtomicU64::new(0))?),
-        })
+        let shows = shared(rt.alloc())?;
+        Ok(Hand { rt, shows })
     }
-}
 
-impl<R> Hand<R> {
     fn set(&self, milliseconds: u64) {
         self.shows.store(milliseconds, Ordering::SeqCst);
     }

@@ -10,11 +10,11 @@ use r2d2::{
     LendingOrder, LoggingErrorHandler, ManageConnection, NopConnectionCustomizer, NopErrorHandler,
     NopEventHandler,
 };
-use std::fmt;
-use std::sync::Arc;
+use std::alloc::{AllocError, Global};
 use std::sync::atomic::{AtomicU64, Ordering};
 use std::test::Fail;
 use std::time::Duration;
+use std::{array, fmt};
 
 #[derive(Clone, Copy, Debug, PartialEq, Eq)]
 pub enum Kind {
@@ -75,83 +75,69 @@ impl ManageConnection for Numbers {
     }
 }
 
-/// How often each thing was heard of.
-#[derive(Drop)]
-pub struct Counts {
-    pub acquired: AtomicU64,
-    pub released: AtomicU64,
-    pub lent: AtomicU64,
-    pub in_vain: AtomicU64,
-    pub returned: AtomicU64,
-    pub closed: AtomicU64,
-    pub errors: AtomicU64,
-}
-
-impl Counts {
-    pub fn new() -> Counts {
-        Counts {
-            acquired: AtomicU64::new(0),
-            released: AtomicU64::new(0),
-            lent: AtomicU64::new(0),
-            in_vain: AtomicU64::new(0),
-            returned: AtomicU64::new(0),
-            closed: AtomicU64::new(0),
-            errors: AtomicU64::new(0),
-        }
-    }
-}
-
-fn count(one: &AtomicU64) {
-    one.fetch_add(1, Ordering::SeqCst);
+/// What a listener counts.
+#[derive(Clone, Copy)]
+enum Heard {
+    Acquired,
+    Lent,
+    Returned,
+    Released,
+    Closed,
+    InVain,
+    Failed,
 }
 
 /// Counts what it hears of connections with the id 0.
-#[derive(Drop)]
-pub struct Listener {
-    pub heard: Arc<Counts>,
-}
+#[derive(Clone, Copy, Debug)]
+pub struct Listener(&'static [AtomicU64; 7]);
 
-impl fmt::Debug for Listener {
-    fn fmt<W: fmt::Write>(&self, f: &mut fmt::Formatter<W>) -> fmt::Result {
-        f.write_str("Listener")
+impl Listener {
+    /// It heard of nothing yet.
+    pub fn new(alloc: Global) -> Result<Listener, AllocError> {
+        let counts = array::from_fn(|_| AtomicU64::new(0));
+        Ok(Listener(Box::leak(Box::new(alloc, counts)?)))
+    }
+
+    /// How often it heard of an opening, a lending, a return, a release, a closing, a call in vain
+    /// and an error.
+    pub fn counts(&self) -> [u64; 7] {
+        array::from_fn(|place| self.0[place].load(Ordering::SeqCst))
+    }
+
+    fn count(&self, heard: Heard, is_due: bool) {
+        self.0[heard as usize].fetch_add(is_due as u64, Ordering::SeqCst);
+    }
+
+    fn count_of(&self, heard: Heard, id: u64, length: Duration) {
+        self.count(heard, id == 0 && length < Duration::from_secs(60));
     }
 }
 
 impl HandleEvent for Listener {
     fn handle_acquire(&self, event: AcquireEvent) {
-        if event.connection_id() == 0 {
-            count(&self.heard.acquired);
-        }
+        self.count(Heard::Acquired, event.connection_id() == 0);
     }
 
     fn handle_release(&self, event: ReleaseEvent) {
-        if event.connection_id() == 0 && event.age() < Duration::from_secs(60) {
-            count(&self.heard.released);
-        }
+        self.count_of(Heard::Released, event.connection_id(), event.age());
     }
 
     fn handle_checkout(&self, event: CheckoutEvent) {
-        if event.connection_id() == 0 && event.duration() < Duration::from_secs(60) {
-            count(&self.heard.lent);
-        }
+        self.count_of(Heard::Lent, event.connection_id(), event.duration());
     }
 
     fn handle_timeout(&self, event: TimeoutEvent) {
-        if event.timeout() == Duration::from_millis(5) {
-            count(&self.heard.in_vain);
-        }
+        self.count(Heard::InVain, event.timeout() == Duration::from_millis(5));
     }
 
     fn handle_checkin(&self, event: CheckinEvent) {
-        if event.connection_id() == 0 && event.duration() < Duration::from_secs(60) {
-            count(&self.heard.returned);
-        }
+        self.count_of(Heard::Returned, event.connection_id(), event.duration());
     }
 }
 
 impl HandleError<Blammo> for Listener {
     fn handle_error(&self, _error: Blammo) {
-        count(&self.heard.errors);
+        self.count(Heard::Failed, true);
     }
 }
 
@@ -162,7 +148,7 @@ impl CustomizeConnection<u32, Blammo> for Listener {
     }
 
     fn on_release(&self, _connection: u32) {
-        count(&self.heard.closed);
+        self.count(Heard::Closed, true);
     }
 }
 

@@ -2,7 +2,7 @@
 ghost use Rattle.std.specs.Prelude.{◌≡◌, ◌<◌, ◌≤◌, ◌↔◌, ◌-◌, nat_lt, is_some, option_map};
 ghost use Rattle.std.specs.Duration.{as_nanos};
 
-use crate::tuning::Tuning;
+use pool_state::Tuning;
 use std::marker::Model;
 use std::time::Duration;
 

@@ -8,11 +8,11 @@ use super::call_time::CallTime;
 use super::lent::Lent;
 use super::locking::SharedOf;
 use crate::ManageConnection;
-use crate::engine::{Settled, TakeTotal};
-use crate::error::text_of;
 use crate::event::ReleaseReason;
 use crate::hooks::{Closed, Hooks};
 use crate::payload::{Payload, PayloadOf};
+use pool_state::engine::{Settled, TakeTotal};
+use pool_state::text_of;
 use std::time::Duration;
 
 impl<C: TakeTotal, M: ManageConnection, K: Hooks<M>, R: PoolRuntime> SharedOf<C, M, K, R> {

@@ -1,8 +1,8 @@
 // How a pool ends.
 
 use super::locking::Shared;
-use super::pool_state::PoolState;
-use crate::engine::TakeTotal;
+use pool_state::PoolState;
+use pool_state::engine::TakeTotal;
 use std::rt::Clock;
 use std::sync::{Arc, Wait};
 

@@ -1,14 +1,14 @@
 // The calls of a pool that counts its takes.
 ghost use Rattle.std.specs.Prelude.{◌≡◌, ◌≤◌, ◌<◌, ◌+◌, IfOk, IfErr, IfSome, OnErr};
 ghost use Rattle.r2d2_core.specs.Reports.{IsSoundReport};
-ghost use Rattle.r2d2.specs.Counted.{counted_up_to};
+ghost use Rattle.pool_state.specs.Counted.{counted_up_to};
 
 use super::locking::Shared;
-use super::pool_state::PoolState;
 use super::{CountedConnection, CountedPool, PoolRuntime};
-use crate::engine::LedgerCounter;
 use crate::event::HandleEvent;
 use crate::{CustomizeConnection, Error, HandleError, ManageConnection};
+use pool_state::PoolState;
+use pool_state::engine::LedgerCounter;
 use r2d2_core::Report;
 use std::alloc::AllocError;
 use std::rt::Clock;

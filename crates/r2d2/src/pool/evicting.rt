@@ -1,14 +1,15 @@
 // What closes many connections at once: an eviction, and what it shares with a worker's reap.
 ghost use Rattle.std.specs.Prelude.{◌≡◌, ◌<◌, ◌+◌, ◌*◌, ◌↔◌, IsTrue, IfOk, OnErr};
-ghost use Rattle.r2d2.specs.Room.{HasRoom};
+ghost use Rattle.pool_state.specs.Room.{HasRoom};
 
 use super::PoolRuntime;
 use super::locking::SharedOf;
 use crate::ManageConnection;
-use crate::engine::{TakeCounter, TakeTotal};
 use crate::event::ReleaseReason;
 use crate::hooks::{Closed, Hooks};
 use crate::payload::{Payload, PayloadOf};
+use pool_state::engine::{TakeCounter, TakeTotal};
+use pool_state::has_room;
 use r2d2_core::{Book, Released};
 use std::alloc::AllocError;
 
@@ -52,12 +53,4 @@ impl<C: TakeTotal, M: ManageConnection, K: Hooks<M>, R: PoolRuntime> SharedOf<C,
             connection,
         });
     }
-}
-
-/// Whether a reap or an eviction can use the list. It has room from the making on; but of a locked
-/// book its type alone is known, so this asks.
-pub fn has_room<P>(book: &Book<P>, expired: &Vec<Released<P>>) -> bool
-    ensures { IsTrue result ↔ HasRoom book.now.picture.on_order.limits.max_size expired.now }
-{
-    expired.is_empty() && expired.capacity() >= book.limits().max_size() as usize
 }

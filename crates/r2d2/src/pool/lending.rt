@@ -8,9 +8,9 @@ use super::call_time::CallTime;
 use super::lent::AnyConnection;
 use super::locking::SharedOf;
 use super::{AnyPool, PoolRuntime};
-use crate::engine::{TakeCounter, TakeTotal};
 use crate::hooks::Hooks;
 use crate::{Error, ErrorKind, ManageConnection};
+use pool_state::engine::{TakeCounter, TakeTotal};
 use std::sync::Arc;
 use std::time::Duration;
 

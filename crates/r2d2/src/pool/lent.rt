@@ -3,11 +3,11 @@ ghost use Rattle.std.specs.Prelude.{◌≡◌};
 
 use super::PoolRuntime;
 use super::closing::Closer;
-use crate::engine::{Outcome, Settled, TakeTotal};
 use crate::event::ReleaseReason;
 use crate::hooks::Hooks;
 use crate::payload::{Payload, PayloadOf};
 use crate::{Extensions, ManageConnection};
+use pool_state::engine::{Outcome, Settled, TakeTotal};
 use std::alloc::{Allocator, Global};
 use std::fmt;
 use std::marker::Model;

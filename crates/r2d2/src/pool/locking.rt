@@ -3,12 +3,9 @@ ghost use Rattle.std.specs.Prelude.{◌≡◌, ◌≤◌, ◌-◌, IfOk, IsTrue,
 ghost use Rattle.std.specs.Duration.{as_nanos};
 ghost use Rattle.r2d2_core.specs.Reports.{IsSoundReport};
 
-use super::pool_state::PoolState;
-use super::waiters::{ToWake, Wake};
-use super::{State, Status};
-use crate::engine::{Outcome, Settled, TakeTotal};
 use crate::payload::PayloadOf;
-use crate::tuning::Tuning;
+use pool_state::engine::{Outcome, Settled, TakeTotal};
+use pool_state::{PoolState, State, Status, ToWake, Tuning, Wake};
 use r2d2_core::machine::Leftover;
 use r2d2_core::{Refusal, Report};
 use std::alloc::AllocError;
@@ -162,10 +159,10 @@ impl<B, M, K, R> Shared<B, M, K, R> {
 
 impl<P: Drop, C: TakeTotal, M, K, R: Clock + Wait> Shared<PoolState<P, C>, M, K, R> {
     ghost use Rattle.r2d2_core.specs.BookSteps.{IsNumbering, IsClose};
-    ghost use Rattle.r2d2.specs.Lined.{SeenLined};
-    ghost use Rattle.r2d2.specs.Settled.{seen_settled, wakes_of_settled, IsSettling};
-    ghost use Rattle.r2d2.specs.Waiting.{told_if};
-    ghost use Rattle.r2d2.specs.Status.{IsStatus};
+    ghost use Rattle.pool_state.specs.Lined.{SeenLined};
+    ghost use Rattle.pool_state.specs.Settled.{seen_settled, wakes_of_settled, IsSettling};
+    ghost use Rattle.pool_state.specs.Waiting.{told_if};
+    ghost use Rattle.pool_state.specs.Status.{IsStatus};
 
     /// The counts.
     pub(super) fn state(&self) -> State
@@ -228,11 +225,4 @@ pub(super) fn pause() {
     for _ in 0..PAUSES {
         spin_loop();
     }
-}
-
-/// Whether so many nanoseconds have passed from one moment to another.
-pub(super) fn has_passed(begun: Duration, now: Duration, length: u128) -> bool
-    ensures { IsTrue result ↔ (length ≤ as_nanos now - as_nanos begun) }
-{
-    now.saturating_sub(begun).as_nanos() >= length
 }

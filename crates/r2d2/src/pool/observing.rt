@@ -1,12 +1,13 @@
 // A pool as what can be observed. A call of the pool's own of the same name has more bounds than a
 // trait's method may ask for, so both go to what the pool shares.
 
-use super::{AnyPool, PoolRuntime, Status};
+use super::{AnyPool, PoolRuntime};
 use crate::config::Config;
-use crate::engine::TakeTotal;
 use crate::event::HandleEvent;
 use crate::observe::Observe;
 use crate::{CustomizeConnection, Error, HandleError, ManageConnection};
+use pool_state::Status;
+use pool_state::engine::TakeTotal;
 use r2d2_core::Report;
 use std::time::{Duration, SystemTime};
 

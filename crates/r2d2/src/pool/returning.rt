@@ -3,12 +3,12 @@ ghost use Rattle.std.specs.Prelude.{◌≡◌, IfSome};
 
 use super::lent::Lent;
 use super::locking::Shared;
-use super::pool_state::PoolState;
 use crate::Extension;
-use crate::engine::TakeTotal;
 use crate::event::ReleaseReason;
 use crate::hooks::Closed;
 use crate::payload::Payload;
+use pool_state::PoolState;
+use pool_state::engine::TakeTotal;
 use r2d2_core::Returned;
 use std::rt::Clock;
 use std::sync::Wait;

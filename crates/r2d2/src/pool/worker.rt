@@ -1,19 +1,14 @@
 // What a worker does: it opens connections, closes expired ones, and waits for either.
 ghost use Rattle.std.specs.Prelude.{◌≡◌, length, vec_len, vec_capacity};
-ghost use Rattle.std.specs.Duration.{as_nanos};
-ghost use Rattle.r2d2_core.specs.Limits.{seen_limits, has_reached};
-ghost use Rattle.r2d2.specs.Events.{reason_of_reap};
 
 use super::PoolRuntime;
-use super::evicting::has_room;
 use super::locking::SharedOf;
-use super::pool_state::PoolState;
 use crate::ManageConnection;
-use crate::engine::{Outcome, TakeTotal};
-use crate::error::text_of;
 use crate::event::ReleaseReason;
 use crate::hooks::Hooks;
 use crate::payload::{Payload, PayloadOf, open};
+use pool_state::engine::{Outcome, TakeTotal};
+use pool_state::{PoolState, has_room, reason_of_reap, text_of};
 use r2d2_core::{Job, Limits, Refusal, Released};
 use std::sync::MutexGuard;
 use std::time::Duration;
@@ -109,17 +104,5 @@ impl<C: TakeTotal, M: ManageConnection, K: Hooks<M>, R: PoolRuntime> SharedOf<C,
             let reason = reason_of_reap(&limits, released.age);
             self.release(released, reason);
         }
-    }
-}
-
-/// Why a reap closed a connection of this age.
-pub fn reason_of_reap(limits: &Limits, age: Duration) -> ReleaseReason
-    ensures { result
-        ≡ reason_of_reap (has_reached (seen_limits limits.now).max_lifetime (as_nanos age)) }
-{
-    if limits.is_too_old(age) {
-        ReleaseReason::Lifetime
-    } else {
-        ReleaseReason::Idle
     }
 }

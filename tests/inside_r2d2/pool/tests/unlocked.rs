@@ -7,76 +7,56 @@ use crate::event::{AcquireEvent, CheckinEvent, CheckoutEvent, ReleaseEvent, Time
 use std::sync::atomic::AtomicBool;
 use std::thread::JoinHandle;
 
-/// What the pool calls: a bit for each.
-#[derive(Clone, Copy)]
-enum Call {
-    Connect = 0x1,
-    IsValid = 0x2,
-    HasBroken = 0x4,
-    DropOfConnection = 0x8,
-    HandleError = 0x10,
-    OnAcquire = 0x20,
-    OnRelease = 0x40,
-    Acquire = 0x80,
-    Release = 0x100,
-    Checkout = 0x200,
-    Timeout = 0x400,
-    Checkin = 0x800,
-}
-
-const ALL_CALLS: u64 = 0xfff;
+/// What the pool calls.
+const CALLS: [&str; 12] = [
+    "connect", "is_valid", "has_broken", "drop", "handle_error", "on_acquire", "on_release",
+    "acquire", "release", "checkout", "timeout", "checkin",
+];
 
 /// Questions to a thread that has the pool, and its answers.
-#[derive(Drop)]
-struct Probe<R> {
+#[derive(Default, Drop)]
+struct Probe {
     asked: AtomicU64,
     answered: AtomicU64,
     waited_in_vain: AtomicU64,
     /// From then on nobody answers, and nobody waits.
     is_over: AtomicBool,
+    /// A bit for each of the calls.
     called: AtomicU64,
     releases: AtomicU64,
-    rt: R,
-}
-
-impl<R: Clock> Probe<R> {
-    // Waits for an answer. It tells whether this is the first call of its kind.
-    fn ask(&self, call: Call) -> bool {
-        let ticket = self.asked.fetch_add(1, Ordering::SeqCst).saturating_add(1);
-        if !self.is_over.load(Ordering::SeqCst)
-            && watched(&self.rt, &self.answered, ticket) < ticket
-        {
-            self.waited_in_vain.fetch_add(1, Ordering::SeqCst);
-        }
-        let bit = call as u64;
-        self.called.fetch_or(bit, Ordering::SeqCst) & bit == 0
-    }
-}
-
-/// A connection that asks when it is dropped.
-struct Asking<R: Clock + Drop> {
-    probe: Arc<Probe<R>>,
-}
-
-impl<R: Clock + Drop> Drop for Asking<R> {
-    fn drop(self) {
-        let Asking { probe } = self;
-        probe.ask(Call::DropOfConnection);
-    }
 }
 
 /// Asks at each call. The first connection is turned away, and the first check fails; each that
 /// comes back is broken.
-#[derive(Drop)]
+#[derive(Clone, Copy)]
 struct Prober<R> {
-    probe: Arc<Probe<R>>,
+    probe: &'static Probe,
+    rt: R,
 }
 
-impl<R> Prober<R> {
-    fn new(probe: &Arc<Probe<R>>) -> Result<Prober<R>, AllocError> {
-        Ok(Prober {
-            probe: Arc::try_clone(probe)?,
-        })
+impl<R: Clock> Prober<R> {
+    // Waits for an answer. It fails at the first call of its kind.
+    fn ask(&self, call: &str) -> Result<(), &'static str> {
+        let Prober { probe, rt } = self;
+        let ticket = probe.asked.fetch_add(1, Ordering::SeqCst).saturating_add(1);
+        if !probe.is_over.load(Ordering::SeqCst) && watched(rt, &probe.answered, ticket) < ticket {
+            probe.waited_in_vain.fetch_add(1, Ordering::SeqCst);
+        }
+        let bit = 1 << CALLS.iter().position(|it| *it == call).ok_or("no call")?;
+        if probe.called.fetch_or(bit, Ordering::SeqCst) & bit == 0 {
+            return Err("the first call");
+        }
+        Ok(())
+    }
+}
+
+/// A connection that asks when it is dropped.
+struct Asking<R: Clock + Drop>(Prober<R>);
+
+impl<R: Clock + Drop> Drop for Asking<R> {
+    fn drop(self) {
+        let Asking(prober) = self;
+        prober.ask("drop").ok();
     }
 }
 
@@ -89,75 +69,68 @@ impl<R> fmt::Debug for Prober<R> {
 impl<R: PoolRuntime> ManageConnection for Prober<R> {
     type Connection = Asking<R>;
 
-    type Error = Blammo;
+    type Error = &'static str;
 
     type Extension = ();
 
-    fn connect(&self) -> Result<Asking<R>, Blammo> {
-        self.probe.ask(Call::Connect);
-        let probe = Arc::try_clone(&self.probe).map_err(|_| Blammo)?;
-        Ok(Asking { probe })
+    fn connect(&self) -> Result<Asking<R>, &'static str> {
+        self.ask("connect").ok();
+        Ok(Asking(*self))
     }
 
-    fn is_valid(&self, _connection: &mut Asking<R>) -> Result<(), Blammo> {
-        if self.probe.ask(Call::IsValid) {
-            return Err(Blammo);
-        }
-        Ok(())
+    fn is_valid(&self, _connection: &mut Asking<R>) -> Result<(), &'static str> {
+        self.ask("is_valid")
     }
 
     fn has_broken(&self, _connection: &mut Asking<R>) -> bool {
-        self.probe.ask(Call::HasBroken);
+        self.ask("has_broken").ok();
         true
     }
 }
 
-impl<R: PoolRuntime> HandleError<Blammo> for Prober<R> {
-    fn handle_error(&self, _error: Blammo) {
-        self.probe.ask(Call::HandleError);
+impl<R: PoolRuntime> HandleError<&'static str> for Prober<R> {
+    fn handle_error(&self, _error: &'static str) {
+        self.ask("handle_error").ok();
     }
 }
 
-impl<R: PoolRuntime> CustomizeConnection<Asking<R>, Blammo> for Prober<R> {
-    fn on_acquire(&self, _connection: &mut Asking<R>) -> Result<(), Blammo> {
-        if self.probe.ask(Call::OnAcquire) {
-            return Err(Blammo);
-        }
-        Ok(())
+impl<R: PoolRuntime> CustomizeConnection<Asking<R>, &'static str> for Prober<R> {
+    fn on_acquire(&self, _connection: &mut Asking<R>) -> Result<(), &'static str> {
+        self.ask("on_acquire")
     }
 
     fn on_release(&self, _connection: Asking<R>) {
-        self.probe.ask(Call::OnRelease);
+        self.ask("on_release").ok();
         self.probe.releases.fetch_add(1, Ordering::SeqCst);
     }
 }
 
 impl<R: PoolRuntime> HandleEvent for Prober<R> {
     fn handle_acquire(&self, _event: AcquireEvent) {
-        self.probe.ask(Call::Acquire);
+        self.ask("acquire").ok();
     }
 
     fn handle_release(&self, _event: ReleaseEvent) {
-        self.probe.ask(Call::Release);
+        self.ask("release").ok();
     }
 
     fn handle_checkout(&self, _event: CheckoutEvent) {
-        self.probe.ask(Call::Checkout);
+        self.ask("checkout").ok();
     }
 
     fn handle_timeout(&self, _event: TimeoutEvent) {
-        self.probe.ask(Call::Timeout);
+        self.ask("timeout").ok();
     }
 
     fn handle_checkin(&self, _event: CheckinEvent) {
-        self.probe.ask(Call::Checkin);
+        self.ask("checkin").ok();
     }
 }
 
 type ProbedPool<R> = Pool<Prober<R>, Prober<R>, Prober<R>, Prober<R>, R>;
 
 // Answers each question when it has read the pool's state, until the test is over.
-fn answer<R: PoolRuntime>(pool: ProbedPool<R>, probe: Arc<Probe<R>>) {
+fn answer<R: PoolRuntime>(rt: R, pool: ProbedPool<R>, probe: &Probe) {
     for _ in 0..60_000 {
         let asked = probe.asked.load(Ordering::SeqCst);
         let _state = pool.state();
@@ -165,7 +138,7 @@ fn answer<R: PoolRuntime>(pool: ProbedPool<R>, probe: Arc<Probe<R>>) {
         if probe.is_over.load(Ordering::SeqCst) {
             return;
         }
-        thread::sleep(&probe.rt, Duration::from_millis(1));
+        thread::sleep(&rt, Duration::from_millis(1));
     }
 }
 
@@ -173,33 +146,24 @@ fn answer<R: PoolRuntime>(pool: ProbedPool<R>, probe: Arc<Probe<R>>) {
 fn probed<R: PoolRuntime>(
     rt: R,
     builder: Builder<Prober<R>>,
-) -> Result<(ProbedPool<R>, Arc<Probe<R>>, JoinHandle<()>), Fail> {
-    let probe = Probe {
-        asked: AtomicU64::new(0),
-        answered: AtomicU64::new(0),
-        waited_in_vain: AtomicU64::new(0),
-        is_over: AtomicBool::new(false),
-        called: AtomicU64::new(0),
-        releases: AtomicU64::new(0),
-        rt,
-    };
-    let probe = Arc::new(rt.alloc(), probe)?;
+) -> Result<(ProbedPool<R>, &'static Probe, JoinHandle<()>), Fail> {
+    let probe = shared(rt.alloc())?;
+    let prober = Prober { probe, rt };
     let pool = builder
         .max_size(1)
-        .error_handler(Prober::new(&probe)?)
-        .event_handler(Prober::new(&probe)?)
-        .connection_customizer(Prober::new(&probe)?)
-        .build_unchecked(rt, Prober::new(&probe)?)?;
-    let (theirs, questions) = (pool.try_clone()?, Arc::try_clone(&probe)?);
-    let thread = thread::spawn(&rt, move || answer(theirs, questions))?;
+        .error_handler(prober)
+        .event_handler(prober)
+        .connection_customizer(prober)
+        .build_unchecked(rt, prober)?;
+    let theirs = pool.try_clone()?;
+    let thread = thread::spawn(&rt, move || answer(rt, theirs, probe))?;
     Ok((pool, probe, thread))
 }
 
 #[test]
 fn calls_are_made_without_the_lock(rt: HostRuntime) -> Result<(), Fail> {
-    let builder = Builder::new()
-        .idle_timeout(Some(Duration::from_millis(500)))
-        .reaper_rate(Duration::from_millis(500));
+    let soon = Duration::from_millis(500);
+    let builder = Builder::new().idle_timeout(Some(soon)).reaper_rate(soon);
     let (pool, probe, thread) = probed(rt, builder)?;
     let lent = pool.get()?;
     assert!(rt; pool.get_timeout(Duration::from_millis(50)).is_err());
@@ -207,7 +171,7 @@ fn calls_are_made_without_the_lock(rt: HostRuntime) -> Result<(), Fail> {
     // One whose check failed, a broken one, and one that expired.
     assert!(rt; watched(&rt, &probe.releases, 3) >= 3);
     assert_eq!(rt; probe.waited_in_vain.load(Ordering::SeqCst), 0);
-    assert_eq!(rt; probe.called.load(Ordering::SeqCst), ALL_CALLS);
+    assert_eq!(rt; probe.called.load(Ordering::SeqCst), (1 << CALLS.len()) - 1);
     probe.is_over.store(true, Ordering::SeqCst);
     thread.join(&rt);
     Ok(())

@@ -1,6 +1,6 @@
 use Rattle.std.proofs.Common.{◌≡◌, length}
 use Rattle.std.specs.Prelude.{All}
-use Rattle.r2d2.specs.Room.{HasRoom}
+use Rattle.pool_state.specs.Room.{HasRoom}
 use Rattle.r2d2.proofs.pool.building.reap_lists.Given as goal
 
 -- as many lists as there were turns, each with room

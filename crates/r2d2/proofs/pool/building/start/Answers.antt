@@ -8,7 +8,7 @@ use Rattle.std.specs.contracts.impls.GlobalAllocator.TheImpl as global_impl
 use Rattle.std.specs.contracts.sync.Arc as arc
 use Rattle.std.specs.contracts.vec.Vec as vec
 use Rattle.r2d2.specs.contracts.pool.locking.Shared as shared
-use Rattle.r2d2.specs.contracts.pool.pool_state.PoolState as state
+use Rattle.pool_state.specs.contracts.state.PoolState as state
 use Rattle.r2d2.specs.contracts.payload.Payload as payload
 use Rattle.r2d2_core.specs.contracts.machine.answers.Released as released
 

@@ -1,4 +1,4 @@
-use Rattle.r2d2.specs.declared.engine.Outcome.TheVariants as outcome
+use Rattle.pool_state.specs.declared.engine.Outcome.TheVariants as outcome
 use Rattle.r2d2_core.specs.Picture.{Picture}
 use Rattle.std.proofs.Common.{ap, ◌∙◌}
 use Rattle.std.specs.Duration.{as_nanos}

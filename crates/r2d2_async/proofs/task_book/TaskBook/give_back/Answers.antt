@@ -1,4 +1,4 @@
-use Rattle.r2d2.specs.Evicted.{is_to_close}
+use Rattle.pool_state.specs.Evicted.{is_to_close}
 use Rattle.std.specs.Duration.{as_nanos}
 use Rattle.r2d2_core.specs.Picture.{Picture}
 use Rattle.std.proofs.Common.{sym, ap, ◌∙◌}

@@ -1,6 +1,6 @@
 use Rattle.std.proofs.Common.{refl, ap, arith}
 use Rattle.std.specs.Duration.{as_nanos}
-use Rattle.r2d2.specs.Waiting.{waiting_in}
+use Rattle.pool_state.specs.Waiting.{waiting_in}
 use Rattle.r2d2_async.proofs.Passing.{ended_by}
 use Rattle.r2d2_async.proofs.task_book.TaskBook.pass_late.Goals as goal
 

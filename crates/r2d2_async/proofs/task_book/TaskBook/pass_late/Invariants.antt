@@ -1,7 +1,7 @@
 use Rattle.std.proofs.Common.{◌≡◌}
 use Rattle.std.specs.Duration.{as_nanos}
-use Rattle.r2d2.specs.Waiting.{passed_late}
-use Rattle.r2d2.specs.Search.{AreSearches}
+use Rattle.pool_state.specs.Waiting.{passed_late}
+use Rattle.pool_state.specs.Search.{AreSearches}
 use Rattle.r2d2_async.proofs.task_book.TaskBook.pass_late.Given as goal
 
 -- the first late one was passed in each turn

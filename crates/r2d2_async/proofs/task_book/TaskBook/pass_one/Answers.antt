@@ -1,6 +1,6 @@
 use Rattle.std.proofs.Common.{ap}
 use Rattle.std.specs.Duration.{as_nanos}
-use Rattle.r2d2.specs.Waiting.{first_late}
+use Rattle.pool_state.specs.Waiting.{first_late}
 use Rattle.r2d2_async.proofs.Awake.{awake_passed, awake_none_passed}
 use Rattle.r2d2_core.specs.Book.{SeenBook}
 use Rattle.r2d2_async.proofs.Drained.{drained_kept}

@@ -1,8 +1,8 @@
 use Rattle.r2d2_core.specs.Book.{SeenBook}
 use Rattle.std.specs.Duration.{as_nanos}
-use Rattle.r2d2.specs.Waiting.{waiting_in}
+use Rattle.pool_state.specs.Waiting.{waiting_in}
 use Rattle.std.proofs.Common.{ap, ◌∙◌, ◌≡◌, false}
-use Rattle.r2d2.specs.Lined.{SeenLined, is_found}
+use Rattle.pool_state.specs.Lined.{SeenLined, is_found}
 use Rattle.r2d2_async.specs.Wakers.{AreAwake}
 use Rattle.r2d2_async.proofs.Awake.{awake_look, awake_registered, awake_same, look_keeps}
 use Rattle.r2d2_async.proofs.Drained.{drained_kept, drained_looked}

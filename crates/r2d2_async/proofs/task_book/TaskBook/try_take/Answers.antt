@@ -1,5 +1,5 @@
 use Rattle.std.specs.Duration.{as_nanos}
-use Rattle.r2d2.specs.Waiting.{is_kept}
+use Rattle.pool_state.specs.Waiting.{is_kept}
 use Rattle.r2d2_async.proofs.Awake.{awake_same}
 use Rattle.r2d2_async.proofs.Drained.{drained_lent}
 use Rattle.r2d2_async.proofs.Closed.{up_kept, lent_same}

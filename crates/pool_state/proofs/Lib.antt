@@ -1,0 +1,12 @@
+pub mod Evicting
+pub mod Waiting
+pub mod Waits
+pub mod Lined
+pub mod Order
+pub mod Overtaking
+pub mod Standing
+pub mod Rings
+pub mod Walks
+pub mod Rows
+pub mod Loops
+pub mod Searches

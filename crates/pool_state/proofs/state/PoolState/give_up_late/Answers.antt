@@ -1,0 +1,13 @@
+use Rattle.std.proofs.Common.{true}
+use Rattle.pool_state.proofs.Waits.{none_lost, none_sleeps_due, unchanged}
+use Rattle.pool_state.proofs.state.PoolState.give_up_late.Goals as goal
+
+pub invariant_of-self : goal.invariant_of-self
+invariant_of-self g c =
+    let old = c.args.self.now in
+    let p = old.book.book.picture in
+    let sent = c.wake_if-to_wake in
+    record {
+      none_lost = none_lost true sent.result old.waiting sent.new.self p p (unchanged true p) old.none_lost sent.ensures.sent sent.ensures.within sent.ensures.waits;
+      others = none_sleeps_due old.waiting sent.new.self p sent.ensures.sleepers;
+    }

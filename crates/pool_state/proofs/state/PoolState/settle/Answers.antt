@@ -1,0 +1,16 @@
+use Rattle.pool_state.proofs.Waits.{none_lost, others_sleep, goes_settled}
+use Rattle.pool_state.proofs.state.PoolState.settle.Goals as goal
+
+pub invariant_of-self : goal.invariant_of-self
+invariant_of-self g c =
+    let old = c.args.self.now in
+    let step = c.settle-settled in
+    let p = old.book.book.picture in
+    let q = step.new.self.book.picture in
+    let due = step.result.1.wakes in
+    let sent = c.counted in
+    let goes = goes_settled c.args.now c.args.outcome step.result.0 p q due step.ensures.step.answer step.ensures.step.after step.ensures.wakes in
+    record {
+      none_lost = none_lost due.caller sent.result.callers old.waiting sent.new.waiting p q goes old.none_lost sent.ensures.sent sent.ensures.within sent.ensures.waits;
+      others = others_sleep due.caller old.waiting sent.new.waiting p q goes old.others sent.ensures.sleepers;
+    }

@@ -1,0 +1,8 @@
+// Who waits for a connection, in order, and who was told to look. Nothing here waits: it is what
+// the pool's lock guards.
+
+mod links;
+pub mod place;
+pub mod queue;
+mod ring;
+pub mod search;
