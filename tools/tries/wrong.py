@@ -1,12 +1,16 @@
-"""How wrong bodies are found again where their function has changed: tools/wrong/form.py, over a small file."""
+"""How wrong bodies are found again where their function has changed: tools/wrong/form.py, over a small file; and how many the gate tries."""
+import contextlib
+import io
 import os
 import sys
 import tempfile
+import types
 
 from tally import TOP, Tally
 
 sys.path.insert(0, os.path.join(TOP, "tools", "wrong"))
 import form
+import prover
 
 SOURCE = """impl<B, M> Shared<B, M> {
     fn settle(&self, id: u64) -> bool {
@@ -64,6 +68,25 @@ def made(place, body, source):
     return spots and [it.text for it in form.tokens_of(crates.with_spots(spots)["pool", "src/room.rt"])]
 
 
+def told(place, body, source):
+    """What is said of where the body changes the source."""
+    made(place, body, source)
+    it = form.Body(os.path.join(place, "wrong", "pool", "a_body"))
+    return list(it.astray(it.spots(form.Crates(place))[0]))
+
+
+def tries(tally):
+    """How many are tried of a crate, by what wrong/tried says of it, in the gate and otherwise."""
+    bodies = prover.of_crates()["pool_state"]
+    for is_known, is_gate, wanted in ((True, True, 3), (False, True, 3), (True, False, 3), (False, False, len(bodies))):
+        given = types.SimpleNamespace(all=False, proved=is_gate, seed="one")
+        count = len(prover.chosen_of("pool_state", bodies, is_known, given))
+        tally.check(f"of one that is {'' if is_known else 'not '}known, {'in the gate' if is_gate else 'by hand'}", count == wanted, count)
+    with contextlib.redirect_stdout(io.StringIO()) as said:
+        count = prover.without_receipt(["pool_state", "r2d2"])
+    tally.check("those that changed are named", count == 2 and "pool_state: NOT TRIED" in said.getvalue(), said.getvalue())
+
+
 def words(text):
     return [it.text for it in form.tokens_of(text)]
 
@@ -87,6 +110,10 @@ def tried():
         tally.check("what stands there twice is not chosen from", made(place, GIVES_UP, twice) is None, made(place, GIVES_UP, twice))
         gone = SOURCE.replace("let wakes = guarded.fail(id, self.moment());", "let wakes = 0;")
         tally.check("what is gone is not found", made(place, SETTLES, gone) is None, made(place, SETTLES, gone))
+        tally.check("nothing is told of one that is where it says", told(place, GIVES_UP, SOURCE) == [], told(place, GIVES_UP, SOURCE))
+        moved = told(place, GIVES_UP, SOURCE.replace("fn give_up(&self)", "fn end(&self)"))
+        tally.check("one that landed elsewhere is told of", moved[0].endswith("it changes room::Shared::end"), moved)
         paths = ["::".join(it.path) for it in form.functions_of("src/room.rt", SOURCE)]
+        tries(tally)
         tally.check("functions as the prover names them", paths == ["Shared::settle", "Shared::give_up", "Guarded+LinedBook+P+C::give_up"], paths)
     return tally

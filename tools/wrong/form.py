@@ -377,6 +377,13 @@ class Body:
             found.append(Spot(change.place.crate, file, function, start, end, renamed(change.put_in, match.names)))
         return found, None
 
+    def astray(self, spots):
+        """Where it changes what, if that is in another function than `in:` says, since that one is gone or reads otherwise."""
+        for change, spot in zip(self.changes, spots):
+            where, wanted = spot.function.place() if spot.function else "", "::".join(change.place.path)
+            if change.place.kind == "fn" and where != wanted:
+                yield f"{wanted} is not there, or reads otherwise: it changes {where or spot.file}"
+
     @staticmethod
     def look(change, texts):
         for places in change.place.looks(texts):
