@@ -4,7 +4,7 @@
 use futures::future::{Pending, Ready, pending};
 use futures::task::{Context, Poll};
 use futures::{Future, FutureExt, future, ready};
-use r2d2_async::{Builder, ManageConnection, Timer};
+use r2d2_async::{Builder, ManageConnection, Pool, Timer};
 use std::alloc::AllocError;
 use std::io;
 use std::time::{Clock, Duration};
@@ -83,7 +83,7 @@ fn main(rt: HostRuntime) -> Result<(), anyhow::Error> {
         time: runtime.handle().time().clone()?,
         rt,
     };
-    let pool = Builder::new().max_size(4).build(rt, Numbers, timer)?;
+    let pool = Pool::build(Builder::new().max_size(4), rt, Numbers, timer)?;
     let workers = runtime.task_set(&rt)?;
     workers.spawn(pool.work()?).map_err(io::Error::from)?;
     let get = pool.get()?;

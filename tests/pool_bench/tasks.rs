@@ -200,13 +200,13 @@ pub fn open_pool<T: Timer, R: PoolRuntime + RandomSource>(
     requires size { 0 < max_size }
     requires room { 0 < max_waiting }
 {
-    let pool = Builder::new()
+    let builder = Builder::new()
         .max_size(max_size)
         .max_waiting(max_waiting)
         .test_on_check_out(false)
         .max_lifetime(None)
-        .idle_timeout(None)
-        .build(rt, Nothings, timer)?;
+        .idle_timeout(None);
+    let pool = Pool::build(builder, rt, Nothings, timer)?;
     let opens = Opens {
         worker: pool.work()?,
         pool: pool.try_clone()?,

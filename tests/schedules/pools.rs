@@ -1,7 +1,7 @@
 // The pools of a run, and their settings.
 
 use crate::*;
-use r2d2::{CountedConnection, LendingOrder, PooledConnection};
+use r2d2::{Builder, CountedConnection, LendingOrder, PooledConnection};
 use r2d2_async::NoHandlers;
 use std::marker::Brand;
 use std::sync::ledger::{Blank, Share};
@@ -110,28 +110,26 @@ impl<R: PoolRuntime> Pool<R> {
     }
 }
 
-// Sets what builders of both crates have.
-macro_rules! set {
-    ($builder:expr, $world:expr) => {{
-        let (world, plan): (&World, &Plan) = ($world, &$world.plan);
-        let length = |is_set: bool, length| is_set.then(|| Duration::from_millis(length));
-        let order = if plan.oldest { LendingOrder::OldestFirst } else { LendingOrder::NewestFirst };
-        $builder
-            .max_size(plan.size as u32)
-            .min_idle(Some(plan.wanted as u32))
-            .test_on_check_out(plan.checks)
-            .distrust_idle(plan.distrusts)
-            .lending_order(order)
-            .max_lifetime(length(plan.ends_by_age(), world.lifetime))
-            .idle_timeout(length(plan.reaps, 4_000))
-            .check_after_idle(length(plan.after_idle, world.after_idle))
-    }};
+// The settings that are those of both pools.
+fn common(world: &World) -> Builder<Manager> {
+    let plan = &world.plan;
+    let length = |is_set: bool, length| is_set.then(|| Duration::from_millis(length));
+    let order = if plan.oldest { LendingOrder::OldestFirst } else { LendingOrder::NewestFirst };
+    Builder::new()
+        .max_size(plan.size as u32)
+        .min_idle(Some(plan.wanted as u32))
+        .test_on_check_out(plan.checks)
+        .distrust_idle(plan.distrusts)
+        .lending_order(order)
+        .max_lifetime(length(plan.ends_by_age(), world.lifetime))
+        .idle_timeout(length(plan.reaps, 4_000))
+        .check_after_idle(length(plan.after_idle, world.after_idle))
 }
 
 /// The settings of a pool for threads.
-pub(crate) fn builder_of(world: &'static World) -> r2d2::Builder<Manager, Place, Place, Place> {
+pub(crate) fn builder_of(world: &'static World) -> Builder<Manager, Place, Place, Place> {
     let plan = &world.plan;
-    let mut builder = set!(r2d2::Builder::<Manager>::new(), world)
+    let mut builder = common(world)
         .thread_pool(plan.workers as usize)
         .error_handler(Place(world))
         .event_handler(Place(world))
@@ -161,9 +159,9 @@ pub(crate) fn thread_pool<R: PoolRuntime>(rt: R, world: &'static World) -> Resul
 
 /// A pool for tasks.
 pub(crate) fn task_pool(world: &'static World) -> Result<TaskPool, Fail> {
-    let builder = set!(r2d2_async::Builder::new(), world)
+    let builder = common(world)
         .max_waiting(world.plan.line as u32)
         .connection_timeout(Duration::from_secs(PATIENT))
         .retry_at_most(Duration::from_millis(LONGEST_DELAY));
-    Ok(builder.build(Place(world), Manager(world), Place(world))?)
+    Ok(r2d2_async::Pool::build(builder, Place(world), Manager(world), Place(world))?)
 }

@@ -125,7 +125,7 @@ fn a_build_without_memory(rt: HostRuntime) -> Result<(), Fail> {
         (1, usize::MAX, true),
     ];
     on_rows(rt, &BUILT, rows, |world, (workers, room, waits)| {
-        let builder = threads(world, SMALL.workers(workers).recorded(room));
+        let builder = builder(world, SMALL.workers(workers).recorded(room));
         let (place, manager) = (Place { world, rt }, Manager { world });
         let built = if waits {
             builder.build(place, manager)

@@ -14,7 +14,7 @@ use futures::Future;
 use futures::executor::block_on;
 pub(crate) use hand::{Beside, Call, Hand};
 pub(crate) use lent::Lent;
-pub(crate) use making::{Building, made, threads};
+pub(crate) use making::{Building, builder, made};
 use r2d2::event::NopEventHandler;
 use r2d2::{Error, LendingOrder, Status};
 use r2d2_async::Handlers;

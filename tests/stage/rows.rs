@@ -7,7 +7,7 @@ pub(crate) use crate::ear::Told::{
 pub(crate) use crate::ear::milliseconds;
 pub(crate) use crate::kinds::{
     ALL, BESIDE, BOUNDED, BUILT, BY_HAND, Building, Calls, Drain, Get, Kind, Lent, ORDERED,
-    OUT_OF_LINE, Pool, QUIET, SMALL, Settings, TASKS, THREADS, first_ended, length, made, threads,
+    OUT_OF_LINE, Pool, QUIET, SMALL, Settings, TASKS, THREADS, builder, first_ended, length, made,
 };
 pub(crate) use crate::manager::Sorry::{self, Check, Connect};
 pub(crate) use crate::manager::{Kept, KeptKind, Manager, Wire};

@@ -122,7 +122,6 @@ macro_rules! limits {
 fn settings(rt: HostRuntime) -> Result<(), Fail> {
     limits!(rt, Builder::<Manager>::default());
     limits!(rt, PlainPool::<Manager, HostRuntime>::builder());
-    limits!(rt, r2d2_async::Builder::new());
     Ok(())
 }
 

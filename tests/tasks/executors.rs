@@ -1,19 +1,17 @@
 // Thousands of tasks, over each of the executors: nothing is lost, none is used twice, and where
 // there is one connection nobody is passed.
 
-use crate::throng::{Count, Task, World, throng};
+use crate::throng::{Count, Task, World, throng, ticks};
 use futures::executor::{EventLoop, Events, LocalPool, Rest, TaskSet, block_on, run_all};
 use futures::future::{join_all, ready};
 use futures::stream;
 use futures::task::{Context, Doorbell};
-use r2d2::PoolRuntime;
-use r2d2_async::Builder;
+use r2d2::{Builder, PoolRuntime};
 use std::alloc::AllocGlobal;
 use std::ops::Range;
 use std::process::Abort;
 use std::random::RandomSource;
 use std::test::Fail;
-use std::time::Duration;
 use std::{io, thread};
 
 const CALLERS: u64 = 1_000;
@@ -59,9 +57,8 @@ where
                 .min_idle(Some(0))
                 .test_on_check_out(is_checked)
                 .max_waiting(2_000)
-                .max_lifetime(Some(Duration::from_secs(2)))
-                .idle_timeout(Some(Duration::from_millis(300)))
-                .reaper_rate(Duration::from_millis(200));
+                .max_lifetime(Some(ticks(2_000)))
+                .idle_timeout(Some(ticks(300)));
             run(rt, executor, throng(world, settings, CALLERS, drains)?)?;
             goes_well(rt, world, drains);
             if executor != Executor::FourThreads {

@@ -15,13 +15,21 @@ use std::test::Fail;
 use std::time::Duration;
 use std::{fmt, io};
 
-/// A sleep of so many seconds, or of more, never ends.
-const NEVER: u64 = 3_600;
+/// A sleep of so many ticks, or of more, never ends.
+const NEVER: u64 = 3_600_000;
+
+/// The milliseconds of a tick: so a reap is due each 200 ticks.
+const TICK: u64 = 150;
+
+/// So many ticks.
+pub(crate) fn ticks(count: u64) -> Duration {
+    Duration::from_millis(TICK * count)
+}
 
 /// What is counted, and kept.
 #[derive(Clone, Copy, PartialEq, Debug)]
 pub(crate) enum Count {
-    /// The milliseconds of the clock: one for each poll of a task.
+    /// The ticks of the clock: one for each poll of a task.
     Ticks,
     Rolls,
     /// Connections that are open, and how many were at once at most.
@@ -115,7 +123,7 @@ impl World {
 
 impl Clock for World {
     fn monotonic(&self) -> io::Result<Duration> {
-        Ok(Duration::from_millis(self.count(Count::Ticks)))
+        Ok(ticks(self.count(Count::Ticks)))
     }
 
     fn since_1970(&self) -> io::Result<Duration> {
@@ -157,11 +165,11 @@ impl Timer for World {
     type Sleep = Nap;
 
     fn sleep(&self, length: Duration) -> Nap {
-        if length.as_secs() >= NEVER {
+        if length >= ticks(NEVER) {
             return Nap::Never(pending());
         }
         let now = self.count(Count::Ticks);
-        Nap::Until(*self, now.saturating_add(length.as_millis() as u64))
+        Nap::Until(*self, now.saturating_add(length.as_millis() as u64 / TICK))
     }
 }
 
@@ -259,7 +267,7 @@ impl Caller {
         self.hold = Polls(world.roll() % 4);
         self.patience = world.is_one_in(4).then(|| Polls(world.roll() % 7));
         let is_short = world.is_one_in(16);
-        let length = is_short.then(|| Duration::from_millis(world.roll() % 500));
+        let length = is_short.then(|| ticks(world.roll() % 500));
         let begun = length.map_or_else(|| self.pool.get(), |length| self.pool.get_timeout(length));
         self.get = begun.ok();
         world.add_if(self.get.is_none(), Count::Odd);
@@ -276,7 +284,7 @@ impl Caller {
         let evicts = served <= LAST && served % EVERY == 0;
         world.add_if(evicts && self.pool.evict().is_err(), Count::Odd);
         if served == LAST && self.drains {
-            self.drain = self.pool.drain(Duration::from_secs(NEVER)).ok();
+            self.drain = self.pool.drain(ticks(NEVER)).ok();
         }
     }
 
@@ -357,14 +365,14 @@ impl Future for Task {
 /// Three workers, and so many callers, each for two rounds.
 pub(crate) fn throng(
     world: World,
-    settings: Builder,
+    settings: Builder<World>,
     callers: u64,
     drains: bool,
 ) -> Result<Vec<Task>, Fail> {
-    let pool = settings
-        .connection_timeout(Duration::from_secs(NEVER))
-        .retry_at_most(Duration::from_millis(40))
-        .build(world, world, world)?;
+    let settings = settings
+        .connection_timeout(ticks(NEVER))
+        .retry_at_most(ticks(40));
+    let pool = PlainPool::build(settings, world, world, world)?;
     let mut tasks = Vec::new(world.rt.alloc());
     for _ in 0..3 {
         tasks.push(Task::Worker(pool.work()?))?;

@@ -11,7 +11,7 @@ TALLY = Tally("documents")
 # A document that is not there: in two parts, since the tool reads this file too.
 NONE = os.path.join("docs", "SETTING.md")
 GUIDE, HEAD, TESTS = documents.DROPPED
-SOURCES = [*documents.BUILDERS.values(), documents.TUNING, TESTS]
+SOURCES = [documents.BUILDER, documents.OF_TASKS[1], documents.TUNING, TESTS]
 DROPPED = f"# Guide\n\n| {HEAD} |\n|---|---|---|\n| a drain | a closed pool | `a_drain` |\n"
 README = "# A pool\nSee [settings](docs/SETTINGS.md#names-elsewhere), `no [link](NONE.md)`.\n```sh\n# no heading\n```\n"
 
@@ -76,13 +76,17 @@ def try_settings():
 
 
 def try_builders():
-    threads, path = documents.BUILDERS["threads"], documents.SETTINGS
-    finds("a default that the code changed", threads, "            max_size: 10,", "            max_size: 12,",
-          [f"{path}: the default of `max_size` is 12; tasks: 10, and its row says 10"])
-    finds("a setter that became public", threads, "    pub(crate) fn reaper_rate(", "    pub fn reaper_rate(",
-          [f"{path}: `reaper_rate` is a setting of both, and its row says tasks"])
-    finds("a setter that is new", documents.BUILDERS["tasks"], "    pub fn lending_order(", "    pub fn order(",
-          [f"{path}: `lending_order` is a setting of threads, and its row says both", f"{path}: no row of `order`"])
+    builder, path = documents.BUILDER, documents.SETTINGS
+    finds("a default that the code changed", builder, "            max_size: 10,", "            max_size: 12,",
+          [f"{path}: the default of `max_size` is 12, and its row says 10"])
+    finds("a setter that became public", builder, "    pub(crate) fn reaper_rate(", "    pub fn reaper_rate(",
+          [f"{path}: no row of `reaper_rate`"])
+    finds("a setter of another name", builder, "    pub fn lending_order(", "    pub fn order(",
+          [f"{path}: no builder has `lending_order`", f"{path}: no row of `order`"])
+    finds("a setter that tasks have too", builder, "It has no effect on a pool for tasks", "It is asked",
+          [f"{path}: `thread_pool` is a setting of both, and its row says threads"])
+    finds("a default of tasks that the code changed", documents.OF_TASKS[1], "PLACES: u32 = 1000;", "PLACES: u32 = 100;",
+          [f"{path}: the default of `max_waiting` is None; tasks: 100, and its row says None; tasks: 1,000"])
     finds("a default beside the others", documents.TUNING, "            distrust_idle: false,", "            distrust_idle: true,",
           [f"{path}: the default of `distrust_idle` is on, and its row says off"])
 

@@ -149,10 +149,8 @@ fn serve<R: PoolRuntime + RandomSource>(rt: R, metrics: Metrics<R>) -> Result<bo
     let start = Instant::now(&rt)?;
     let mut event_loop = EventLoop::new(&rt, Doorbell::parking())?;
     let timer = LoopTimer::new(rt, event_loop.keys(), start)?;
-    let pool = Builder::new()
-        .max_size(2)
-        .event_handler(metrics)
-        .build(rt, Numbers, timer.try_clone()?)?;
+    let builder = Builder::new().max_size(2).event_handler(metrics);
+    let pool = Pool::build(builder, rt, Numbers, timer.try_clone()?)?;
     let requests = TaskSet::new(&rt, Doorbell::parking(), 1)?;
     let others = begin_all(rt, &pool, &timer, &requests)?;
     // The run ends once both have ended, and all requests.

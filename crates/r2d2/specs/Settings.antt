@@ -6,6 +6,9 @@ use Rattle.std.specs.declared.time.Duration.{Duration}
 use Rattle.r2d2_core.specs.declared.schedule.limits.LendingOrder.TheVariants.{NewestFirst}
 use Rattle.r2d2_core.specs.declared.schedule.limits.LimitSettings.{LimitSettings}
 use Rattle.r2d2_core.specs.Limits.{settings, with_order}
+use Rattle.r2d2_core.specs.Book.{SeenBook, seen_book}
+use Rattle.r2d2_core.specs.Journal.{first_journal}
+use Rattle.r2d2_core.specs.Table.{first_picture}
 use Rattle.pool_state.specs.Tuning.{IsOff}
 use Rattle.r2d2.specs.declared.config.Config.{Config}
 use Rattle.r2d2.specs.declared.config.Settings.{Settings}
@@ -57,6 +60,7 @@ pub record ArePositive {H V Z : Type 0} (config : Config H V Z) : Type 0 where
 pub record AreAllPositive {H V Z : Type 0} (settings : Settings H V Z) : Type 0 where
   pub config : ArePositive settings.config
   pub retries : ForSome settings.tuning.retry_at_most (λ d. 0 < as_nanos d)
+  pub has_room : ForSome settings.tuning.max_waiting (λ n. 0 < n)
 
 -- the limits among the settings, with this connection timeout, and with the settings' own
 abbrev pub limits_within : {H V Z : Type 0} → Duration → Config H V Z → LimitSettings
@@ -65,6 +69,11 @@ limits_within timeout config = with_order config.lending_order (settings config.
 
 abbrev pub limits_in : {H V Z : Type 0} → Config H V Z → LimitSettings
 limits_in config = limits_within config.connection_timeout config
+
+-- in such a book nothing has happened: its limits, first id and journal are those of the settings
+abbrev pub BeginsWith : {H V Z T : Type 0} → Settings H V Z → SeenBook T → Type 0
+BeginsWith s book = (timeout : Duration) × IsTimeoutOfBook s.config s.tuning timeout
+    × (book ≡ seen_book (first_picture (limits_within timeout s.config) 0 s.first_id) (first_journal (limits_within timeout s.config) 0 s.config.journal_room))
 
 -- the same settings with other handlers
 abbrev pub with_handlers : {G W Y H V Z : Type 0} → G → W → Y → Config H V Z → Config G W Y
@@ -93,3 +102,10 @@ with_event_handler handler c = with_handlers c.error_handler handler c.connectio
 
 abbrev pub with_customizer : {Y H V Z : Type 0} → Y → Config H V Z → Config H V Y
 with_customizer customizer c = with_handlers c.error_handler c.event_handler customizer c
+
+-- with none
+abbrev pub BareSettings : Type 0
+BareSettings = Settings (Unit {0}) (Unit {0}) (Unit {0})
+
+abbrev pub without_handlers : {H V Z : Type 0} → Settings H V Z → BareSettings
+without_handlers s = changed (with_handlers tt tt tt s.config) s

@@ -1,15 +1,14 @@
 // The settings of a pool.
-ghost use Rattle.std.specs.Prelude.{◌≡◌, ◌<◌, ◌≤◌, ◌↔◌, IsSome, IfSome};
+ghost use Rattle.std.specs.Prelude.{◌≡◌, ◌<◌, ◌≤◌, ◌↔◌, IsSome, IfSome, IfOk};
 ghost use Rattle.std.specs.Option.{ForSome};
 ghost use Rattle.std.specs.Duration.{as_nanos};
 ghost use Rattle.r2d2_core.specs.Limits.{seen_limits};
 
-use crate::event::{HandleEvent, NopEventHandler};
-use crate::{
-    CustomizeConnection, HandleError, ManageConnection, NopConnectionCustomizer, NopErrorHandler,
-};
+use crate::event::NopEventHandler;
+use crate::{NopConnectionCustomizer, NopErrorHandler};
 use pool_state::Tuning;
-use r2d2_core::{LendingOrder, LimitSettings, Limits};
+use r2d2_core::{Book, LendingOrder, LimitSettings, Limits};
+use std::alloc::{AllocError, Global};
 use std::fmt;
 use std::marker::{Model, PhantomData};
 use std::time::Duration;
@@ -142,6 +141,8 @@ impl<H: fmt::Debug, V: fmt::Debug, Z: fmt::Debug> fmt::Debug for Config<H, V, Z>
 /// may not be zero asks for that as a condition, which the checker proves of each call: a literal
 /// shows it by itself, and a number that comes from outside has to be tested before. Each setting
 /// says how.
+///
+/// `Pool::build` of `r2d2_async` makes a pool for tasks of the same settings.
 #[derive(Drop)]
 pub struct Builder<M, H = NopErrorHandler, V = NopEventHandler, Z = NopConnectionCustomizer> {
     settings: Settings<H, V, Z>,
@@ -160,6 +161,29 @@ pub struct Settings<H, V, Z> {
     pub first_id: u64,
     /// Whether a handler of events was set.
     pub listens: bool,
+}
+
+impl<H, V, Z> Settings<H, V, Z> {
+    ghost use Rattle.r2d2.specs.Settings.{without_handlers};
+
+    /// The same settings without handlers, and the handlers.
+    pub fn without_handlers(self) -> (Settings<(), (), ()>, (H, V, Z))
+        ensures settings { result.0 ≡ without_handlers self }
+        ensures handlers { result.1 ≡ (
+          self.config.error_handler,
+          self.config.event_handler,
+          self.config.connection_customizer,
+        ) }
+    {
+        let (config, handlers) = self.config.with_handlers((), (), ());
+        let settings = Settings {
+            config,
+            tuning: self.tuning,
+            first_id: self.first_id,
+            listens: self.listens,
+        };
+        (settings, handlers)
+    }
 }
 
 // Contracts see a builder as its settings.
@@ -189,7 +213,7 @@ impl<M, H, V, Z> Builder<M, H, V, Z> {
     }
 }
 
-impl<M: ManageConnection> Builder<M> {
+impl<M> Builder<M> {
     ghost use Rattle.r2d2.specs.Settings.{AreNew};
 
     /// A builder with the default of each setting, and with handlers and a customizer that do
@@ -201,7 +225,7 @@ impl<M: ManageConnection> Builder<M> {
     }
 }
 
-impl<M: ManageConnection> Default for Builder<M> {
+impl<M> Default for Builder<M> {
     ghost use Rattle.r2d2.specs.Settings.{AreNew};
 
     ghost is_default = { AreNew };
@@ -232,16 +256,13 @@ impl<M: ManageConnection> Default for Builder<M> {
     }
 }
 
-impl<
-    M: ManageConnection,
-    H: HandleError<M::Error>,
-    V: HandleEvent + 'static,
-    Z: CustomizeConnection<M::Connection, M::Error>,
-> Builder<M, H, V, Z> {
+// What a manager, a handler and a customizer have to be is asked where a pool is built: each kind
+// of pool asks for its own.
+impl<M, H, V, Z> Builder<M, H, V, Z> {
     ghost use Rattle.std.specs.Prelude.{Some, true};
     ghost use Rattle.r2d2.specs.Settings.{limits_in, limits_within, with_error_handler};
     ghost use Rattle.r2d2.specs.Settings.{with_event_handler, with_customizer, changed};
-    ghost use Rattle.r2d2.specs.Settings.{IsTimeoutOfBook};
+    ghost use Rattle.r2d2.specs.Settings.{IsTimeoutOfBook, AreAllPositive, BeginsWith};
 
     /// How many connections there are at most: idle ones, lent ones and those that are being opened
     /// together. The default is 10. A pool takes the memory for that many when it is built.
@@ -273,7 +294,7 @@ impl<
     }
 
     /// How many threads of the pool's own open connections and close expired ones. The default is
-    /// 3.
+    /// 3. It has no effect on a pool for tasks, whose user spawns its workers.
     ///
     /// It may not be 0. The test for a number from outside: `workers > 0`.
     pub fn thread_pool(mut self, workers: usize) -> Self
@@ -285,8 +306,9 @@ impl<
         self
     }
 
-    /// Whether a connection is checked by `ManageConnection::is_valid` each time before it is lent.
-    /// The default is true.
+    /// Whether a connection is checked by `ManageConnection::is_valid` each time before it is lent;
+    /// by `check`, where it is lent to a task. The default is true. `try_get` of a pool for tasks,
+    /// which waits for nothing, checks none.
     pub fn test_on_check_out(mut self, test_on_check_out: bool) -> Self
         ensures { result ≡ record self { config = record self.config { test_on_check_out = test_on_check_out } } }
     {
@@ -406,7 +428,8 @@ impl<
     /// Whether a failed check tells of others: those that have been idle since before that check
     /// began are then closed too, each as a caller comes to it, and not checked. So where a server
     /// went away, a caller waits for one check, and not for one for each idle connection, whichever
-    /// is lent first. The default is false, as r2d2.
+    /// is lent first. A task's check has failed too where it was given up with the caller's time;
+    /// one whose `Get` was dropped tells nothing. The default is false, as r2d2.
     pub fn distrust_idle(mut self, distrust_idle: bool) -> Self
         ensures { result ≡ record self { tuning = record self.tuning { distrust_idle = distrust_idle } } }
     {
@@ -448,7 +471,8 @@ impl<
 
     /// How many callers wait for a connection at most. One that finds none idle while so many wait
     /// gets `ErrorKind::Full` at once: it orders none, and no event tells of it. So does one whose
-    /// connection failed its check. The default is none, as r2d2: as many wait as come.
+    /// connection failed its check. The default is none, as r2d2: as many wait as come. In a pool
+    /// for tasks it is 1,000, who stand in line.
     ///
     /// It may not be 0. The test for a number from outside: `callers > 0`.
     pub fn max_waiting(mut self, callers: u32) -> Self
@@ -463,8 +487,9 @@ impl<
     /// Callers wait in line, at most so many, and are served in the order in which they began to
     /// wait: what comes back is kept for the first of them, and no newcomer, nor `try_get`, takes
     /// it. One more than that gets `ErrorKind::Full`, as by `max_waiting`, which sets the same
-    /// number. A caller keeps its place until its connection passed its check, and is one of so many
-    /// until then. The default is no line, as r2d2: who comes first to an idle connection has it.
+    /// number. A caller keeps its place until its connection passed its check, and is one of so
+    /// many until then. The default is no line, as r2d2: who comes first to an idle connection has
+    /// it. A pool for tasks always has one.
     ///
     /// The memory for the line is taken when the pool is built. It costs time where connections are
     /// held for a few microseconds only, and spares some callers very long waits where many wait.
@@ -483,7 +508,9 @@ impl<
     /// What is told of each error of the manager and of the customizer. The default,
     /// `NopErrorHandler`, drops each in silence, so that only a caller's timeout tells why no
     /// connection opens. `LoggingErrorHandler` writes each to a log.
-    pub fn error_handler<G: HandleError<M::Error>>(self, handler: G) -> Builder<M, G, V, Z>
+    pub fn error_handler<G>(self, handler: G) -> Builder<M, G, V, Z>
+    where
+        H: Drop,
         ensures { result ≡ changed (with_error_handler handler self.config) self }
     {
         let config = self.settings.config.with_error_handler(handler);
@@ -497,7 +524,9 @@ impl<
 
     /// What is told of each event. The default, `NopEventHandler`, ignores them. A pool where none
     /// was set reads the clock less often, since nobody sees when a call began or ended.
-    pub fn event_handler<W: HandleEvent + 'static>(self, handler: W) -> Builder<M, H, W, Z>
+    pub fn event_handler<W>(self, handler: W) -> Builder<M, H, W, Z>
+    where
+        V: Drop,
         ensures { result
             ≡ record (changed (with_event_handler handler self.config) self) { listens = true } }
     {
@@ -512,10 +541,9 @@ impl<
 
     /// What changes connections as they come and go. The default, `NopConnectionCustomizer`, leaves
     /// them as they are.
-    pub fn connection_customizer<Y: CustomizeConnection<M::Connection, M::Error>>(
-        self,
-        customizer: Y,
-    ) -> Builder<M, H, V, Y>
+    pub fn connection_customizer<Y>(self, customizer: Y) -> Builder<M, H, V, Y>
+    where
+        Z: Drop,
         ensures { result ≡ changed (with_customizer customizer self.config) self }
     {
         let config = self.settings.config.with_customizer(customizer);
@@ -525,35 +553,6 @@ impl<
             first_id: self.settings.first_id,
             listens: self.settings.listens,
         })
-    }
-
-    /// The id that the first connection gets.
-    pub(crate) fn id_of_the_first(&self) -> u64
-        ensures { result ≡ self.now.first_id }
-    {
-        self.settings.first_id
-    }
-
-    /// Whether a handler of events was set.
-    pub(crate) fn listens(&self) -> bool
-        ensures { result ≡ self.now.listens }
-    {
-        self.settings.listens
-    }
-
-    /// Whether a handler of events was set, and the settings that r2d2 has not.
-    pub(crate) fn beside_config(&self) -> (bool, Tuning)
-        ensures { result ≡ (self.now.listens, self.now.tuning) }
-    {
-        (self.settings.listens, self.settings.tuning)
-    }
-
-    /// The settings that r2d2 has, and the handlers.
-    pub(crate) fn into_config(self) -> Config<H, V, Z>
-        ensures { result ≡ self.config }
-    {
-        let Builder { settings, .. } = self;
-        settings.config
     }
 
     /// The limits that building would use, with the lending order; None exactly where `min_idle` is
@@ -568,8 +567,8 @@ impl<
         self.limits_within(self.settings.config.connection_timeout)
     }
 
-    /// The connection timeout of a pool's book, to half of which its delays grow.
-    pub(crate) fn timeout_of_book(&self) -> Duration
+    // The connection timeout of a pool's book, to half of which its delays grow.
+    fn timeout_of_book(&self) -> Duration
         ensures given { IsTimeoutOfBook self.now.config self.now.tuning result }
         ensures positive { 0 < as_nanos result }
     {
@@ -578,8 +577,8 @@ impl<
             .connection_timeout(self.settings.config.connection_timeout)
     }
 
-    /// The limits with this connection timeout.
-    pub(crate) fn limits_within(&self, connection_timeout: Duration) -> Option<Limits>
+    // The limits with this connection timeout.
+    fn limits_within(&self, connection_timeout: Duration) -> Option<Limits>
         requires { 0 < as_nanos connection_timeout }
         ensures legal { IsSome result ↔ ForSome self.now.config.min_idle
             (λ n. n ≤ self.now.config.max_size) }
@@ -597,6 +596,46 @@ impl<
             order: config.lending_order,
         }
         .limits()
+    }
+
+    /// The settings, and a book that begins with them, in which nothing has happened: for a crate
+    /// that builds pools of a kind of its own, as `r2d2_async` does.
+    ///
+    /// `alloc` gives the memory for `max_size` connections and the journal. `min_idle` may not be
+    /// above `max_size`: `limits` is the test. The error is lack of memory; then the handlers are
+    /// dropped.
+    pub fn into_book<P: Drop>(
+        self,
+        alloc: Global,
+    ) -> Result<(Settings<H, V, Z>, Book<P>), AllocError>
+    where
+        H: Drop,
+        V: Drop,
+        Z: Drop,
+        requires { ForSome self.config.min_idle (λ n. n ≤ self.config.max_size) }
+        ensures settings { IfOk result (λ made. made.0 ≡ self) }
+        ensures positive { IfOk result (λ made. AreAllPositive made.0) }
+        ensures takes { IfOk result (λ made. made.1.journal.takes ≡ 0) }
+        ensures book { IfOk result (λ made. BeginsWith self made.1) }
+    {
+        let limits = self.limits_with_min_idle_up_to_max_size();
+        let Builder { settings, .. } = self;
+        let room = settings.config.journal_room;
+        let book = Book::with_first_id(alloc, limits, Duration::ZERO, settings.first_id, room)?;
+        Ok((settings, book))
+    }
+
+    // The limits of the book. Its name says what a run without proof has found not to hold where it
+    // stops here.
+    fn limits_with_min_idle_up_to_max_size(&self) -> Limits
+        requires { ForSome self.now.config.min_idle (λ n. n ≤ self.now.config.max_size) }
+        ensures { (timeout : _) × IsTimeoutOfBook self.now.config self.now.tuning timeout
+            × (seen_limits result ≡ limits_within timeout self.now.config) }
+    {
+        let Some(limits) = self.limits_within(self.timeout_of_book()) else {
+            unreachable!()
+        };
+        limits
     }
 }
 

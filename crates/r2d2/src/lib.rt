@@ -38,7 +38,7 @@ mod observe;
 mod payload;
 mod pool;
 
-pub use config::{Builder, Config};
+pub use config::{Builder, Config, Settings};
 pub use error::{Error, ErrorKind};
 pub use event::{HandleEvent, NopEventHandler};
 pub use extensions::{Extension, Extensions};

@@ -1,4 +1,3 @@
 pub mod Wakers
 pub mod Looks
 pub mod Sources
-pub mod Settings

@@ -178,7 +178,8 @@ impl<M: ManageConnection, T: Timer, K: Hooks<M>, R: AsyncRuntime> Get<M, T, K, R
     {
         let closer = self.closer.as_ref().unwrap();
         let shared = &closer.shared;
-        let keeps_place = shared.config.test_on_check_out || shared.tuning.distrust_idle;
+        let keeps_place = shared.settings.config.test_on_check_out
+            || shared.settings.tuning.distrust_idle;
         let (polled, now) = match lock(&shared.tasks) {
             Some(mut tasks) => {
                 let now = shared.moment();
@@ -221,11 +222,13 @@ impl<M: ManageConnection, T: Timer, K: Hooks<M>, R: AsyncRuntime> Get<M, T, K, R
     {
         let closer = self.closer.as_ref().unwrap();
         let shared = &closer.shared;
-        if shared.tuning.distrust_idle && shared.is_distrusted(idle_since) {
+        if shared.settings.tuning.distrust_idle && shared.is_distrusted(idle_since) {
             shared.put_back(id, payload, Some(ReleaseReason::Distrusted));
             return None;
         }
-        if !shared.config.test_on_check_out || !shared.tuning.is_check_due(idle_since, now) {
+        if !shared.settings.config.test_on_check_out
+            || !shared.settings.tuning.is_check_due(idle_since, now)
+        {
             return Some(Found {
                 id,
                 payload,
@@ -291,10 +294,10 @@ impl<M: ManageConnection, T: Timer, K: Hooks<M>, R: AsyncRuntime> Get<M, T, K, R
         let shared = &closer.shared;
         shared.leave_line(&mut self.place);
         let lent_at = match taken_at {
-            Some(moment) if !shared.listens => moment,
+            Some(moment) if !shared.settings.listens => moment,
             _ => shared.moment(),
         };
-        if shared.listens {
+        if shared.settings.listens {
             let start = self.start.unwrap_or(lent_at);
             shared.hooks.check_out(id, start, lent_at);
         }
@@ -324,7 +327,7 @@ fn abandon<M: ManageConnection, T: Timer, K: Hooks<M>, R: AsyncRuntime>(
         } = checking;
         drop(check);
         let distrusted_before = if is_over {
-            shared.tuning.distrusts_before(began)
+            shared.settings.tuning.distrusts_before(began)
         } else {
             Duration::ZERO
         };
@@ -362,7 +365,7 @@ fn close_unsound<M: ManageConnection, T: Timer, K: Hooks<M>, R: AsyncRuntime>(
 ) {
     let text = text_of(shared.rt.alloc(), &error);
     shared.hooks.error(error);
-    let distrusted_before = shared.tuning.distrusts_before(began);
+    let distrusted_before = shared.settings.tuning.distrusts_before(began);
     if let Some(gone) = shared.fail_check(id, text, distrusted_before) {
         let reason = ReleaseReason::CheckFailed;
         shared.hooks.release(id, gone.age, reason, connection);

@@ -29,14 +29,14 @@ impl<M: ManageConnection, T: Timer, K: Hooks<M>, R: AsyncRuntime> Model
     for PooledConnection<M, T, K, R> {
     ghost use Rattle.std.specs.Arc.{arc_value};
     ghost use Rattle.r2d2.specs.Lent.{SeenConnection};
-    ghost use Rattle.r2d2_async.specs.declared.config.Config.{Config};
+    ghost use Rattle.r2d2.specs.Settings.{BareSettings};
 
-    ghost Value = { SeenConnection M.Connection M.Extension.Kind M.Extension Config };
+    ghost Value = { SeenConnection M.Connection M.Extension.Kind M.Extension BareSettings };
 
     ghost view = { λ l. record {
       connection = l.payload.connection;
       extensions = l.payload.extensions;
-      settings = (arc_value (arc_value l.closer).shared).config;
+      settings = (arc_value (arc_value l.closer).shared).settings;
       id = l.id;
       lent_at = l.lent_at;
     } };
@@ -76,7 +76,7 @@ impl<M: ManageConnection, T: Timer, K: Hooks<M>, R: AsyncRuntime> PooledConnecti
             payload,
         } = this;
         let shared = &closer.shared;
-        if shared.listens {
+        if shared.settings.listens {
             shared.hooks.check_in(id, lent_at, shared.moment());
         }
         if let Some(Settled::Gone(gone)) = shared.settle(Outcome::Unsound { id, text: None }) {
@@ -151,7 +151,7 @@ impl<M: ManageConnection, T: Timer, K: Hooks<M>, R: AsyncRuntime> Drop
             mut payload,
         } = self;
         let shared = &closer.shared;
-        if shared.listens {
+        if shared.settings.listens {
             shared.hooks.check_in(id, lent_at, shared.moment());
         }
         let broken = shared.manager.has_broken(&mut payload.connection);

@@ -4,16 +4,16 @@
 //! executor of theirs. What the pool decides is the same core that the pool of `r2d2` stands on;
 //! settings, events, handlers, extensions and errors are those of `r2d2`.
 //!
-//! A `Builder` makes a pool over a manager and a timer of the user's. `Pool::work` gives a worker
-//! to be spawned, and `Pool::get` the future of a connection, which goes back to the pool when it
-//! is dropped.
+//! `Pool::build` makes a pool with the settings of a `Builder`, over a manager and a timer of the
+//! user's. `Pool::work` gives a worker to be spawned, and `Pool::get` the future of a connection,
+//! which goes back to the pool when it is dropped.
 //!
 //! Callers stand in one line, and are served in the order in which they came. The memory for the
 //! line is taken when the pool is built: the setting `max_waiting` says how many may stand in it.
 //! No function here waits, but for a lock that is held for single steps of the book.
 #![tactic(auto)]
 
-mod config;
+mod building;
 mod drain;
 mod get;
 mod hooks;
@@ -24,13 +24,13 @@ mod task_book;
 mod wakers;
 mod work;
 
-pub use config::{Builder, Config};
 pub use drain::Drain;
 use futures::Future;
 pub use get::Get;
 pub use hooks::{Handlers, Hooks};
 pub use lent::PooledConnection;
 pub use pool::{Pool, State};
+pub use r2d2::Builder;
 use r2d2::event::NopEventHandler;
 use r2d2::{Extension, NopConnectionCustomizer, NopErrorHandler};
 use std::alloc::AllocGlobal;
@@ -42,8 +42,8 @@ pub use work::Work;
 /// Handlers and a customizer that do nothing: those of a `Builder` where none of them is set.
 pub type NoHandlers = Handlers<NopErrorHandler, NopEventHandler, NopConnectionCustomizer>;
 
-/// A pool with such handlers: what `Builder::new()` builds. What it gives has `NoHandlers` as well:
-/// its `get` is a `Get<M, T, NoHandlers, R>`.
+/// A pool with such handlers. What it gives has `NoHandlers` as well: its `get` is a
+/// `Get<M, T, NoHandlers, R>`.
 pub type PlainPool<M, T, R> = Pool<M, T, NoHandlers, R>;
 
 /// Opens connections and checks them, by futures. Nothing is asked of what they answer, nor of how

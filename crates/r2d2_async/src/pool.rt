@@ -4,7 +4,6 @@ ghost use Rattle.r2d2_core.specs.Reports.{IsSoundReport};
 ghost use Rattle.r2d2.specs.Failures.{IsOfMemory, IsOfAGet};
 ghost use Rattle.pool_state.specs.Status.{IsStatus};
 
-use crate::config::Config;
 use crate::drain::Drain;
 use crate::get::Get;
 use crate::hooks::Hooks;
@@ -31,8 +30,8 @@ pub struct State {
     pub idle_connections: u32,
 }
 
-/// A pool of connections for tasks. It is made by a `Builder`; a task of its own gets a pool over
-/// the same connections by `try_clone`.
+/// A pool of connections for tasks. `build` makes one; a task of its own gets a pool over the same
+/// connections by `try_clone`.
 ///
 /// `M` opens connections, `T` wakes tasks when time has passed, `K` is told of errors and events
 /// and changes connections as they come and go (a `Handlers`), and `R` is the runtime. The pool
@@ -46,11 +45,11 @@ pub struct Pool<M: ManageConnection, T: Timer, K: Hooks<M>, R: AsyncRuntime> {
 // Contracts see a pool as its settings: what its lock holds, other tasks change.
 impl<M: ManageConnection, T: Timer, K: Hooks<M>, R: AsyncRuntime> Model for Pool<M, T, K, R> {
     ghost use Rattle.std.specs.Arc.{arc_value};
-    ghost use Rattle.r2d2_async.specs.declared.config.Config.{Config};
+    ghost use Rattle.r2d2.specs.Settings.{BareSettings};
 
-    ghost Value = { Config };
+    ghost Value = { BareSettings };
 
-    ghost view = { λ p. (arc_value (arc_value p.closer).shared).config };
+    ghost view = { λ p. (arc_value (arc_value p.closer).shared).settings };
 }
 
 impl<M: ManageConnection, T: Timer, K: Hooks<M>, R: AsyncRuntime> Pool<M, T, K, R> {
@@ -58,7 +57,7 @@ impl<M: ManageConnection, T: Timer, K: Hooks<M>, R: AsyncRuntime> Pool<M, T, K, 
 
     // What it shares with its workers and with what it lends.
     fn shared(&self) -> &SharedOf<M, T, K, R>
-        ensures { result.now.config ≡ self.now }
+        ensures { result.now.settings ≡ self.now }
     {
         &self.closer.shared
     }
@@ -117,7 +116,7 @@ impl<M: ManageConnection, T: Timer, K: Hooks<M>, R: AsyncRuntime> Pool<M, T, K, 
         else {
             return Ok(None);
         };
-        if shared.listens {
+        if shared.settings.listens {
             shared.hooks.check_out(id, at, at);
         }
         Ok(Some(PooledConnection {
@@ -170,9 +169,9 @@ impl<M: ManageConnection, T: Timer, K: Hooks<M>, R: AsyncRuntime> Pool<M, T, K, 
 
     /// How long `get` waits for a connection.
     pub fn connection_timeout(&self) -> Duration
-        ensures { result ≡ self.now.connection_timeout }
+        ensures { result ≡ self.now.config.connection_timeout }
     {
-        self.shared().config.connection_timeout
+        self.shared().settings.config.connection_timeout
     }
 
     /// What happened last, as far back as the setting `journal_room` reaches, what stood before
@@ -197,7 +196,7 @@ impl<M: ManageConnection, T: Timer, K: Hooks<M>, R: AsyncRuntime> Pool<M, T, K, 
         ensures refused { IfErr result IsOfMemory }
     {
         let shared = self.shared();
-        let room = shared.config.max_size as usize;
+        let room = shared.settings.config.max_size as usize;
         let mut evicted: Vec<Released<PayloadOf<M>>> = Vec::with_capacity(
             shared.rt.alloc(),
             room,
@@ -245,7 +244,7 @@ impl<M: ManageConnection, T: Timer, K: Hooks<M>, R: AsyncRuntime> Pool<M, T, K, 
 }
 
 impl<M: ManageConnection, T: Timer, K: Hooks<M>, R: AsyncRuntime> Observe for Pool<M, T, K, R> {
-    ghost timeout_of = { λ config. config.connection_timeout };
+    ghost timeout_of = { λ settings. settings.config.connection_timeout };
 
     fn status(&self) -> Status {
         Pool::status(self)

@@ -2,16 +2,14 @@
 ghost use Rattle.std.specs.Prelude.{◌≡◌, IfSome};
 ghost use Rattle.pool_state.specs.Status.{IsStatus};
 
-use crate::config::Config;
 use crate::hooks::Hooks;
 use crate::task_book::TaskBook;
 use crate::{AsyncRuntime, ManageConnection};
 use futures::spin::lock;
 use futures::task::Source;
-use pool_state::Tuning;
-use r2d2::Status;
 use r2d2::engine::{Outcome, Payload, Settled};
 use r2d2::event::ReleaseReason;
+use r2d2::{Settings, Status};
 use r2d2_core::machine::Leftover;
 use r2d2_core::{Gone, Refusal, Released, Returned};
 use std::rt::Clock;
@@ -38,11 +36,7 @@ pub struct Shared<P, M, T, K, R> {
     pub(crate) manager: M,
     pub(crate) timer: T,
     pub(crate) hooks: K,
-    pub(crate) config: Config,
-    /// The settings that r2d2 has not.
-    pub(crate) tuning: Tuning,
-    /// Whether a handler of events was set: if not, nobody sees when a call began or ended.
-    pub(crate) listens: bool,
+    pub(crate) settings: Settings<(), (), ()>,
     /// When the pool was made; None where the clock could not be read.
     pub(crate) made: Option<Instant>,
     /// What the wall clock showed then, where it could be read.
@@ -91,7 +85,7 @@ impl<P: Drop, M, T, K, R: Clock> Shared<P, M, T, K, R> {
     {
         match lock(&self.tasks) {
             Some(tasks) => tasks.status(),
-            None => no_status(self.config.max_size),
+            None => no_status(self.settings.config.max_size),
         }
     }
 
@@ -101,7 +95,7 @@ impl<P: Drop, M, T, K, R: Clock> Shared<P, M, T, K, R> {
     {
         match lock(&self.tasks) {
             Some(mut tasks) => tasks.give_up(),
-            None => no_status(self.config.max_size),
+            None => no_status(self.settings.config.max_size),
         }
     }
 
@@ -154,7 +148,7 @@ impl<P: Drop, M, T, K, R: Clock> Shared<P, M, T, K, R> {
         let mut tasks = lock(&self.tasks)?;
         let now = self.moment();
         let reason = tasks.reason_of_return(id, unfit);
-        let outlived = tasks.is_outlived(&self.tuning, self.made_at, id, now);
+        let outlived = tasks.is_outlived(&self.settings.tuning, self.made_at, id, now);
         let Ok(Returned::Closed { value, age, .. }) = tasks.give_back(
             now, id, payload, unfit, outlived,
         ) else {
@@ -238,7 +232,7 @@ impl<M: ManageConnection, T, K: Hooks<M>, R: AsyncRuntime> SharedOf<M, T, K, R> 
     /// As `take_now`. One that is distrusted is closed, and it looks on: so it takes no more than
     /// were idle when it began.
     pub(crate) fn take_trusted(&self) -> Option<Taken<PayloadOf<M>>> {
-        if !self.tuning.distrust_idle {
+        if !self.settings.tuning.distrust_idle {
             return self.take_now();
         }
         for _ in 0..self.status().idle {

@@ -65,7 +65,7 @@ impl<M: ManageConnection, T: Timer, K: Hooks<M>, R: AsyncRuntime> Work<M, T, K, 
     pub(crate) fn new(shared: Arc<SharedOf<M, T, K, R>>) -> Result<Work<M, T, K, R>, Error>
         ensures { IfOk result (λ work. (work.opening ≡ None) × (work.sleep ≡ None)) }
     {
-        let room = shared.config.max_size as usize;
+        let room = shared.settings.config.max_size as usize;
         let expired = Vec::with_capacity(shared.rt.alloc(), room).map_err(|_| Error::memory())?;
         let added = match lock(&shared.tasks) {
             Some(mut tasks) => tasks.add_worker(),

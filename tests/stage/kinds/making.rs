@@ -9,80 +9,68 @@ use crate::manager::{Hours, Manager};
 use crate::world::{Host, World};
 use futures::Future;
 use futures::executor::block_on;
-use r2d2::Error;
-use r2d2::event::HandleEvent;
+use r2d2::{Builder, Error};
 use std::marker::Brand;
 use std::sync::ledger::Blank;
 use std::sync::{Arc, Mutex};
 use std::test::Fail;
 use std::{mem, thread};
 
-// Sets what builders of both crates have.
-macro_rules! set {
-    ($builder:expr, $settings:expr) => {{
-        let settings: Settings = $settings;
-        let builder = $builder
-            .max_size(settings.max_size)
-            .min_idle(Some(settings.min_idle))
-            .test_on_check_out(settings.is_checked)
-            .max_lifetime(settings.length_if(settings.max_lifetime))
-            .idle_timeout(settings.length_if(settings.idle_timeout))
-            .connection_timeout(settings.length(settings.connection_timeout))
-            .lending_order(settings.order)
-            .check_after_idle(settings.length_if(settings.check_after_idle))
-            .distrust_idle(settings.distrust_idle)
-            .journal_room(settings.journal_room);
-        let builder = match settings.length_if(settings.retry_at_most) {
-            Some(longest) => builder.retry_at_most(longest),
-            None => builder,
-        };
-        match settings.length_if(settings.lifetime_jitter) {
-            Some(jitter) => builder.lifetime_jitter(jitter),
-            None => builder,
-        }
-    }};
-}
-
-// Has an ear listen to a pool of either crate.
-macro_rules! hear {
-    ($builder:expr, $world:expr, $is_backwards:expr) => {
-        if $is_backwards {
-            $builder
-                .connection_customizer(Ear::new($world))
-                .event_handler(Ear::new($world))
-                .error_handler(Ear::new($world))
-        } else {
-            $builder
-                .error_handler(Ear::new($world))
-                .event_handler(Ear::new($world))
-                .connection_customizer(Ear::new($world))
-        }
+// The settings that are those of each kind of pool.
+fn common(settings: Settings) -> Builder<Manager> {
+    let builder = Builder::new()
+        .max_size(settings.max_size)
+        .min_idle(Some(settings.min_idle))
+        .test_on_check_out(settings.is_checked)
+        .max_lifetime(settings.length_if(settings.max_lifetime))
+        .idle_timeout(settings.length_if(settings.idle_timeout))
+        .connection_timeout(settings.length(settings.connection_timeout))
+        .lending_order(settings.order)
+        .check_after_idle(settings.length_if(settings.check_after_idle))
+        .distrust_idle(settings.distrust_idle)
+        .journal_room(settings.journal_room)
+        .thread_pool(settings.workers);
+    let builder = match settings.length_if(settings.retry_at_most) {
+        Some(longest) => builder.retry_at_most(longest),
+        None => builder,
     };
+    match settings.length_if(settings.lifetime_jitter) {
+        Some(jitter) => builder.lifetime_jitter(jitter),
+        None => builder,
+    }
 }
 
-// With what makes it a pool of threads of this kind.
-fn of_kind<V: HandleEvent + 'static>(
-    builder: r2d2::Builder<Manager, Ear, V, Ear>,
-    kind: Kind,
-    settings: Settings,
-) -> r2d2::Builder<Manager, Ear, V, Ear> {
-    let builder = builder.thread_pool(settings.workers);
+// With what makes it a pool of this kind.
+fn of_kind(builder: Builder<Manager>, kind: Kind, settings: Settings) -> Builder<Manager> {
     match kind {
         Kind::Limited | Kind::Counted => builder.max_waiting(settings.room),
         Kind::InLine => builder.waiting_line(settings.room),
-        _ if settings.room != ROOM => builder.max_waiting(settings.room),
+        _ if kind.is_of_tasks() || settings.room != ROOM => builder.max_waiting(settings.room),
         _ => builder,
     }
 }
 
-/// A builder of a pool of threads that an ear listens to.
-pub(crate) fn threads(
-    world: &'static World,
-    settings: Settings,
-) -> r2d2::Builder<Manager, Ear, Ear, Ear> {
-    let builder = set!(r2d2::Builder::<Manager>::new(), settings);
-    let builder = hear!(builder, world, settings.is_backwards);
-    of_kind(builder, world.kind, settings)
+// Has an ear listen to the pool.
+fn heard(builder: Builder<Manager>, world: &'static World, is_backwards: bool) -> Heard {
+    if is_backwards {
+        builder
+            .connection_customizer(Ear::new(world))
+            .event_handler(Ear::new(world))
+            .error_handler(Ear::new(world))
+    } else {
+        builder
+            .error_handler(Ear::new(world))
+            .event_handler(Ear::new(world))
+            .connection_customizer(Ear::new(world))
+    }
+}
+
+type Heard = Builder<Manager, Ear, Ear, Ear>;
+
+/// A builder of a pool that an ear listens to.
+pub(crate) fn builder(world: &'static World, settings: Settings) -> Heard {
+    let builder = of_kind(common(settings), world.kind, settings);
+    heard(builder, world, settings.is_backwards)
 }
 
 /// The calls of a pool that an ear listens to.
@@ -92,17 +80,16 @@ pub(crate) fn made<R: Host>(
     settings: Settings,
 ) -> Result<Calls<R>, Error> {
     let (place, manager) = (Place { world, rt }, Manager { world });
+    let builder = builder(world, settings);
     if world.kind.is_of_tasks() {
-        let tasks = set!(r2d2_async::Builder::new(), settings).max_waiting(settings.room);
-        let tasks = hear!(tasks, world, settings.is_backwards);
-        return Ok(Calls::Task(tasks.build(place, manager, Hours { world })?));
+        let pool = r2d2_async::Pool::build(builder, place, manager, Hours { world })?;
+        return Ok(Calls::Task(pool));
     }
-    let threads = threads(world, settings);
     if world.kind != Kind::Counted {
-        return Ok(Calls::Thread(threads.build_unchecked(place, manager)?));
+        return Ok(Calls::Thread(builder.build_unchecked(place, manager)?));
     }
     let (total, all) = Blank::new(PARTS).open::<Brand>();
-    let pool = threads.build_counted(place, manager, total)?;
+    let pool = builder.build_counted(place, manager, total)?;
     let parts = Arc::new(rt.alloc(), Mutex::new(all)).map_err(|_| Error::memory())?;
     Ok(Calls::Counted(pool, parts))
 }
@@ -162,20 +149,14 @@ impl<R: Host> Pool<R> {
     ) -> Result<Pool<R>, Fail> {
         let settings = Settings::small(change);
         let (place, manager) = (Place { world, rt }, Manager { world });
-        let (errors, customizer) = (Ear::new(world), Ear::new(world));
+        let builder = of_kind(common(settings), world.kind, settings)
+            .error_handler(Ear::new(world))
+            .connection_customizer(Ear::new(world));
         let calls = if world.kind.is_of_tasks() {
-            let tasks = set!(r2d2_async::Builder::new(), settings);
-            let tasks = tasks
-                .error_handler(errors)
-                .connection_customizer(customizer);
-            Calls::QuietTask(tasks.build(place, manager, Hours { world })?)
+            let pool = r2d2_async::Pool::build(builder, place, manager, Hours { world })?;
+            Calls::QuietTask(pool)
         } else {
-            let threads = set!(r2d2::Builder::<Manager>::new(), settings);
-            let threads = threads
-                .error_handler(errors)
-                .connection_customizer(customizer);
-            let threads = of_kind(threads, world.kind, settings);
-            Calls::QuietThread(threads.build_unchecked(place, manager)?)
+            Calls::QuietThread(builder.build_unchecked(place, manager)?)
         };
         Pool::over(rt, world, settings, calls)
     }
@@ -186,7 +167,7 @@ impl<R: Host> Pool<R> {
         world: &'static World,
         settings: Settings,
     ) -> Result<Building<R>, Fail> {
-        let builder = threads(world, settings);
+        let builder = builder(world, settings);
         let build = move || builder.build(Place { world, rt }, Manager { world });
         let build = Beside::start(rt, build)?;
         Ok(Building { world, rt, build })

@@ -2,18 +2,14 @@
 ghost use Rattle.std.specs.Prelude.{◌≡◌, ◌≤◌, length, All, IfOk, IfErr};
 ghost use Rattle.std.specs.Option.{ForSome};
 ghost use Rattle.std.specs.Arc.{arc_value};
-ghost use Rattle.r2d2_core.specs.Table.{first_picture};
-ghost use Rattle.r2d2_core.specs.Journal.{first_journal};
-ghost use Rattle.r2d2_core.specs.Limits.{seen_limits};
-ghost use Rattle.r2d2_core.specs.Book.{seen_book};
-ghost use Rattle.r2d2.specs.Settings.{limits_within, IsTimeoutOfBook};
+ghost use Rattle.r2d2.specs.Settings.{BeginsWith};
 ghost use Rattle.pool_state.specs.Room.{HasRoom};
-ghost use Rattle.r2d2.specs.Failures.{IsOfMemoryOrThreads, IsOfABuild};
+ghost use Rattle.r2d2.specs.Failures.{IsOfMemory, IsOfMemoryOrThreads, IsOfABuild};
 
 use super::closing::Closer;
 use super::locking::{Shared, SharedOf};
 use super::{AnyPool, CountedPool, Pool, PoolRuntime};
-use crate::config::{Builder, Config};
+use crate::config::{Builder, Settings};
 use crate::event::HandleEvent;
 use crate::hooks::Hooks;
 use crate::payload::PayloadOf;
@@ -65,10 +61,10 @@ impl<
         ensures settings { IfOk result (λ pool. pool ≡ self.config) }
         ensures refused { IfErr result IsOfMemoryOrThreads }
     {
-        let (listens, tuning) = self.beside_config();
-        let (config, book, lists) = self.prepare(rt.alloc()).map_err(|_| Error::memory())?;
+        let (settings, book, lists) = self.prepared(rt.alloc())?;
         let book = CountingBook::plain(book);
-        open_pool(rt, book, config, listens, tuning, manager, lists)
+        let (listens, tuning) = (settings.listens, settings.tuning);
+        open_pool(rt, book, settings.config, listens, tuning, manager, lists)
     }
 
     /// Makes a pool whose takes are counted, and is otherwise as `build_unchecked`.
@@ -87,50 +83,41 @@ impl<
         ensures settings { IfOk result (λ pool. pool ≡ self.config) }
         ensures refused { IfErr result IsOfMemoryOrThreads }
     {
-        let (listens, tuning) = self.beside_config();
-        let (config, book, lists) = self.prepare(rt.alloc()).map_err(|_| Error::memory())?;
+        let (settings, book, lists) = self.prepared(rt.alloc())?;
         let book = Counted::new(book, total);
-        open_pool(rt, book, config, listens, tuning, manager, lists)
+        let (listens, tuning) = (settings.listens, settings.tuning);
+        open_pool(rt, book, settings.config, listens, tuning, manager, lists)
     }
 
     // The settings, a book in which nothing has happened, and a list for each worker.
     fn prepare(self, alloc: Global) -> Result<Prepared<M, H, V, Z>, AllocError>
         requires { ForSome self.config.min_idle (λ n. n ≤ self.config.max_size) }
-        ensures settings { IfOk result (λ made. made.0 ≡ self.config) }
+        ensures settings { IfOk result (λ made. made.0 ≡ self) }
         ensures takes { IfOk result (λ made. made.1.journal.takes ≡ 0) }
-        ensures book { IfOk result (λ made. (timeout : _) × IsTimeoutOfBook self.config self.tuning timeout
-            × (made.1
-            ≡ seen_book (first_picture (limits_within timeout self.config) 0 self.first_id)
-            (first_journal (limits_within timeout self.config) 0 self.config.journal_room))) }
+        ensures book { IfOk result (λ made. BeginsWith self made.1) }
         ensures workers { IfOk result (λ made. length made.2.items ≡ self.config.thread_pool) }
         ensures room { IfOk result (λ made. All (HasRoom self.config.max_size) made.2.items) }
     {
-        let limits = self.limits_with_min_idle_up_to_max_size();
-        let first_id = self.id_of_the_first();
-        let config = self.into_config();
-        let lists = reap_lists(alloc, config.thread_pool, limits.max_size())?;
-        let room = config.journal_room;
-        let book = Book::with_first_id(alloc, limits, Duration::ZERO, first_id, room)?;
-        Ok((config, book, lists))
+        let (settings, book) = self.into_book(alloc)?;
+        let config = &settings.config;
+        let lists = reap_lists(alloc, config.thread_pool, config.max_size)?;
+        Ok((settings, book, lists))
     }
 
-    // The limits of the book. Its name says what a run without proof has found not to hold where it
-    // stops here.
-    fn limits_with_min_idle_up_to_max_size(&self) -> Limits
-        requires { ForSome self.now.config.min_idle (λ n. n ≤ self.now.config.max_size) }
-        ensures { (timeout : _) × IsTimeoutOfBook self.now.config self.now.tuning timeout
-            × (seen_limits result ≡ limits_within timeout self.now.config) }
+    // The same, with the error that callers get.
+    fn prepared(self, alloc: Global) -> Result<Prepared<M, H, V, Z>, Error>
+        requires { ForSome self.config.min_idle (λ n. n ≤ self.config.max_size) }
+        ensures settings { IfOk result (λ made. made.0 ≡ self) }
+        ensures takes { IfOk result (λ made. made.1.journal.takes ≡ 0) }
+        ensures refused { IfErr result IsOfMemory }
     {
-        let Some(limits) = self.limits_within(self.timeout_of_book()) else {
-            unreachable!()
-        };
-        limits
+        self.prepare(alloc).map_err(|_| Error::memory())
     }
 }
 
 // What a pool is made of, before it has a lock.
 type Prepared<M, H, V, Z> = (
-    Config<H, V, Z>,
+    Settings<H, V, Z>,
     Book<PayloadOf<M>>,
     Vec<Vec<Released<PayloadOf<M>>>>,
 );
