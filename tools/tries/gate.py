@@ -2,6 +2,7 @@
 and proof takes beside its budget, how far a proof is, and how soon Ctrl-C ends it. And that each tool names what is missing."""
 import contextlib
 import io
+import itertools
 import os
 import shutil
 import signal
@@ -76,7 +77,7 @@ def shown(minutes):
 
 def try_that_each_has_a_budget():
     prove, budget = set_up.prove(), budgets.of_file()[0]
-    stages = [[[part for part in [*parts, *others] if not part.meter] for parts, others, _ in stage] for stage in stages_of(prove)]
+    stages = [[[part for part in [*parts, *itertools.chain(*lanes)] if not part.meter] for parts, lanes in stage] for stage in stages_of(prove)]
     wanted = {f"part {part.name}" for stage in stages for parts in stage for part in parts} | {f"crate {name}" for name in prove.crates()}
     check("each part and crate has a line in the budget", wanted <= set(budget), wanted - set(budget))
     check("and no other has one", set(budget) <= wanted, set(budget) - wanted)
@@ -119,18 +120,33 @@ def try_what_is_kept():
 
 def try_what_is_named(prove):
     """The crates that each run of the toolchain's gate is given: in CI it takes none."""
-    def named(is_anew, in_ci):
+    def named(*others, is_anew=False, in_ci=False):
         prove.Part.is_anew = is_anew
         os.environ["CI"] = "true" if in_ci else "false"
-        return [[it for it in part.words if it in prove.crates()] for part in prove.all_proofs("pool_steps")]
+        return [[[it for it in part.words if it in prove.crates()] for part in parts] for parts in prove.all_proofs(*others)]
 
     was = os.environ.get("CI")
-    check("the longest chain comes first", named(False, False) == [["r2d2_async"], ["pool_steps"]])
-    check("with --anew all is one run", named(True, False) == [["r2d2_async", "pool_steps"]])
-    check("in CI it is one of all crates", named(False, True) == named(True, True) == [[]])
+    check("the longest chain comes first, and the rest beside it", named("pool_steps") == [[["r2d2_async"]], [["pool_steps"]]], named("pool_steps"))
+    beside = [["pool_audit", "pool_steps", "worked_rows"], ["pool_metrics", "first_pool"]]
+    check("reports and metrics are proved beside it", named() == [[["r2d2_async"], ["examples"], []], beside], named())
+    check("with --anew all is one run", named("pool_steps", is_anew=True) == [[["r2d2_async", "pool_steps"]], []])
+    check("in CI it is one of all crates", named("pool_steps", in_ci=True) == named(is_anew=True, in_ci=True) == [[[]], []])
+    try_what_waits(prove)
     del os.environ["CI"]
     if was is not None:
         os.environ["CI"] = was
+
+
+def try_what_waits(prove):
+    """A part that stands on what another one proves begins once that is proved, or has ended."""
+    chain, part = prove.Part("proofs", []), prove.Part("more", ["true"])
+    part.waits = prove.once_proved(part, [chain], {"low"})
+    thread, = prove.beside([[part]])
+    thread.join(1.5)
+    check("it waits", not part.is_over)
+    chain.lines.append("rt: low proved\n")
+    thread.join(3)
+    check("and begins then", part.is_over and part.passed == 1)
 
 
 def types_of(module, budget):
