@@ -30,7 +30,7 @@ SOURCE = """impl<B, M> Shared<B, M> {
     }
 }
 
-impl<P, C> Guarded<LinedBook<P, C>> {
+impl<P, C> Guarded<PoolState<P, C>> {
     fn give_up(&mut self) {
         self.timeouts += 1;
     }
@@ -115,5 +115,5 @@ def tried():
         tally.check("one that landed elsewhere is told of", moved[0].endswith("it changes room::Shared::end"), moved)
         paths = ["::".join(it.path) for it in form.functions_of("src/room.rt", SOURCE)]
         tries(tally)
-        tally.check("functions as the prover names them", paths == ["Shared::settle", "Shared::give_up", "Guarded+LinedBook+P+C::give_up"], paths)
+        tally.check("functions as the prover names them", paths == ["Shared::settle", "Shared::give_up", "Guarded+PoolState+P+C::give_up"], paths)
     return tally

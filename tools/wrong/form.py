@@ -85,7 +85,7 @@ class Function:
 
     def holds(self, file, row):
         if file.startswith("proofs/"):
-            # (an impl of some types alone has these behind its own, as in `Shared+LinedBook`)
+            # (an impl of some types alone has these behind its own, as in `Shared+PoolState`)
             folders = [it.partition("+")[0] for it in file.split("/")[1:-1]]
             path = [it.partition("+")[0] for it in self.path]
             return folders == path or bool(self.owner) and folders[-len(path) :] == path
@@ -123,7 +123,7 @@ def owner_of(lines, at, indent):
 
 
 def types_of(head, name):
-    """The types that an impl is for alone, as in `Shared+LinedBook+P+C`; none where it is for all."""
+    """The types that an impl is for alone, as in `Shared+PoolState+P+C`; none where it is for all."""
     inner = list(inside(head))
     mine = next((it for at, it in inner if re.search(rf"\b{name}\s*$", head[:at])), "")
     own = next((it for at, it in inner if not head[:at].strip()), "")

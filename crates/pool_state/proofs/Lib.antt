@@ -2,6 +2,7 @@ pub mod Evicting
 pub mod Waiting
 pub mod Waits
 pub mod Lined
+pub mod Guarded
 pub mod Order
 pub mod Overtaking
 pub mod Standing

@@ -26,16 +26,12 @@ use Rattle.pool_state.specs.declared.engine.Wakes.{Wakes}
 use Rattle.pool_state.specs.declared.engine.Outcome.{Outcome}
 use Rattle.pool_state.specs.declared.engine.Outcome.TheVariants as outcome
 use Rattle.pool_state.specs.declared.engine.Settled.{Settled}
-use Rattle.pool_state.specs.declared.lined_book.Look.{Look}
-use Rattle.pool_state.specs.declared.lined_book.Look.TheVariants as look
 use Rattle.pool_state.specs.declared.state.looking.Turn.{Turn}
 use Rattle.pool_state.specs.declared.state.looking.Turn.TheVariants as turn
 use Rattle.pool_state.specs.declared.waiters.Wake.{Wake}
 use Rattle.pool_state.specs.declared.waiters.Waiters.{Waiters}
 use Rattle.pool_state.specs.Wakes.{wakes_of_return}
 use Rattle.pool_state.specs.Settled.{seen_settled, settle_answer, after_settle, wakes_of_settled, settled_admission, settled_failure, settled_check}
-use Rattle.pool_state.specs.Lined.{book_asked, book_paid, paid_of, book_looked, one_more_owed}
-use Rattle.pool_state.specs.Evicted.{book_taken}
 use Rattle.pool_state.specs.Waits.{NoneIsLost, OthersSleep, IsSent, SleepOnlyUndue, WaitAsBefore, woken_by, waits_after, turn_after, waits_in, one_if, after_wait, waiting_if, IsTokenOf}
 
 -- WHAT A STEP DOES: at most so many less are lent, and at most so many less are pending
@@ -114,21 +110,6 @@ module _ {T : Type 0} where
 
   ended : (old new : Picture T) → Moves 0 1 old new → Goes true old new
   ended old new moves = record { lent_less = 0; pending_less = 1; due = omega arith; moves = moves; stays = λ e. not_both true refl e }
-
-  moves_on : (p q r : Picture T) → Moves 0 0 p q → Moves 0 0 q r → Moves 0 0 p r
-  moves_on p q r a b = record {
-    size = b.size ∙ a.size;
-    closed = b.closed ∙ a.closed;
-    lent = omega (arith, a.lent, b.lent);
-    pending = λ e. omega (arith, a.pending e, b.pending (a.closed ∙ e));
-  }
-
-  stays_on : (p q r : Picture T) → Stays p q → Stays q r → Stays p r
-  stays_on p q r a b = record {
-    connections = omega (arith, a.connections, b.connections);
-    limits = b.limits ∙ a.limits;
-    lent = omega (arith, a.lent, b.lent);
-  }
 
   -- THE FACTS AFTER A STEP
   kept : (a b W S S' : ℕ) (old new : Picture T) → Moves a b old new → NoneIsLost old W S → min (S + (a + b)) W ≤ S' → S' ≤ W → NoneIsLost new W S'
@@ -322,36 +303,6 @@ module _ {T : Type 0} where
   pub goes_take : (now : Duration) (b : Bool) (result : Take T) (old new : Picture T) → core.IsTake now b result old new → Goes false old new
   goes_take now b result old new step = subst (λ (q : Picture T). Goes false old q) (sym step.after) (taken_goes (as_nanos now) b old)
 
-  none : (p q : Picture T) → Goes false p q → Moves 0 0 p q
-  none p q g = record {
-    size = g.moves.size;
-    closed = g.moves.closed;
-    lent = omega (arith, g.moves.lent, g.due);
-    pending = λ e. omega (arith, g.moves.pending e, g.due);
-  }
-
-  -- one step after another, of which neither wakes
-  then : (p q r : Picture T) → Goes false p q → Goes false q r → Goes false p r
-  then p q r a b = record {
-    lent_less = 0;
-    pending_less = 0;
-    due = omega arith;
-    moves = moves_on p q r (none p q a) (none q r b);
-    stays = λ e. stays_on p q r (a.stays e) (b.stays e);
-  }
-
-  asked_goes : (t n : ℕ) (b : SeenBook T) → Goes false b.picture (book_asked t n b).picture
-  asked_goes t zero b = quiet false b.picture b.picture (same_moves b.picture) (same_stays b.picture)
-  asked_goes t (suc n) b = then b.picture (book_asked t n b).picture (book_asked t (suc n) b).picture (asked_goes t n b) (taken_goes t true (book_asked t n b).picture)
-
-  -- a look of one who stands in line, or comes to
-  pub goes_looked : (t : ℕ) (l : Look T) (waiting owed : ℕ) (b : SeenBook T) → Goes false b.picture (book_looked t l waiting owed b).picture
-  goes_looked t (look.Found id value) waiting owed b =
-      let c = book_taken t false b in
-      then b.picture c.picture (book_paid t waiting owed c).picture (taken_goes t false b.picture) (asked_goes t (paid_of waiting owed c) c)
-  goes_looked t (look.Stands slot) waiting owed b = asked_goes t (paid_of waiting (one_more_owed owed) b) b
-  goes_looked t look.Full waiting owed b = quiet false b.picture b.picture (same_moves b.picture) (same_stays b.picture)
-
   -- A LOOK OF ONE WHO WAITS AT THE VARIABLE
   -- whoever is to wait is counted
   pub turn_waits : (s : SeenTake T) (closed : Bool) (t : Turn T) → turn_after s closed t → one_if (waits_in t) ≡ waits_after s closed
@@ -472,13 +423,3 @@ module _ {T : Type 0} where
     making = λ e. not_both true refl (on.maker e).0;
     draining = λ e. not_both true refl (on.drain e).0;
   }
-
-  -- a step that comes to a known picture
-  pub goes_to : (p : Picture T) (new old : SeenBook T) → new ≡ old → Goes false p old.picture → Goes false p new.picture
-  goes_to p new old e goes = subst (λ (b : SeenBook T). Goes false p b.picture) (sym e) goes
-
-  -- a look of one that never waits: where all is kept for those in line it takes nothing
-  pub lent_as : (b : Bool) (now : Duration) (result : Take T) (old new : SeenBook T) → (b ≡ false → book.IsTake now false result old new)
-      → (b ≡ true → seen_take result ≡ Empty 0 × (new ≡ old)) → Goes false old.picture new.picture
-  lent_as false now result old new step kept = goes_take now false result old.picture new.picture (step refl).of_core
-  lent_as true now result old new step kept = goes_to old.picture new old (kept refl).1 (unchanged false old.picture)

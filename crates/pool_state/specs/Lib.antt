@@ -16,5 +16,6 @@ pub mod Order
 pub mod Standing
 pub mod Since
 pub mod Waits
+pub mod Guarded
 pub mod Ring
 pub mod Search

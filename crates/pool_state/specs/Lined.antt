@@ -1,23 +1,11 @@
--- What contracts see of a book beside the line of those who wait for it.
+-- A caller in line looks: what it comes to, and what is ordered for those who wait.
 use Rattle.std.specs.Prelude.{ℕ, zero, suc, ◌+◌, ◌-◌, ◌^◌, min, nat_lt, Bool, true, false, if◌then◌else◌, List, length, Option, Some, None}
 use Rattle.r2d2_core.specs.Book.{SeenBook}
-use Rattle.pool_state.specs.declared.engine.Wakes.{Wakes}
 use Rattle.pool_state.specs.declared.line.place.Place.{Place}
-use Rattle.pool_state.specs.declared.lined_book.Look.{Look}
-use Rattle.pool_state.specs.declared.lined_book.Look.TheVariants as look
+use Rattle.pool_state.specs.declared.state.serving.Look.{Look}
+use Rattle.pool_state.specs.declared.state.serving.Look.TheVariants as look
 use Rattle.pool_state.specs.Evicted.{book_taken}
 use Rattle.pool_state.specs.Waiting.{served, left_by, told_by, stood_by}
-use Rattle.pool_state.specs.Wakes.{wakes}
-
--- the book, what counts its takes, who stands in line, and how many openings those are yet to order
-pub record SeenLined (T : Type 0) (C : Type 0) : Type 0 where
-  pub book : SeenBook T
-  pub total : C
-  pub places : List Place
-  pub owed : ℕ
-
-abbrev pub seen_lined : {T C : Type 0} → SeenBook T → C → List Place → ℕ → SeenLined T C
-seen_lined book total places owed = record { book = book; total = total; places = places; owed = owed }
 
 module _ {T : Type 0} where
   -- a look found
@@ -51,9 +39,9 @@ module _ {T : Type 0} where
   abbrev pub still_owed : ℕ → SeenBook T → ℕ
   still_owed owed b = if nat_lt 0 (length b.picture.idle) then owed else 0
 
-  -- the workers are woken, where something was ordered
-  abbrev pub wakes_between : SeenBook T → SeenBook T → Wakes
-  wakes_between old new = wakes false (nat_lt old.picture.on_order.pending new.picture.on_order.pending)
+  -- something was ordered
+  abbrev pub has_ordered : SeenBook T → SeenBook T → Bool
+  has_ordered old new = nat_lt old.picture.on_order.pending new.picture.on_order.pending
 
 -- one more is owed
 abbrev pub one_more_owed : ℕ → ℕ

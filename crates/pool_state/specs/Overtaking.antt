@@ -62,7 +62,7 @@ EachLeavesEnough (e ∷ h) = LeavesEnough h e × EachLeavesEnough h
 
 -- Nobody loses its turn to one that came later, nor to one that never came to stand in line. This is
 -- proved of every history of a line, whoever gives up or is late in it, and whatever check fails; so
--- the clauses `history` of the calls of LinedBook say it of what happens in them.
+-- the clauses `history` of the steps of PoolState say it of what happens in them.
 pub record KeepsTurns (h : List Event) : Type 0 where
   pub leaves_enough : EachLeavesEnough h
   -- a caller is overtaken at most as often as connections were spare since it came, and each counts

@@ -1,8 +1,8 @@
 -- Who stands in line after a look.
 use Rattle.std.specs.Prelude.{◌≡◌, ⊤, ℕ, false, List, Option, Some, None}
 use Rattle.pool_state.specs.declared.line.place.Place.{Place}
-use Rattle.pool_state.specs.declared.lined_book.Look.{Look}
-use Rattle.pool_state.specs.declared.lined_book.Look.TheVariants as look
+use Rattle.pool_state.specs.declared.state.serving.Look.{Look}
+use Rattle.pool_state.specs.declared.state.serving.Look.TheVariants as look
 use Rattle.pool_state.specs.Waiting.{told_at}
 
 module _ {T : Type 0} where

@@ -55,12 +55,19 @@ pub record SleepOnlyUndue (due : Bool) (old new : Waiters) : Type 0 where
   pub maker : new.maker_sleeps ≡ true → (due ≡ false) × (old.maker_sleeps ≡ true)
   pub drain : new.drain_sleeps ≡ true → (due ≡ false) × (old.drain_sleeps ≡ true)
 
+-- as many wait as before, since the same moment
+pub record WaitAsBefore (old new : Waiters) : Type 0 where
+  pub callers : new.callers ≡ old.callers
+  pub drains : new.drains ≡ old.drains
+  pub since : new.since ≡ old.since
+
 -- after a step that is to wake these, by the engine: who is told in line, and who is woken elsewhere
 pub record AreWoken (due : Wakes) (to_wake : ToWake) (old new : Waiters) (before after : List Place) : Type 0 where
   pub callers : IsSent due.caller to_wake.callers old new
   pub workers : to_wake.workers ≡ due.workers
   pub told : to_wake.told ≡ slot_if due.caller before
   pub line : after ≡ told_if due.caller before
+  pub waits : WaitAsBefore old new
 
 -- HOW MANY WAIT
 
@@ -87,13 +94,7 @@ waiting_if false since w = w
 abbrev pub after_wait : Waiters → Waiters
 after_wait w = record w { callers = w.callers - 1; woken = w.woken - 1 }
 
--- as many wait as before, since the same moment
-pub record WaitAsBefore (old new : Waiters) : Type 0 where
-  pub callers : new.callers ≡ old.callers
-  pub drains : new.drains ≡ old.drains
-  pub since : new.since ≡ old.since
-
--- the same, and all were woken
+-- as many wait as before, and all were woken
 pub record AllAreWoken (old new : Waiters) : Type 0 where
   pub woken : new.woken ≡ old.callers
   pub maker : new.maker_sleeps ≡ false

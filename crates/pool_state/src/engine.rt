@@ -8,7 +8,6 @@ ghost use Rattle.pool_state.specs.Wakes.{wakes_of_take, wakes_of_return, wakes_o
 ghost use Rattle.pool_state.specs.Settled.{seen_settled, wakes_of_settled, IsSettling};
 
 mod counted;
-mod evicting;
 
 pub use counted::{
     Counted, CountingBook, LedgerCounter, TakeCounter, TakeTotal, Uncounted, lend_counted,

@@ -13,8 +13,8 @@ use Rattle.r2d2_core.specs.Book.{SeenBook}
 use Rattle.r2d2_core.specs.Table.{taken, next_of, raised_to, after_take, after_begin, after_number, after_return, lent_refusal, lent_birth, is_closing, returned_by, returned}
 use Rattle.pool_state.specs.declared.engine.Outcome.{Outcome}
 use Rattle.pool_state.specs.declared.engine.Outcome.TheVariants as outcome
-use Rattle.pool_state.specs.declared.lined_book.Look.{Look}
-use Rattle.pool_state.specs.declared.lined_book.Look.TheVariants as look
+use Rattle.pool_state.specs.declared.state.serving.Look.{Look}
+use Rattle.pool_state.specs.declared.state.serving.Look.TheVariants as look
 use Rattle.pool_state.specs.Evicted.{book_taken}
 use Rattle.pool_state.specs.Settled.{after_settle}
 use Rattle.pool_state.specs.Lined.{book_asked, book_looked, paid_of, one_more_owed}

@@ -9,8 +9,8 @@ use Rattle.r2d2_core.specs.declared.machine.answers.Refusal.{Refusal}
 use Rattle.r2d2_core.specs.Refusals.{unless_refused}
 use Rattle.r2d2_core.specs.OnOrder.{fail_refusal}
 use Rattle.r2d2_core.specs.Table.{taken, next_of, raised_to, failed, after_take, after_fail}
-use Rattle.pool_state.specs.declared.lined_book.Look.{Look}
-use Rattle.pool_state.specs.declared.lined_book.Look.TheVariants as look
+use Rattle.pool_state.specs.declared.state.serving.Look.{Look}
+use Rattle.pool_state.specs.declared.state.serving.Look.TheVariants as look
 use Rattle.pool_state.specs.Evicted.{book_taken}
 use Rattle.pool_state.specs.Lined.{book_asked, book_looked, paid_of, one_more_owed}
 use Rattle.r2d2_async.specs.Wakers.{AreDrained}

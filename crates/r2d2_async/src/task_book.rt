@@ -15,7 +15,8 @@ use crate::wakers::{
 };
 use futures::task::{Context, Poll, Source, Waker};
 use futures::util::wait_list::{Ticket, WaitList};
-use pool_state::{LateSearch, LinedBook, Look, PoolState, Tuning};
+use pool_state::engine::CountingBook;
+use pool_state::{LateSearch, Line, Look, PoolState, Tuning};
 use r2d2::Status;
 use r2d2::engine::{Outcome, Settled, Uncounted};
 use r2d2::event::ReleaseReason;
@@ -49,7 +50,7 @@ pub struct CallSpan {
 /// A book, the callers in line for what it lends, oldest first, and what wakes each of them.
 ///
 /// Of those who wait the first ones, as many as connections are idle, were told to look: that is
-/// `LinedBook`'s own fact. Here each who was told is awake: no waker of it is left. No drain
+/// `PoolState`'s own fact. Here each who was told is awake: no waker of it is left. No drain
 /// sleeps once nothing is lent, and nobody else in a closed pool.
 #[derive(Drop)]
 pub struct TaskBook<P> {
@@ -62,9 +63,9 @@ pub struct TaskBook<P> {
     workers: WaitList<()>,
     // Who waits until nothing is lent.
     drains: WaitList<()>,
-    ghost awake: { AreAwake guarded.book.places wakers },
-    ghost drained: { AreDrained guarded.book.book.picture.lent drains },
-    ghost up: { AreUpOnceClosed guarded.book.book.picture.on_order.closed wakers workers },
+    ghost awake: { AreAwake guarded.places wakers },
+    ghost drained: { AreDrained guarded.book.picture.lent drains },
+    ghost up: { AreUpOnceClosed guarded.book.picture.on_order.closed wakers workers },
 }
 
 impl<P: Drop> TaskBook<P> {
@@ -93,11 +94,11 @@ impl<P: Drop> TaskBook<P> {
     /// A book for which nobody waits yet, with room for so many in line. The error is lack of
     /// memory: all that the line needs is taken here.
     pub fn new(alloc: Global, book: Book<P>, room: u32) -> Result<TaskBook<P>, AllocError>
-        ensures book { IfOk result (λ tasks. tasks.guarded.book.book ≡ book) }
-        ensures line { IfOk result (λ tasks. tasks.guarded.book.places ≡ []) }
+        ensures book { IfOk result (λ tasks. tasks.guarded.book ≡ book) }
+        ensures line { IfOk result (λ tasks. tasks.guarded.places ≡ []) }
         ensures slots { IfOk result (λ tasks. length tasks.wakers.items ≡ room) }
     {
-        let guarded = PoolState::new(LinedBook::plain(alloc, book, room)?);
+        let guarded = PoolState::new(CountingBook::plain(book), Line::new(alloc, room)?);
         Ok(TaskBook {
             guarded,
             wakers: no_wakers(alloc, room)?,
@@ -109,7 +110,7 @@ impl<P: Drop> TaskBook<P> {
 
     /// The book, to be read.
     pub fn book(&self) -> &Book<P>
-        ensures { result.now ≡ self.now.guarded.book.book }
+        ensures { result.now ≡ self.now.guarded.book }
     {
         self.guarded.book()
     }
@@ -117,18 +118,18 @@ impl<P: Drop> TaskBook<P> {
     /// The counts, with those of the callers who wait.
     pub fn status(&self) -> Status
         ensures sums { IsStatus result }
-        ensures idle { result.idle ≡ length self.now.guarded.book.book.picture.idle }
-        ensures lent { result.lent ≡ length self.now.guarded.book.book.picture.lent }
-        ensures opening { result.opening ≡ self.now.guarded.book.book.picture.on_order.pending }
+        ensures idle { result.idle ≡ length self.now.guarded.book.picture.idle }
+        ensures lent { result.lent ≡ length self.now.guarded.book.picture.lent }
+        ensures opening { result.opening ≡ self.now.guarded.book.picture.on_order.pending }
         ensures waiting { result.waiting
-            ≡ all_who_wait (count_of self.now.guarded.waiting) self.now.guarded.book.places }
+            ≡ all_who_wait (count_of self.now.guarded.waiting) self.now.guarded.places }
         ensures since { result.waiting_since
-            ≡ since_if (all_who_wait (count_of self.now.guarded.waiting) self.now.guarded.book.places)
+            ≡ since_if (all_who_wait (count_of self.now.guarded.waiting) self.now.guarded.places)
             self.now.guarded.waiting.since }
         ensures refused { result.refused ≡ self.now.guarded.failures.refused }
         ensures timeouts { result.timeouts ≡ self.now.guarded.failures.timeouts }
         ensures latest { result.latest_failure ≡ self.now.guarded.failures.latest }
-        ensures closed { result.closed ≡ self.now.guarded.book.book.picture.on_order.closed }
+        ensures closed { result.closed ≡ self.now.guarded.book.picture.on_order.closed }
     {
         self.guarded.status()
     }
@@ -139,7 +140,7 @@ impl<P: Drop> TaskBook<P> {
         ensures failures { IsOneTimeoutMore self.old.guarded.failures self.new.guarded.failures }
         ensures timeouts { result.timeouts ≡ self.new.guarded.failures.timeouts }
         ensures waiting { result.waiting
-            ≡ all_who_wait (count_of self.old.guarded.waiting) self.old.guarded.book.places }
+            ≡ all_who_wait (count_of self.old.guarded.waiting) self.old.guarded.places }
         ensures kept { self.new.guarded.waiting ≡ self.old.guarded.waiting }
         ensures book { self.new.guarded.book ≡ self.old.guarded.book }
         ensures wakers { self.new.wakers ≡ self.old.wakers }
@@ -157,29 +158,29 @@ impl<P: Drop> TaskBook<P> {
 
     /// How many connections are lent.
     pub fn lent(&self) -> u32
-        ensures { result ≡ length self.now.guarded.book.book.picture.lent }
+        ensures { result ≡ length self.now.guarded.book.picture.lent }
     {
         lent_in(self.guarded.book())
     }
 
     /// Whether a check failed that began after this moment, since when a connection is idle.
     pub fn is_distrusted(&self, idle_since: Duration) -> bool {
-        self.guarded.failures.tell_of(idle_since)
+        self.guarded.is_distrusted(idle_since)
     }
 
     /// Takes an idle connection for a caller who does not wait: one that is not kept for those in
     /// line.
     pub fn try_take(&mut self, now: Duration) -> Option<(u64, P)>
-        ensures kept { IsTrue (is_kept self.old.guarded.book.book.picture
-            self.old.guarded.book.places) → result ≡ None }
-        ensures takes { is_kept self.old.guarded.book.book.picture
-            self.old.guarded.book.places ≡ false
-            → result ≡ option_map pair_of (next_of self.old.guarded.book.book.picture) }
-        ensures line { self.new.guarded.book.places ≡ self.old.guarded.book.places }
+        ensures kept { IsTrue (is_kept self.old.guarded.book.picture
+            self.old.guarded.places) → result ≡ None }
+        ensures takes { is_kept self.old.guarded.book.picture
+            self.old.guarded.places ≡ false
+            → result ≡ option_map pair_of (next_of self.old.guarded.book.picture) }
+        ensures line { self.new.guarded.places ≡ self.old.guarded.places }
         ensures waiting { self.new.guarded.waiting ≡ self.old.guarded.waiting }
         // Where it ordered, every worker is woken.
-        ensures workers { self.old.guarded.book.book.picture.on_order.pending
-            < self.new.guarded.book.book.picture.on_order.pending
+        ensures workers { self.old.guarded.book.picture.on_order.pending
+            < self.new.guarded.book.picture.on_order.pending
             → NobodySleeps self.new.workers }
         ensures wakers { self.new.wakers ≡ self.old.wakers }
     {
@@ -194,10 +195,10 @@ impl<P: Drop> TaskBook<P> {
     /// Passes those in line who were told to look, and whose time was over before they did. So one
     /// that is neither polled nor dropped keeps nothing any longer from those who came after it.
     pub fn pass_late(&mut self, now: Duration)
-        ensures line { self.new.guarded.book.places
-            ≡ passed_late (waiting_in self.old.guarded.book.places) (as_nanos now)
-            self.old.ends.items self.old.guarded.book.places }
-        ensures book { self.new.guarded.book.book ≡ self.old.guarded.book.book }
+        ensures line { self.new.guarded.places
+            ≡ passed_late (waiting_in self.old.guarded.places) (as_nanos now)
+            self.old.ends.items self.old.guarded.places }
+        ensures book { self.new.guarded.book ≡ self.old.guarded.book }
         ensures waiting { self.new.guarded.waiting ≡ self.old.guarded.waiting }
     {
         let mut search = self.guarded.late_search();
@@ -211,14 +212,14 @@ impl<P: Drop> TaskBook<P> {
     // Passes the first of them, and wakes the one who is told instead. Whether there was one.
     fn pass_one(&mut self, search: &mut LateSearch, now: Duration) -> bool
         requires { AreSearches (as_nanos now) self.old.ends.items search.old
-            self.old.guarded.book.places }
+            self.old.guarded.places }
         ensures search { AreSearches (as_nanos now) self.new.ends.items search.new
-            self.new.guarded.book.places }
+            self.new.guarded.places }
         ensures whether { result ≡ is_some
-            (first_late (as_nanos now) self.old.ends.items self.old.guarded.book.places) }
-        ensures line { self.new.guarded.book.places ≡ pass_first (as_nanos now)
-            self.old.ends.items self.old.guarded.book.places }
-        ensures book { self.new.guarded.book.book ≡ self.old.guarded.book.book }
+            (first_late (as_nanos now) self.old.ends.items self.old.guarded.places) }
+        ensures line { self.new.guarded.places ≡ pass_first (as_nanos now)
+            self.old.ends.items self.old.guarded.places }
+        ensures book { self.new.guarded.book ≡ self.old.guarded.book }
         ensures ends { self.new.ends ≡ self.old.ends }
         ensures waiting { self.new.guarded.waiting ≡ self.old.guarded.waiting }
     {
@@ -248,38 +249,38 @@ impl<P: Drop> TaskBook<P> {
     ) -> Poll<Looked<P>>
         // Who is served is the one before whom fewer wait than connections are idle.
         ensures turn { IfReady result (λ look. IsTrue (is_found look)
-            → before place.old self.old.guarded.book.places
-            < length self.old.guarded.book.book.picture.idle) }
+            → before place.old self.old.guarded.places
+            < length self.old.guarded.book.picture.idle) }
         // It is lent the connection that is lent next.
         ensures next { IfReady result (λ look. IsTrue (is_found look)
-            → pair_found look ≡ option_map pair_of (next_of self.old.guarded.book.book.picture)) }
+            → pair_found look ≡ option_map pair_of (next_of self.old.guarded.book.picture)) }
         // And who is awake in an open pool and has its turn is served.
         ensures served { IfSome place.old (λ slot. waker_at self.old.wakers slot ≡ None)
-            → self.old.guarded.book.book.picture.on_order.closed ≡ false
-            → before place.old self.old.guarded.book.places
-            < length self.old.guarded.book.book.picture.idle → IsServed result }
+            → self.old.guarded.book.picture.on_order.closed ≡ false
+            → before place.old self.old.guarded.places
+            < length self.old.guarded.book.picture.idle → IsServed result }
         ensures refused { IfReady result (λ look. IsTrue (is_refused look)
             → IsOneRefusalMore self.old.guarded.failures self.new.guarded.failures) }
         ensures closed { IfReady result
-            (IsClosedLook self.old.guarded.book.book.picture.on_order.closed) }
+            (IsClosedLook self.old.guarded.book.picture.on_order.closed) }
         // Who sleeps stands in an open pool's line, and was told nothing; it left its own waker at
         // its own slot. Nobody else is woken, nor lies down.
         ensures sleeps { OnPending result (IsSomeAnd place.new
-            (λ slot. told_at slot self.new.guarded.book.places ≡ false)) }
+            (λ slot. told_at slot self.new.guarded.places ≡ false)) }
         ensures left { OnPending result
             (IfSome place.new (SleepsAt cx.old cx.new self.new.wakers)) }
         ensures slots { length self.new.wakers.items ≡ length self.old.wakers.items }
-        ensures alone { self.old.guarded.book.book.picture.on_order.closed ≡ false
+        ensures alone { self.old.guarded.book.picture.on_order.closed ≡ false
             → KeepsOthers place.new self.old.wakers self.new.wakers }
         ensures open { OnPending result
-            (self.old.guarded.book.book.picture.on_order.closed ≡ false) }
+            (self.old.guarded.book.picture.on_order.closed ≡ false) }
         ensures registered { OnPending result (Covers cx.new (λ s. s ≡ source.now.id)) }
         // Who comes to wait, or looked in vain, waits since its call began. All else leaves the moment
         // as it was.
         ensures since { IfSome place.old (λ slot. waker_at self.old.wakers slot ≡ None)
             → OnPending result (as_nanos self.new.guarded.waiting.since
             ≡ since_with (all_who_wait (count_of self.old.guarded.waiting)
-            self.old.guarded.book.places) (as_nanos call.start)
+            self.old.guarded.places) (as_nanos call.start)
             (as_nanos self.old.guarded.waiting.since)) }
         ensures asleep { IsSomeAnd place.old (λ slot. IsSome (waker_at self.old.wakers slot))
             → self.new.guarded.waiting ≡ self.old.guarded.waiting }
@@ -288,8 +289,8 @@ impl<P: Drop> TaskBook<P> {
         ensures count { count_of self.new.guarded.waiting ≡ count_of self.old.guarded.waiting }
         ensures kept { Keeps cx.old cx.new }
         // Where it ordered, every worker is woken.
-        ensures workers { self.old.guarded.book.book.picture.on_order.pending
-            < self.new.guarded.book.book.picture.on_order.pending
+        ensures workers { self.old.guarded.book.picture.on_order.pending
+            < self.new.guarded.book.picture.on_order.pending
             → NobodySleeps self.new.workers }
     {
         if self.guarded.book().is_closed() {
@@ -325,15 +326,15 @@ impl<P: Drop> TaskBook<P> {
     /// A caller leaves the line, where it stands in it. If it was told to look, the next one is.
     pub fn leave(&mut self, place: &mut Option<u32>)
         ensures gone { place.new ≡ None }
-        ensures line { self.new.guarded.book.places
-            ≡ left_by place.old self.old.guarded.book.places }
-        ensures book { self.new.guarded.book.book ≡ self.old.guarded.book.book }
+        ensures line { self.new.guarded.places
+            ≡ left_by place.old self.old.guarded.places }
+        ensures book { self.new.guarded.book ≡ self.old.guarded.book }
         ensures waiting { self.new.guarded.waiting ≡ self.old.guarded.waiting }
         // No waker is left at its slot; and nobody else is woken but the one who is told.
         ensures left { IfSome place.old (λ slot. waker_at self.new.wakers slot ≡ None) }
         ensures slots { length self.new.wakers.items ≡ length self.old.wakers.items }
         ensures alone { (slot : ℕ) → place.old ≢ Some slot
-            → told_by place.old self.old.guarded.book.places ≢ Some slot
+            → told_by place.old self.old.guarded.places ≢ Some slot
             → waker_at self.new.wakers slot ≡ waker_at self.old.wakers slot }
     {
         clear_at(&mut self.wakers, *place);
@@ -344,7 +345,7 @@ impl<P: Drop> TaskBook<P> {
     /// How many wait before this caller, or all who wait, if it does not stand in line; but at most
     /// a thousand.
     pub fn ahead_of(&self, place: Option<u32>) -> usize
-        ensures { result ≡ min (before place self.now.guarded.book.places) 1000 }
+        ensures { result ≡ min (before place self.now.guarded.places) 1000 }
     {
         self.guarded.ahead_of(place)
     }
@@ -361,16 +362,16 @@ impl<P: Drop> TaskBook<P> {
     ) -> Result<Returned<P>, (Refusal, P)>
         ensures step { IsReturn now id payload
             (is_to_close unfit outlived id self.old.guarded.evicted_below) result
-            self.old.guarded.book.book self.new.guarded.book.book }
-        ensures told { self.new.guarded.book.places
+            self.old.guarded.book self.new.guarded.book }
+        ensures told { self.new.guarded.places
             ≡ told_if (wakes_of_return (map_ok seen_returned result)).caller
-            self.old.guarded.book.places }
+            self.old.guarded.places }
         ensures waits { WaitAsBefore self.old.guarded.waiting self.new.guarded.waiting }
         ensures workers { IsTrue (wakes_of_return (map_ok seen_returned result)).workers
             → NobodySleeps self.new.workers }
         ensures alone { KeepsOthers
             (slot_if (wakes_of_return (map_ok seen_returned result)).caller
-            self.old.guarded.book.places) self.old.wakers self.new.wakers }
+            self.old.guarded.places) self.old.wakers self.new.wakers }
     {
         let (returned, to_wake) = self.guarded.give_back(now, id, payload, unfit, outlived);
         wake(&mut self.wakers, &mut self.workers, to_wake);
@@ -399,16 +400,16 @@ impl<P: Drop> TaskBook<P> {
     /// Admits an opened connection under its id, or lets a lent one go for good.
     pub fn settle(&mut self, now: Duration, outcome: Outcome<P>) -> Settled<P>
         ensures step { IsSettling now outcome result
-            self.old.guarded.book.book self.new.guarded.book.book }
-        ensures told { self.new.guarded.book.places
+            self.old.guarded.book self.new.guarded.book }
+        ensures told { self.new.guarded.places
             ≡ told_if (wakes_of_settled (seen_settled result)).caller
-            self.old.guarded.book.places }
+            self.old.guarded.places }
         ensures waits { WaitAsBefore self.old.guarded.waiting self.new.guarded.waiting }
         ensures workers { IsTrue (wakes_of_settled (seen_settled result)).workers
             → NobodySleeps self.new.workers }
         ensures alone { KeepsOthers
             (slot_if (wakes_of_settled (seen_settled result)).caller
-            self.old.guarded.book.places) self.old.wakers self.new.wakers }
+            self.old.guarded.places) self.old.wakers self.new.wakers }
     {
         let (settled, to_wake) = self.guarded.settle(now, outcome);
         wake(&mut self.wakers, &mut self.workers, to_wake);
@@ -419,18 +420,18 @@ impl<P: Drop> TaskBook<P> {
     /// Tells the book of an opening that failed.
     pub fn fail(&mut self, now: Duration, tries: u32, text: Option<String>) -> Settled<P>
         ensures step { IsSettling now (outcome.Failed tries text) result
-            self.old.guarded.book.book self.new.guarded.book.book }
+            self.old.guarded.book self.new.guarded.book }
         ensures failures { IsOneOpeningMore now
             self.old.guarded.failures self.new.guarded.failures }
-        ensures told { self.new.guarded.book.places
+        ensures told { self.new.guarded.places
             ≡ told_if (wakes_of_settled (seen_settled result)).caller
-            self.old.guarded.book.places }
+            self.old.guarded.places }
         ensures waits { WaitAsBefore self.old.guarded.waiting self.new.guarded.waiting }
         ensures workers { IsTrue (wakes_of_settled (seen_settled result)).workers
             → NobodySleeps self.new.workers }
         ensures alone { KeepsOthers
             (slot_if (wakes_of_settled (seen_settled result)).caller
-            self.old.guarded.book.places) self.old.wakers self.new.wakers }
+            self.old.guarded.places) self.old.wakers self.new.wakers }
     {
         let (settled, to_wake) = self.guarded.fail(now, tries, text);
         wake(&mut self.wakers, &mut self.workers, to_wake);
@@ -447,18 +448,18 @@ impl<P: Drop> TaskBook<P> {
         distrusted_before: Duration,
     ) -> Settled<P>
         ensures step { IsSettling now (outcome.Unsound id text) result
-            self.old.guarded.book.book self.new.guarded.book.book }
+            self.old.guarded.book self.new.guarded.book }
         ensures failures { IsOneCheckMore now distrusted_before
             self.old.guarded.failures self.new.guarded.failures }
-        ensures told { self.new.guarded.book.places
+        ensures told { self.new.guarded.places
             ≡ told_if (wakes_of_settled (seen_settled result)).caller
-            self.old.guarded.book.places }
+            self.old.guarded.places }
         ensures waits { WaitAsBefore self.old.guarded.waiting self.new.guarded.waiting }
         ensures workers { IsTrue (wakes_of_settled (seen_settled result)).workers
             → NobodySleeps self.new.workers }
         ensures alone { KeepsOthers
             (slot_if (wakes_of_settled (seen_settled result)).caller
-            self.old.guarded.book.places) self.old.wakers self.new.wakers }
+            self.old.guarded.places) self.old.wakers self.new.wakers }
     {
         let (settled, to_wake) = self.guarded.fail_check(now, id, text, distrusted_before);
         wake(&mut self.wakers, &mut self.workers, to_wake);
@@ -468,7 +469,7 @@ impl<P: Drop> TaskBook<P> {
 
     /// What a worker is to do.
     pub fn begin(&mut self, now: Duration) -> Job
-        ensures step { IsBegin now result self.old.guarded.book.book self.new.guarded.book.book }
+        ensures step { IsBegin now result self.old.guarded.book self.new.guarded.book }
         ensures waiting { self.new.guarded.waiting ≡ self.old.guarded.waiting }
         ensures wakers { self.new.wakers ≡ self.old.wakers }
     {
@@ -478,7 +479,7 @@ impl<P: Drop> TaskBook<P> {
     /// Gives an opened connection its id.
     pub fn number(&mut self, tries: u32) -> Result<u64, Refusal>
         ensures step { IsNumbering tries result
-            self.old.guarded.book.book self.new.guarded.book.book }
+            self.old.guarded.book self.new.guarded.book }
         ensures waiting { self.new.guarded.waiting ≡ self.old.guarded.waiting }
         ensures wakers { self.new.wakers ≡ self.old.wakers }
     {
@@ -488,18 +489,18 @@ impl<P: Drop> TaskBook<P> {
     /// Closes what is expired, into the list, which is empty and has room for all.
     pub fn sweep(&mut self, now: Duration, expired: &mut Vec<Released<P>>)
         requires empty { vec_len expired.old ≡ 0 }
-        requires room { self.old.guarded.book.book.picture.on_order.limits.max_size
+        requires room { self.old.guarded.book.picture.on_order.limits.max_size
             ≤ vec_capacity expired.old }
         ensures step { (ordered : _) × IsReap now expired.new.items ordered
-            self.old.guarded.book.book self.new.guarded.book.book }
+            self.old.guarded.book self.new.guarded.book }
         ensures waits { WaitAsBefore self.old.guarded.waiting self.new.guarded.waiting }
         // Where it ordered, every worker is woken.
-        ensures workers { self.old.guarded.book.book.picture.on_order.pending
-            < self.new.guarded.book.book.picture.on_order.pending
+        ensures workers { self.old.guarded.book.picture.on_order.pending
+            < self.new.guarded.book.picture.on_order.pending
             → NobodySleeps self.new.workers }
         ensures alone { KeepsOthers
             (slot_if (wakes_of_reap (length expired.new.items) 0).caller
-            self.old.guarded.book.places) self.old.wakers self.new.wakers }
+            self.old.guarded.places) self.old.wakers self.new.wakers }
     {
         let (_ordered, to_wake) = self.guarded.reap(now, expired);
         wake(&mut self.wakers, &mut self.workers, to_wake);
@@ -508,13 +509,13 @@ impl<P: Drop> TaskBook<P> {
     /// Closes all that is idle, into the list, and has what is lent closed as it comes back.
     pub fn evict(&mut self, now: Duration, evicted: &mut Vec<Released<P>>)
         requires empty { vec_len evicted.old ≡ 0 }
-        requires room { self.old.guarded.book.book.picture.on_order.limits.max_size
+        requires room { self.old.guarded.book.picture.on_order.limits.max_size
             ≤ vec_capacity evicted.old }
         ensures released { map seen_released evicted.new.items
-            ≡ evicted_of (as_nanos now) self.old.guarded.book.book.picture }
-        ensures after { self.new.guarded.book.book
-            ≡ after_eviction (as_nanos now) self.old.guarded.book.book }
-        ensures line { self.new.guarded.book.places ≡ self.old.guarded.book.places }
+            ≡ evicted_of (as_nanos now) self.old.guarded.book.picture }
+        ensures after { self.new.guarded.book
+            ≡ after_eviction (as_nanos now) self.old.guarded.book }
+        ensures line { self.new.guarded.places ≡ self.old.guarded.places }
         ensures waits { WaitAsBefore self.old.guarded.waiting self.new.guarded.waiting }
         ensures workers { NobodySleeps self.new.workers }
         ensures wakers { self.new.wakers ≡ self.old.wakers }
@@ -526,7 +527,7 @@ impl<P: Drop> TaskBook<P> {
 
     /// The latest error, which is then none.
     pub fn take_error(&mut self) -> Option<String>
-        ensures step { IsTelling result self.old.guarded.book.book self.new.guarded.book.book }
+        ensures step { IsTelling result self.old.guarded.book self.new.guarded.book }
         ensures waiting { self.new.guarded.waiting ≡ self.old.guarded.waiting }
         ensures wakers { self.new.wakers ≡ self.old.wakers }
     {
@@ -536,7 +537,7 @@ impl<P: Drop> TaskBook<P> {
     /// Closes the book, hands over what was idle, and wakes all who wait: after it no caller
     /// sleeps.
     pub fn close(&mut self) -> Leftover<P>
-        ensures step { IsClose result self.old.guarded.book.book self.new.guarded.book.book }
+        ensures step { IsClose result self.old.guarded.book self.new.guarded.book }
         ensures nobody { (slot : ℕ) → waker_at self.new.wakers slot ≡ None }
         ensures waits { WaitAsBefore self.old.guarded.waiting self.new.guarded.waiting }
         ensures workers { NobodySleeps self.new.workers }
@@ -569,7 +570,7 @@ impl<P: Drop> TaskBook<P> {
 
     /// A worker sleeps until something is ordered.
     pub fn park_worker<U>(&mut self, cx: &mut Context<'_>, source: &Source, key: usize) -> Poll<U>
-        requires { self.old.guarded.book.book.picture.on_order.closed ≡ false }
+        requires { self.old.guarded.book.picture.on_order.closed ≡ false }
         ensures pending { result ≡ Poll.Pending }
         ensures registered { Covers cx.new (λ s. s ≡ source.now.id) }
         ensures kept { Keeps cx.old cx.new }
@@ -613,7 +614,7 @@ impl<P: Drop> TaskBook<P> {
         ensures since { as_nanos self.new.guarded.waiting.since ≡ (if is_counted.old
             then as_nanos self.old.guarded.waiting.since
             else since_with (all_who_wait (count_of self.old.guarded.waiting)
-            self.old.guarded.book.places) (as_nanos start)
+            self.old.guarded.places) (as_nanos start)
             (as_nanos self.old.guarded.waiting.since)) }
         ensures book { self.new.guarded.book ≡ self.old.guarded.book }
         ensures wakers { self.new.wakers ≡ self.old.wakers }
@@ -642,7 +643,7 @@ impl<P: Drop> TaskBook<P> {
 
     /// A drain sleeps until nothing is lent.
     pub fn park_drain<U>(&mut self, cx: &mut Context<'_>, source: &Source, key: usize) -> Poll<U>
-        requires { 0 < length self.old.guarded.book.book.picture.lent }
+        requires { 0 < length self.old.guarded.book.picture.lent }
         ensures pending { result ≡ Poll.Pending }
         ensures registered { Covers cx.new (λ s. s ≡ source.now.id) }
         ensures kept { Keeps cx.old cx.new }

@@ -1,16 +1,14 @@
-// A caller looks: one that takes at once, or may wait at the callers' variable, or stands in line.
+// A caller looks that takes at once, or may wait at the callers' variable.
 ghost use Rattle.std.specs.Prelude.{◌≡◌, ◌+◌, ◌*◌, ◌<◌, ◌↔◌, length, IsTrue, false, List, ◌∷◌};
 ghost use Rattle.std.specs.Duration.{as_nanos};
 ghost use Rattle.r2d2_core.specs.BookSteps.{IsTake};
 ghost use Rattle.r2d2_core.specs.Seen.{seen_take, Empty};
-ghost use Rattle.pool_state.specs.Order.{Event, TookAtOnce, IsHistoryOf, IsPlaceIn, with_told};
-ghost use Rattle.pool_state.specs.Order.{with_look};
+ghost use Rattle.pool_state.specs.Order.{Event, TookAtOnce, IsHistoryOf};
 ghost use Rattle.pool_state.specs.Waits.{count_of};
 
 use super::PoolState;
 use crate::engine::TakeCounter;
-use crate::lined_book::{Due, Look};
-use crate::waiters::{ToWake, Waiting, Wake};
+use crate::waiters::Waiting;
 use r2d2_core::Take;
 use std::time::Duration;
 
@@ -67,22 +65,22 @@ impl<P, C: TakeCounter> PoolState<P, C> {
         ensures parts { C.parts tally.new ≡ C.parts tally.old }
         ensures amount { C.amount tally.new
             ≡ C.amount tally.old + found_by (seen_take result.0) * C.per_take }
-        ensures step { is_kept self.old.book.book.picture self.old.book.places ≡ false
-            → IsTake now false result.0 self.old.book.book self.new.book.book }
-        ensures kept { IsTrue (is_kept self.old.book.book.picture self.old.book.places)
-            → (seen_take result.0 ≡ Empty 0) × (self.new.book.book ≡ self.old.book.book) }
+        ensures step { is_kept self.old.book.picture self.old.places ≡ false
+            → IsTake now false result.0 self.old.book self.new.book }
+        ensures kept { IsTrue (is_kept self.old.book.picture self.old.places)
+            → (seen_take result.0 ≡ Empty 0) × (self.new.book ≡ self.old.book) }
         ensures workers { result.1 ≡ (wakes_of_take (seen_take result.0)).workers }
-        ensures line { self.new.book.places ≡ self.old.book.places }
-        ensures history { (h : List Event) → IsHistoryOf h self.old.book.places
+        ensures history { (h : List Event) → IsHistoryOf h self.old.places
             → 0 < found_by (seen_take result.0)
-            → IsHistoryOf (TookAtOnce (length self.old.book.book.picture.idle) ∷ h)
-            self.new.book.places }
-        ensures total { counted_where C.counts (seen_take result.0) self.old.book.total
-            self.new.book.total }
-        ensures waiting { self.new.waiting ≡ self.old.waiting }
-        ensures evicted { self.new.evicted_below ≡ self.old.evicted_below }
-        ensures failures { self.new.failures ≡ self.old.failures }
+            → IsHistoryOf (TookAtOnce (length self.old.book.picture.idle) ∷ h) self.new.places }
+        ensures total { counted_where C.counts (seen_take result.0) self.old.total
+            self.new.total }
+        ensures same { self.new
+            ≡ record self.old { book = self.new.book; total = self.new.total } }
     {
+        if self.is_kept() {
+            return (Take::Empty { ordered: 0 }, false);
+        }
         let (taken, wakes) = self.book.lend(now, false, tally);
         (taken, wakes.workers)
     }
@@ -93,24 +91,26 @@ impl<P, C: TakeCounter> PoolState<P, C> {
     #[inline(always)]
     pub fn look(&mut self, now: Duration, start: Duration, tally: &mut C::Tally) -> (Turn<P>, bool)
         requires { 0 < C.parts tally.old }
-        ensures step { IsLook now result.0 result.1 self.old.book.book self.new.book.book }
+        ensures step { IsLook now result.0 result.1 self.old.book self.new.book }
         ensures parts { C.parts tally.new ≡ C.parts tally.old }
         ensures amount { C.amount tally.new
             ≡ C.amount tally.old + found_in_turn result.0 * C.per_take }
         ensures waits { self.new.waiting
             ≡ waiting_if (waits_in result.0) self.new.waiting.since self.old.waiting }
         ensures since { IsTrue (waits_in result.0) → as_nanos self.new.waiting.since
-            ≡ since_with (all_who_wait (count_of self.old.waiting) self.old.book.places)
+            ≡ since_with (all_who_wait (count_of self.old.waiting) self.old.places)
             (as_nanos start) (as_nanos self.old.waiting.since) }
         ensures token { IsTokenOf result.0 self.new.waiting.since }
-        ensures line { self.new.book.places ≡ self.old.book.places }
-        ensures evicted { self.new.evicted_below ≡ self.old.evicted_below }
-        ensures failures { self.new.failures ≡ self.old.failures }
+        ensures same { self.new ≡ record self.old {
+          book = self.new.book;
+          total = self.new.total;
+          waiting = self.new.waiting;
+        } }
     {
         let since = self.since_with(start);
-        let _sound = self.book.book().is_closed();
-        let (taken, wakes) = self.book.lend_beside(now, true, tally);
-        let turn = Turn::of(taken, self.book.book().is_closed(), since);
+        let closed = self.book.book().is_closed();
+        let (taken, wakes) = self.book.lend(now, true, tally);
+        let turn = Turn::of(taken, closed, since);
         self.waiting.begin_if(turn.waits(), since);
         (turn, wakes.workers)
     }
@@ -124,78 +124,25 @@ impl<P, C: TakeCounter> PoolState<P, C> {
         tally: &mut C::Tally,
     ) -> (Turn<P>, bool)
         requires { 0 < C.parts tally.old }
-        ensures step { IsLook now result.0 result.1 self.old.book.book self.new.book.book }
+        ensures step { IsLook now result.0 result.1 self.old.book self.new.book }
         ensures parts { C.parts tally.new ≡ C.parts tally.old }
         ensures amount { C.amount tally.new
             ≡ C.amount tally.old + found_in_turn result.0 * C.per_take }
         ensures waits { self.new.waiting
             ≡ waiting_if (waits_in result.0) waiting.since (after_wait self.old.waiting) }
         ensures token { IsTokenOf result.0 waiting.since }
-        ensures line { self.new.book.places ≡ self.old.book.places }
-        ensures evicted { self.new.evicted_below ≡ self.old.evicted_below }
-        ensures failures { self.new.failures ≡ self.old.failures }
+        ensures same { self.new ≡ record self.old {
+          book = self.new.book;
+          total = self.new.total;
+          waiting = self.new.waiting;
+        } }
     {
         let Waiting { since } = waiting;
-        let _sound = self.book.book().is_closed();
-        let (taken, wakes) = self.book.lend_beside(now, true, tally);
-        let turn = Turn::of(taken, self.book.book().is_closed(), since);
+        let closed = self.book.book().is_closed();
+        let (taken, wakes) = self.book.lend(now, true, tally);
+        let turn = Turn::of(taken, closed, since);
         self.waiting.end();
         self.waiting.begin_if(turn.waits(), since);
         (turn, wakes.workers)
-    }
-}
-
-impl<P: Drop, C: TakeCounter> PoolState<P, C> {
-    ghost use Rattle.r2d2_core.specs.Seen.{seen_released};
-    ghost use Rattle.pool_state.specs.Evicted.{evicted_of, after_eviction, IsEvicted};
-    ghost use Rattle.std.specs.Prelude.{option_map};
-    ghost use Rattle.pool_state.specs.Waiting.{before, waiting_in};
-    ghost use Rattle.pool_state.specs.Lined.{is_found, found_in, pair_found, looked_by, told_looked};
-    ghost use Rattle.pool_state.specs.Lined.{book_looked, owed_looked, wakes_between};
-    ghost use Rattle.r2d2_core.specs.Connections.{pair_of};
-    ghost use Rattle.r2d2_core.specs.Table.{next_of};
-    ghost use Rattle.pool_state.specs.Standing.{StandsUntold};
-
-    /// As `LinedBook::look`: a caller in line looks, or one that comes to stand there.
-    pub fn look_in_line(
-        &mut self,
-        now: Duration,
-        place: &mut Option<u32>,
-        keeps_place: bool,
-        tally: &mut C::Tally,
-    ) -> (Look<P>, ToWake)
-        requires { 0 < C.parts tally.old }
-        ensures turn { IsTrue (is_found result.0)
-            ↔ (before place.old self.old.book.places < length self.old.book.book.picture.idle) }
-        ensures parts { C.parts tally.new ≡ C.parts tally.old }
-        ensures amount { C.amount tally.new
-            ≡ C.amount tally.old + found_in result.0 * C.per_take }
-        ensures next { IsTrue (is_found result.0)
-            → pair_found result.0 ≡ option_map pair_of (next_of self.old.book.book.picture) }
-        ensures book { self.new.book.book ≡ book_looked (as_nanos now) result.0
-            (waiting_in self.new.book.places) self.old.book.owed self.old.book.book }
-        ensures owed { self.new.book.owed
-            ≡ owed_looked (as_nanos now) result.0 self.old.book.owed self.old.book.book }
-        ensures wakes { result.1.workers
-            ≡ (wakes_between self.old.book.book self.new.book.book).workers }
-        ensures told { result.1.told
-            ≡ told_looked (is_found result.0) keeps_place place.old self.old.book.places }
-        ensures line { self.new.book.places ≡ looked_by (is_found result.0) keeps_place place.old
-            place.new self.old.book.places }
-        ensures history { (h : List Event) → IsHistoryOf h self.old.book.places
-            → IsPlaceIn h place.old → IsHistoryOf (with_told result.1.told
-            (with_look (is_found result.0) keeps_place place.old place.new
-            (length self.old.book.book.picture.idle) h)) self.new.book.places }
-        ensures untold { StandsUntold result.0 place.new self.new.book.places }
-        ensures callers { result.1.callers ≡ Wake.Nobody }
-        ensures waiting { self.new.waiting ≡ self.old.waiting }
-        ensures evicted { self.new.evicted_below ≡ self.old.evicted_below }
-        ensures failures { self.new.failures ≡ self.old.failures }
-    {
-        let (look, due) = self.book.look(now, place, keeps_place, tally);
-        let Due { wakes, told } = due;
-        let mut to_wake = ToWake::workers_if(wakes.workers);
-        to_wake.told = told;
-        (look, to_wake)
     }
 }

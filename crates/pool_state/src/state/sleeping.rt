@@ -21,8 +21,8 @@ impl<P, C: TakeTotal> PoolState<P, C> {
         ensures failures { IsOneTimeoutMore self.old.failures self.new.failures }
         ensures passed_on { IsPassedOn result.callers self.old.waiting self.new.waiting }
         ensures nobody_else { (result.told ≡ None) × (result.workers ≡ false) }
-        ensures book { self.new.book ≡ self.old.book }
-        ensures kept { self.new.evicted_below ≡ self.old.evicted_below }
+        ensures same { self.new
+            ≡ record self.old { waiting = self.new.waiting; failures = self.new.failures } }
     {
         let Waiting { since: _since } = waiting;
         self.failures.add_timeout();
@@ -39,8 +39,8 @@ impl<P, C: TakeTotal> PoolState<P, C> {
         ensures sent { IsSent true result.callers self.old.waiting self.new.waiting }
         ensures waits { WaitAsBefore self.old.waiting self.new.waiting }
         ensures nobody_else { (result.told ≡ None) × (result.workers ≡ false) }
-        ensures book { self.new.book ≡ self.old.book }
-        ensures kept { self.new.evicted_below ≡ self.old.evicted_below }
+        ensures same { self.new
+            ≡ record self.old { waiting = self.new.waiting; failures = self.new.failures } }
     {
         self.failures.add_timeout();
         let mut to_wake = ToWake::nobody();
@@ -51,14 +51,12 @@ impl<P, C: TakeTotal> PoolState<P, C> {
     /// Whether the maker of the pool has to sleep, which it does then: until as many connections
     /// are there as are wanted.
     pub fn has_to_build(&mut self) -> bool
-        ensures made { IsFalse result → wanted_of self.old.book.book.picture.on_order.limits
-            ≤ self.old.book.book.picture.connections }
+        ensures made { IsFalse result → wanted_of self.old.book.picture.on_order.limits
+            ≤ self.old.book.picture.connections }
         ensures sleeps { IsTrue result → self.new.waiting.maker_sleeps ≡ true }
-        ensures waiting { self.new.waiting
-            ≡ record self.old.waiting { maker_sleeps = self.new.waiting.maker_sleeps } }
-        ensures book { self.new.book ≡ self.old.book }
-        ensures kept { self.new.evicted_below ≡ self.old.evicted_below }
-        ensures failures { self.new.failures ≡ self.old.failures }
+        ensures same { self.new ≡ record self.old {
+          waiting = record self.old.waiting { maker_sleeps = self.new.waiting.maker_sleeps };
+        } }
     {
         let book = self.book.book();
         if book.limits().wanted() <= book.connections() {
@@ -72,15 +70,14 @@ impl<P, C: TakeTotal> PoolState<P, C> {
     pub fn begin_drain(&mut self, start: Duration)
         ensures count { self.new.waiting.drains ≡ one_more self.old.waiting.drains }
         ensures since { as_nanos self.new.waiting.since
-            ≡ since_with (all_who_wait (count_of self.old.waiting) self.old.book.places)
+            ≡ since_with (all_who_wait (count_of self.old.waiting) self.old.places)
             (as_nanos start) (as_nanos self.old.waiting.since) }
-        ensures rest { self.new.waiting ≡ record self.old.waiting {
-          drains = self.new.waiting.drains;
-          since = self.new.waiting.since;
+        ensures same { self.new ≡ record self.old {
+          waiting = record self.old.waiting {
+            drains = self.new.waiting.drains;
+            since = self.new.waiting.since;
+          };
         } }
-        ensures book { self.new.book ≡ self.old.book }
-        ensures kept { self.new.evicted_below ≡ self.old.evicted_below }
-        ensures failures { self.new.failures ≡ self.old.failures }
     {
         self.waiting.since = self.since_with(start);
         self.waiting.drains = self.waiting.drains.saturating_add(1);
@@ -88,13 +85,11 @@ impl<P, C: TakeTotal> PoolState<P, C> {
 
     /// Whether who drains has to sleep, which it does then: until nothing is lent.
     pub fn has_to_drain(&mut self) -> bool
-        ensures drained { IsFalse result → length self.old.book.book.picture.lent ≡ 0 }
+        ensures drained { IsFalse result → length self.old.book.picture.lent ≡ 0 }
         ensures sleeps { IsTrue result → self.new.waiting.drain_sleeps ≡ true }
-        ensures waiting { self.new.waiting
-            ≡ record self.old.waiting { drain_sleeps = self.new.waiting.drain_sleeps } }
-        ensures book { self.new.book ≡ self.old.book }
-        ensures kept { self.new.evicted_below ≡ self.old.evicted_below }
-        ensures failures { self.new.failures ≡ self.old.failures }
+        ensures same { self.new ≡ record self.old {
+          waiting = record self.old.waiting { drain_sleeps = self.new.waiting.drain_sleeps };
+        } }
     {
         let book = self.book.book();
         if book.connections() <= book.idle() {
@@ -106,11 +101,9 @@ impl<P, C: TakeTotal> PoolState<P, C> {
 
     /// One less drains.
     pub fn end_drain(&mut self)
-        ensures waiting { self.new.waiting
-            ≡ record self.old.waiting { drains = self.old.waiting.drains - 1 } }
-        ensures book { self.new.book ≡ self.old.book }
-        ensures kept { self.new.evicted_below ≡ self.old.evicted_below }
-        ensures failures { self.new.failures ≡ self.old.failures }
+        ensures same { self.new ≡ record self.old {
+          waiting = record self.old.waiting { drains = self.old.waiting.drains - 1 };
+        } }
     {
         self.waiting.drains = self.waiting.drains.saturating_sub(1);
     }

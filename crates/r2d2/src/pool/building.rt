@@ -15,7 +15,7 @@ use crate::hooks::Hooks;
 use crate::payload::PayloadOf;
 use crate::{CustomizeConnection, Error, ErrorKind, HandleError, ManageConnection};
 use pool_state::engine::{Counted, CountingBook, TakeTotal};
-use pool_state::{Line, LinedBook, PoolState, Tuning};
+use pool_state::{Line, PoolState, Tuning};
 use r2d2_core::{Book, Limits, Released};
 use std::alloc::{AllocError, Global};
 use std::sync::ledger::Ledger;
@@ -193,7 +193,7 @@ fn shared_state<P: Drop, C: TakeTotal, M: Drop, K: Drop, R: PoolRuntime>(
     let line = Line::new(rt.alloc(), room)?;
     let slots = slots(rt.alloc(), room)?;
     let shared = Shared {
-        guarded: Mutex::new(PoolState::new(LinedBook::new(book, line))),
+        guarded: Mutex::new(PoolState::new(book, line)),
         callers: Condvar::new(),
         slots,
         workers: Condvar::new(),

@@ -93,7 +93,7 @@ impl<C: TakeTotal, M: ManageConnection, K: Hooks<M>, R: PoolRuntime> SharedOf<C,
         ensures unknown { IsNone idle_since → IsFalse result }
     {
         match idle_since {
-            Some(since) => self.lock().failures.tell_of(since),
+            Some(since) => self.lock().is_distrusted(since),
             None => false,
         }
     }

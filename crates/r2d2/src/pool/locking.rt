@@ -159,7 +159,7 @@ impl<B, M, K, R> Shared<B, M, K, R> {
 
 impl<P: Drop, C: TakeTotal, M, K, R: Clock + Wait> Shared<PoolState<P, C>, M, K, R> {
     ghost use Rattle.r2d2_core.specs.BookSteps.{IsNumbering, IsClose};
-    ghost use Rattle.pool_state.specs.Lined.{SeenLined};
+    ghost use Rattle.pool_state.specs.Guarded.{SeenState};
     ghost use Rattle.pool_state.specs.Settled.{seen_settled, wakes_of_settled, IsSettling};
     ghost use Rattle.pool_state.specs.Waiting.{told_if};
     ghost use Rattle.pool_state.specs.Status.{IsStatus};
@@ -187,7 +187,7 @@ impl<P: Drop, C: TakeTotal, M, K, R: Clock + Wait> Shared<PoolState<P, C>, M, K,
 
     /// Gives an opened connection its id.
     pub(super) fn number(&self, tries: u32) -> Result<u64, Refusal>
-        ensures { (old : SeenLined P C) × (new : SeenLined P C)
+        ensures { (old : SeenState P C) × (new : SeenState P C)
             × IsNumbering tries result old.book new.book × (new.places ≡ old.places) }
     {
         self.step(|state, _now| (state.number(tries), ToWake::nobody()))
@@ -195,7 +195,7 @@ impl<P: Drop, C: TakeTotal, M, K, R: Clock + Wait> Shared<PoolState<P, C>, M, K,
 
     /// Tells the book of an outcome.
     pub(super) fn settle(&self, outcome: Outcome<P>) -> Settled<P>
-        ensures { (now : _) × (old : SeenLined P C) × (new : SeenLined P C)
+        ensures { (now : _) × (old : SeenState P C) × (new : SeenState P C)
             × IsSettling now outcome result old.book new.book
             × (new.places ≡ told_if (wakes_of_settled (seen_settled result)).caller old.places) }
     {
@@ -209,7 +209,7 @@ impl<P: Drop, C: TakeTotal, M, K, R: Clock + Wait> Shared<PoolState<P, C>, M, K,
 
     /// Closes the book, tells all who wait, and hands over what was idle.
     pub(super) fn close(&self) -> Leftover<P>
-        ensures { (old : SeenLined P C) × (new : SeenLined P C)
+        ensures { (old : SeenState P C) × (new : SeenState P C)
             × IsClose result old.book new.book × (new.places ≡ old.places) }
     {
         let left = self.step(|state, _now| (state.close(), ToWake::nobody()));

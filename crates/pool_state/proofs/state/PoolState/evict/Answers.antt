@@ -1,13 +1,12 @@
-use Rattle.std.proofs.Common.{sym, ◌∙◌}
-use Rattle.pool_state.proofs.Waits.{all_woken, none_sleeps}
+use Rattle.std.proofs.Common.{length, ap, arith}
+use Rattle.pool_state.specs.Ring.{places_in}
+use Rattle.pool_state.proofs.Guarded.{kept_woken}
 use Rattle.pool_state.proofs.state.PoolState.evict.Goals as goal
 
 pub invariant_of-self : goal.invariant_of-self
 invariant_of-self g c =
-    let woken = c.wake_all.ensures in
-    let waits = c.wake_all.new.self in
+    let state = c.self.inside in
+    let p = state.book.book.picture in
     let q = c.evict.new.self.book.picture in
-    record {
-      none_lost = all_woken q waits.callers waits.woken (woken.woken ∙ sym woken.waits.callers);
-      others = none_sleeps waits.maker_sleeps waits.drain_sleeps q woken.maker woken.drain;
-    }
+    kept_woken p q (places_in state.line.ring) state.waiting c.wake_all.new.self c.self.invariant (omega (arith, ap length c.evict.ensures.comes_to.none_idle))
+    c.wake_all.ensures

@@ -1,16 +1,28 @@
-use Rattle.pool_state.proofs.Waits.{none_lost, others_sleep, goes_return}
+use Rattle.std.proofs.Common.{List, subst}
+use Rattle.pool_state.specs.Order.{Event, IsHistoryOf, with_told}
+use Rattle.pool_state.specs.Ring.{places_in}
+use Rattle.pool_state.proofs.Lined.{one_returned}
+use Rattle.pool_state.proofs.Guarded.{kept_due}
+use Rattle.pool_state.proofs.Waits.{goes_return}
 use Rattle.pool_state.proofs.state.PoolState.give_back.Goals as goal
+
+pub due-to_wake-requires : goal.due-to_wake-requires
+due-to_wake-requires g c = c.self-2.invariant.none_lost.within
 
 pub invariant_of-self : goal.invariant_of-self
 invariant_of-self g c =
-    let old = c.args.self.now in
+    let state = c.self-2.inside in
     let step = c.give_back-returned in
-    let p = old.book.book.picture in
+    let p = state.book.book.picture in
     let q = step.new.self.book.picture in
-    let due = step.result.1.wakes in
-    let sent = c.counted in
-    let goes = goes_return c.args.now c.args.id c.args.value _ step.result.0 p q due step.ensures.step.of_core step.ensures.wakes in
-    record {
-      none_lost = none_lost due.caller sent.result.callers old.waiting sent.new.waiting p q goes old.none_lost sent.ensures.sent sent.ensures.within sent.ensures.waits;
-      others = others_sleep due.caller old.waiting sent.new.waiting p q goes old.others sent.ensures.sleepers;
-    }
+    let caller = step.result.1.caller in
+    let sent = c.due-to_wake in
+    let woken = sent.ensures.woken in
+    kept_due caller sent.result.callers p q (places_in state.line.ring) (places_in sent.new.line.ring) state.waiting sent.new.waiting c.self-2.invariant
+    (one_returned c.args.now c.args.id c.args.value _ step.result.0 p q step.result.1 step.ensures.step.of_core step.ensures.wakes) (goes_return c.args.now c.args.id c.args.value _ step.result.0 p q step.result.1 step.ensures.step.of_core step.ensures.wakes)
+    woken.line woken.callers sent.ensures.within woken.waits sent.ensures.sleepers
+
+pub returns-clause-history : goal.returns-clause-history
+returns-clause-history g c =
+    let sent = c.due-to_wake in
+    subst (λ v. (h : List Event) → IsHistoryOf h v.places → IsHistoryOf (with_told sent.result.told h) (places_in sent.new.line.ring)) c.self-2.view_is sent.ensures.history

@@ -4,10 +4,11 @@ use Rattle.pool_state.proofs.state.PoolState.give_up_late.Goals as goal
 
 pub invariant_of-self : goal.invariant_of-self
 invariant_of-self g c =
-    let old = c.args.self.now in
-    let p = old.book.book.picture in
+    let state = c.self.inside in
+    let p = state.book.book.picture in
     let sent = c.wake_if-to_wake in
     record {
-      none_lost = none_lost true sent.result old.waiting sent.new.self p p (unchanged true p) old.none_lost sent.ensures.sent sent.ensures.within sent.ensures.waits;
-      others = none_sleeps_due old.waiting sent.new.self p sent.ensures.sleepers;
+      told = c.self.invariant.told;
+      none_lost = none_lost true sent.result state.waiting sent.new.self p p (unchanged true p) c.self.invariant.none_lost sent.ensures.sent sent.ensures.within sent.ensures.waits;
+      others = none_sleeps_due state.waiting sent.new.self p sent.ensures.sleepers;
     }

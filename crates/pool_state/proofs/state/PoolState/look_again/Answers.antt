@@ -1,31 +1,43 @@
-use Rattle.std.proofs.Common.{true, arith, sym, ◌-◌, ap, ◌∙◌, subst}
+use Rattle.std.proofs.Common.{true, length, arith, sym, ◌-◌, ap, ◌∙◌, subst}
 use Rattle.r2d2_core.specs.Book.{SeenBook}
 use Rattle.r2d2_core.specs.Picture.{IsSound}
-use Rattle.r2d2_core.specs.Seen.{seen_take}
 use Rattle.pool_state.specs.declared.waiters.Waiters.{Waiters}
-use Rattle.pool_state.specs.Waits.{OthersSleep, turn_after, one_if}
+use Rattle.pool_state.specs.Waits.{OthersSleep, one_if, IsLook}
+use Rattle.pool_state.specs.Ring.{places_in}
+use Rattle.pool_state.proofs.Guarded.{turned, looked_by}
+use Rattle.pool_state.proofs.Lined.{still_told, one_taken}
 use Rattle.pool_state.proofs.Waits.{looked_again, others_sleep_quiet, goes_take, woken_as_before, sleep_as_before}
 use Rattle.pool_state.proofs.state.PoolState.look_again.Goals as goal
 
 pub invariant_of-self : goal.invariant_of-self
 invariant_of-self g c =
-    let old = c.args.self.now in
-    let step = c.lend_beside-taken in
+    let old = c.self.inside in
+    let step = c.lend-taken in
     let p = old.book.book.picture in
     let q = step.new.self.book.picture in
     let turn = c.of-turn.result in
     let waits = c.begin_if in
-    let sound = subst (λ (b : SeenBook _). IsSound b.picture) c.book.ensures.value c.is_closed-sound.ensures.facts.sound in
-    let closed = c.is_closed.ensures.value ∙ ap (λ (b : SeenBook _). b.picture.on_order.closed) c.book-2.ensures.value in
-    let is = subst (λ b. turn_after (seen_take step.result.0) b turn) closed c.of-turn.ensures.turn in
+    let sound = subst (λ (b : SeenBook _). IsSound b.picture) c.book.ensures.value c.is_closed-closed.ensures.facts.sound in
+    let is = turned c.args.now step.result.0 turn c.is_closed-closed.result old.book.book step.new.self.book step.ensures.step c.of-turn.ensures.turn
+    (c.is_closed-closed.ensures.value ∙ ap (λ (b : SeenBook _). b.picture.on_order.closed) c.book.ensures.value) in
     let v = c.end.new.self in
     let w = waits.new.self in
     let less = ap (λ (x : Waiters). x.callers) c.end.ensures in
     let taken = ap (λ (x : Waiters). x.woken) c.end.ensures in
-    let before = others_sleep_quiet old.waiting.maker_sleeps old.waiting.drain_sleeps p q (goes_take c.args.now true step.result.0 p q step.ensures.step.of_core) old.others in
+    let before = others_sleep_quiet old.waiting.maker_sleeps old.waiting.drain_sleeps p q (goes_take c.args.now true step.result.0 p q step.ensures.step.of_core) c.self.invariant.others in
     record {
+      told = let less = one_taken c.args.now true step.result.0 p q step.ensures.step.of_core in still_told (length p.idle) (length q.idle) (places_in old.line.ring) c.self.invariant.told (omega (arith, less));
       none_lost = woken_as_before q v w (old.waiting.woken - 1) waits.ensures.rest taken
-          (looked_again c.args.now step.result.0 p q turn old.waiting.callers w.callers old.waiting.woken step.ensures.step.of_core sound is old.none_lost
+          (looked_again c.args.now step.result.0 p q turn old.waiting.callers w.callers old.waiting.woken step.ensures.step.of_core sound is c.self.invariant.none_lost
           (omega (arith, waits.ensures.at_most, ap one_if c.waits.ensures, less)) (omega (arith, waits.ensures.at_least, less)));
       others = sleep_as_before q v w waits.ensures.rest (subst (λ (x : Waiters). OthersSleep q x.maker_sleeps x.drain_sleeps) (sym c.end.ensures) before);
     }
+
+pub returns-clause-step : goal.returns-clause-step
+returns-clause-step g c =
+    let old = c.self.inside in
+    let step = c.lend-taken in
+    let turn = c.of-turn.result in
+    subst (λ v. IsLook c.args.now turn step.result.1.workers v.book step.new.self.book) c.self.view_is
+    (looked_by c.args.now step.result.0 turn c.is_closed-closed.result step.result.1 old.book.book step.new.self.book step.ensures.step c.of-turn.ensures.turn
+    (c.is_closed-closed.ensures.value ∙ ap (λ (b : SeenBook _). b.picture.on_order.closed) c.book.ensures.value) step.ensures.wakes)

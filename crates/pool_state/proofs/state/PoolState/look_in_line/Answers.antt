@@ -1,16 +1,12 @@
-use Rattle.std.specs.Duration.{as_nanos}
-use Rattle.pool_state.specs.Waiting.{waiting_in}
-use Rattle.pool_state.proofs.Waits.{none_lost_quiet, others_sleep_quiet, goes_looked, goes_to}
+use Rattle.std.proofs.Common.{◌<◌, length, arith}
+use Rattle.pool_state.specs.Waiting.{before}
+use Rattle.pool_state.proofs.Lined.{never_empty}
 use Rattle.pool_state.proofs.state.PoolState.look_in_line.Goals as goal
 
-pub invariant_of-self : goal.invariant_of-self
-invariant_of-self g c =
+-- what has its turn finds
+pub unreachable-requires : goal.unreachable-requires
+unreachable-requires g c =
     let old = c.args.self.now in
-    let step = c.look-look in
-    let p = old.book.book.picture in
-    let q = step.new.self.book.picture in
-    let goes = goes_to p step.new.self.book _ step.ensures.book (goes_looked (as_nanos c.args.now) step.result.0 (waiting_in step.new.self.places) old.book.owed old.book.book) in
-    record {
-      none_lost = none_lost_quiet old.waiting.callers old.waiting.woken p q goes old.none_lost;
-      others = others_sleep_quiet old.waiting.maker_sleeps old.waiting.drain_sleeps p q goes old.others;
-    }
+    let turn : before c.args.place.now old.places < length old.book.picture.idle = c.has_turn.ensures.0 c.if-not-has_turn.false in
+    never_empty c.args.now c.take-taken.result.0 old.book.picture c.take-taken.new.self.book.picture c.in-Empty.ordered c.take-taken.ensures.step.of_core
+    (omega (arith, turn)) c.in-Empty.is

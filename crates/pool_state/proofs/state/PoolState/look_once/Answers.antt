@@ -1,15 +1,33 @@
+use Rattle.std.proofs.Common.{◌≡◌, ◌<◌, List, ◌∷◌, length, false, sym, ◌∙◌, subst, arith}
+use Rattle.r2d2_core.specs.Seen.{seen_take}
+use Rattle.pool_state.specs.Counted.{found_by}
+use Rattle.pool_state.specs.Order.{Event, TookAtOnce, IsHistoryOf}
+use Rattle.pool_state.specs.Ring.{places_in}
 use Rattle.pool_state.specs.Waiting.{is_kept}
-use Rattle.pool_state.proofs.Waits.{none_lost_quiet, others_sleep_quiet, lent_as}
+use Rattle.pool_state.proofs.Lined.{one_taken}
+use Rattle.pool_state.proofs.Order.{took_at_once, more_than_wait}
+use Rattle.pool_state.proofs.Guarded.{kept_quiet}
+use Rattle.pool_state.proofs.Waits.{goes_take}
 use Rattle.pool_state.proofs.state.PoolState.look_once.Goals as goal
 
 pub invariant_of-self : goal.invariant_of-self
 invariant_of-self g c =
-    let old = c.args.self.now in
+    let state = c.self.inside in
     let step = c.lend-taken in
-    let p = old.book.book.picture in
+    let p = state.book.book.picture in
     let q = step.new.self.book.picture in
-    let goes = lent_as (is_kept p old.book.places) c.args.now step.result.0 old.book.book step.new.self.book step.ensures.step step.ensures.kept in
-    record {
-      none_lost = none_lost_quiet old.waiting.callers old.waiting.woken p q goes old.none_lost;
-      others = others_sleep_quiet old.waiting.maker_sleeps old.waiting.drain_sleeps p q goes old.others;
-    }
+    let less = one_taken c.args.now false step.result.0 p q step.ensures.step.of_core in
+    kept_quiet p q (places_in state.line.ring) state.waiting c.self.invariant (omega (arith, less)) (goes_take c.args.now false step.result.0 p q step.ensures.step.of_core)
+
+pub returns-clause-history : goal.returns-clause-history
+returns-clause-history g c =
+    let ps = places_in c.self.inside.line.ring in
+    let p = c.self.inside.book.book.picture in
+    let step = c.lend-taken in
+    let found = found_by (seen_take step.result.0) in
+    let less = one_taken c.args.now false step.result.0 p step.new.self.book.picture step.ensures.step.of_core in
+    let at_once : (h : List Event) → IsHistoryOf h ps → is_kept p ps ≡ false → 0 < found → IsHistoryOf (TookAtOnce (length p.idle) ∷ h) ps =
+    λ h is free some. took_at_once h (length p.idle) ps (more_than_wait p ps free (omega (arith, less, some))) is in
+    let of_view = subst (λ v. (h : List Event) → IsHistoryOf h v.places → is_kept v.book.picture v.places ≡ false → 0 < found
+    → IsHistoryOf (TookAtOnce (length v.book.picture.idle) ∷ h) ps) c.self.view_is at_once in
+    λ h is some. of_view h is (sym c.is_kept.ensures ∙ c.if-is_kept.false) some

@@ -1,14 +1,13 @@
-use Rattle.pool_state.proofs.Waits.{none_lost_quiet, others_sleep_quiet, goes_telling}
+use Rattle.pool_state.specs.Ring.{places_in}
+use Rattle.pool_state.proofs.Lined.{none_more_told}
+use Rattle.pool_state.proofs.Guarded.{kept_quiet}
+use Rattle.pool_state.proofs.Waits.{goes_telling}
 use Rattle.pool_state.proofs.state.PoolState.take_error.Goals as goal
 
 pub invariant_of-self : goal.invariant_of-self
 invariant_of-self g c =
-    let old = c.args.self.now in
-    let step = c.take_error in
-    let p = old.book.book.picture in
-    let q = step.new.self.book.picture in
-    let goes = goes_telling step.result p q step.ensures.step.of_core in
-    record {
-      none_lost = none_lost_quiet old.waiting.callers old.waiting.woken p q goes old.none_lost;
-      others = others_sleep_quiet old.waiting.maker_sleeps old.waiting.drain_sleeps p q goes old.others;
-    }
+    let state = c.self.inside in
+    let p = state.book.book.picture in
+    let q = c.take_error.new.self.book.picture in
+    kept_quiet p q (places_in state.line.ring) state.waiting c.self.invariant (none_more_told c.take_error.result p q c.take_error.ensures.step.of_core)
+    (goes_telling c.take_error.result p q c.take_error.ensures.step.of_core)

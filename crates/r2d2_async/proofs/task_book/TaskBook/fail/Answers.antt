@@ -12,9 +12,9 @@ invariant_of-self g c =
     let old = c.args.self.now in
     let step = c.fail-settled in
     record {
-      awake = awake_after _ old.guarded.book.places step.new.self.book.places step.result.1.told old.wakers c.wake.new.wakers
+      awake = awake_after _ old.guarded.places step.new.self.places step.result.1.told old.wakers c.wake.new.wakers
           step.ensures.wakes.line step.ensures.wakes.told old.awake c.wake.ensures.told c.wake.ensures.others;
-      drained = drained_failed (as_nanos c.args.now) c.args.tries c.args.text old.guarded.book.book.picture step.new.self.book.book.picture old.drains step.ensures.step.after old.drained;
-      up = up_kept old.guarded.book.book.picture.on_order.closed step.new.self.book.book.picture.on_order.closed old.wakers c.wake.new.wakers old.workers c.wake.new.workers
-          (ap (λ (p : Picture _). p.on_order.closed) step.ensures.step.after ∙ settled_same (as_nanos c.args.now) (outcome.Failed c.args.tries c.args.text) old.guarded.book.book.picture) c.wake.ensures.others c.wake.ensures.fewer old.up;
+      drained = drained_failed (as_nanos c.args.now) c.args.tries c.args.text old.guarded.book.picture step.new.self.book.picture old.drains step.ensures.step.after old.drained;
+      up = up_kept old.guarded.book.picture.on_order.closed step.new.self.book.picture.on_order.closed old.wakers c.wake.new.wakers old.workers c.wake.new.workers
+          (ap (λ (p : Picture _). p.on_order.closed) step.ensures.step.after ∙ settled_same (as_nanos c.args.now) (outcome.Failed c.args.tries c.args.text) old.guarded.book.picture) c.wake.ensures.others c.wake.ensures.fewer old.up;
     }

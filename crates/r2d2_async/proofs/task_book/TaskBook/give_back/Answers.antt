@@ -13,9 +13,9 @@ invariant_of-self g c =
     let old = c.args.self.now in
     let step = c.give_back-returned in
     record {
-      awake = awake_after _ old.guarded.book.places step.new.self.book.places step.result.1.told old.wakers c.wake.new.wakers
+      awake = awake_after _ old.guarded.places step.new.self.places step.result.1.told old.wakers c.wake.new.wakers
           step.ensures.wakes.line step.ensures.wakes.told old.awake c.wake.ensures.told c.wake.ensures.others;
       drained = drained_kept c.book.result.now.picture.lent _ c.wake_drains.new.drains (ap (λ (b : SeenBook _). b.picture.lent) (sym c.book.ensures.value)) c.wake_drains.ensures;
-      up = up_kept old.guarded.book.book.picture.on_order.closed step.new.self.book.book.picture.on_order.closed old.wakers c.wake.new.wakers old.workers c.wake.new.workers
-          (ap (λ (p : Picture _). p.on_order.closed) step.ensures.step.of_core.after ∙ returned_same (as_nanos c.args.now) c.args.id c.args.payload (is_to_close c.args.unfit c.args.outlived c.args.id old.guarded.evicted_below) old.guarded.book.book.picture) c.wake.ensures.others c.wake.ensures.fewer old.up;
+      up = up_kept old.guarded.book.picture.on_order.closed step.new.self.book.picture.on_order.closed old.wakers c.wake.new.wakers old.workers c.wake.new.workers
+          (ap (λ (p : Picture _). p.on_order.closed) step.ensures.step.of_core.after ∙ returned_same (as_nanos c.args.now) c.args.id c.args.payload (is_to_close c.args.unfit c.args.outlived c.args.id old.guarded.evicted_below) old.guarded.book.picture) c.wake.ensures.others c.wake.ensures.fewer old.up;
     }

@@ -1,6 +1,6 @@
 use Rattle.std.proofs.Common.{ap}
+use Rattle.pool_state.specs.Guarded.{SeenState}
 use Rattle.r2d2_async.proofs.Awake.{awake_gone}
-use Rattle.r2d2_core.specs.Book.{SeenBook}
 use Rattle.r2d2_async.proofs.Drained.{drained_kept}
 use Rattle.r2d2_async.proofs.Closed.{up_kept}
 use Rattle.r2d2_async.proofs.task_book.TaskBook.leave.Goals as goal
@@ -10,9 +10,9 @@ invariant_of-self g c =
     let old = c.args.self.now in
     let left = c.leave-to_wake in
     record {
-      awake = awake_gone c.args.place.now old.guarded.book.places left.new.self.book.places left.result.told old.wakers c.clear_at.new.wakers c.wake.new.wakers
+      awake = awake_gone c.args.place.now old.guarded.places left.new.self.places left.result.told old.wakers c.clear_at.new.wakers c.wake.new.wakers
           left.ensures.line left.ensures.told old.awake c.clear_at.ensures.cleared c.clear_at.ensures.others c.wake.ensures.told c.wake.ensures.others;
-      drained = drained_kept old.guarded.book.book.picture.lent left.new.self.book.book.picture.lent old.drains (ap (λ (b : SeenBook _). b.picture.lent) left.ensures.book) old.drained;
-      up = up_kept old.guarded.book.book.picture.on_order.closed left.new.self.book.book.picture.on_order.closed old.wakers c.wake.new.wakers old.workers c.wake.new.workers
-          (ap (λ (b : SeenBook _). b.picture.on_order.closed) left.ensures.book) (λ s none. c.wake.ensures.others s (c.clear_at.ensures.others s none)) c.wake.ensures.fewer old.up;
+      drained = drained_kept old.guarded.book.picture.lent left.new.self.book.picture.lent old.drains (ap (λ (s : SeenState _ _). s.book.picture.lent) left.ensures.same) old.drained;
+      up = up_kept old.guarded.book.picture.on_order.closed left.new.self.book.picture.on_order.closed old.wakers c.wake.new.wakers old.workers c.wake.new.workers
+          (ap (λ (s : SeenState _ _). s.book.picture.on_order.closed) left.ensures.same) (λ s none. c.wake.ensures.others s (c.clear_at.ensures.others s none)) c.wake.ensures.fewer old.up;
     }

@@ -16,8 +16,8 @@ loop-init g c = record {
 pub returns-then-not-pass_one-clause-line : goal.returns-then-not-pass_one-clause-line
 returns-then-not-pass_one-clause-line g c =
     let old = c.args.self.now in
-    let ps = old.guarded.book.places in
+    let ps = old.guarded.places in
     let here = c.loop.self in
-    ended_by c.loop.counter (waiting_in ps) (as_nanos c.args.now) old.ends.items here.ends.items ps here.guarded.book.places
-    c.pass_one.new.self.guarded.book.places (ap (λ ends. ends.items) c.loop.invariant.ends) c.loop.invariant.line
+    ended_by c.loop.counter (waiting_in ps) (as_nanos c.args.now) old.ends.items here.ends.items ps here.guarded.places
+    c.pass_one.new.self.guarded.places (ap (λ ends. ends.items) c.loop.invariant.ends) c.loop.invariant.line
     c.if-not-pass_one.ensures.whether (omega (arith, c.loop-test.true, c.in_line-end.ensures)) c.pass_one.ensures.line

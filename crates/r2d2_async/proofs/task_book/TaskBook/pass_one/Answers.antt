@@ -1,8 +1,8 @@
 use Rattle.std.proofs.Common.{ap}
 use Rattle.std.specs.Duration.{as_nanos}
 use Rattle.pool_state.specs.Waiting.{first_late}
+use Rattle.pool_state.specs.Guarded.{SeenState}
 use Rattle.r2d2_async.proofs.Awake.{awake_passed, awake_none_passed}
-use Rattle.r2d2_core.specs.Book.{SeenBook}
 use Rattle.r2d2_async.proofs.Drained.{drained_kept}
 use Rattle.r2d2_async.proofs.Closed.{up_kept}
 use Rattle.r2d2_async.proofs.task_book.TaskBook.pass_one.Goals as goal
@@ -10,25 +10,25 @@ use Rattle.r2d2_async.proofs.task_book.TaskBook.pass_one.Goals as goal
 pub invariant_of-self : goal.invariant_of-self
 invariant_of-self g c =
     let old = c.args.self.now in
-    let ps = old.guarded.book.places in
+    let ps = old.guarded.places in
     let step = c.pass_late in
     record {
-      awake = awake_passed (first_late (as_nanos c.args.now) c.deref.result.now ps) ps step.new.self.book.places c.in-Some.to_wake.told old.wakers c.wake.new.wakers
+      awake = awake_passed (first_late (as_nanos c.args.now) c.deref.result.now ps) ps step.new.self.places c.in-Some.to_wake.told old.wakers c.wake.new.wakers
           step.ensures.line (c.in-Some.ensures.told) old.awake c.wake.ensures.told c.wake.ensures.others;
-      drained = drained_kept old.guarded.book.book.picture.lent step.new.self.book.book.picture.lent old.drains (ap (λ (b : SeenBook _). b.picture.lent) step.ensures.book) old.drained;
-      up = up_kept old.guarded.book.book.picture.on_order.closed step.new.self.book.book.picture.on_order.closed old.wakers c.wake.new.wakers old.workers c.wake.new.workers
-          (ap (λ (b : SeenBook _). b.picture.on_order.closed) step.ensures.book) c.wake.ensures.others c.wake.ensures.fewer old.up;
+      drained = drained_kept old.guarded.book.picture.lent step.new.self.book.picture.lent old.drains (ap (λ (s : SeenState _ _). s.book.picture.lent) step.ensures.same) old.drained;
+      up = up_kept old.guarded.book.picture.on_order.closed step.new.self.book.picture.on_order.closed old.wakers c.wake.new.wakers old.workers c.wake.new.workers
+          (ap (λ (s : SeenState _ _). s.book.picture.on_order.closed) step.ensures.same) c.wake.ensures.others c.wake.ensures.fewer old.up;
     }
 
 pub invariant_of-self-in-None : goal.invariant_of-self-in-None
 invariant_of-self-in-None g c =
     let old = c.args.self.now in
-    let ps = old.guarded.book.places in
+    let ps = old.guarded.places in
     let step = c.pass_late in
     record {
-      awake = awake_none_passed (first_late (as_nanos c.args.now) c.deref.result.now ps) ps step.new.self.book.places old.wakers
+      awake = awake_none_passed (first_late (as_nanos c.args.now) c.deref.result.now ps) ps step.new.self.places old.wakers
           c.in-None.ensures.whether step.ensures.line old.awake;
-      drained = drained_kept old.guarded.book.book.picture.lent step.new.self.book.book.picture.lent old.drains (ap (λ (b : SeenBook _). b.picture.lent) step.ensures.book) old.drained;
-      up = up_kept old.guarded.book.book.picture.on_order.closed step.new.self.book.book.picture.on_order.closed old.wakers old.wakers old.workers old.workers
-          (ap (λ (b : SeenBook _). b.picture.on_order.closed) step.ensures.book) (λ s none. none) (λ key queued. queued) old.up;
+      drained = drained_kept old.guarded.book.picture.lent step.new.self.book.picture.lent old.drains (ap (λ (s : SeenState _ _). s.book.picture.lent) step.ensures.same) old.drained;
+      up = up_kept old.guarded.book.picture.on_order.closed step.new.self.book.picture.on_order.closed old.wakers old.wakers old.workers old.workers
+          (ap (λ (s : SeenState _ _). s.book.picture.on_order.closed) step.ensures.same) (λ s none. none) (λ key queued. queued) old.up;
     }

@@ -10,9 +10,9 @@ invariant_of-self g c =
     let old = c.args.self.now in
     let step = c.reap-ordered in
     record {
-      awake = awake_after _ old.guarded.book.places step.new.self.book.places step.result.1.told old.wakers c.wake.new.wakers
+      awake = awake_after _ old.guarded.places step.new.self.places step.result.1.told old.wakers c.wake.new.wakers
           step.ensures.wakes.line step.ensures.wakes.told old.awake c.wake.ensures.told c.wake.ensures.others;
-      drained = drained_kept old.guarded.book.book.picture.lent step.new.self.book.book.picture.lent old.drains (ap (λ (p : Picture _). p.lent) step.ensures.step.of_core.after) old.drained;
-      up = up_kept old.guarded.book.book.picture.on_order.closed step.new.self.book.book.picture.on_order.closed old.wakers c.wake.new.wakers old.workers c.wake.new.workers
+      drained = drained_kept old.guarded.book.picture.lent step.new.self.book.picture.lent old.drains (ap (λ (p : Picture _). p.lent) step.ensures.step.of_core.after) old.drained;
+      up = up_kept old.guarded.book.picture.on_order.closed step.new.self.book.picture.on_order.closed old.wakers c.wake.new.wakers old.workers c.wake.new.workers
           (ap (λ (p : Picture _). p.on_order.closed) step.ensures.step.of_core.after) c.wake.ensures.others c.wake.ensures.fewer old.up;
     }

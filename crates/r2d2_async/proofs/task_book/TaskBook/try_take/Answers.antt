@@ -1,5 +1,7 @@
+use Rattle.std.proofs.Common.{ap}
 use Rattle.std.specs.Duration.{as_nanos}
 use Rattle.pool_state.specs.Waiting.{is_kept}
+use Rattle.pool_state.specs.Guarded.{SeenState}
 use Rattle.r2d2_async.proofs.Awake.{awake_same}
 use Rattle.r2d2_async.proofs.Drained.{drained_lent}
 use Rattle.r2d2_async.proofs.Closed.{up_kept, lent_same}
@@ -9,11 +11,11 @@ pub invariant_of-self : goal.invariant_of-self
 invariant_of-self g c =
     let old = c.args.self.now in
     record {
-      awake = awake_same old.guarded.book.places c.look_once-taken.new.self.book.places old.wakers c.look_once-taken.ensures.line old.awake;
-      drained = drained_lent (as_nanos c.args.now) (is_kept old.guarded.book.book.picture old.guarded.book.places) old.guarded.book.book c.look_once-taken.new.self.book.book old.drains
+      awake = awake_same old.guarded.places c.look_once-taken.new.self.places old.wakers (ap (λ (s : SeenState _ _). s.places) c.look_once-taken.ensures.same) old.awake;
+      drained = drained_lent (as_nanos c.args.now) (is_kept old.guarded.book.picture old.guarded.places) old.guarded.book c.look_once-taken.new.self.book old.drains
           (λ kept. (c.look_once-taken.ensures.kept kept).1) (λ free. (c.look_once-taken.ensures.step free).of_core.after) old.drained;
-      up = up_kept old.guarded.book.book.picture.on_order.closed c.look_once-taken.new.self.book.book.picture.on_order.closed old.wakers old.wakers old.workers c.wake_workers.new.workers
-          (lent_same (as_nanos c.args.now) (is_kept old.guarded.book.book.picture old.guarded.book.places) old.guarded.book.book c.look_once-taken.new.self.book.book
+      up = up_kept old.guarded.book.picture.on_order.closed c.look_once-taken.new.self.book.picture.on_order.closed old.wakers old.wakers old.workers c.wake_workers.new.workers
+          (lent_same (as_nanos c.args.now) (is_kept old.guarded.book.picture old.guarded.places) old.guarded.book c.look_once-taken.new.self.book
           (λ kept. (c.look_once-taken.ensures.kept kept).1) (λ free. (c.look_once-taken.ensures.step free).of_core.after))
           (λ s none. none) c.wake_workers.ensures.fewer old.up;
     }

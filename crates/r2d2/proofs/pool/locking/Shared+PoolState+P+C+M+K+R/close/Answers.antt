@@ -5,4 +5,4 @@ use Rattle.r2d2.proofs.pool.locking.Shared+PoolState+P+C+M+K+R.close.Goals as go
 pub returns : goal.returns
 returns g c =
     let s = c.step-left.ensures in
-    (s.0.now.book, s.3.now.book, search (rules, s), search (rules, s))
+    (s.0.now, s.3.now, search (rules, s), search (rules, s))

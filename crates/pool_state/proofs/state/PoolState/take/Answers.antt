@@ -3,10 +3,12 @@ use Rattle.pool_state.specs.Ring.{places_in}
 use Rattle.pool_state.specs.declared.line.place.Place.{Place}
 use Rattle.pool_state.specs.Waiting.{AreTold}
 use Rattle.pool_state.specs.Waiting.{before}
-use Rattle.pool_state.proofs.Lined.{still_told, one_taken, one_found, one_less_served}
+use Rattle.pool_state.proofs.Lined.{one_taken, one_found, one_less_served}
+use Rattle.pool_state.proofs.Guarded.{kept_quiet, kept_told}
+use Rattle.pool_state.proofs.Waits.{goes_take}
 use Rattle.pool_state.specs.Order.{Event, IsHistoryOf, IsPlaceIn, with_take}
 use Rattle.pool_state.proofs.Order.{took_at_once, was_told_in_turn}
-use Rattle.pool_state.proofs.lined_book.LinedBook.take.Goals as goal
+use Rattle.pool_state.proofs.state.PoolState.take.Goals as goal
 
 pub invariant_of-self : goal.invariant_of-self
 invariant_of-self g c =
@@ -14,7 +16,8 @@ invariant_of-self g c =
     let old = c.self.inside.book.book.picture in
     let new = c.lend-taken.new.self.book.picture in
     let less = one_taken c.args.now false c.lend-taken.result.0 old new c.lend-taken.ensures.step.of_core in
-    still_told (length old.idle) (length new.idle) ps c.self.invariant (omega (arith, less))
+    kept_quiet old new ps c.self.inside.waiting c.self.invariant (omega (arith, less))
+    (goes_take c.args.now false c.lend-taken.result.0 old new c.lend-taken.ensures.step.of_core)
 
 pub invariant_of-self-2 : goal.invariant_of-self-2
 invariant_of-self-2 g c =
@@ -24,7 +27,10 @@ invariant_of-self-2 g c =
     let turn = subst (λ v. before c.args.place v.places < length v.book.picture.idle) (sym c.self.view_is) c.requires.turn in
     let one = one_found c.args.now false c.lend-taken.result.0 old new c.lend-taken.ensures.step.of_core (omega (arith, turn)) in
     let P : List Place → Type 0 = λ qs. AreTold (length new.idle) qs in
-    subst P (sym c.serve.ensures.places) (one_less_served (length old.idle) (length new.idle) c.in-Some.slot ps c.self.invariant one)
+    kept_told new ps (places_in c.serve.new.self.ring) c.self.inside.waiting
+    (kept_quiet old new ps c.self.inside.waiting c.self.invariant (omega (arith, one))
+    (goes_take c.args.now false c.lend-taken.result.0 old new c.lend-taken.ensures.step.of_core))
+    (subst P (sym c.serve.ensures.places) (one_less_served (length old.idle) (length new.idle) c.in-Some.slot ps c.self.invariant.told one))
 
 pub returns-in_default-clause-history : goal.returns-in_default-clause-history
 returns-in_default-clause-history g c =
@@ -43,6 +49,6 @@ returns-clause-history g c =
     let idle = length c.self.inside.book.book.picture.idle in
     let turn = subst (λ v. before c.args.place v.places < length v.book.picture.idle) (sym c.self.view_is) c.requires.turn in
     let here : (h : List Event) → IsHistoryOf h ps → IsPlaceIn h c.args.place → IsHistoryOf (with_take c.args.place idle h) after =
-    λ h is at. subst (λ o. before o ps < idle → IsPlaceIn h o → IsHistoryOf (with_take o idle h) after) (sym c.in-Some.is) (λ lt stands. c.serve.ensures.history h idle is stands (was_told_in_turn h c.in-Some.slot idle ps c.self.invariant lt is) lt) turn at in
+    λ h is at. subst (λ o. before o ps < idle → IsPlaceIn h o → IsHistoryOf (with_take o idle h) after) (sym c.in-Some.is) (λ lt stands. c.serve.ensures.history h idle is stands (was_told_in_turn h c.in-Some.slot idle ps c.self.invariant.told lt is) lt) turn at in
     subst (λ v. (h : List Event) → IsHistoryOf h v.places → IsPlaceIn h c.args.place → IsHistoryOf (with_take c.args.place (length v.book.picture.idle) h) after) c.self.view_is
     here

@@ -6,10 +6,11 @@ use Rattle.pool_state.specs.declared.line.place.Standing.TheVariants.{Aside}
 use Rattle.pool_state.specs.Waiting.{AreTold, told_first, with_standing, first_quiet, first_late, told_instead}
 use Rattle.pool_state.specs.Order.{Event, Passed, IsHistoryOf, with_told, with_pass}
 use Rattle.pool_state.proofs.Order.{late_in}
+use Rattle.pool_state.proofs.Guarded.{kept_told}
 use Rattle.pool_state.proofs.Waiting.{kept_passed}
 use Rattle.pool_state.specs.Search.{IsSearch, IsLateSearch, AreSearches}
 use Rattle.pool_state.proofs.Searches.{late_search_told, late_search_passed, search_passed}
-use Rattle.pool_state.proofs.lined_book.LinedBook.pass_late.Goals as goal
+use Rattle.pool_state.proofs.state.PoolState.pass_late.Goals as goal
 
 pub tell_next-told-requires : goal.tell_next-told-requires
 tell_next-told-requires g c =
@@ -28,7 +29,8 @@ invariant_of-self g c =
     let s = c.in_ok-slot.slot in
     let P : List Place → Type 0 = λ qs. AreTold idle qs in
     let now : places_in c.tell_next-told.new.self.ring ≡ told_first (with_standing s Aside ps) = c.tell_next-told.ensures.places ∙ ap told_first c.pass.ensures.places in
-    subst P (sym now) (kept_passed idle s ps c.self.invariant)
+    kept_told c.self.inside.book.book.picture ps (places_in c.tell_next-told.new.self.ring) c.self.inside.waiting c.self.invariant
+    (subst P (sym now) (kept_passed idle s ps c.self.invariant.told))
 
 pub returns-clause-history : goal.returns-clause-history
 returns-clause-history g c =

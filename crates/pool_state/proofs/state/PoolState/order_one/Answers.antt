@@ -1,8 +1,10 @@
 use Rattle.pool_state.specs.Ring.{places_in}
 use Rattle.std.proofs.Common.{◌≡◌, length, sym, subst, arith}
 use Rattle.std.proofs.Common.{true}
-use Rattle.pool_state.proofs.Lined.{still_told, one_taken, none_counted}
-use Rattle.pool_state.proofs.lined_book.LinedBook.order_one.Goals as goal
+use Rattle.pool_state.proofs.Lined.{one_taken, none_counted}
+use Rattle.pool_state.proofs.Guarded.{kept_quiet}
+use Rattle.pool_state.proofs.Waits.{goes_take}
+use Rattle.pool_state.proofs.state.PoolState.order_one.Goals as goal
 
 pub invariant_of-self : goal.invariant_of-self
 invariant_of-self g c =
@@ -10,7 +12,8 @@ invariant_of-self g c =
     let old = c.self.inside.book.book.picture in
     let new = c.lend-empty.new.self.book.picture in
     let less = one_taken c.args.now true c.lend-empty.result.0 old new c.lend-empty.ensures.step.of_core in
-    still_told (length old.idle) (length new.idle) ps c.self.invariant (omega (arith, less))
+    kept_quiet old new ps c.self.inside.waiting c.self.invariant (omega (arith, less))
+    (goes_take c.args.now true c.lend-empty.result.0 old new c.lend-empty.ensures.step.of_core)
 
 pub returns-clause-none : goal.returns-clause-none
 returns-clause-none g c =
