@@ -12,9 +12,9 @@ MINUTE = 60 * SECOND
 class Pool:
     """A pool of the newest-first kind, whose records are all kept."""
 
-    def __init__(self, name, size, wanted, idle_timeout=None, timeout=5 * SECOND, reap_every=30 * SECOND, made_at=None, seed=1):
+    def __init__(self, name, size, wanted, idle_timeout=None, timeout=5 * SECOND, reap_every=30 * SECOND, created_at=None, seed=1):
         self.name, self.size, self.wanted, self.idle_timeout, self.timeout = name, size, wanted, idle_timeout, timeout
-        self.reap_every, self.made_at, self.random = reap_every, made_at, random.Random(seed)
+        self.reap_every, self.created_at, self.random = reap_every, created_at, random.Random(seed)
         self.now, self.events, self.count, self.ids, self.pending = 0, [], 0, 0, 0
         self.idle, self.lent, self.lanes, self.waiting = [], [], {}, collections.deque()
         self.opening_time = lambda pool: pool.random.randrange(20, 60) * MS
@@ -137,7 +137,7 @@ class Pool:
         counts = {it: calls[it] for it in ("takes", "timeouts", "refused", "failed_openings", "failed_checks")}
         self.reports.append({
             "line": line, "sound": True, "record": None, "why": None, "state": state,
-            "concerns": [dict(zip(("kind", "says", "next"), it)) for it in concerns], "answers": answers, "made_at": self.made_at,
+            "concerns": [dict(zip(("kind", "says", "next"), it)) for it in concerns], "answers": answers, "created_at": self.created_at,
             "from": steps[0][0], "until": self.now, "since": self.reports[-1]["until"] if self.reports else None,
             "calls": counts if knows else None, "waiting": len(self.waiting) if knows else None,
             "exhausted": sum(end - step[0] for step, end in zip(steps, ends) if step[4]),
@@ -176,7 +176,7 @@ def callers(pool, begin, end, pause, hold):
 
 
 def calm_night():
-    pool = Pool("orders", 6, 2, idle_timeout=10 * MINUTE, reap_every=30 * SECOND, made_at="2026-01-31T02:00:00Z", seed=4)
+    pool = Pool("orders", 6, 2, idle_timeout=10 * MINUTE, reap_every=30 * SECOND, created_at="2026-01-31T02:00:00Z", seed=4)
     callers(pool, 0, 55 * MINUTE, 40 * SECOND, 9 * SECOND)
     callers(pool, 20 * MINUTE, 22 * MINUTE, 6 * SECOND, 11 * SECOND)
     pool.play(60 * MINUTE)
@@ -187,7 +187,7 @@ def calm_night():
 
 
 def lost_database():
-    pool = Pool("ledger", 4, 1, made_at="2026-01-31T12:00:00Z", timeout=1500 * MS, seed=8)
+    pool = Pool("ledger", 4, 1, created_at="2026-01-31T12:00:00Z", timeout=1500 * MS, seed=8)
     pool.is_away = lambda moment: 4 * SECOND < moment < 9500 * MS
     callers(pool, 200 * MS, 13 * SECOND, 260 * MS, 400 * MS)
     pool.play(14 * SECOND)
@@ -216,7 +216,7 @@ def burst():
 
 def leak():
     """Eight reports, a minute apart: one connection after the other is not brought back."""
-    pool = Pool("numbers", 5, 0, made_at="2026-01-31T09:30:00Z", timeout=2 * SECOND, seed=5)
+    pool = Pool("numbers", 5, 0, created_at="2026-01-31T09:30:00Z", timeout=2 * SECOND, seed=5)
     callers(pool, 0, 8 * MINUTE, 380 * MS, 500 * MS)
     for place in range(5):
         pool.at((70 + 75 * place) * SECOND, pool.call, None)
@@ -239,14 +239,14 @@ def leak():
 def unsound():
     """A pool whose only report was altered."""
     report = {"line": 31, "sound": False, "record": 17, "why": "connection 4 is kept, but it is not lent", "state": "unsound",
-              "concerns": [], "answers": [], "made_at": "2026-01-31T12:00:00Z", "from": 0, "until": 7904 * MS, "since": None, "calls": None,
+              "concerns": [], "answers": [], "created_at": "2026-01-31T12:00:00Z", "from": 0, "until": 7904 * MS, "since": None, "calls": None,
               "waiting": None, "exhausted": 0, "opened": 0, "closed": 0, "reaped": 0, "most_lent": 0, "lost": 0, "takes": 0}
     return {"name": "sessions", "reports": [report], "last": None}
 
 
 def busy(records, lanes=40, seed=7):
     """A pool that made as many records, with callers all the time."""
-    pool = Pool("busy", lanes, 4, made_at="2026-01-31T12:00:00Z", timeout=SECOND, idle_timeout=MINUTE, seed=seed)
+    pool = Pool("busy", lanes, 4, created_at="2026-01-31T12:00:00Z", timeout=SECOND, idle_timeout=MINUTE, seed=seed)
     moment = 0
     while len(pool.steps) <= records:
         callers(pool, moment, moment + 10 * SECOND, 30 * MS, 1100 * MS)
@@ -258,7 +258,7 @@ def busy(records, lanes=40, seed=7):
 
 # What stands in the summary of a report, and what is left out where it is not known.
 IN_SUMMARY = ["from", "until", "exhausted", "opened", "closed", "reaped", "most_lent", "calls"]
-LEFT_OUT = ["record", "why", "made_at", "waiting", "summary"]
+LEFT_OUT = ["record", "why", "created_at", "waiting", "summary"]
 
 
 def report_as_written(report):

@@ -85,7 +85,7 @@ fn main(rt: HostRuntime) -> Result<(), anyhow::Error> {
     };
     let pool = Pool::build(Builder::new().max_size(4), rt, Numbers, timer)?;
     let workers = runtime.task_set(&rt)?;
-    workers.spawn(pool.work()?).map_err(io::Error::from)?;
+    workers.spawn(pool.worker()?).map_err(io::Error::from)?;
     let get = pool.get()?;
     // From here on the `get` keeps the pool open, and then what it lends: the worker ends with it.
     drop(pool);

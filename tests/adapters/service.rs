@@ -131,9 +131,9 @@ where
         let pool = Builder::new()
             .max_size(4)
             .test_on_check_out(!matches!(checks, Checks::Never))
-            .check_after_idle(matches!(checks, Checks::AfterAnHour).then_some(hour))
+            .test_if_idle_for(matches!(checks, Checks::AfterAnHour).then_some(hour))
             .connection_timeout(Duration::from_secs(20))
-            .retry_at_most(Duration::from_millis(200))
+            .max_retry_delay(Some(Duration::from_millis(200)))
             .build_unchecked(rt, manager)?;
         let zero = || AtomicU64::new(0);
         let counts = Counts {

@@ -35,7 +35,7 @@ const SUMMARY: &str = "'sound':true,'state':'unknown','concerns':[],'answers':[\
 
 // A report of two, of which one is lent since before the base, and one since 104 milliseconds after
 // the making; the pool was made at noon.
-const LENT: &str = "{'version':1,'made_at':'$NOONZ','limits':{'max_size':2,$LIMITS,'base':{\
+const LENT: &str = "{'version':1,'created_at':'$NOONZ','limits':{'max_size':2,$LIMITS,'base':{\
     'at':100000000,'idle':[[0,1,1]],'lent':[[1,1]],'connections':2,'pending':0,'closed':false},\
     'records':[{'kind':'taken','at':104000000,'id':0,'ordered':0},\
     {'kind':'closed','at':500000000,'id':1,'ordered':0},\
@@ -307,7 +307,7 @@ fn answers_who_is_lent_and_how_long_all_were(rt: HostRuntime) -> Result<(), Fail
         record','1 opened, 1 closed at return, 0 closed while idle','at most 2 of 2 lent at once; \
         all of them lent or opening for 0.496 s, 6 % of the time','lent at the end: connection 0, \
         for 7.700 s, $FIRST','lent at the end: connection 2, for 0.000 s, $SECOND'],\
-        'made_at':'$NOONZ','takes':4,'lost':9,'summary':{'from':100000000,'until':7804000000,\
+        'created_at':'$NOONZ','takes':4,'lost':9,'summary':{'from':100000000,'until':7804000000,\
         'most_lent':2,'exhausted':496000000,'longest_exhaustion':396000000,\
         'exhausted_since':7804000000,'opening_since':null,'pending':0,'opened':1,'closed':1,\
         'closed_early':1,'returned':1,'reaped':0,'lent':[{'id':0,'since':104000000},\

@@ -193,7 +193,7 @@ fn openings_are_timed_and_all_else_is_the_managers(rt: HostRuntime) -> Result<()
         let pool = Builder::new()
             .max_size(1)
             .test_on_check_out(true)
-            .retry_at_most(Duration::from_millis(100))
+            .max_retry_delay(Some(Duration::from_millis(100)))
             .event_handler(metrics.try_clone()?)
             .build_unchecked(place, timed)?;
         assert!(rt; world.watch(|| pool.status().failed_openings == 1));

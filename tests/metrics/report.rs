@@ -72,7 +72,7 @@ fn the_line_says_what_callers_met(rt: HostRuntime) -> Result<(), Fail> {
     let kinds = [Kind::Limited, Kind::Counted, Kind::Polled, Kind::InLine];
     on_each(rt, &kinds, |world| {
         let mut settings = full(2).waiting(2_000).recorded(64).room(1);
-        settings.retry_at_most = Some(100);
+        settings.max_retry_delay = Some(100);
         let (pool, metrics) = measured(rt, world, settings)?;
         let [first, second] = crowd(&pool)?;
         outage(&pool, first)?;
@@ -83,7 +83,7 @@ fn the_line_says_what_callers_met(rt: HostRuntime) -> Result<(), Fail> {
 
         let said = read(rt, &pool, &metrics)?;
         assert_eq!(rt; said.name.as_deref(), Some("orders"));
-        assert!(rt; said.made_at.is_some() && said.made_at == pool.made_at());
+        assert!(rt; said.created_at.is_some() && said.created_at == pool.created_at());
         assert_eq!(rt; said.reported_at, Some(seconds(20)));
         assert_eq!(rt; said.latest_error.as_deref(), Some("connect 2"));
         let loans = [(second.id(), seconds(2)), (third.id(), seconds(16))];
@@ -141,15 +141,15 @@ impl<R: Host> Observe for Busy<'_, R> {
         self.pool.calls.journal()
     }
 
-    fn moment(&self) -> Duration {
+    fn uptime(&self) -> Duration {
         self.pool.world.pass(1_000);
         let _other = self.pool.get_within(0);
         drop(self.pool.get_within(0));
-        Duration::from_millis(self.pool.moment())
+        Duration::from_millis(self.pool.uptime())
     }
 
-    fn made_at(&self) -> Option<SystemTime> {
-        self.pool.made_at()
+    fn created_at(&self) -> Option<SystemTime> {
+        self.pool.created_at()
     }
 
     fn connection_timeout(&self) -> Duration {

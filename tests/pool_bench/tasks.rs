@@ -202,13 +202,13 @@ pub fn open_pool<T: Timer, R: PoolRuntime + RandomSource>(
 {
     let builder = Builder::new()
         .max_size(max_size)
-        .max_waiting(max_waiting)
+        .max_waiting(Some(max_waiting))
         .test_on_check_out(false)
         .max_lifetime(None)
         .idle_timeout(None);
     let pool = Pool::build(builder, rt, Nothings, timer)?;
     let opens = Opens {
-        worker: pool.work()?,
+        worker: pool.worker()?,
         pool: pool.try_clone()?,
         max_size,
     };
@@ -237,7 +237,7 @@ pub fn get_drop<R: PoolRuntime + RandomSource>(
 pub fn tasks<R: PoolRuntime + RandomSource>(rt: R, case: Case) -> Result<Duration, anyhow::Error> {
     let pool = open_pool(rt, case.max_size, case.threads, NoTime)?;
     let served = Arc::new(rt.alloc(), AtomicU32::new(0))?;
-    let worker = pool.work()?;
+    let worker = pool.worker()?;
     let took = run_all(rt, worker, pool, case, &served)?;
     let count = served.load(Ordering::Relaxed);
     ensure!(count == case.operations, "a call was not served");

@@ -49,7 +49,7 @@ where
             let pool = builder.build(rt, Nothings)?;
             print(rt, "any", load, &pool, &start)?;
             let builder = Builder::new().max_size(max_size).test_on_check_out(false);
-            let pool = builder.waiting_line(CALLERS).build(rt, Nothings)?;
+            let pool = builder.fair_queue(Some(CALLERS)).build(rt, Nothings)?;
             print(rt, "line", load, &pool, &start)?;
         }
     }

@@ -82,8 +82,8 @@ fn the_wall_clock_shows_a_moment_from_1970_on(rt: HostRuntime) -> Result<(), Fai
         'at':3 => 'at':'3s' => not whole nanoseconds @ '3s'
         'at':3 => 'at':'000000000000000000000000000003' => \
             not whole nanoseconds @ '000000000000000000000000000003'
-        'lost':2 => 'lost':2,'made_at':'noon' => not a moment of the wall clock @ 'noon'
-        'lost':2 => 'lost':2,'made_at':'1969-12-31T23:59:59Z' => \
+        'lost':2 => 'lost':2,'created_at':'noon' => not a moment of the wall clock @ 'noon'
+        'lost':2 => 'lost':2,'created_at':'1969-12-31T23:59:59Z' => \
             not a moment of the wall clock @ '1969-12-31T23:59:59Z'
         'at':3 => 'at':18446744073709551616 => invalid value @ 18446744073709551616
         'at':3 => 'at':[3] => invalid type @ [3
@@ -129,7 +129,7 @@ fn each_place_wants_its_type(rt: HostRuntime) -> Result<(), Fail> {
 
 #[test]
 fn what_may_be_left_out_is_not_null(rt: HostRuntime) -> Result<(), Fail> {
-    for name in "name made_at reported_at status latest_error loans".split(' ') {
+    for name in "name created_at reported_at status latest_error loans".split(' ') {
         let change = format!(in rt.alloc(); "'lost':2,'{name}':null")?;
         let said = said(rt.alloc(), "'lost':2", change.as_str())?;
         assert!(rt; said.as_str().ends_with(": null"), "{said}");

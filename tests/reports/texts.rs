@@ -109,14 +109,14 @@ fn the_wall_clock_goes_round(rt: HostRuntime) -> Result<(), Fail> {
     let report = seeded(alloc, 3, 40, 10)?;
     let plain = to_json(alloc, &report)?;
     for (seconds, text) in [
-        (0, "\"made_at\":\"1970-01-01T00:00:00Z\","),
-        (1_769_860_800, "\"made_at\":\"2026-01-31T12:00:00Z\","),
-        (253_402_207_200, "\"made_at\":\"9999-12-30T22:00:00Z\","),
+        (0, "\"created_at\":\"1970-01-01T00:00:00Z\","),
+        (1_769_860_800, "\"created_at\":\"2026-01-31T12:00:00Z\","),
+        (253_402_207_200, "\"created_at\":\"9999-12-30T22:00:00Z\","),
         // It is above all that can be said.
         (253_402_300_800, ""),
     ] {
         let mut origin = Origin::unknown();
-        origin.made_at = SystemTime::UNIX_EPOCH.checked_add(Duration::from_secs(seconds));
+        origin.created_at = SystemTime::UNIX_EPOCH.checked_add(Duration::from_secs(seconds));
         let written = to_json_of_pool(alloc, &report, origin)?;
         let without = written.as_str().replacen(alloc, text, "", 1)?;
         assert_eq!(rt; without.as_str(), plain.as_str(), "{text}");
@@ -157,13 +157,13 @@ fn what_callers_met_goes_round(rt: HostRuntime) -> Result<(), Fail> {
 #[test]
 fn the_origin_goes_round(rt: HostRuntime) -> Result<(), Fail> {
     let report = seeded(rt.alloc(), 3, 40, 10)?;
-    let made_at = SystemTime::UNIX_EPOCH.checked_add(ms(100));
+    let created_at = SystemTime::UNIX_EPOCH.checked_add(ms(100));
     for name in ["orders", "", "a\"b\\c\n\u{e9}{", "\"records\":["] {
         for at in [Duration::ZERO, ms(7), Duration::MAX] {
-            let mut origin = Origin::at(made_at, at).named(name);
-            let its = (origin.name, origin.made_at, origin.reported_at);
-            assert_eq!(rt; its, (Some(name), made_at, Some(at)));
-            origin.made_at = None;
+            let mut origin = Origin::at(created_at, at).named(name);
+            let its = (origin.name, origin.created_at, origin.reported_at);
+            assert_eq!(rt; its, (Some(name), created_at, Some(at)));
+            origin.created_at = None;
             assert!(rt; goes_round(rt.alloc(), &report, origin)?, "{name}");
         }
     }

@@ -72,9 +72,11 @@ pub(crate) fn refused(world: &World, error: &Error, watch: &Stopwatch, seconds: 
             watch.check(world, "a get is told of a timeout before it", seconds, None);
         }
         ErrorKind::Closed if plan.closes() => world.tell("is told that the pool is closed"),
-        ErrorKind::Full if plan.may_wait() > 0 => world.tell("is told that as many wait as may"),
+        ErrorKind::QueueFull if plan.may_wait() > 0 => {
+            world.tell("is told that as many wait as may")
+        }
         ErrorKind::Closed => world.fault("a get is told of a close that was not"),
-        ErrorKind::Full => world.fault("a get is refused where as many may wait as come"),
+        ErrorKind::QueueFull => world.fault("a get is refused where as many may wait as come"),
         _ => world.fault("a get is told of what cannot be"),
     }
 }

@@ -29,7 +29,7 @@ use self::line::{JITTER, Line, Manager, STAY};
 use self::nap::Place;
 use self::plan::{PATIENT, Plan};
 use self::pools::{
-    Lent, Pool, TaskDrain, TaskGet, TaskLent, TaskPool, TaskWork, builder_of, task_pool,
+    Lent, Pool, TaskDrain, TaskGet, TaskLent, TaskPool, TaskWorker, builder_of, task_pool,
     thread_pool,
 };
 use self::task::{Move, Step, Task, tasks_of};

@@ -15,7 +15,7 @@ pub(crate) type TaskGet = r2d2_async::Get<Manager, Place, NoHandlers, Place>;
 
 pub(crate) type TaskLent = r2d2_async::PooledConnection<Manager, Place, NoHandlers, Place>;
 
-pub(crate) type TaskWork = r2d2_async::Work<Manager, Place, NoHandlers, Place>;
+pub(crate) type TaskWorker = r2d2_async::Worker<Manager, Place, NoHandlers, Place>;
 
 pub(crate) type TaskDrain = r2d2_async::Drain<Manager, Place, NoHandlers, Place>;
 
@@ -119,11 +119,11 @@ fn common(world: &World) -> Builder<Manager> {
         .max_size(plan.size as u32)
         .min_idle(Some(plan.wanted as u32))
         .test_on_check_out(plan.checks)
-        .distrust_idle(plan.distrusts)
+        .evict_idle_on_failed_check(plan.distrusts)
         .lending_order(order)
         .max_lifetime(length(plan.ends_by_age(), world.lifetime))
         .idle_timeout(length(plan.reaps, 4_000))
-        .check_after_idle(length(plan.after_idle, world.after_idle))
+        .test_if_idle_for(length(plan.after_idle, world.after_idle))
 }
 
 /// The settings of a pool for threads.
@@ -135,13 +135,13 @@ pub(crate) fn builder_of(world: &'static World) -> Builder<Manager, Place, Place
         .event_handler(Place(world))
         .connection_customizer(Place(world));
     if plan.jitter {
-        builder = builder.lifetime_jitter(Duration::from_secs(JITTER));
+        builder = builder.lifetime_jitter(Some(Duration::from_secs(JITTER)));
     }
     if plan.most > 0 {
-        builder = builder.max_waiting(plan.most as u32);
+        builder = builder.max_waiting(Some(plan.most as u32));
     }
     if plan.line > 0 {
-        builder = builder.waiting_line(plan.line as u32);
+        builder = builder.fair_queue(Some(plan.line as u32));
     }
     builder
 }
@@ -160,8 +160,8 @@ pub(crate) fn thread_pool<R: PoolRuntime>(rt: R, world: &'static World) -> Resul
 /// A pool for tasks.
 pub(crate) fn task_pool(world: &'static World) -> Result<TaskPool, Fail> {
     let builder = common(world)
-        .max_waiting(world.plan.line as u32)
+        .max_waiting(Some(world.plan.line as u32))
         .connection_timeout(Duration::from_secs(PATIENT))
-        .retry_at_most(Duration::from_millis(LONGEST_DELAY));
+        .max_retry_delay(Some(Duration::from_millis(LONGEST_DELAY)));
     Ok(r2d2_async::Pool::build(builder, Place(world), Manager(world), Place(world))?)
 }

@@ -18,7 +18,7 @@ enum Deed {
 #[derive(Drop)]
 enum Stage {
     Nothing,
-    Works(TaskWork),
+    Works(TaskWorker),
     Waits(TaskGet),
     Holds(TaskLent),
     Drains(TaskDrain),
@@ -78,7 +78,7 @@ pub(crate) fn tasks_of(world: &'static World, pool: &TaskPool) -> Result<Vec<Tas
         for _ in 0..count {
             let who = tasks.len() as u64;
             let (stage, pool) = match deed {
-                Deed::Work => (Stage::Works(pool.work()?), None),
+                Deed::Work => (Stage::Works(pool.worker()?), None),
                 _ => (Stage::Nothing, Some(pool.try_clone()?)),
             };
             tasks.push(Task {
@@ -355,10 +355,11 @@ impl Task {
         world.fault_if(is_early, "a caller with all the time gives up");
         if let Some(before) = &self.before {
             let has_room = world.waiting(0, |_| true) < world.plan.line;
+            let is_refused = kind == ErrorKind::QueueFull;
             let is_open = kind == ErrorKind::Closed && !before.closed;
             faults! { world;
                 "a get is told of a close that was not" if is_open;
-                "a get is refused where one more may wait" if kind == ErrorKind::Full && has_room;
+                "a get is refused where one more may wait" if is_refused && has_room;
             }
         }
         self.end_call();

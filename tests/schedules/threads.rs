@@ -148,7 +148,7 @@ fn gets<R: PoolRuntime>(world: &World, pool: &Pool<R>, who: u64) {
 fn is_refused_in_time(world: &World, error: &Error, watch: &Stopwatch, has_time: bool) {
     let plan = &world.plan;
     let seconds = plan.seconds_of_checks(1);
-    if error.kind() == ErrorKind::Full {
+    if error.kind() == ErrorKind::QueueFull {
         // One that waited, and whose check failed then, may be one too many.
         let most = (!plan.checks).then_some(plan.seconds_of_a_look());
         watch.check(world, "a get takes time to be refused", 0, most);

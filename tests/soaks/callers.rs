@@ -95,9 +95,9 @@ impl<R: PoolRuntime> Caller<R> {
     }
 
     fn call(&self) -> Call {
-        let begun = self.pool.moment();
+        let begun = self.pool.uptime();
         let lent = self.pool.get();
-        let to = self.pool.moment();
+        let to = self.pool.uptime();
         let (kind, from) = match lent {
             Ok(mut redis) => {
                 let is_answered = redis.command(&["INCR", "calls"]).is_ok();
@@ -107,7 +107,7 @@ impl<R: PoolRuntime> Caller<R> {
             Err(error) => match error.kind() {
                 // No caller gives up sooner.
                 ErrorKind::Timeout => ("timeouts", begun + self.pool.connection_timeout()),
-                ErrorKind::Full => ("refused", begun),
+                ErrorKind::QueueFull => ("refused", begun),
                 _ => ("other", begun),
             },
         };

@@ -68,9 +68,9 @@ impl<R: PoolRuntime + Print> Soak<R> {
             .max_size(size)
             .connection_timeout(Duration::from_millis(*timeout))
             .journal_room(usize::try_from(*records)?)
-            .retry_at_most(Duration::from_millis(200));
+            .max_retry_delay(Some(Duration::from_millis(200)));
         if *waiting > 0 {
-            builder = builder.max_waiting(u32::try_from(*waiting)?);
+            builder = builder.max_waiting(Some(u32::try_from(*waiting)?));
         }
         if *lifetime > 0 {
             builder = builder.max_lifetime(Some(Duration::from_millis(*lifetime)));
@@ -79,7 +79,7 @@ impl<R: PoolRuntime + Print> Soak<R> {
             .error_handler(metrics.around(NopErrorHandler)?)
             .event_handler(metrics.try_clone()?)
             .build_unchecked(rt, manager)?;
-        let end = pool.moment();
+        let end = pool.uptime();
         Ok(Soak {
             rt,
             pool,
@@ -109,7 +109,7 @@ impl<R: PoolRuntime + Print> Soak<R> {
         self.load.begin(&stretch[1..]);
         self.end += Duration::from_millis(stretch[0]);
         for _ in rt.forever() {
-            let now = self.pool.moment();
+            let now = self.pool.uptime();
             if self.next <= now {
                 self.report()?;
                 self.next += Duration::from_secs(1);
@@ -125,9 +125,9 @@ impl<R: PoolRuntime + Print> Soak<R> {
     // It tells too when the report was made, in nanoseconds: what came before is in it, and nothing
     // of what came after.
     fn report(&mut self) -> Result<(), Fail> {
-        let began = self.pool.moment().as_nanos();
+        let began = self.pool.uptime().as_nanos();
         let line = report_of(self.rt.alloc(), "soak", &self.pool, &self.metrics)?;
-        let done = self.pool.moment().as_nanos();
+        let done = self.pool.uptime().as_nanos();
         println!(self.rt; "{line}\nreport {began} {done}")?;
         Ok(())
     }

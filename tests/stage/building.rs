@@ -94,13 +94,13 @@ fn a_build_waits_no_longer_for_each_connection(rt: HostRuntime) -> Result<(), Fa
     })
 }
 
-// The first twelve openings fail. `retry_at_most` is no bound of the wait.
+// The first twelve openings fail. `max_retry_delay` is no bound of the wait.
 #[test]
 fn build_waits_as_long_as_a_caller(rt: HostRuntime) -> Result<(), Fail> {
     on_each(rt, &BUILT, |world| {
         world.connects.goes("------------");
         let mut settings = full(1);
-        settings.retry_at_most = Some(1);
+        settings.max_retry_delay = Some(1);
         let build = Pool::building(rt, world, settings)?;
         for failed in 0..12 {
             assert!(rt; world.once_heard(&[Failed(Connect(failed))]));

@@ -8,7 +8,7 @@ use std::time::Instant;
 fn records_at<R: Host>(pool: Pool<R>, count: usize, at: Duration) -> Result<(), Fail> {
     let (world, report) = (pool.world, pool.journal()?);
     let is_so = report.records.len() == count && report.records.iter().all(|it| it.at() == at);
-    if !is_so || pool.moment() != 0 {
+    if !is_so || pool.uptime() != 0 {
         return Err(Fail::from("other moments"));
     }
     drop(pool);

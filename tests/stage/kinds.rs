@@ -95,9 +95,9 @@ pub(crate) struct Settings {
     pub(crate) idle_timeout: Option<u64>,
     pub(crate) connection_timeout: u64,
     pub(crate) order: LendingOrder,
-    pub(crate) check_after_idle: Option<u64>,
-    pub(crate) distrust_idle: bool,
-    pub(crate) retry_at_most: Option<u64>,
+    pub(crate) test_if_idle_for: Option<u64>,
+    pub(crate) evict_idle_on_failed_check: bool,
+    pub(crate) max_retry_delay: Option<u64>,
     pub(crate) lifetime_jitter: Option<u64>,
     /// How many callers may wait, where that is limited by the kind or in the row.
     pub(crate) room: u32,
@@ -147,9 +147,9 @@ pub(crate) const SMALL: Settings = Settings {
     idle_timeout: None,
     connection_timeout: 30_000,
     order: LendingOrder::NewestFirst,
-    check_after_idle: None,
-    distrust_idle: false,
-    retry_at_most: None,
+    test_if_idle_for: None,
+    evict_idle_on_failed_check: false,
+    max_retry_delay: None,
     lifetime_jitter: None,
     room: ROOM,
     journal_room: 0,
@@ -182,7 +182,7 @@ type TaskGet<R> = r2d2_async::Get<Manager, Hours, Handlers<Ear, Ear, Ear>, Place
 
 type TaskDrain<R> = r2d2_async::Drain<Manager, Hours, Handlers<Ear, Ear, Ear>, Place<R>>;
 
-type TaskWork<R> = r2d2_async::Work<Manager, Hours, Handlers<Ear, Ear, Ear>, Place<R>>;
+type TaskWorker<R> = r2d2_async::Worker<Manager, Hours, Handlers<Ear, Ear, Ear>, Place<R>>;
 
 /// What the first of these calls ends with that does, as this is done meanwhile.
 pub(crate) fn first_ended<R: Host, F: Fn()>(
@@ -360,7 +360,7 @@ pub(crate) struct Pool<R: Host> {
     pub(crate) rt: R,
     pub(crate) calls: Calls<R>,
     // The workers that are polled by hand.
-    hands: Mutex<Vec<Hand<TaskWork<R>>>>,
+    hands: Mutex<Vec<Hand<TaskWorker<R>>>>,
 }
 
 impl<R: Host> Pool<R> {
@@ -393,13 +393,13 @@ impl<R: Host> Pool<R> {
     }
 
     /// When it was made.
-    pub(crate) fn made_at(&self) -> Option<SystemTime> {
-        of_pool!(&self.calls, pool, pool.made_at())
+    pub(crate) fn created_at(&self) -> Option<SystemTime> {
+        of_pool!(&self.calls, pool, pool.created_at())
     }
 
     /// How many milliseconds old it is.
-    pub(crate) fn moment(&self) -> u64 {
-        milliseconds(of_pool!(&self.calls, pool, pool.moment()))
+    pub(crate) fn uptime(&self) -> u64 {
+        milliseconds(of_pool!(&self.calls, pool, pool.uptime()))
     }
 
     /// Waits until the status is so.

@@ -10,7 +10,7 @@ fn one_more_than_may_wait_is_refused_at_once(rt: HostRuntime) -> Result<(), Fail
         play.run("get a; is waiting=0 refused=0; ask p; is waiting=1 refused=0; ask q; forget")?;
         play.run("ask r; ends r; full r; hear; prints too many callers are waiting; bare")?;
         play.run("is waiting=2 refused=1")?;
-        let is_full = |error: Error| error.kind() == ErrorKind::Full;
+        let is_full = |error: Error| error.kind() == ErrorKind::QueueFull;
         let late = move |calls: &Calls<_>| {
             (0..1_000).all(|_| calls.get(rt).err().is_some_and(is_full))
         };

@@ -10,7 +10,7 @@ fn who_came_first_is_served_first(rt: HostRuntime) -> Result<(), Fail> {
         let line = pool.line(8)?;
         assert_eq!(rt; pool.status().waiting, 8);
         let error = pool.get_within(9).err().ok_or("a connection")?;
-        assert_eq!(rt; error.kind(), ErrorKind::Full);
+        assert_eq!(rt; error.kind(), ErrorKind::QueueFull);
         assert!(rt; pool.try_get()?.is_none());
         drop(lent);
         pool.in_turn(line)?;

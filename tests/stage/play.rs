@@ -331,7 +331,7 @@ impl<R: Host> Play<R> {
 
     // The clock goes to this moment of the pool's life.
     fn come_to(&self, then: u64) -> Result<(), Fail> {
-        let now = self.pool.moment();
+        let now = self.pool.uptime();
         self.world.turn_back(now.saturating_sub(then));
         Ok(self.world.pass(then.saturating_sub(now)))
     }
@@ -516,7 +516,7 @@ impl<R: Host> Play<R> {
             }
             "late" => ErrorKind::Timeout,
             "closed" => ErrorKind::Closed,
-            "full" => ErrorKind::Full,
+            "full" => ErrorKind::QueueFull,
             _ => {
                 match verb {
                     "comes" => holds(self.pool.ends(&mut get))?,

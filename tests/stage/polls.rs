@@ -85,7 +85,7 @@ fn a_worker_sleeps_until_the_next_look(rt: HostRuntime) -> Result<(), Fail> {
 #[test]
 fn a_worker_may_sleep_for_hours(rt: HostRuntime) -> Result<(), Fail> {
     let mut patient = SMALL;
-    patient.retry_at_most = Some(2 * HOUR);
+    patient.max_retry_delay = Some(2 * HOUR);
     on_play(rt, &BY_HAND, patient, |mut play| {
         play.run("connects -*; ask p")?;
         (0..16).try_for_each(|_| play.run("work; pass 7200000"))?;

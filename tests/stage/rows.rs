@@ -136,12 +136,12 @@ impl Settings {
 
     /// They are checked as they are lent after so many milliseconds.
     pub(crate) fn checked_after(mut self, idle: u64) -> Settings {
-        self.check_after_idle = Some(idle);
+        self.test_if_idle_for = Some(idle);
         self.checked()
     }
 
     pub(crate) fn distrusting(mut self, does_distrust: bool) -> Settings {
-        self.distrust_idle = does_distrust;
+        self.evict_idle_on_failed_check = does_distrust;
         self.checked()
     }
 
@@ -152,7 +152,7 @@ impl Settings {
 
     /// Failed openings are tried again after 50 ms.
     pub(crate) fn retried(mut self) -> Settings {
-        self.retry_at_most = Some(50);
+        self.max_retry_delay = Some(50);
         self
     }
 
@@ -244,6 +244,6 @@ impl<R: Host> Pool<R> {
 
     /// The same of one that is made now, and would be one more than may wait.
     pub(crate) fn refused(&self) -> Result<Error, Fail> {
-        self.vain(self.begin(LONG)?, ErrorKind::Full)
+        self.vain(self.begin(LONG)?, ErrorKind::QueueFull)
     }
 }

@@ -10,13 +10,13 @@ use std::time::SystemTime;
 #[test]
 fn a_pool_tells_when_it_was_made_and_its_moment(rt: HostRuntime) -> Result<(), Fail> {
     on_each(rt, &ALL, |world| {
-        let made_at = SystemTime::now(&Place { world, rt })?;
+        let created_at = SystemTime::now(&Place { world, rt })?;
         let pool = Pool::of(rt, world, SMALL)?;
         for passed in [0, 7_000, 7_001] {
             world.pass(passed);
-            assert_eq!(rt; pool.made_at(), Some(made_at));
+            assert_eq!(rt; pool.created_at(), Some(created_at));
         }
-        equal(pool.moment(), 14_001)
+        equal(pool.uptime(), 14_001)
     })
 }
 
@@ -112,7 +112,7 @@ macro_rules! limits {
         assert_eq!($rt; (limits.wanted(), limits.order()), (4, LendingOrder::OldestFirst));
 
         // Callers wait no longer, nor is anything shown so.
-        let soon = $builder.connection_timeout(length(7_000)).retry_at_most(length(50));
+        let soon = $builder.connection_timeout(length(7_000)).max_retry_delay(Some(length(50)));
         let limits = soon.limits().ok_or("limits")?;
         assert_eq!($rt; limits.connection_timeout(), length(7_000));
     };
@@ -173,10 +173,10 @@ fn an_outage_changes_no_text(rt: HostRuntime) -> Result<(), Fail> {
     let plain = Builder::<Manager>::new();
     let without = format!(in rt.alloc(); "{plain:?}")?;
     let builder = plain
-        .check_after_idle(Some(length(500)))
-        .distrust_idle(true)
-        .retry_at_most(length(50))
-        .lifetime_jitter(length(180_000));
+        .test_if_idle_for(Some(length(500)))
+        .evict_idle_on_failed_check(true)
+        .max_retry_delay(Some(length(50)))
+        .lifetime_jitter(Some(length(180_000)));
     let shown = format!(in rt.alloc(); "{builder:?}")?;
     equal(shown.as_str(), without.as_str())
 }
@@ -192,7 +192,7 @@ fn what_is_shown_of_the_longest_delay(rt: HostRuntime) -> Result<(), Fail> {
         (Some(u64::MAX), u64::MAX),
     ];
     on_rows(rt, &ALL, rows, |world, (longest, of_book)| {
-        let pool = Pool::new(rt, world, |settings| settings.retry_at_most = longest)?;
+        let pool = Pool::new(rt, world, |settings| settings.max_retry_delay = longest)?;
         assert_eq!(rt; pool.connection_timeout(), length(30_000));
         let limits = pool.journal()?.limits;
         equal(limits.connection_timeout(), length(of_book))

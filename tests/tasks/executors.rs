@@ -56,7 +56,7 @@ where
                 .max_size(max_size)
                 .min_idle(Some(0))
                 .test_on_check_out(is_checked)
-                .max_waiting(2_000)
+                .max_waiting(Some(2_000))
                 .max_lifetime(Some(ticks(2_000)))
                 .idle_timeout(Some(ticks(300)));
             run(rt, executor, throng(world, settings, CALLERS, drains)?)?;

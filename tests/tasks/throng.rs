@@ -6,7 +6,7 @@ use futures::task::{Context, Poll};
 use futures::{Future, ready};
 use r2d2::ErrorKind;
 use r2d2_async::{
-    Builder, Drain, Get, ManageConnection, NoHandlers, PlainPool, PooledConnection, Timer, Work,
+    Builder, Drain, Get, ManageConnection, NoHandlers, PlainPool, PooledConnection, Timer, Worker,
 };
 use std::alloc::{Alloc, AllocError, Global};
 use std::rt::Clock;
@@ -347,7 +347,7 @@ impl Caller {
 /// Who is spawned.
 #[derive(Drop)]
 pub(crate) enum Task {
-    Worker(Work<World, World, NoHandlers, World>),
+    Worker(Worker<World, World, NoHandlers, World>),
     Caller(Caller),
 }
 
@@ -356,7 +356,7 @@ impl Future for Task {
 
     fn poll(&mut self, cx: &mut Context<'_>) -> Poll<()> {
         match self {
-            Task::Worker(work) => work.poll(cx),
+            Task::Worker(worker) => worker.poll(cx),
             Task::Caller(caller) => caller.step(cx),
         }
     }
@@ -371,11 +371,11 @@ pub(crate) fn throng(
 ) -> Result<Vec<Task>, Fail> {
     let settings = settings
         .connection_timeout(ticks(NEVER))
-        .retry_at_most(ticks(40));
+        .max_retry_delay(Some(ticks(40)));
     let pool = PlainPool::build(settings, world, world, world)?;
     let mut tasks = Vec::new(world.rt.alloc());
     for _ in 0..3 {
-        tasks.push(Task::Worker(pool.work()?))?;
+        tasks.push(Task::Worker(pool.worker()?))?;
     }
     for _ in 0..callers {
         tasks.push(Task::Caller(Caller {

@@ -33,7 +33,7 @@ fn burst(rt: HostRuntime) -> Result<(), Fail> {
 #[test]
 fn short_retries(rt: HostRuntime) -> Result<(), Fail> {
     let mut service = Service::new(rt, (8, 400), |own| {
-        (own.retry_at_most, own.max_lifetime) = (Some(1_000), Some(60_000));
+        (own.max_retry_delay, own.max_lifetime) = (Some(1_000), Some(60_000));
     })?;
     service.plays("each 500 2 - 4000")?;
     for minute in 0..20 {
@@ -70,7 +70,9 @@ fn old_age(rt: HostRuntime) -> Result<(), Fail> {
 fn a_failed_check_after_a_restart(rt: HostRuntime) -> Result<(), Fail> {
     for calls in ["each 500 2 - 1000", "each 500 10 - 1000"] {
         for distrusts in [true, false] {
-            let mut service = Service::new(rt, (8, 150), |own| own.distrust_idle = distrusts)?;
+            let mut service = Service::new(rt, (8, 150), |own| {
+                own.evict_idle_on_failed_check = distrusts;
+            })?;
             service.plays(calls)?;
             service.plays("go 60000; rest 500 3000; lose; says Well; go 60000, says Well x3")?;
         }

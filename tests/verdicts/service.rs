@@ -159,7 +159,7 @@ impl<R: Host + Abort> Service<R> {
 
     /// The moment since the making of the pool.
     pub(crate) fn moment(&self) -> Duration {
-        Duration::from_millis(self.pool.moment())
+        Duration::from_millis(self.pool.uptime())
     }
 
     // Each call that came to an end, those that came first before others.
@@ -184,7 +184,7 @@ impl<R: Host + Abort> Service<R> {
 
     fn refuse(&mut self, kind: ErrorKind, call: Call) -> Result<(), Fail> {
         let rt = self.rt;
-        assert!(rt; matches!(kind, ErrorKind::Timeout | ErrorKind::Full), "{kind:?}");
+        assert!(rt; matches!(kind, ErrorKind::Timeout | ErrorKind::QueueFull), "{kind:?}");
         self.failures.push(self.moment())?;
         if call.retries == 0 {
             return Ok(());

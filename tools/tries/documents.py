@@ -87,8 +87,11 @@ def try_builders():
           [f"{path}: `thread_pool` is a setting of both, and its row says threads"])
     finds("a default of tasks that the code changed", documents.OF_TASKS[1], "PLACES: u32 = 1000;", "PLACES: u32 = 100;",
           [f"{path}: the default of `max_waiting` is None; tasks: 100, and its row says None; tasks: 1,000"])
-    finds("a default beside the others", documents.TUNING, "            distrust_idle: false,", "            distrust_idle: true,",
-          [f"{path}: the default of `distrust_idle` is on, and its row says off"])
+    field = "            evict_idle_on_failed_check: "
+    finds("a default beside the others", documents.TUNING, f"{field}false,", f"{field}true,",
+          [f"{path}: the default of `evict_idle_on_failed_check` is on, and its row says off"])
+    finds("a default of whether there is a value", documents.TUNING, "            in_line: false,", "            in_line: true,",
+          [f"{path}: the default of `fair_queue` is on, and its row says None"])
 
 
 def try_tests():

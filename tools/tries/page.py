@@ -404,7 +404,7 @@ def try_history(page):
     reports = data["pools"][0]["reports"]
     reports.insert(3, sample("pools")["pools"][3]["reports"][0])
     # The pool of an earlier start of the service, whose moments count from another making.
-    reports.insert(0, {**reports[-1], "made_at": "2026-01-30T09:30:00Z", "since": None})
+    reports.insert(0, {**reports[-1], "created_at": "2026-01-30T09:30:00Z", "since": None})
     page.open("history", data)
     try_rows(page, reports)
     page.holds("what is not sound is marked in each chart", page.each(".charts svg",

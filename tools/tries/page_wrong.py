@@ -42,7 +42,7 @@ WRONG = [
     ("timeouts count from the making",
      "const x = this.x(Math.max(from, this.a)), wide", "const x = this.x(this.a), wide"),
     ("timeouts of an earlier making are drawn",
-     "it.made_at === report.made_at && ", ""),
+     "it.created_at === report.created_at && ", ""),
     ("a report that is not sound is drawn as zero",
      "if (isUnsound || value === null) return", "if (false) return"),
     ("moments as digits are taken for none",

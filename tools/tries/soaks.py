@@ -82,8 +82,8 @@ class Play:
         patience = self.reports[0]["status"]["connection_timeout"]
         self.troubles = [it for it in self.calls if it.kind in FAILED or 3 * (it.ended - it.begun) > patience]
         if course.meddle:
-            made_at = self.reports[0]["made_at"]
-            second = datetime.fromisoformat(made_at[:19] + "+00:00").timestamp() + float("0" + made_at[19:-1])
+            created_at = self.reports[0]["created_at"]
+            second = datetime.fromisoformat(created_at[:19] + "+00:00").timestamp() + float("0" + created_at[19:-1])
             self.troubles.append(Met("server", *(int((it - second) * 1e9) for it in times)))
 
 

@@ -155,7 +155,7 @@ fn serve<R: PoolRuntime + RandomSource>(rt: R, metrics: Metrics<R>) -> Result<bo
     let others = begin_all(rt, &pool, &timer, &requests)?;
     // The run ends once both have ended, and all requests.
     let both = join(
-        pool.work()?,
+        pool.worker()?,
         Closing {
             others,
             pool,

@@ -75,7 +75,7 @@ impl Judged {
             why,
             concerns,
             answers,
-            made_at: self.made_at(alloc)?,
+            created_at: self.created_at(alloc)?,
             waiting: written.status.map(|status| status.waiting),
             takes: written.report.takes,
             lost: written.report.lost,
@@ -103,9 +103,9 @@ impl Judged {
     }
 
     // What the wall clock showed when the pool was made.
-    fn made_at(&self, alloc: Global) -> Result<Option<String>, AllocError> {
-        let made_at = self.written.made_at;
-        match made_at.and_then(|at| Timestamp::try_from(at).ok()) {
+    fn created_at(&self, alloc: Global) -> Result<Option<String>, AllocError> {
+        let created_at = self.written.created_at;
+        match created_at.and_then(|at| Timestamp::try_from(at).ok()) {
             Some(clock) => Ok(Some(clock.to_string(alloc)?)),
             None => Ok(None),
         }
@@ -140,7 +140,7 @@ struct JsonLine<'a> {
     concerns: Option<Vec<Told>>,
     answers: Vec<&'a str>,
     #[serde(skip_serializing_if = "Option::is_none")]
-    made_at: Option<String>,
+    created_at: Option<String>,
     #[serde(skip_serializing_if = "Option::is_none")]
     waiting: Option<u64>,
     takes: u64,

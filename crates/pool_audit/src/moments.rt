@@ -32,15 +32,15 @@ pub(crate) struct Time<'a> {
 
 impl Time<'_> {
     pub(crate) fn moment(&self, at: Duration) -> Moment {
-        let made_at = self.origin.made_at;
-        let clock = made_at.and_then(|made_at| clock_at(made_at, at));
+        let created_at = self.origin.created_at;
+        let clock = created_at.and_then(|created_at| clock_at(created_at, at));
         Moment { at, clock }
     }
 }
 
 // What the wall clock shows so long after a moment, down to the thousandth.
-fn clock_at(made_at: SystemTime, length: Duration) -> Option<Timestamp> {
-    let moment = Timestamp::try_from(made_at.checked_add(length)?).ok()?;
+fn clock_at(created_at: SystemTime, length: Duration) -> Option<Timestamp> {
+    let moment = Timestamp::try_from(created_at.checked_add(length)?).ok()?;
     Timestamp::from_millisecond(moment.as_millisecond()).ok()
 }
 

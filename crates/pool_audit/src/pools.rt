@@ -12,7 +12,7 @@ use std::time::SystemTime;
 pub(crate) struct Pool {
     name: Option<String>,
     // When it was made, as its latest report says that replays.
-    made_at: Option<SystemTime>,
+    created_at: Option<SystemTime>,
     // What its callers had met up to its reports, since the making, the oldest first: as far back
     // as later ones may ask.
     calls: Vec<Calls>,
@@ -26,7 +26,7 @@ impl Pool {
     fn begun(alloc: Global, written: &Written) -> Result<Pool, AllocError> {
         Ok(Pool {
             name: written.name.clone()?,
-            made_at: written.made_at,
+            created_at: written.created_at,
             calls: Vec::new(alloc),
             found: String::new(alloc),
             last: None,
@@ -51,7 +51,7 @@ impl Pool {
         let earlier = self.earlier(written);
         let origin = written.origin();
         let summary = reading.summary(alloc, &written.report, &origin, earlier.as_ref())?;
-        self.made_at = written.made_at;
+        self.created_at = written.created_at;
         if let Some(status) = &written.status {
             let calls = Calls::of(written.report.takes, status, summary.until);
             self.calls.push(calls)?;
@@ -74,8 +74,8 @@ impl Pool {
     // Whether a report is a later one of the pool that was made when this one was. Of a pool
     // without a name and without that moment nobody knows.
     fn goes_on_in(&self, written: &Written) -> bool {
-        let is_known = self.name.is_some() || self.made_at.is_some();
-        is_known && self.made_at == written.made_at
+        let is_known = self.name.is_some() || self.created_at.is_some();
+        is_known && self.created_at == written.created_at
     }
 
     /// Notes what was found on a report, for the page, which draws the latest one if it replays.

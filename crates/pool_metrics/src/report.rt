@@ -18,8 +18,8 @@ use std::time::Duration;
 /// The line tells no less than what happened up to its moment; of what happens while it is made, it
 /// may tell some. The error is lack of memory.
 ///
-/// A service without metrics writes the `Origin` itself: `Origin::at(pool.made_at(),
-/// pool.moment())`, with the status of [`status_of`], whose `waits` are then None.
+/// A service without metrics writes the `Origin` itself: `Origin::at(pool.created_at(),
+/// pool.uptime())`, with the status of [`status_of`], whose `waits` are then None.
 pub fn report_of<P: Observe, R: Clock + Wait + AllocGlobal>(
     alloc: Global,
     name: &str,
@@ -30,14 +30,14 @@ pub fn report_of<P: Observe, R: Clock + Wait + AllocGlobal>(
     // after it, the counts last, so that each call counts that failed before it. So a loan may seem
     // to have begun earlier, and a count be higher, by what these readings take.
     let report = pool.journal().map_err(|_| AllocError)?;
-    let moment = pool.moment();
+    let moment = pool.uptime();
     let loans = begun(alloc, metrics.loans()?.as_slice(), moment)?;
     let timeout = pool.connection_timeout();
     let waits = metrics.snapshot().waits_above(timeout / 3);
     let error = metrics.latest_error()?;
     let origin = Origin {
         name: Some(name),
-        made_at: pool.made_at(),
+        created_at: pool.created_at(),
         reported_at: Some(moment),
         status: Some(status_of(timeout, &pool.status(), Some(waits))),
         latest_error: error.as_ref().and_then(text_of),

@@ -12,7 +12,7 @@ pub struct Origin<'a> {
     /// What the pool is called, where a log has the reports of several.
     pub name: Option<&'a str>,
     /// What the wall clock showed when the pool was made, from which its moments count.
-    pub made_at: Option<SystemTime>,
+    pub created_at: Option<SystemTime>,
     /// The moment of the report, since the pool was made. Without it a report ends with its last
     /// record, however long ago that was.
     pub reported_at: Option<Duration>,
@@ -34,7 +34,7 @@ impl<'a> Origin<'a> {
     {
         Origin {
             name: None,
-            made_at: None,
+            created_at: None,
             reported_at: None,
             status: None,
             latest_error: None,
@@ -42,16 +42,16 @@ impl<'a> Origin<'a> {
         }
     }
 
-    /// A report at this moment since the making, as `Pool::moment` tells it, of a pool that was
-    /// made when the wall clock showed `made_at`.
-    pub fn at(made_at: Option<SystemTime>, moment: Duration) -> Origin<'static>
+    /// A report at this moment since the making, as `Pool::uptime` tells it, of a pool that was
+    /// made when the wall clock showed `created_at`.
+    pub fn at(created_at: Option<SystemTime>, moment: Duration) -> Origin<'static>
         ensures name { result.name ≡ None }
-        ensures made_at { result.made_at ≡ made_at }
+        ensures created_at { result.created_at ≡ created_at }
         ensures reported_at { result.reported_at ≡ Some moment }
         ensures status { result.status ≡ None }
     {
         Origin {
-            made_at,
+            created_at,
             reported_at: Some(moment),
             ..Origin::unknown()
         }
@@ -96,7 +96,7 @@ pub struct Written {
     /// What the pool is called.
     pub name: Option<String>,
     /// What the wall clock showed when the pool was made.
-    pub made_at: Option<SystemTime>,
+    pub created_at: Option<SystemTime>,
     /// The moment of the report, since the pool was made.
     pub reported_at: Option<Duration>,
     /// What callers met.
@@ -112,7 +112,7 @@ impl Written {
     pub fn origin(&self) -> Origin<'_> {
         Origin {
             name: self.name.as_deref(),
-            made_at: self.made_at,
+            created_at: self.created_at,
             reported_at: self.reported_at,
             status: self.status,
             latest_error: self.latest_error.as_deref(),

@@ -139,7 +139,7 @@ fn written(alloc: Global, text: ReportText<'_, Vec<u64>>) -> Result<Written, Fro
             closed: text.closed,
         },
         name,
-        made_at: text.made_at.and_then(wall_clock),
+        created_at: text.created_at.and_then(wall_clock),
         reported_at: text.reported_at.map(|moment| moment.0),
         status: text.status,
         latest_error,

@@ -17,7 +17,7 @@ pub(crate) struct ReportText<'a, Ids> {
     #[serde(default, deserialize_with = "given", skip_serializing_if = "Option::is_none")]
     pub(crate) name: Option<CowStr<'a>>,
     #[serde(default, with = "wall_clock", skip_serializing_if = "Option::is_none")]
-    pub(crate) made_at: Option<Timestamp>,
+    pub(crate) created_at: Option<Timestamp>,
     #[serde(default, deserialize_with = "given", skip_serializing_if = "Option::is_none")]
     pub(crate) reported_at: Option<Nanoseconds>,
     #[serde(default, deserialize_with = "given", skip_serializing_if = "Option::is_none")]

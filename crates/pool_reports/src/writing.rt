@@ -20,11 +20,11 @@ pub fn to_json<A: Allocator>(alloc: Global, report: &Report<A>) -> Result<String
     to_json_of_pool(alloc, report, Origin::unknown())
 }
 
-/// The same, with what is known of its origin: a field `name`, what the pool is called; `made_at`,
-/// what the wall clock showed when it was made, from which its moments count; `reported_at`, the
-/// moment of the report, up to which an audit then reckons; `status`, what callers met;
-/// `latest_error`; and `loans`, since when connections are lent. What is not known is left out, and
-/// so is a wall clock past the year 9999.
+/// The same, with what is known of its origin: a field `name`, what the pool is called;
+/// `created_at`, what the wall clock showed when it was made, from which its moments count;
+/// `reported_at`, the moment of the report, up to which an audit then reckons; `status`, what
+/// callers met; `latest_error`; and `loans`, since when connections are lent. What is not known is
+/// left out, and so is a wall clock past the year 9999.
 pub fn to_json_of_pool<A: Allocator>(
     alloc: Global,
     report: &Report<A>,
@@ -36,7 +36,7 @@ pub fn to_json_of_pool<A: Allocator>(
     let text = ReportText {
         version: VERSION,
         name: origin.name.map(|name| CowStr::Borrowed(name)),
-        made_at: origin.made_at.and_then(timestamp),
+        created_at: origin.created_at.and_then(timestamp),
         reported_at: origin.reported_at.map(Nanoseconds),
         status: origin.status,
         latest_error: origin.latest_error.map(|text| CowStr::Borrowed(text)),

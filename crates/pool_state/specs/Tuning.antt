@@ -4,9 +4,9 @@ use Rattle.pool_state.specs.declared.tuning.Tuning.{Tuning}
 
 -- each is off
 pub record IsOff (tuning : Tuning) : Type 0 where
-  pub check_after_idle : tuning.check_after_idle ≡ None
-  pub distrust_idle : tuning.distrust_idle ≡ false
-  pub retry_at_most : tuning.retry_at_most ≡ None
+  pub test_if_idle_for : tuning.test_if_idle_for ≡ None
+  pub evict_idle_on_failed_check : tuning.evict_idle_on_failed_check ≡ false
+  pub max_retry_delay : tuning.max_retry_delay ≡ None
   pub lifetime_jitter : tuning.lifetime_jitter ≡ None
   pub max_waiting : tuning.max_waiting ≡ None
   pub in_line : tuning.in_line ≡ false

@@ -14,7 +14,7 @@ pub enum ReleaseReason {
     Broken,
     /// Its check failed.
     CheckFailed,
-    /// It was idle as a check began that failed: see `Builder::distrust_idle`.
+    /// It was idle as a check began that failed: see `Builder::evict_idle_on_failed_check`.
     Distrusted,
     /// It reached its lifetime.
     Lifetime,

@@ -59,7 +59,7 @@ pub struct Status {
     /// How many checks failed so far.
     pub failed_checks: u64,
     /// How many callers were refused so far, since as many waited as may: those that were told
-    /// `ErrorKind::Full`.
+    /// `ErrorKind::QueueFull`.
     pub refused: u64,
     /// How many callers gave up so far, since their time was over: those that were told
     /// `ErrorKind::Timeout` by a get.

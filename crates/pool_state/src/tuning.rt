@@ -15,16 +15,16 @@ const PARTS: u32 = 65_536;
 #[derive(Clone, Copy)]
 pub struct Tuning {
     /// For how long a connection has to be idle before it is checked; None for not at all.
-    pub check_after_idle: Option<Duration>,
+    pub test_if_idle_for: Option<Duration>,
     /// Whether a failed check closes the connections that were idle for longer.
-    pub distrust_idle: bool,
+    pub evict_idle_on_failed_check: bool,
     /// The longest delay between two tries of an opening; None for half of `connection_timeout`.
-    pub retry_at_most: Option<Duration>,
+    pub max_retry_delay: Option<Duration>,
     /// By how much at most the lifetime of a connection is less than `max_lifetime`.
     pub lifetime_jitter: Option<Duration>,
     /// How many callers wait at most; None for as many as come.
     pub max_waiting: Option<u32>,
-    /// Whether they wait in line, and are served in order.
+    /// Whether they wait in line, where `max_waiting` is set, and are served in order.
     pub in_line: bool,
 }
 
@@ -38,9 +38,9 @@ impl Tuning {
         ensures { IsOff result }
     {
         Tuning {
-            check_after_idle: None,
-            distrust_idle: false,
-            retry_at_most: None,
+            test_if_idle_for: None,
+            evict_idle_on_failed_check: false,
+            max_retry_delay: None,
             lifetime_jitter: None,
             max_waiting: None,
             in_line: false,
@@ -58,15 +58,15 @@ impl Tuning {
     }
 
     /// The connection timeout of the limits of a pool's book: so long that delays grow to
-    /// `retry_at_most`, or else the one that callers have.
+    /// `max_retry_delay`, or else the one that callers have.
     pub fn connection_timeout(&self, of_callers: Duration) -> Duration
         requires callers { 0 < as_nanos of_callers }
-        requires retries { ForSome self.now.retry_at_most (λ d. 0 < as_nanos d) }
-        ensures given { MatchOption self.now.retry_at_most (result ≡ of_callers)
+        requires retries { ForSome self.now.max_retry_delay (λ d. 0 < as_nanos d) }
+        ensures given { MatchOption self.now.max_retry_delay (result ≡ of_callers)
             (λ longest. as_nanos result ≡ min (as_nanos longest * 2) max_nanos) }
         ensures positive { 0 < as_nanos result }
     {
-        match self.retry_at_most {
+        match self.max_retry_delay {
             Some(longest) => longest.saturating_mul(2),
             None => of_callers,
         }
@@ -74,17 +74,19 @@ impl Tuning {
 
     /// Whether a setting asks since when a connection was idle before it is lent.
     pub fn asks_idle_times(&self) -> bool
-        ensures { result ≡ (self.now.distrust_idle || is_some self.now.check_after_idle) }
+        ensures { result
+            ≡ (self.now.evict_idle_on_failed_check || is_some self.now.test_if_idle_for) }
     {
-        self.distrust_idle || self.check_after_idle.is_some()
+        self.evict_idle_on_failed_check || self.test_if_idle_for.is_some()
     }
 
     /// Since before which moment a connection has to be idle to be distrusted for a failed check
     /// that began at this one: before the check's beginning, or, where that is off, before all.
     pub fn distrusts_before(&self, began: Duration) -> Duration
-        ensures { as_nanos result ≡ (if self.now.distrust_idle then as_nanos began else 0) }
+        ensures { as_nanos result
+            ≡ (if self.now.evict_idle_on_failed_check then as_nanos began else 0) }
     {
-        if self.distrust_idle {
+        if self.evict_idle_on_failed_check {
             began
         } else {
             Duration::ZERO
@@ -94,15 +96,15 @@ impl Tuning {
     /// Whether what is idle since this moment is idle for long enough to be checked. A clock that
     /// went back tells nothing: then it is.
     pub fn is_check_due(&self, idle_since: Option<Duration>, now: Duration) -> bool
-        ensures always { IsNone self.now.check_after_idle → IsTrue result }
+        ensures always { IsNone self.now.test_if_idle_for → IsTrue result }
         ensures unknown { IsNone idle_since → IsTrue result }
         ensures went_back { IfSome idle_since
             (λ since. as_nanos now < as_nanos since → IsTrue result) }
         ensures after { IfSome idle_since (λ since. as_nanos since ≤ as_nanos now
-            → IfSome self.now.check_after_idle
+            → IfSome self.now.test_if_idle_for
             (λ least. IsTrue result ↔ (as_nanos least ≤ as_nanos now - as_nanos since))) }
     {
-        let (Some(least), Some(since)) = (self.check_after_idle, idle_since) else {
+        let (Some(least), Some(since)) = (self.test_if_idle_for, idle_since) else {
             return true;
         };
         match now.checked_sub(since) {
@@ -122,7 +124,7 @@ impl Tuning {
     pub fn is_outlived(
         &self,
         longest: Option<Duration>,
-        made_at: Option<SystemTime>,
+        created_at: Option<SystemTime>,
         id: u64,
         age: Duration,
     ) -> bool
@@ -135,7 +137,7 @@ impl Tuning {
     {
         match (longest, self.lifetime_jitter) {
             (Some(longest), Some(jitter)) => {
-                let lifetime = own_lifetime(longest, jitter, made_at, id);
+                let lifetime = own_lifetime(longest, jitter, created_at, id);
                 age.checked_sub(lifetime).is_some()
             }
             _ => false,
@@ -148,13 +150,13 @@ impl Tuning {
 fn own_lifetime(
     longest: Duration,
     jitter: Duration,
-    made_at: Option<SystemTime>,
+    created_at: Option<SystemTime>,
     id: u64,
 ) -> Duration
     ensures at_most { as_nanos result ≤ as_nanos longest }
     ensures at_least { as_nanos longest - as_nanos jitter ≤ as_nanos result }
 {
-    let since_1970 = made_at.and_then(|at| at.duration_since(SystemTime::UNIX_EPOCH).ok());
+    let since_1970 = created_at.and_then(|at| at.duration_since(SystemTime::UNIX_EPOCH).ok());
     let mut hasher = FoldHasher::default();
     hasher.write_u32(since_1970.unwrap_or(Duration::ZERO).subsec_nanos());
     hasher.write_u64(id);

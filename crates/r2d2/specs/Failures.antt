@@ -3,7 +3,8 @@ use Rattle.std.specs.Prelude.{◌≡◌, ◌⊎◌, ℕ, List, ◌++◌, Option,
 use Rattle.std.specs.declared.time.Duration.{Duration}
 use Rattle.r2d2.specs.declared.error.ErrorKind.{ErrorKind}
 use Rattle.pool_state.specs.declared.status.Status.{Status}
-use Rattle.r2d2.specs.declared.error.ErrorKind.TheVariants.{Timeout, Memory, Threads, Closed, Full}
+use Rattle.r2d2.specs.declared.error.ErrorKind.TheVariants.{Timeout, Memory, Threads, Closed}
+use Rattle.r2d2.specs.declared.error.ErrorKind.TheVariants.{QueueFull}
 
 -- what a contract sees of an error: why the call failed, and the bytes of the latest error of an
 -- opening or a check, where one is known; of a call that gave up, what the pool showed then, how long
@@ -22,7 +23,7 @@ text_of Timeout (Some message) = codes "timed out waiting for connection: " ++ m
 text_of Memory _ = codes "out of memory"
 text_of Threads _ = codes "a worker could not be started"
 text_of Closed _ = codes "the pool is closed"
-text_of Full _ = codes "too many callers are waiting"
+text_of QueueFull _ = codes "too many callers are waiting"
 
 -- what an error displays
 abbrev pub error_text : Failure → List ℕ
@@ -34,7 +35,7 @@ IsOfMemory e = e.kind ≡ Memory
 
 -- memory was refused, no connection came in time, the pool is closed, or as many callers wait as may
 abbrev pub IsOfAGet : Failure → Type 0
-IsOfAGet e = (e.kind ≡ Memory) ⊎ ((e.kind ≡ Timeout) ⊎ ((e.kind ≡ Closed) ⊎ (e.kind ≡ Full)))
+IsOfAGet e = (e.kind ≡ Memory) ⊎ ((e.kind ≡ Timeout) ⊎ ((e.kind ≡ Closed) ⊎ (e.kind ≡ QueueFull)))
 
 -- memory was refused, or a thread
 abbrev pub IsOfMemoryOrThreads : Failure → Type 0

@@ -44,7 +44,7 @@ changed config s = record { config = config; tuning = s.tuning; first_id = s.fir
 
 -- how long the limits of a pool's book say that callers wait: as long as they do, or twice the longest delay of an opening where that is set
 abbrev pub IsTimeoutOfBook : {H V Z : Type 0} → Config H V Z → Tuning → Duration → Type 0
-IsTimeoutOfBook config tuning timeout = MatchOption tuning.retry_at_most (timeout ≡ config.connection_timeout)
+IsTimeoutOfBook config tuning timeout = MatchOption tuning.max_retry_delay (timeout ≡ config.connection_timeout)
     (λ longest. as_nanos timeout ≡ min (as_nanos longest * 2) max_nanos)
 
 -- what a builder keeps: its sizes and lengths of time are positive
@@ -59,7 +59,7 @@ pub record ArePositive {H V Z : Type 0} (config : Config H V Z) : Type 0 where
 -- and all settings of a builder
 pub record AreAllPositive {H V Z : Type 0} (settings : Settings H V Z) : Type 0 where
   pub config : ArePositive settings.config
-  pub retries : ForSome settings.tuning.retry_at_most (λ d. 0 < as_nanos d)
+  pub retries : ForSome settings.tuning.max_retry_delay (λ d. 0 < as_nanos d)
   pub has_room : ForSome settings.tuning.max_waiting (λ n. 0 < n)
 
 -- the limits among the settings, with this connection timeout, and with the settings' own

@@ -259,7 +259,7 @@ impl<M> Default for Builder<M> {
 // What a manager, a handler and a customizer have to be is asked where a pool is built: each kind
 // of pool asks for its own.
 impl<M, H, V, Z> Builder<M, H, V, Z> {
-    ghost use Rattle.std.specs.Prelude.{Some, true};
+    ghost use Rattle.std.specs.Prelude.{true, is_some};
     ghost use Rattle.r2d2.specs.Settings.{limits_in, limits_within, with_error_handler};
     ghost use Rattle.r2d2.specs.Settings.{with_event_handler, with_customizer, changed};
     ghost use Rattle.r2d2.specs.Settings.{IsTimeoutOfBook, AreAllPositive, BeginsWith};
@@ -357,8 +357,8 @@ impl<M, H, V, Z> Builder<M, H, V, Z> {
     /// seconds.
     ///
     /// It bounds two more things: `build` waits as long at most for the first connections, and an
-    /// opening that failed is tried again after half of it at the latest, unless `retry_at_most` is
-    /// set.
+    /// opening that failed is tried again after half of it at the latest, unless `max_retry_delay`
+    /// is set.
     ///
     /// It may not be a length of zero. The test for one from outside: `!length.is_zero()`.
     pub fn connection_timeout(mut self, connection_timeout: Duration) -> Self
@@ -418,10 +418,10 @@ impl<M, H, V, Z> Builder<M, H, V, Z> {
     ///
     /// Half a second spares a busy pool nearly all checks; a caller may then get a connection whose
     /// server went away within it.
-    pub fn check_after_idle(mut self, idle: Option<Duration>) -> Self
-        ensures { result ≡ record self { tuning = record self.tuning { check_after_idle = idle } } }
+    pub fn test_if_idle_for(mut self, idle: Option<Duration>) -> Self
+        ensures { result ≡ record self { tuning = record self.tuning { test_if_idle_for = idle } } }
     {
-        self.settings.tuning.check_after_idle = idle;
+        self.settings.tuning.test_if_idle_for = idle;
         self
     }
 
@@ -430,78 +430,89 @@ impl<M, H, V, Z> Builder<M, H, V, Z> {
     /// went away, a caller waits for one check, and not for one for each idle connection, whichever
     /// is lent first. A task's check has failed too where it was given up with the caller's time;
     /// one whose `Get` was dropped tells nothing. The default is false, as r2d2.
-    pub fn distrust_idle(mut self, distrust_idle: bool) -> Self
-        ensures { result ≡ record self { tuning = record self.tuning { distrust_idle = distrust_idle } } }
+    pub fn evict_idle_on_failed_check(mut self, evicts: bool) -> Self
+        ensures { result ≡ record self { tuning = record self.tuning { evict_idle_on_failed_check = evicts } } }
     {
-        self.settings.tuning.distrust_idle = distrust_idle;
+        self.settings.tuning.evict_idle_on_failed_check = evicts;
         self
     }
 
-    /// The longest time after which an opening that failed is tried again. Without this setting it
-    /// is half of `connection_timeout`, as in r2d2: with the default of 30 seconds a pool may stay
-    /// empty for up to 15 seconds after its server is back.
+    /// The longest time after which an opening that failed is tried again; None for half of
+    /// `connection_timeout`, as in r2d2. The default is None: with a timeout of 30 seconds a pool
+    /// may stay empty for up to 15 seconds after its server is back.
     ///
     /// Callers keep `connection_timeout`, and so do the pool's getter, Debug and `limits`. The
     /// limits in a report have twice this length in its place, since delays grow to half of it.
     ///
-    /// It may not be a length of zero. The test for one from outside: `!length.is_zero()`.
-    pub fn retry_at_most(mut self, longest: Duration) -> Self
-        requires { 0 < as_nanos longest }
-        ensures { result ≡ record self { tuning = record self.tuning { retry_at_most = Some longest } } }
+    /// It may not be a length of zero. The test for one from outside: None, or `!delay.is_zero()`.
+    pub fn max_retry_delay(mut self, max_retry_delay: Option<Duration>) -> Self
+        requires { ForSome max_retry_delay (λ d. 0 < as_nanos d) }
+        ensures { result ≡ record self { tuning = record self.tuning { max_retry_delay = max_retry_delay } } }
     {
-        prove!(!longest.is_zero());
-        self.settings.tuning.retry_at_most = Some(longest);
+        if let Some(delay) = max_retry_delay {
+            prove!(!delay.is_zero());
+        }
+        self.settings.tuning.max_retry_delay = max_retry_delay;
         self
     }
 
     /// By how much at most the lifetimes of connections differ, so that those that were opened
     /// together are not closed together: each connection's own is `max_lifetime` less a part of
-    /// this length, which its id and the pool decide. The default is none, as r2d2: each lives for
+    /// this length, which its id and the pool decide. The default is None, as r2d2: each lives for
     /// `max_lifetime`. A tenth of that spreads them well; with more than `max_lifetime` some are
     /// closed at each return.
     ///
     /// It is enforced when a lent connection comes back. An idle one is closed by the common limits
     /// alone.
-    pub fn lifetime_jitter(mut self, jitter: Duration) -> Self
-        ensures { result ≡ record self { tuning = record self.tuning { lifetime_jitter = Some jitter } } }
+    pub fn lifetime_jitter(mut self, lifetime_jitter: Option<Duration>) -> Self
+        ensures { result ≡ record self { tuning = record self.tuning { lifetime_jitter = lifetime_jitter } } }
     {
-        self.settings.tuning.lifetime_jitter = Some(jitter);
+        self.settings.tuning.lifetime_jitter = lifetime_jitter;
         self
     }
 
-    /// How many callers wait for a connection at most. One that finds none idle while so many wait
-    /// gets `ErrorKind::Full` at once: it orders none, and no event tells of it. So does one whose
-    /// connection failed its check. The default is none, as r2d2: as many wait as come. In a pool
-    /// for tasks it is 1,000, who stand in line.
+    /// How many callers wait for a connection at most; None for as many as come. One that finds
+    /// none idle while so many wait gets `ErrorKind::QueueFull` at once: it orders none, and no
+    /// event tells of it. So does one whose connection failed its check. The default is None, as
+    /// r2d2. In a pool for tasks None stands for 1,000, who stand in line.
     ///
-    /// It may not be 0. The test for a number from outside: `callers > 0`.
-    pub fn max_waiting(mut self, callers: u32) -> Self
-        requires { 0 < callers }
-        ensures { result ≡ record self { tuning = record self.tuning { max_waiting = Some callers } } }
+    /// After `fair_queue` it changes how many the line has room for; with None there is no line.
+    ///
+    /// It may not be 0. The test for a number from outside: None, or `most > 0`.
+    pub fn max_waiting(mut self, max_waiting: Option<u32>) -> Self
+        requires { ForSome max_waiting (λ n. 0 < n) }
+        ensures { result ≡ record self { tuning = record self.tuning { max_waiting = max_waiting } } }
     {
-        prove!(callers > 0);
-        self.settings.tuning.max_waiting = Some(callers);
+        if let Some(most) = max_waiting {
+            prove!(most > 0);
+        }
+        self.settings.tuning.max_waiting = max_waiting;
         self
     }
 
     /// Callers wait in line, at most so many, and are served in the order in which they began to
     /// wait: what comes back is kept for the first of them, and no newcomer, nor `try_get`, takes
-    /// it. One more than that gets `ErrorKind::Full`, as by `max_waiting`, which sets the same
-    /// number. A caller keeps its place until its connection passed its check, and is one of so
-    /// many until then. The default is no line, as r2d2: who comes first to an idle connection has
-    /// it. A pool for tasks always has one.
+    /// it. One more than that gets `ErrorKind::QueueFull`, as by `max_waiting`, which this sets
+    /// too: the later of the two calls counts. A caller keeps its place until its connection passed
+    /// its check, and is one of so many until then.
+    ///
+    /// With None callers do not wait in line, and as many wait as come: who comes first to an idle
+    /// connection has it. That is the default, as r2d2. A pool for tasks always has a line, with
+    /// room for 1,000 where this is None.
     ///
     /// The memory for the line is taken when the pool is built. It costs time where connections are
     /// held for a few microseconds only, and spares some callers very long waits where many wait.
     ///
-    /// It may not be 0. The test for a number from outside: `callers > 0`.
-    pub fn waiting_line(mut self, callers: u32) -> Self
-        requires { 0 < callers }
-        ensures { result ≡ record self { tuning = record self.tuning { max_waiting = Some callers; in_line = true } } }
+    /// It may not be 0. The test for a number from outside: None, or `most > 0`.
+    pub fn fair_queue(mut self, callers: Option<u32>) -> Self
+        requires { ForSome callers (λ n. 0 < n) }
+        ensures { result ≡ record self { tuning = record self.tuning { max_waiting = callers; in_line = is_some callers } } }
     {
-        prove!(callers > 0);
-        self.settings.tuning.max_waiting = Some(callers);
-        self.settings.tuning.in_line = true;
+        if let Some(most) = callers {
+            prove!(most > 0);
+        }
+        self.settings.tuning.max_waiting = callers;
+        self.settings.tuning.in_line = callers.is_some();
         self
     }
 
@@ -557,8 +568,8 @@ impl<M, H, V, Z> Builder<M, H, V, Z> {
 
     /// The limits that building would use, with the lending order; None exactly where `min_idle` is
     /// above `max_size`. It is the last test to make before a pool is built from settings that come
-    /// from outside. Where `retry_at_most` is set they have `connection_timeout` all the same, and
-    /// the pool's own have twice that length in its place.
+    /// from outside. Where `max_retry_delay` is set they have `connection_timeout` all the same,
+    /// and the pool's own have twice that length in its place.
     pub fn limits(&self) -> Option<Limits>
         ensures legal { IsSome result ↔ ForSome self.now.config.min_idle
             (λ n. n ≤ self.now.config.max_size) }

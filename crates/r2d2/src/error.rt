@@ -23,7 +23,7 @@ pub enum ErrorKind {
     /// The pool was closed.
     Closed,
     /// As many callers wait as the setting `max_waiting` allows.
-    Full,
+    QueueFull,
 }
 
 /// Why a call failed, and for a timeout the latest error of an opening or a check, where one is
@@ -134,9 +134,9 @@ impl Error {
 
     /// As many callers wait as may.
     pub fn full() -> Error
-        ensures kind { result.kind ≡ ErrorKind.Full }
+        ensures kind { result.kind ≡ ErrorKind.QueueFull }
     {
-        Error::at_once(ErrorKind::Full)
+        Error::at_once(ErrorKind::QueueFull)
     }
 
     /// Why the call failed.
@@ -219,7 +219,7 @@ impl fmt::Display for Error {
             (ErrorKind::Memory, _) => write!(f, "out of memory"),
             (ErrorKind::Threads, _) => write!(f, "a worker could not be started"),
             (ErrorKind::Closed, _) => write!(f, "the pool is closed"),
-            (ErrorKind::Full, _) => write!(f, "too many callers are waiting"),
+            (ErrorKind::QueueFull, _) => write!(f, "too many callers are waiting"),
         }
     }
 }

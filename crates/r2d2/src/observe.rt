@@ -25,11 +25,11 @@ pub trait Observe {
         ensures sound { IfOk result IsSoundReport }
         ensures refused { IfErr result IsOfMemory };
 
-    /// The moment of a step that is made now: the time since the pool was made.
-    fn moment(&self) -> Duration;
+    /// The time since the pool was made: the moment of a step that is made now.
+    fn uptime(&self) -> Duration;
 
     /// What the wall clock showed when the pool was made; None where it could not be read.
-    fn made_at(&self) -> Option<SystemTime>;
+    fn created_at(&self) -> Option<SystemTime>;
 
     /// How long `get` waits for a connection.
     fn connection_timeout(&self) -> Duration

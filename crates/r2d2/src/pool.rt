@@ -116,13 +116,13 @@ impl<C: TakeTotal, M: ManageConnection, K: Hooks<M>, R: PoolRuntime> AnyPool<C, 
 
     /// What the wall clock showed when the pool was made, from which its moments count; None where
     /// it could not be read.
-    pub fn made_at(&self) -> Option<SystemTime> {
-        self.shared().made_at
+    pub fn created_at(&self) -> Option<SystemTime> {
+        self.shared().created_at
     }
 
-    /// The moment of a step that is made now: the time since the pool was made, as a journal's
+    /// The time since the pool was made: the moment of a step that is made now, as a journal's
     /// records have it. Zero where the clock can't be read.
-    pub fn moment(&self) -> Duration {
+    pub fn uptime(&self) -> Duration {
         self.shared().moment()
     }
 
@@ -264,9 +264,9 @@ impl<
     /// no other check.
     ///
     /// The error is a timeout, with the text of the latest error of an opening or a check if there
-    /// was one; or `ErrorKind::Closed`, at once, where the pool was closed; or `ErrorKind::Full`,
-    /// at once, where it would have to wait and as many wait as `max_waiting` allows; or lack of
-    /// memory for a shared pointer, and then nothing has changed.
+    /// was one; or `ErrorKind::Closed`, at once, where the pool was closed; or
+    /// `ErrorKind::QueueFull`, at once, where it would have to wait and as many wait as
+    /// `max_waiting` allows; or lack of memory for a shared pointer, and then nothing has changed.
     pub fn get_timeout(&self, timeout: Duration) -> Result<PooledConnection<M, H, V, Z, R>, Error>
         ensures settings { IfOk result (λ lent. lent.settings ≡ self.now) }
         ensures refused { IfErr result IsOfAGet }

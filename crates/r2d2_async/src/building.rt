@@ -30,12 +30,12 @@ impl<
     Z: CustomizeConnection<M::Connection, M::Error>,
     R: AsyncRuntime,
 > Pool<M, T, Handlers<H, V, Z>, R> {
-    /// Makes a pool with the settings of this builder. It opens nothing until a `Pool::work` of it
-    /// is polled.
+    /// Makes a pool with the settings of this builder. It opens nothing until a `Pool::worker` of
+    /// it is polled.
     ///
     /// `manager` opens and checks connections, `timer` wakes tasks when time has passed. `min_idle`
     /// may not be above `max_size`: `Builder::limits` is the test. `thread_pool` has no effect, and
-    /// callers wait in line whether or not `waiting_line` was set. The error is lack of memory, for
+    /// callers wait in line whether or not `fair_queue` was set. The error is lack of memory, for
     /// here the memory for `max_size` connections, the line (some 45 bytes for each place) and the
     /// journal is taken; then the manager, the timer and the handlers are dropped.
     pub fn build(
@@ -75,7 +75,7 @@ fn shared_state<P: Drop, M: Drop, T: Drop, K: Drop, R: AsyncRuntime>(
         (λ closer. (arc_value (arc_value closer).shared).settings ≡ settings) }
 {
     let made = Instant::now(&rt).ok();
-    let made_at = SystemTime::now(&rt).ok();
+    let created_at = SystemTime::now(&rt).ok();
     let tasks = TaskBook::new(rt.alloc(), book, places(&settings.tuning))?;
     let shared = Shared {
         told: Source::new(),
@@ -87,7 +87,7 @@ fn shared_state<P: Drop, M: Drop, T: Drop, K: Drop, R: AsyncRuntime>(
         hooks,
         settings,
         made,
-        made_at,
+        created_at,
         rt,
     };
     let shared = Arc::new(rt.alloc(), shared)?;

@@ -179,7 +179,7 @@ impl<M: ManageConnection, T: Timer, K: Hooks<M>, R: AsyncRuntime> Get<M, T, K, R
         let closer = self.closer.as_ref().unwrap();
         let shared = &closer.shared;
         let keeps_place = shared.settings.config.test_on_check_out
-            || shared.settings.tuning.distrust_idle;
+            || shared.settings.tuning.evict_idle_on_failed_check;
         let (polled, now) = match lock(&shared.tasks) {
             Some(mut tasks) => {
                 let now = shared.moment();
@@ -222,7 +222,7 @@ impl<M: ManageConnection, T: Timer, K: Hooks<M>, R: AsyncRuntime> Get<M, T, K, R
     {
         let closer = self.closer.as_ref().unwrap();
         let shared = &closer.shared;
-        if shared.settings.tuning.distrust_idle && shared.is_distrusted(idle_since) {
+        if shared.settings.tuning.evict_idle_on_failed_check && shared.is_distrusted(idle_since) {
             shared.put_back(id, payload, Some(ReleaseReason::Distrusted));
             return None;
         }

@@ -5,7 +5,7 @@
 //! settings, events, handlers, extensions and errors are those of `r2d2`.
 //!
 //! `Pool::build` makes a pool with the settings of a `Builder`, over a manager and a timer of the
-//! user's. `Pool::work` gives a worker to be spawned, and `Pool::get` the future of a connection,
+//! user's. `Pool::worker` gives a worker to be spawned, and `Pool::get` the future of a connection,
 //! which goes back to the pool when it is dropped.
 //!
 //! Callers stand in one line, and are served in the order in which they came. The memory for the
@@ -22,7 +22,7 @@ mod pool;
 mod shared;
 mod task_book;
 mod wakers;
-mod work;
+mod worker;
 
 pub use drain::Drain;
 use futures::Future;
@@ -37,7 +37,7 @@ use std::alloc::AllocGlobal;
 use std::fmt;
 use std::rt::Clock;
 use std::time::Duration;
-pub use work::Work;
+pub use worker::Worker;
 
 /// Handlers and a customizer that do nothing: those of a `Builder` where none of them is set.
 pub type NoHandlers = Handlers<NopErrorHandler, NopEventHandler, NopConnectionCustomizer>;

@@ -9,7 +9,7 @@ use crate::get::Get;
 use crate::hooks::Hooks;
 use crate::lent::PooledConnection;
 use crate::shared::{CloserOf, PayloadOf, SharedOf, Taken};
-use crate::work::Work;
+use crate::worker::Worker;
 use crate::{AsyncRuntime, ManageConnection, Timer};
 use futures::spin::lock;
 use pool_state::has_room;
@@ -81,9 +81,9 @@ impl<M: ManageConnection, T: Timer, K: Hooks<M>, R: AsyncRuntime> Pool<M, T, K, 
     /// the timeout is given up, and its connection closed.
     ///
     /// The future's error is a timeout, with the text of the latest error of an opening or a check
-    /// if there was one; or `ErrorKind::Closed`, where the pool is closed; or `ErrorKind::Full`, at
-    /// once, where as many stand in line as `max_waiting` allows. The error of this call is lack of
-    /// memory for a shared pointer: nothing later takes any.
+    /// if there was one; or `ErrorKind::Closed`, where the pool is closed; or
+    /// `ErrorKind::QueueFull`, at once, where as many stand in line as `max_waiting` allows. The
+    /// error of this call is lack of memory for a shared pointer: nothing later takes any.
     pub fn get_timeout(&self, timeout: Duration) -> Result<Get<M, T, K, R>, Error>
         ensures settings { IfOk result (λ get. settings_of get.closer ≡ Some self.now) }
         ensures fresh { IfOk result (λ get. get.checking ≡ None) }
@@ -130,11 +130,11 @@ impl<M: ManageConnection, T: Timer, K: Hooks<M>, R: AsyncRuntime> Pool<M, T, K, 
     /// A worker: a future that opens connections and closes expired ones until the pool is closed.
     /// The user spawns it, and as many as openings may go on at once. The error is lack of memory
     /// for a list of `max_size` connections and a place among the workers.
-    pub fn work(&self) -> Result<Work<M, T, K, R>, Error>
-        ensures { IfOk result (λ work. (work.opening ≡ None) × (work.sleep ≡ None)) }
+    pub fn worker(&self) -> Result<Worker<M, T, K, R>, Error>
+        ensures { IfOk result (λ worker. (worker.opening ≡ None) × (worker.sleep ≡ None)) }
     {
         let shared = Arc::try_clone(&self.closer.shared).map_err(|_| Error::memory())?;
-        Work::new(shared)
+        Worker::new(shared)
     }
 
     /// How many connections there are at this moment, and how many of them are idle.
@@ -157,13 +157,13 @@ impl<M: ManageConnection, T: Timer, K: Hooks<M>, R: AsyncRuntime> Pool<M, T, K, 
 
     /// What the wall clock showed when the pool was made, from which its moments count; None where
     /// it could not be read.
-    pub fn made_at(&self) -> Option<SystemTime> {
-        self.shared().made_at
+    pub fn created_at(&self) -> Option<SystemTime> {
+        self.shared().created_at
     }
 
-    /// The moment of a step that is made now: the time since the pool was made, as a journal's
+    /// The time since the pool was made: the moment of a step that is made now, as a journal's
     /// records have it. Zero where the clock can't be read.
-    pub fn moment(&self) -> Duration {
+    pub fn uptime(&self) -> Duration {
         self.shared().moment()
     }
 
@@ -254,12 +254,12 @@ impl<M: ManageConnection, T: Timer, K: Hooks<M>, R: AsyncRuntime> Observe for Po
         Pool::journal(self)
     }
 
-    fn moment(&self) -> Duration {
-        Pool::moment(self)
+    fn uptime(&self) -> Duration {
+        Pool::uptime(self)
     }
 
-    fn made_at(&self) -> Option<SystemTime> {
-        Pool::made_at(self)
+    fn created_at(&self) -> Option<SystemTime> {
+        Pool::created_at(self)
     }
 
     fn connection_timeout(&self) -> Duration {

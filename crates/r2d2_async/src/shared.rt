@@ -40,7 +40,7 @@ pub struct Shared<P, M, T, K, R> {
     /// When the pool was made; None where the clock could not be read.
     pub(crate) made: Option<Instant>,
     /// What the wall clock showed then, where it could be read.
-    pub(crate) made_at: Option<SystemTime>,
+    pub(crate) created_at: Option<SystemTime>,
     pub(crate) rt: R,
 }
 
@@ -148,7 +148,7 @@ impl<P: Drop, M, T, K, R: Clock> Shared<P, M, T, K, R> {
         let mut tasks = lock(&self.tasks)?;
         let now = self.moment();
         let reason = tasks.reason_of_return(id, unfit);
-        let outlived = tasks.is_outlived(&self.settings.tuning, self.made_at, id, now);
+        let outlived = tasks.is_outlived(&self.settings.tuning, self.created_at, id, now);
         let Ok(Returned::Closed { value, age, .. }) = tasks.give_back(
             now, id, payload, unfit, outlived,
         ) else {
@@ -232,7 +232,7 @@ impl<M: ManageConnection, T, K: Hooks<M>, R: AsyncRuntime> SharedOf<M, T, K, R> 
     /// As `take_now`. One that is distrusted is closed, and it looks on: so it takes no more than
     /// were idle when it began.
     pub(crate) fn take_trusted(&self) -> Option<Taken<PayloadOf<M>>> {
-        if !self.settings.tuning.distrust_idle {
+        if !self.settings.tuning.evict_idle_on_failed_check {
             return self.take_now();
         }
         for _ in 0..self.status().idle {

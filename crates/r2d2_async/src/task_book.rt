@@ -390,11 +390,11 @@ impl<P: Drop> TaskBook<P> {
     pub fn is_outlived(
         &self,
         tuning: &Tuning,
-        made_at: Option<SystemTime>,
+        created_at: Option<SystemTime>,
         id: u64,
         now: Duration,
     ) -> bool {
-        tuning.has_jitter() && self.guarded.is_outlived(tuning, made_at, id, now)
+        tuning.has_jitter() && self.guarded.is_outlived(tuning, created_at, id, now)
     }
 
     /// Admits an opened connection under its id, or lets a lent one go for good.

@@ -3,7 +3,7 @@
 use crate::clock::Place;
 use crate::ear::Ear;
 use crate::kinds::{
-    BUILT, Beside, Calls, Hand, Kind, PARTS, Pool, ROOM, Settings, TaskWork, ThreadPool,
+    BUILT, Beside, Calls, Hand, Kind, PARTS, Pool, ROOM, Settings, TaskWorker, ThreadPool,
 };
 use crate::manager::{Hours, Manager};
 use crate::world::{Host, World};
@@ -18,7 +18,7 @@ use std::{mem, thread};
 
 // The settings that are those of each kind of pool.
 fn common(settings: Settings) -> Builder<Manager> {
-    let builder = Builder::new()
+    Builder::new()
         .max_size(settings.max_size)
         .min_idle(Some(settings.min_idle))
         .test_on_check_out(settings.is_checked)
@@ -26,26 +26,22 @@ fn common(settings: Settings) -> Builder<Manager> {
         .idle_timeout(settings.length_if(settings.idle_timeout))
         .connection_timeout(settings.length(settings.connection_timeout))
         .lending_order(settings.order)
-        .check_after_idle(settings.length_if(settings.check_after_idle))
-        .distrust_idle(settings.distrust_idle)
+        .test_if_idle_for(settings.length_if(settings.test_if_idle_for))
+        .evict_idle_on_failed_check(settings.evict_idle_on_failed_check)
         .journal_room(settings.journal_room)
-        .thread_pool(settings.workers);
-    let builder = match settings.length_if(settings.retry_at_most) {
-        Some(longest) => builder.retry_at_most(longest),
-        None => builder,
-    };
-    match settings.length_if(settings.lifetime_jitter) {
-        Some(jitter) => builder.lifetime_jitter(jitter),
-        None => builder,
-    }
+        .thread_pool(settings.workers)
+        .max_retry_delay(settings.length_if(settings.max_retry_delay))
+        .lifetime_jitter(settings.length_if(settings.lifetime_jitter))
 }
 
 // With what makes it a pool of this kind.
 fn of_kind(builder: Builder<Manager>, kind: Kind, settings: Settings) -> Builder<Manager> {
     match kind {
-        Kind::Limited | Kind::Counted => builder.max_waiting(settings.room),
-        Kind::InLine => builder.waiting_line(settings.room),
-        _ if kind.is_of_tasks() || settings.room != ROOM => builder.max_waiting(settings.room),
+        Kind::Limited | Kind::Counted => builder.max_waiting(Some(settings.room)),
+        Kind::InLine => builder.fair_queue(Some(settings.room)),
+        _ if kind.is_of_tasks() || settings.room != ROOM => {
+            builder.max_waiting(Some(settings.room))
+        }
         _ => builder,
     }
 }
@@ -191,8 +187,8 @@ impl<R: Host> Pool<R> {
         let pool = Pool::bare(rt, world, calls);
         for _ in 0..settings.workers {
             match &pool.calls {
-                Calls::Task(tasks) => pool.employ(tasks.work()?)?,
-                Calls::QuietTask(tasks) => spawned(rt, tasks.work()?)?,
+                Calls::Task(tasks) => pool.employ(tasks.worker()?)?,
+                Calls::QuietTask(tasks) => spawned(rt, tasks.worker()?)?,
                 _ => break,
             }
         }
@@ -244,7 +240,7 @@ impl<R: Host> Pool<R> {
     }
 
     // A worker begins.
-    fn employ(&self, work: TaskWork<R>) -> Result<(), Fail> {
+    fn employ(&self, work: TaskWorker<R>) -> Result<(), Fail> {
         let rt = self.rt;
         if self.world.kind == Kind::Polled {
             self.hands.lock(&rt).push(Hand::new(rt, work)?)?;

@@ -104,7 +104,7 @@ impl<P, C: TakeTotal> PoolState<P, C> {
     pub fn is_outlived(
         &self,
         tuning: &Tuning,
-        made_at: Option<SystemTime>,
+        created_at: Option<SystemTime>,
         id: u64,
         now: Duration,
     ) -> bool
@@ -128,7 +128,7 @@ impl<P, C: TakeTotal> PoolState<P, C> {
         match book.lent_birth(id) {
             Some(birth) => {
                 let age = now.saturating_sub(birth);
-                tuning.is_outlived(book.limits().max_lifetime(), made_at, id, age)
+                tuning.is_outlived(book.limits().max_lifetime(), created_at, id, age)
             }
             None => false,
         }

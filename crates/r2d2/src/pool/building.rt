@@ -188,7 +188,7 @@ fn shared_state<P: Drop, C: TakeTotal, M: Drop, K: Drop, R: PoolRuntime>(
         (λ closer. (arc_value (arc_value closer).shared).tuning ≡ tuning) }
 {
     let made = Instant::now(&rt).ok();
-    let made_at = SystemTime::now(&rt).ok();
+    let created_at = SystemTime::now(&rt).ok();
     let room = tuning.room_in_line();
     let line = Line::new(rt.alloc(), room)?;
     let slots = slots(rt.alloc(), room)?;
@@ -202,7 +202,7 @@ fn shared_state<P: Drop, C: TakeTotal, M: Drop, K: Drop, R: PoolRuntime>(
         listens,
         tuning,
         made,
-        made_at,
+        created_at,
         rt,
     };
     let shared = Arc::new(rt.alloc(), shared)?;

@@ -103,12 +103,12 @@ impl CallTime {
     /// Whether what it took last is idle for long enough to be checked.
     #[inline(always)]
     pub(super) fn has_check_due(&self, tuning: &Tuning) -> bool
-        ensures always { IsNone tuning.now.check_after_idle → IsTrue result }
+        ensures always { IsNone tuning.now.test_if_idle_for → IsTrue result }
         ensures unknown { IsNone self.now.idle_since → IsTrue result }
         ensures went_back { IfSome self.now.idle_since
             (λ since. self.now.step < since → IsTrue result) }
         ensures due { IfSome self.now.idle_since (λ since. since ≤ self.now.step
-            → IfSome tuning.now.check_after_idle
+            → IfSome tuning.now.test_if_idle_for
             (λ least. IsTrue result ↔ (as_nanos least ≤ self.now.step - since))) }
     {
         tuning.is_check_due(self.idle_since, self.step)

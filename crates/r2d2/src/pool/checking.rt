@@ -19,7 +19,7 @@ impl<C: TakeTotal, M: ManageConnection, K: Hooks<M>, R: PoolRuntime> SharedOf<C,
     /// Whether what a call took is checked before it is lent.
     #[inline(always)]
     pub(super) fn is_to_check(&self, time: &CallTime) -> bool
-        ensures due { IsTrue result → IfSome self.now.tuning.check_after_idle
+        ensures due { IsTrue result → IfSome self.now.tuning.test_if_idle_for
             (λ least. IfSome time.now.idle_since (λ since. since ≤ time.now.step
             → as_nanos least ≤ time.now.step - since)) }
     {
@@ -29,9 +29,9 @@ impl<C: TakeTotal, M: ManageConnection, K: Hooks<M>, R: PoolRuntime> SharedOf<C,
     /// Whether what a call takes may be closed for a check, of it or of another.
     #[inline(always)]
     pub(super) fn may_fail_check(&self) -> bool
-        ensures { IsTrue self.now.tuning.distrust_idle → IsTrue result }
+        ensures { IsTrue self.now.tuning.evict_idle_on_failed_check → IsTrue result }
     {
-        self.hooks.test_on_check_out() || self.tuning.distrust_idle
+        self.hooks.test_on_check_out() || self.tuning.evict_idle_on_failed_check
     }
 
     /// The connection, where it need not be checked, or its check finds it sound. Else it is
@@ -43,13 +43,13 @@ impl<C: TakeTotal, M: ManageConnection, K: Hooks<M>, R: PoolRuntime> SharedOf<C,
         is_checked: bool,
         time: &CallTime,
     ) -> Option<Lent<PayloadOf<M>>>
-        ensures unchecked { is_checked ≡ false → self.now.tuning.distrust_idle ≡ false
+        ensures unchecked { is_checked ≡ false → self.now.tuning.evict_idle_on_failed_check ≡ false
             → result ≡ Some lent }
         ensures id { IfSome result (λ sound. sound.id ≡ lent.id) }
         ensures extensions { IfSome result
             (λ sound. sound.payload.extensions ≡ lent.payload.extensions) }
     {
-        if self.tuning.distrust_idle && self.is_distrusted(time.idle_since()) {
+        if self.tuning.evict_idle_on_failed_check && self.is_distrusted(time.idle_since()) {
             if let Some(closed) = self.give_back(lent, Some(ReleaseReason::Distrusted)) {
                 self.hooks.release(closed);
             }

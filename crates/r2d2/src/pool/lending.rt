@@ -61,9 +61,9 @@ impl<C: TakeCounter, M: ManageConnection, K: Hooks<M>, R: PoolRuntime> AnyPool<C
         unreachable!()
     }
 
-    /// Whether callers wait in line.
+    /// Whether callers wait in line: one without room is none.
     pub(super) fn is_in_line(&self) -> bool {
-        self.shared().tuning.in_line
+        !self.shared().slots.is_empty()
     }
 
     /// As `lend_within`, where callers wait in line. Who takes keeps its place until its check went

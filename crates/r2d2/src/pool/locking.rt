@@ -41,7 +41,7 @@ pub struct Shared<B, M, K, R> {
     /// When the pool was made; None where the clock could not be read.
     pub(super) made: Option<Instant>,
     /// What the wall clock showed then, where it could be read.
-    pub(super) made_at: Option<SystemTime>,
+    pub(super) created_at: Option<SystemTime>,
     pub(super) rt: R,
 }
 

@@ -29,12 +29,12 @@ impl<
         self.closer.shared.report().map_err(|_| Error::memory())
     }
 
-    fn moment(&self) -> Duration {
+    fn uptime(&self) -> Duration {
         self.closer.shared.moment()
     }
 
-    fn made_at(&self) -> Option<SystemTime> {
-        self.closer.shared.made_at
+    fn created_at(&self) -> Option<SystemTime> {
+        self.closer.shared.created_at
     }
 
     fn connection_timeout(&self) -> Duration {

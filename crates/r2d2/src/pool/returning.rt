@@ -34,7 +34,7 @@ impl<X: Drop, E: Extension + Drop, C: TakeTotal, M, K, R: Clock + Wait> Shared<
         let returned = self.step(|guarded, now| {
             reason = guarded.reason_of_return(id, unfit);
             let outlived = self.tuning.has_jitter()
-                && guarded.is_outlived(&self.tuning, self.made_at, id, now);
+                && guarded.is_outlived(&self.tuning, self.created_at, id, now);
             guarded.give_back(now, id, payload, unfit, outlived)
         });
         let Ok(Returned::Closed { value, age, .. }) = returned else {

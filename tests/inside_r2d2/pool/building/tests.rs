@@ -1,4 +1,4 @@
-// The last ids that there are, and a long line.
+// The last ids that there are, a long line, and one without room.
 
 use super::*;
 use crate::ErrorKind;
@@ -42,7 +42,7 @@ fn ids_used_up(rt: HostRuntime) -> Result<(), Fail> {
 // So many callers look under one lock, and one more.
 #[test]
 fn a_line_has_room_for_thousands(rt: HostRuntime) -> Result<(), Fail> {
-    let builder = Builder::new().max_size(1).min_idle(Some(0)).waiting_line(3000);
+    let builder = Builder::new().max_size(1).min_idle(Some(0)).fair_queue(Some(3000));
     let pool = builder.build_unchecked(rt, Lines::new(rt.alloc(), u64::MAX)?)?;
     let shared = pool.shared();
     assert_eq!(rt; shared.slots.len(), 3000);
@@ -56,5 +56,16 @@ fn a_line_has_room_for_thousands(rt: HostRuntime) -> Result<(), Fail> {
         };
         assert_eq!(rt; is_full, caller == 3000, "{caller}");
     }
+    Ok(())
+}
+
+// As many wait as come. One that found a line would be refused at once.
+#[test]
+fn a_line_without_room_is_none(rt: HostRuntime) -> Result<(), Fail> {
+    let builder = Builder::new().max_size(1).fair_queue(Some(1)).max_waiting(None);
+    let pool = builder.build_unchecked(rt, Lines::new(rt.alloc(), u64::MAX)?)?;
+    let _lent = pool.get()?;
+    let error = pool.get_timeout(Duration::from_millis(1)).err().ok_or("two")?;
+    assert_eq!(rt; error.kind(), ErrorKind::Timeout);
     Ok(())
 }

@@ -49,7 +49,7 @@ enum Next {
 ///
 /// It may be dropped at any time: an opening in work counts as one that failed, and is tried again
 /// by another worker.
-pub struct Work<M: ManageConnection, T: Timer, K: Hooks<M>, R: AsyncRuntime> {
+pub struct Worker<M: ManageConnection, T: Timer, K: Hooks<M>, R: AsyncRuntime> {
     shared: Arc<SharedOf<M, T, K, R>>,
     ticket: Ticket,
     opening: Option<Opening<M::Connect>>,
@@ -60,10 +60,10 @@ pub struct Work<M: ManageConnection, T: Timer, K: Hooks<M>, R: AsyncRuntime> {
     expired: Vec<Released<PayloadOf<M>>>,
 }
 
-impl<M: ManageConnection, T: Timer, K: Hooks<M>, R: AsyncRuntime> Work<M, T, K, R> {
+impl<M: ManageConnection, T: Timer, K: Hooks<M>, R: AsyncRuntime> Worker<M, T, K, R> {
     // Its memory is taken here: the list for what a reap closes, and its place among the workers.
-    pub(crate) fn new(shared: Arc<SharedOf<M, T, K, R>>) -> Result<Work<M, T, K, R>, Error>
-        ensures { IfOk result (λ work. (work.opening ≡ None) × (work.sleep ≡ None)) }
+    pub(crate) fn new(shared: Arc<SharedOf<M, T, K, R>>) -> Result<Worker<M, T, K, R>, Error>
+        ensures { IfOk result (λ worker. (worker.opening ≡ None) × (worker.sleep ≡ None)) }
     {
         let room = shared.settings.config.max_size as usize;
         let expired = Vec::with_capacity(shared.rt.alloc(), room).map_err(|_| Error::memory())?;
@@ -74,7 +74,7 @@ impl<M: ManageConnection, T: Timer, K: Hooks<M>, R: AsyncRuntime> Work<M, T, K, 
         let Ok(ticket) = added else {
             return Err(Error::memory());
         };
-        Ok(Work {
+        Ok(Worker {
             shared,
             ticket,
             opening: None,
@@ -236,7 +236,7 @@ impl<M: ManageConnection, T: Timer, K: Hooks<M>, R: AsyncRuntime> Work<M, T, K, 
     }
 }
 
-impl<M: ManageConnection, T: Timer, K: Hooks<M>, R: AsyncRuntime> Future for Work<M, T, K, R> {
+impl<M: ManageConnection, T: Timer, K: Hooks<M>, R: AsyncRuntime> Future for Worker<M, T, K, R> {
     type Output = ();
 
     ghost can_poll = { λ w. IfSome w.opening (λ o. M.Connect.can_poll o.connect)
@@ -273,10 +273,10 @@ impl<M: ManageConnection, T: Timer, K: Hooks<M>, R: AsyncRuntime> Future for Wor
     }
 }
 
-impl<M: ManageConnection, T: Timer, K: Hooks<M>, R: AsyncRuntime> Drop for Work<M, T, K, R> {
+impl<M: ManageConnection, T: Timer, K: Hooks<M>, R: AsyncRuntime> Drop for Worker<M, T, K, R> {
     // An opening in work goes back to the schedule.
     fn drop(self) {
-        let Work {
+        let Worker {
             shared,
             ticket,
             opening,

@@ -1,9 +1,9 @@
 use Rattle.std.proofs.Common.{◌≡◌, None, refl}
 use Rattle.futures.specs.Task.{Hears}
-use Rattle.r2d2_async.specs.declared.work.Sleeping.{Sleeping}
+use Rattle.r2d2_async.specs.declared.worker.Sleeping.{Sleeping}
 use Rattle.r2d2_async.specs.Sources.{orders_of}
 use Rattle.r2d2_async.proofs.Needs.{covered}
-use Rattle.r2d2_async.proofs.work.WorkFuture.poll.Goals as goal
+use Rattle.r2d2_async.proofs.worker.WorkerFuture.poll.Goals as goal
 
 pub returns-in-Idle-clause-registered : goal.returns-in-Idle-clause-registered
 returns-in-Idle-clause-registered g c =
