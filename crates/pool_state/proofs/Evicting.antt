@@ -153,6 +153,7 @@ pub record Evicting {T : Type 0} (t : ℕ) (first now : Picture T) (out : List (
   pub limits : now.on_order.limits ≡ first.on_order.limits
   pub next_id : now.on_order.next_id ≡ first.on_order.next_id
   pub closed : now.on_order.closed ≡ first.on_order.closed
+  pub pending : first.on_order.closed ≡ false → first.on_order.pending ≤ now.on_order.pending
   pub last_error : now.last_error ≡ first.last_error
 
 -- what the closing of the next one leaves
@@ -163,11 +164,12 @@ pub record EvictsNext {T : Type 0} (t : ℕ) (p q : Picture T) : Type 0 where
   pub limits : q.on_order.limits ≡ p.on_order.limits
   pub next_id : q.on_order.next_id ≡ p.on_order.next_id
   pub closed : q.on_order.closed ≡ p.on_order.closed
+  pub pending : p.on_order.closed ≡ false → p.on_order.pending ≤ q.on_order.pending
   pub last_error : q.last_error ≡ p.last_error
 
 module _ {T : Type 0} where
   pub evicting : (t : ℕ) (p : Picture T) → Evicting t p p []
-  evicting t p = record { handed = refl; left = omega arith; lent = refl; latest = refl; limits = refl; next_id = refl; closed = refl; last_error = refl }
+  evicting t p = record { handed = refl; left = omega arith; lent = refl; latest = refl; limits = refl; next_id = refl; closed = refl; pending = λ e. omega arith; last_error = refl }
 
   next_first : (o : LendingOrder) (xs : List (SeenIdleConnection T)) (c : SeenIdleConnection T) → next_to_lend o xs ≡ Some c
       → in_lending_order o xs ≡ c ∷ in_lending_order o (still_idle o xs)
@@ -202,6 +204,7 @@ module _ {T : Type 0} where
         limits = x.limits ∙ v.limits;
         next_id = x.next_id ∙ v.next_id;
         closed = x.closed ∙ v.closed;
+        pending = λ e. omega (arith, v.pending e, x.pending (v.closed ∙ e));
         last_error = x.last_error ∙ v.last_error;
       }
 
@@ -258,6 +261,7 @@ module _ {T : Type 0} where
     limits = x.limits ∙ v.limits;
     next_id = x.next_id ∙ v.next_id;
     closed = x.closed ∙ v.closed;
+    pending = λ e. omega (arith, v.pending e, x.pending (v.closed ∙ e));
     last_error = x.last_error ∙ v.last_error;
   }
 

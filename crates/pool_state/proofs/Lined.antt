@@ -1,5 +1,5 @@
 -- What a step of the book does to the number of idle connections, beside whom it wakes.
-use Rattle.std.proofs.Common.{◌≡◌, ℕ, ◌+◌, ◌*◌, ◌<◌, ◌≤◌, Bool, true, false, cond, List, [], ◌∷◌, length, filter, Option, Some, None, Result, refl, sym, ◌∙◌, ap, arith}
+use Rattle.std.proofs.Common.{◌≡◌, ℕ, ◌+◌, ◌*◌, ◌<◌, ◌≤◌, Bool, true, false, cond, List, [], ◌∷◌, length, filter, Option, Some, None, Result, refl, sym, ◌∙◌, ap, subst, arith}
 use Rattle.std.specs.declared.time.Duration.{Duration}
 use Rattle.std.specs.Duration.{as_nanos}
 use Rattle.std.proofs.lemmas.List.{length_push}
@@ -10,7 +10,7 @@ use Rattle.r2d2_core.specs.declared.machine.answers.Returned.{Returned}
 use Rattle.r2d2_core.specs.declared.machine.answers.Released.{Released}
 use Rattle.r2d2_core.specs.declared.machine.answers.Take.{Take}
 use Rattle.r2d2_core.specs.declared.machine.answers.Take.TheVariants as take
-use Rattle.r2d2_core.specs.Connections.{SeenIdleConnection, is_kept, idle_connection}
+use Rattle.r2d2_core.specs.Connections.{SeenIdleConnection, is_kept, idle_connection, lent_connection}
 use Rattle.r2d2_core.specs.Refusals.{ok_or_back, unless_refused}
 use Rattle.r2d2_core.specs.OnOrder.{admit_refusal, fail_refusal}
 use Rattle.r2d2_core.specs.Picture.{Picture}
@@ -164,6 +164,18 @@ module _ {T : Type 0} where
       → 0 < length old.idle → length old.idle ≡ length new.idle + 1
   one_found now or_order result old new step some =
       omega (arith, one_taken now or_order result old new step, found_where_idle now or_order result old new step some)
+
+  taken_lent : (n : Option (SeenIdleConnection T)) (m : ℕ) (p q : Picture T) → p.lent ≡ q.lent → found_by (take_with n m) ≡ 1
+      → length q.lent + 1 ≤ length (table.taken n false p).lent
+  taken_lent None m p q same found = absurd (not_both found)
+  taken_lent (Some c) m p q same found = omega (arith, ap length same, length_push p.lent (lent_connection c.id c.birth))
+
+  -- and one more is lent
+  pub one_lent : (now : Duration) (result : Take T) (old new : Picture T) → core.IsTake now false result old new → 0 < length old.idle
+      → length old.lent + 1 ≤ length new.lent
+  one_lent now result old new step some =
+      subst (λ (q : Picture T). length old.lent + 1 ≤ length q.lent) (sym step.after)
+      (taken_lent (table.next_of old) _ (table.raised_to (as_nanos now) old) old refl (sym (ap found_by step.answer) ∙ found_where_idle now false result old new step some))
 
   pub never_empty : (now : Duration) (result : Take T) (old new : Picture T) (n : ℕ) → core.IsTake now false result old new → 0 < length old.idle
       → result ≡ take.Empty n → ⊥

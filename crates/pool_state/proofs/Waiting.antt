@@ -1,12 +1,12 @@
 -- What each change of the line leaves.
-use Rattle.std.proofs.Common.{◌≡◌, ℕ, ◌+◌, ◌<◌, ◌≤◌, true, false, cond, List, [], ◌∷◌, ◌++◌, length, Option, Some, None, refl, sym, subst, arith, ◌-◌}
+use Rattle.std.proofs.Common.{◌≡◌, ℕ, ◌+◌, ◌<◌, ◌≤◌, Bool, true, false, cond, List, [], ◌∷◌, ◌++◌, length, Option, Some, None, refl, sym, subst, arith, ◌-◌}
 use Rattle.std.specs.Prelude.{◌==◌}
 use Rattle.std.specs.Prelude.{min, IfSome, IfNone}
 use Rattle.std.proofs.lemmas.Bool.Decides.{nat_tests}
 use Rattle.pool_state.specs.declared.line.place.Place.{Place}
 use Rattle.pool_state.specs.declared.line.place.Standing.{Standing}
 use Rattle.pool_state.specs.declared.line.place.Standing.TheVariants.{Quiet, Aside}
-use Rattle.pool_state.specs.Waiting.{place, weight, waiting_in, told_ahead, ahead, told_at, weight_at, without, with_standing, told_first, copies_in, copies_of}
+use Rattle.pool_state.specs.Waiting.{place, weight, waiting_in, told_ahead, ahead, told_at, weight_at, without, with_standing, told_first, told_if, told_in, copies_in, copies_of}
 
 -- a join: who is told nothing at the end changes nothing for those before it
 pub told_ahead-join : (ps : List Place) (s : ℕ) → told_ahead (ps ++ place s Quiet ∷ []) ≡ told_ahead ps
@@ -25,6 +25,44 @@ waiting_in-tell (p ∷ ps) = grind (arith, waiting_in-tell ps)
 pub told_ahead-tell : (ps : List Place) → min (told_ahead ps + 1) (waiting_in ps) ≤ told_ahead (told_first ps)
 told_ahead-tell [] = omega arith
 told_ahead-tell (p ∷ ps) = grind (arith, told_ahead-tell ps)
+
+pub told_in-tell : (ps : List Place) → min (told_in ps + 1) (waiting_in ps) ≤ told_in (told_first ps)
+told_in-tell [] = omega arith
+told_in-tell (p ∷ ps) = grind (arith, told_in-tell ps)
+
+-- where a caller is to be woken, one more was told, or all who wait
+pub told_in-told_if : (caller : Bool) (ps : List Place) → min (told_in ps + cond caller 1 0) (waiting_in ps) ≤ told_in (told_if caller ps)
+told_in-told_if true ps = told_in-tell ps
+told_in-told_if false ps = omega arith
+
+pub waiting_in-told_if : (caller : Bool) (ps : List Place) → waiting_in (told_if caller ps) ≡ waiting_in ps
+waiting_in-told_if true ps = waiting_in-tell ps
+waiting_in-told_if false ps = refl
+
+pub told_in-join : (ps : List Place) (s : ℕ) → told_in (ps ++ place s Quiet ∷ []) ≡ told_in ps
+told_in-join [] s = refl
+told_in-join (p ∷ ps) s = omega (arith, told_in-join ps s)
+
+pub told_in-without : (s : ℕ) (ps : List Place) → told_in ps ≡ told_in (without s ps) + cond (told_at s ps) 1 0
+told_in-without s [] = refl
+told_in-without s (p ∷ ps) = grind (arith, told_in-without s ps)
+
+-- one waits on, or no more: who was told before counts as one who waits
+pub told_in-quiet : (s : ℕ) (ps : List Place) → told_in ps ≤ told_in (with_standing s Quiet ps) + 1
+told_in-quiet s [] = omega arith
+told_in-quiet s (p ∷ ps) = grind (arith, told_in-quiet s ps)
+
+pub told_in-quiet_less : (s : ℕ) (ps : List Place) → told_in ps + waiting_in (with_standing s Quiet ps) ≤ told_in (with_standing s Quiet ps) + waiting_in ps + 1
+told_in-quiet_less s [] = omega arith
+told_in-quiet_less s (p ∷ ps) = grind (arith, told_in-quiet_less s ps)
+
+pub told_in-aside : (s : ℕ) (ps : List Place) → told_in ps ≤ told_in (with_standing s Aside ps) + 1
+told_in-aside s [] = omega arith
+told_in-aside s (p ∷ ps) = grind (arith, told_in-aside s ps)
+
+pub told_in-aside_less : (s : ℕ) (ps : List Place) → told_in ps + waiting_in (with_standing s Aside ps) ≤ told_in (with_standing s Aside ps) + waiting_in ps
+told_in-aside_less s [] = omega arith
+told_in-aside_less s (p ∷ ps) = grind (arith, told_in-aside_less s ps)
 
 -- one leaves
 pub waiting_in-without : (s : ℕ) (ps : List Place) → waiting_in (without s ps) + weight_at s ps ≡ waiting_in ps

@@ -21,7 +21,7 @@ use Rattle.r2d2_core.specs.Book.{SeenBook}
 use Rattle.r2d2_core.specs.Table as table
 use Rattle.r2d2_core.specs.CoreSteps as core
 use Rattle.r2d2_core.specs.BookSteps as book
-use Rattle.r2d2_core.proofs.Lists.Lending.{none_is_next}
+use Rattle.r2d2_core.proofs.Lists.Lending.{none_is_next, length-still_idle}
 use Rattle.pool_state.specs.declared.engine.Wakes.{Wakes}
 use Rattle.pool_state.specs.declared.engine.Outcome.{Outcome}
 use Rattle.pool_state.specs.declared.engine.Outcome.TheVariants as outcome
@@ -32,6 +32,7 @@ use Rattle.pool_state.specs.declared.waiters.Wake.{Wake}
 use Rattle.pool_state.specs.declared.waiters.Waiters.{Waiters}
 use Rattle.pool_state.specs.Wakes.{wakes_of_return}
 use Rattle.pool_state.specs.Settled.{seen_settled, settle_answer, after_settle, wakes_of_settled, settled_admission, settled_failure, settled_check}
+use Rattle.pool_state.specs.Lined.{book_asked}
 use Rattle.pool_state.specs.Waits.{NoneIsLost, OthersSleep, IsSent, SleepOnlyUndue, WaitAsBefore, woken_by, waits_after, turn_after, waits_in, one_if, after_wait, waiting_if, IsTokenOf}
 
 -- WHAT A STEP DOES: at most so many less are lent, and at most so many less are pending
@@ -302,6 +303,82 @@ module _ {T : Type 0} where
 
   pub goes_take : (now : Duration) (b : Bool) (result : Take T) (old new : Picture T) → core.IsTake now b result old new → Goes false old new
   goes_take now b result old new step = subst (λ (q : Picture T). Goes false old q) (sym step.after) (taken_goes (as_nanos now) b old)
+
+  -- A TAKE, AND A BROKEN RETURN: none of what is pending goes
+  returned_pending : (r : Option Refusal) (closing : Bool) (id birth : ℕ) (value : T) (p q : Picture T) → p.on_order ≡ q.on_order
+      → q.on_order.pending ≤ (unless_refused r (table.returned_by closing id birth value p) q).on_order.pending
+  returned_pending (Some why) closing id birth value p q same = omega arith
+  returned_pending None true id birth value p q same = omega (arith, ap (λ (o : SeenOnOrder). o.pending) same)
+  returned_pending None false id birth value p q same = omega (arith, ap (λ (o : SeenOnOrder). o.pending) same)
+
+  pub more_pending_taken : (now : Duration) (taken : Take T) (old new : Picture T) → core.IsTake now false taken old new → old.on_order.closed ≡ false
+      → old.on_order.pending ≤ new.on_order.pending
+  more_pending_taken now taken old new step e = let g = goes_take now false taken old new step in omega (arith, g.moves.pending e, g.due)
+
+  pub more_pending : (now : Duration) (id : ℕ) (value : T) (taken : Take T) (answer : Result (Returned T) (Refusal × T)) (old new last : Picture T)
+      → core.IsTake now false taken old new → core.IsReturn now id value true answer new last → old.on_order.closed ≡ false
+      → old.on_order.pending ≤ last.on_order.pending
+  more_pending now id value taken answer old new last step back e =
+      let p : Picture T = table.raised_to (as_nanos now) new in
+      let birth : ℕ = table.lent_birth id new in
+      let more : new.on_order.pending ≤ last.on_order.pending = subst (λ (q : Picture T). new.on_order.pending ≤ q.on_order.pending) (sym back.after)
+      (returned_pending (table.lent_refusal id new) (table.is_closing birth true p) id birth value p new refl) in
+      omega (arith, more, more_pending_taken now taken old new step e)
+
+  -- of a take that finds none in an open pool, one is ordered where there is room
+  missed : (n : Option (SeenIdleConnection T)) (p : Picture T) → table.next_of p ≡ n → length p.idle ≡ 0 → p.connections ≡ length p.lent → p.on_order.closed ≡ false
+      → min (p.on_order.pending + 1) (p.on_order.limits.max_size - length p.lent) ≤ (table.taken n true p).on_order.pending
+  missed None p e none counted open_ =
+      let m : table.miss_order_of true p ≡ min 1 (p.on_order.limits.max_size - length p.lent - p.on_order.pending) =
+      miss_open p.on_order p.connections open_ ∙ ap (λ c. min 1 (p.on_order.limits.max_size - c - p.on_order.pending)) counted in
+      omega (arith, m)
+  missed (Some c) p e none counted open_ = absurd (omega (arith, length-still_idle p.on_order.limits.order p.idle c e, none))
+
+  -- after so many takes that found none and were to order, each of which ordered where there was room
+  pub record Asked (n : ℕ) (old new : Picture T) : Type 0 where
+    pub none : length new.idle ≡ 0
+    pub lent : length new.lent ≡ length old.lent
+    pub connections : new.connections ≡ old.connections
+    pub size : new.on_order.limits.max_size ≡ old.on_order.limits.max_size
+    pub closed : new.on_order.closed ≡ old.on_order.closed
+    pub enough : old.on_order.closed ≡ false
+        → min (old.on_order.pending + n) (old.on_order.limits.max_size - length old.lent) ≤ new.on_order.pending
+
+  one_asked : (o : Option (SeenIdleConnection T)) (p : Picture T) → table.next_of p ≡ o → length p.idle ≡ 0 → p.connections ≡ length p.lent
+      → Asked 1 p (table.taken o true p)
+  one_asked None p e none counted = record {
+    none = none;
+    lent = refl;
+    connections = refl;
+    size = refl;
+    closed = refl;
+    enough = λ is_open. missed None p e none counted is_open;
+  }
+  one_asked (Some c) p e none counted = absurd (omega (arith, length-still_idle p.on_order.limits.order p.idle c e, none))
+
+  -- a moment that is raised changes nothing of that
+  raised_asked : (t : ℕ) (p q : Picture T) → Asked 1 (table.raised_to t p) q → Asked 1 p q
+  raised_asked t p q a = record { none = a.none; lent = a.lent; connections = a.connections; size = a.size; closed = a.closed; enough = a.enough }
+
+  one_more_asked : (n : ℕ) (p q r : Picture T) → Asked n p q → Asked 1 q r → Asked (suc n) p r
+  one_more_asked n p q r a b = record {
+    none = b.none;
+    lent = b.lent ∙ a.lent;
+    connections = b.connections ∙ a.connections;
+    size = b.size ∙ a.size;
+    closed = b.closed ∙ a.closed;
+    enough = λ e. omega (arith, a.enough e, b.enough (a.closed ∙ e), a.lent, a.size);
+  }
+
+  pub asked : (t n : ℕ) (b : SeenBook T) → length b.picture.idle ≡ 0 → b.picture.connections ≡ length b.picture.lent
+      → Asked n b.picture (book_asked t n b).picture
+  asked t zero b none counted = record { none = none; lent = refl; connections = refl; size = refl; closed = refl; enough = λ e. omega arith }
+  asked t (suc n) b none counted =
+      let c = book_asked t n b in
+      let k = asked t n b none counted in
+      one_more_asked n b.picture c.picture (book_asked t (suc n) b).picture k
+      (raised_asked t c.picture (book_asked t (suc n) b).picture
+      (one_asked (table.next_of c.picture) (table.raised_to t c.picture) refl k.none (omega (arith, k.connections, k.lent, counted))))
 
   -- A LOOK OF ONE WHO WAITS AT THE VARIABLE
   -- whoever is to wait is counted

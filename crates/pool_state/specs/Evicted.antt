@@ -1,5 +1,5 @@
 -- What an eviction does. A moment is raised to the latest so far.
-use Rattle.std.specs.Prelude.{◌≡◌, ℕ, nat_lt, max, Bool, true, false, ◌||◌, List, [], ◌∷◌, map, reverse, Option, Some, None, is_some}
+use Rattle.std.specs.Prelude.{◌≡◌, ◌≤◌, ℕ, nat_lt, max, Bool, true, false, ◌||◌, List, [], ◌∷◌, map, reverse, Option, Some, None, is_some}
 use Rattle.r2d2_core.specs.declared.schedule.limits.LendingOrder.{LendingOrder}
 use Rattle.r2d2_core.specs.declared.schedule.limits.LendingOrder.TheVariants as lending
 use Rattle.r2d2_core.specs.Connections.{SeenIdleConnection, SeenReleased, released_at}
@@ -40,7 +40,7 @@ module _ {T : Type 0} where
   abbrev pub after_eviction : ℕ → SeenBook T → SeenBook T
   after_eviction t b = each_evicted t (in_lending_order b.picture.on_order.limits.order b.picture.idle) b
 
-  -- which comes to this: nothing is idle, the moment is the raised one, the openings that were ordered are pending, and all else stays
+  -- which comes to this: nothing is idle, the moment is the raised one, the openings that were ordered are pending too, and all else stays
   pub record IsEvicted (t : ℕ) (old new : Picture T) : Type 0 where
     pub none_idle : new.idle ≡ []
     pub lent : new.lent ≡ old.lent
@@ -48,6 +48,7 @@ module _ {T : Type 0} where
     pub limits : new.on_order.limits ≡ old.on_order.limits
     pub next_id : new.on_order.next_id ≡ old.on_order.next_id
     pub closed : new.on_order.closed ≡ old.on_order.closed
+    pub pending : old.on_order.closed ≡ false → old.on_order.pending ≤ new.on_order.pending
     pub last_error : new.last_error ≡ old.last_error
 
 -- a connection was opened before the latest eviction, from which on ids begin with this one

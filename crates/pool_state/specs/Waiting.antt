@@ -36,6 +36,11 @@ abbrev pub told_ahead : List Place → ℕ
 told_ahead [] = 0
 told_ahead (p ∷ ps) = if is_quiet p.standing then 0 else weight p.standing + told_ahead ps
 
+-- how many were told to look, and have not looked yet
+abbrev pub told_in : List Place → ℕ
+told_in [] = 0
+told_in (p ∷ ps) = (if is_told p.standing then 1 else 0) + told_in ps
+
 -- how many wait before the one with this slot
 abbrev pub ahead : ℕ → List Place → ℕ
 ahead s [] = 0

@@ -60,7 +60,8 @@ impl<P, C: TakeTotal> Model for PoolState<P, C> {
     ghost view = { λ s. seen_state s.book.book s.book.total (places_in s.line.ring) s.owed
         s.waiting s.evicted_below s.hurried_until s.failures };
 
-    ghost invariant = { λ s. IsKeptFor s.book.book.picture (places_in s.line.ring) s.waiting };
+    ghost invariant = { λ s. IsKeptFor s.book.book.picture (places_in s.line.ring) s.owed
+        s.waiting };
 }
 
 impl<P, C: TakeTotal> PoolState<P, C> {

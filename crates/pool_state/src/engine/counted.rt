@@ -290,7 +290,7 @@ impl<T, C: TakeCounter> CountingBook<T, C> {
 }
 
 impl<T: Drop, C: TakeCounter> CountingBook<T, C> {
-    ghost use Rattle.std.specs.Prelude.{max, map, option_map};
+    ghost use Rattle.std.specs.Prelude.{max, map, option_map, false};
     ghost use Rattle.r2d2_core.specs.Connections.{released_at};
     ghost use Rattle.r2d2_core.specs.Lending.{still_idle};
     ghost use Rattle.r2d2_core.specs.Picture.{IsSound};
@@ -341,6 +341,8 @@ impl<T: Drop, C: TakeCounter> CountingBook<T, C> {
             ≡ self.old.book.picture.on_order.next_id }
         ensures closed { self.new.book.picture.on_order.closed
             ≡ self.old.book.picture.on_order.closed }
+        ensures pending { self.old.book.picture.on_order.closed ≡ false
+            → self.old.book.picture.on_order.pending ≤ self.new.book.picture.on_order.pending }
         ensures last_error { self.new.book.picture.last_error ≡ self.old.book.picture.last_error }
         ensures sound { IsSound self.new.book.picture }
         ensures parts { C.parts tally.new ≡ C.parts tally.old }

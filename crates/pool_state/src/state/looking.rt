@@ -1,5 +1,5 @@
 // A caller looks that takes at once, or may wait at the callers' variable.
-ghost use Rattle.std.specs.Prelude.{◌≡◌, ◌+◌, ◌*◌, ◌<◌, ◌↔◌, length, IsTrue, false, List, ◌∷◌};
+ghost use Rattle.std.specs.Prelude.{◌≡◌, ◌+◌, ◌*◌, ◌<◌, length, IsTrue, false, List, ◌∷◌};
 ghost use Rattle.std.specs.Duration.{as_nanos};
 ghost use Rattle.r2d2_core.specs.BookSteps.{IsTake};
 ghost use Rattle.r2d2_core.specs.Seen.{seen_take, Empty};

@@ -30,6 +30,9 @@ pub enum Look<P> {
 }
 
 impl<P, C: TakeTotal> PoolState<P, C> {
+    ghost use Rattle.std.specs.Prelude.{if◌then◌else◌};
+    ghost use Rattle.pool_state.specs.Lined.{one_more_owed};
+
     /// How many wait in line.
     pub fn in_line(&self) -> usize
         ensures { result ≡ waiting_in self.now.places }
@@ -81,8 +84,8 @@ impl<P, C: TakeTotal> PoolState<P, C> {
         self.waiting.since = since;
     }
 
-    // The caller, whose turn it is not, waits: at the end of the line, or on in its place. The
-    // answer is its slot; None where there is no room.
+    // The caller, whose turn it is not, waits: at the end of the line, or on in its place. It is
+    // owed an opening. The answer is its slot; None where there is no room.
     fn stand(&mut self, place: &mut Option<u32>) -> Option<u32>
         requires { length self.old.book.picture.idle ≤ before place.old self.old.places }
         ensures place { result ≡ place.new }
@@ -91,14 +94,19 @@ impl<P, C: TakeTotal> PoolState<P, C> {
             → IsPlaceIn h place.old
             → IsHistoryOf (with_wait place.old place.new h) self.new.places }
         ensures quiet { IfSome result (λ slot. told_at slot self.new.places ≡ false) }
-        ensures same { self.new ≡ record self.old { places = self.new.places } }
+        ensures owed { self.new.owed
+            ≡ (if is_some result then one_more_owed self.old.owed else self.old.owed) }
+        ensures same { self.new
+            ≡ record self.old { places = self.new.places; owed = self.new.owed } }
     {
         let Some(slot) = *place else {
-            let joined = self.line.join();
-            *place = joined;
-            return joined;
+            let slot = self.line.join()?;
+            self.owed = self.owed.saturating_add(1);
+            *place = Some(slot);
+            return Some(slot);
         };
         self.line.wait_on(slot);
+        self.owed = self.owed.saturating_add(1);
         Some(slot)
     }
 
@@ -204,7 +212,7 @@ impl<P: Drop, C: TakeCounter> PoolState<P, C> {
     ghost use Rattle.pool_state.specs.Evicted.{book_taken};
     ghost use Rattle.pool_state.specs.Lined.{is_found, found_in, pair_found, looked_by, told_looked};
     ghost use Rattle.pool_state.specs.Lined.{book_looked, owed_looked, book_paid, still_owed};
-    ghost use Rattle.pool_state.specs.Lined.{one_more_owed, has_ordered};
+    ghost use Rattle.pool_state.specs.Lined.{has_ordered};
     ghost use Rattle.pool_state.specs.Standing.{StandsUntold};
 
     /// A caller that may wait looks: it takes where it has its turn, and keeps its place then where
@@ -249,14 +257,18 @@ impl<P: Drop, C: TakeCounter> PoolState<P, C> {
         if !self.has_turn(*place) {
             return match self.stand(place) {
                 Some(slot) => {
-                    let ordered = self.order(now, tally);
+                    let ordered = self.pay(now, tally);
                     (Look::Stands(slot), ToWake::workers_if(ordered))
                 }
                 None => (Look::Full, ToWake::nobody()),
             };
         }
         let (taken, ordered) = self.take(now, *place, tally);
-        let mut to_wake = if keeps_place { ToWake::nobody() } else { self.leave(place) };
+        let mut to_wake = if keeps_place {
+            ToWake::nobody()
+        } else {
+            self.leave(place)
+        };
         let paid = self.pay(now, tally);
         to_wake.workers = ordered || paid;
         match taken {
@@ -265,23 +277,7 @@ impl<P: Drop, C: TakeCounter> PoolState<P, C> {
         }
     }
 
-    // One who stands in line orders one; where something is idle, kept for others, it is owed.
-    // Whether something was ordered, as of those that follow.
-    fn order(&mut self, now: Duration, tally: &mut C::Tally) -> bool
-        requires { 0 < C.parts tally.old }
-        ensures book { self.new.book ≡ book_paid (as_nanos now) (waiting_in self.old.places)
-            (one_more_owed self.old.owed) self.old.book }
-        ensures owed { self.new.owed ≡ still_owed (one_more_owed self.old.owed) self.old.book }
-        ensures ordered { result ≡ has_ordered self.old.book self.new.book }
-        ensures parts { C.parts tally.new ≡ C.parts tally.old }
-        ensures amount { C.amount tally.new ≡ C.amount tally.old }
-        ensures same { self.new ≡ record self.old { book = self.new.book; owed = self.new.owed } }
-    {
-        self.owed = self.owed.saturating_add(1);
-        self.pay(now, tally)
-    }
-
-    // Where nothing is idle, orders what is owed, for as many as wait.
+    // Where nothing is idle, orders what is owed, for as many as wait. Whether something was ordered.
     fn pay(&mut self, now: Duration, tally: &mut C::Tally) -> bool
         requires { 0 < C.parts tally.old }
         ensures book { self.new.book ≡ book_paid (as_nanos now) (waiting_in self.old.places)
@@ -298,12 +294,12 @@ impl<P: Drop, C: TakeCounter> PoolState<P, C> {
             return false;
         }
         let owed = self.in_line().min(self.owed as usize);
-        self.owed = 0;
         let mut ordered = false;
         for _ in 0..owed {
             let one = self.order_one(now, tally);
             ordered = ordered || one;
         }
+        self.owed = 0;
         ordered
     }
 

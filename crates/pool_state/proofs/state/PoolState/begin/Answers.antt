@@ -9,5 +9,5 @@ invariant_of-self g c =
     let state = c.self.inside in
     let p = state.book.book.picture in
     let q = c.begin.new.self.book.picture in
-    kept_quiet p q (places_in state.line.ring) state.waiting c.self.invariant (none_more_begun c.args.now c.begin.result p q c.begin.ensures.step.of_core)
+    kept_quiet p q (places_in state.line.ring) state.owed state.waiting c.self.invariant (none_more_begun c.args.now c.begin.result p q c.begin.ensures.step.of_core)
     (goes_begin c.args.now c.begin.result p q c.begin.ensures.step.of_core)

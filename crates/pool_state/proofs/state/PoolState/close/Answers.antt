@@ -1,6 +1,8 @@
+use Rattle.std.proofs.Common.{ap}
+use Rattle.r2d2_core.specs.Picture.{Picture}
 use Rattle.pool_state.specs.Ring.{places_in}
 use Rattle.pool_state.proofs.Lined.{none_more_closed}
-use Rattle.pool_state.proofs.Guarded.{kept_woken}
+use Rattle.pool_state.proofs.Guarded.{kept_woken, none_lost-closed}
 use Rattle.pool_state.proofs.state.PoolState.close.Goals as goal
 
 pub invariant_of-self : goal.invariant_of-self
@@ -8,5 +10,5 @@ invariant_of-self g c =
     let state = c.self.inside in
     let p = state.book.book.picture in
     let q = c.close.new.self.book.picture in
-    kept_woken p q (places_in state.line.ring) state.waiting c.wake_all.new.self c.self.invariant (none_more_closed _ p q c.close.ensures.step.of_core)
-    c.wake_all.ensures
+    kept_woken p q (places_in state.line.ring) state.owed state.waiting c.wake_all.new.self c.self.invariant (none_more_closed _ p q c.close.ensures.step.of_core)
+    (none_lost-closed q (places_in state.line.ring) state.owed (ap (λ (s : Picture _). s.on_order.closed) c.close.ensures.step.of_core.after)) c.wake_all.ensures

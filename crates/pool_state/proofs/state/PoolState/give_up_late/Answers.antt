@@ -9,6 +9,7 @@ invariant_of-self g c =
     let sent = c.wake_if-to_wake in
     record {
       told = c.self.invariant.told;
+      in_line = c.self.invariant.in_line;
       none_lost = none_lost true sent.result state.waiting sent.new.self p p (unchanged true p) c.self.invariant.none_lost sent.ensures.sent sent.ensures.within sent.ensures.waits;
       others = none_sleeps_due state.waiting sent.new.self p sent.ensures.sleepers;
     }

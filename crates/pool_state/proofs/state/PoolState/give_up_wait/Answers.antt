@@ -8,6 +8,7 @@ invariant_of-self g c =
     let sent = c.wake_if-to_wake in
     record {
       told = c.self.invariant.told;
+      in_line = c.self.invariant.in_line;
       none_lost = gave_up p state.waiting _ sent.new.self sent.result c.self.invariant.none_lost c.end.ensures sent.ensures.sent sent.ensures.within sent.ensures.waits;
       others = none_sleeps_due _ sent.new.self p sent.ensures.sleepers;
     }

@@ -3,7 +3,8 @@ use Rattle.pool_state.specs.Ring.{places_in}
 use Rattle.pool_state.specs.declared.line.place.Place.{Place}
 use Rattle.pool_state.specs.Waiting.{AreTold, told_if, told_at, without}
 use Rattle.pool_state.proofs.Lined.{left_told}
-use Rattle.pool_state.proofs.Guarded.{kept_told}
+use Rattle.pool_state.specs.Guarded.{NoneInLineIsLost}
+use Rattle.pool_state.proofs.Guarded.{kept_told, none_lost-left}
 use Rattle.pool_state.specs.Order.{Event, Left, IsHistoryOf, with_told, with_leave}
 use Rattle.pool_state.proofs.state.PoolState.leave.Goals as goal
 
@@ -16,8 +17,11 @@ invariant_of-self g c =
     let P : List Place → Type 0 = λ qs. AreTold idle qs in
     let now : places_in c.tell_if.new.self.ring ≡ told_if (told_at s ps) (without s ps) =
     c.tell_if.ensures.places ∙ (ap (told_if left.result) left.ensures.places ∙ ap (λ b. told_if b (without s ps)) left.ensures.told) in
-    kept_told c.self.inside.book.book.picture ps (places_in c.tell_if.new.self.ring) c.self.inside.waiting c.self.invariant
-    (subst P (sym now) (left_told idle s ps c.self.invariant.told))
+    let p = c.self.inside.book.book.picture in
+    let owed = c.self.inside.owed in
+    let Q : List Place → Type 0 = λ qs. NoneInLineIsLost p qs owed in
+    kept_told p ps (places_in c.tell_if.new.self.ring) owed owed c.self.inside.waiting c.self.invariant
+    (subst P (sym now) (left_told idle s ps c.self.invariant.told)) (subst Q (sym now) (none_lost-left p ps owed s c.self.invariant.in_line))
 
 pub returns-clause-history : goal.returns-clause-history
 returns-clause-history g c =

@@ -4,7 +4,7 @@ use Rattle.pool_state.specs.declared.waiters.Waiters.{Waiters}
 use Rattle.pool_state.specs.Waits.{IsTokenOf, waiting_if, one_if, IsLook}
 use Rattle.r2d2_core.specs.Picture.{IsSound}
 use Rattle.pool_state.specs.Ring.{places_in}
-use Rattle.pool_state.proofs.Guarded.{turned, looked_by}
+use Rattle.pool_state.proofs.Guarded.{turned, looked_by, in_line}
 use Rattle.pool_state.proofs.Lined.{still_told, one_taken}
 use Rattle.pool_state.proofs.Waits.{looked, others_sleep_quiet, goes_take, noted_token, woken_as_before, sleep_as_before}
 use Rattle.pool_state.proofs.state.PoolState.look.Goals as goal
@@ -22,8 +22,10 @@ invariant_of-self g c =
     (c.is_closed-closed.ensures.value ∙ ap (λ (b : SeenBook _). b.picture.on_order.closed) c.book.ensures.value) in
     let v = old.waiting in
     let w = waits.new.self in
+    let less = one_taken c.args.now true step.result.0 p q step.ensures.step.of_core in
     record {
-      told = let less = one_taken c.args.now true step.result.0 p q step.ensures.step.of_core in still_told (length p.idle) (length q.idle) (places_in old.line.ring) c.self.invariant.told (omega (arith, less));
+      told = still_told (length p.idle) (length q.idle) (places_in old.line.ring) c.self.invariant.told (omega (arith, less));
+      in_line = in_line p q (places_in old.line.ring) old.owed old.waiting c.self.invariant (omega (arith, less)) (goes_take c.args.now true step.result.0 p q step.ensures.step.of_core);
       none_lost = woken_as_before q v w v.woken waits.ensures.rest refl
           (looked c.args.now step.result.0 p q turn v.callers w.callers v.woken step.ensures.step.of_core sound is c.self.invariant.none_lost
           (omega (arith, waits.ensures.at_most, ap one_if c.waits.ensures)) waits.ensures.at_least);

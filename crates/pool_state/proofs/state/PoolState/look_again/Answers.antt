@@ -4,7 +4,7 @@ use Rattle.r2d2_core.specs.Picture.{IsSound}
 use Rattle.pool_state.specs.declared.waiters.Waiters.{Waiters}
 use Rattle.pool_state.specs.Waits.{OthersSleep, one_if, IsLook}
 use Rattle.pool_state.specs.Ring.{places_in}
-use Rattle.pool_state.proofs.Guarded.{turned, looked_by}
+use Rattle.pool_state.proofs.Guarded.{turned, looked_by, in_line}
 use Rattle.pool_state.proofs.Lined.{still_told, one_taken}
 use Rattle.pool_state.proofs.Waits.{looked_again, others_sleep_quiet, goes_take, woken_as_before, sleep_as_before}
 use Rattle.pool_state.proofs.state.PoolState.look_again.Goals as goal
@@ -25,8 +25,10 @@ invariant_of-self g c =
     let less = ap (λ (x : Waiters). x.callers) c.end.ensures in
     let taken = ap (λ (x : Waiters). x.woken) c.end.ensures in
     let before = others_sleep_quiet old.waiting.maker_sleeps old.waiting.drain_sleeps p q (goes_take c.args.now true step.result.0 p q step.ensures.step.of_core) c.self.invariant.others in
+    let fewer = one_taken c.args.now true step.result.0 p q step.ensures.step.of_core in
     record {
-      told = let less = one_taken c.args.now true step.result.0 p q step.ensures.step.of_core in still_told (length p.idle) (length q.idle) (places_in old.line.ring) c.self.invariant.told (omega (arith, less));
+      told = still_told (length p.idle) (length q.idle) (places_in old.line.ring) c.self.invariant.told (omega (arith, fewer));
+      in_line = in_line p q (places_in old.line.ring) old.owed old.waiting c.self.invariant (omega (arith, fewer)) (goes_take c.args.now true step.result.0 p q step.ensures.step.of_core);
       none_lost = woken_as_before q v w (old.waiting.woken - 1) waits.ensures.rest taken
           (looked_again c.args.now step.result.0 p q turn old.waiting.callers w.callers old.waiting.woken step.ensures.step.of_core sound is c.self.invariant.none_lost
           (omega (arith, waits.ensures.at_most, ap one_if c.waits.ensures, less)) (omega (arith, waits.ensures.at_least, less)));

@@ -17,7 +17,7 @@ invariant_of-self g c =
     let p = state.book.book.picture in
     let q = step.new.self.book.picture in
     let less = one_taken c.args.now false step.result.0 p q step.ensures.step.of_core in
-    kept_quiet p q (places_in state.line.ring) state.waiting c.self.invariant (omega (arith, less)) (goes_take c.args.now false step.result.0 p q step.ensures.step.of_core)
+    kept_quiet p q (places_in state.line.ring) state.owed state.waiting c.self.invariant (omega (arith, less)) (goes_take c.args.now false step.result.0 p q step.ensures.step.of_core)
 
 pub returns-clause-history : goal.returns-clause-history
 returns-clause-history g c =

@@ -9,5 +9,5 @@ invariant_of-self g c =
     let state = c.self.inside in
     let p = state.book.book.picture in
     let q = c.number.new.self.book.picture in
-    kept_quiet p q (places_in state.line.ring) state.waiting c.self.invariant (none_more_numbered c.args.tries c.number.result p q c.number.ensures.step.of_core)
+    kept_quiet p q (places_in state.line.ring) state.owed state.waiting c.self.invariant (none_more_numbered c.args.tries c.number.result p q c.number.ensures.step.of_core)
     (goes_number c.args.tries c.number.result p q c.number.ensures.step.of_core)

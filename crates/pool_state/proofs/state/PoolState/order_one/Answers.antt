@@ -12,7 +12,7 @@ invariant_of-self g c =
     let old = c.self.inside.book.book.picture in
     let new = c.lend-empty.new.self.book.picture in
     let less = one_taken c.args.now true c.lend-empty.result.0 old new c.lend-empty.ensures.step.of_core in
-    kept_quiet old new ps c.self.inside.waiting c.self.invariant (omega (arith, less))
+    kept_quiet old new ps c.self.inside.owed c.self.inside.waiting c.self.invariant (omega (arith, less))
     (goes_take c.args.now true c.lend-empty.result.0 old new c.lend-empty.ensures.step.of_core)
 
 pub returns-clause-none : goal.returns-clause-none

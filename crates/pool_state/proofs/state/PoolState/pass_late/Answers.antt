@@ -6,7 +6,8 @@ use Rattle.pool_state.specs.declared.line.place.Standing.TheVariants.{Aside}
 use Rattle.pool_state.specs.Waiting.{AreTold, told_first, with_standing, first_quiet, first_late, told_instead}
 use Rattle.pool_state.specs.Order.{Event, Passed, IsHistoryOf, with_told, with_pass}
 use Rattle.pool_state.proofs.Order.{late_in}
-use Rattle.pool_state.proofs.Guarded.{kept_told}
+use Rattle.pool_state.specs.Guarded.{NoneInLineIsLost}
+use Rattle.pool_state.proofs.Guarded.{kept_told, none_lost-passed}
 use Rattle.pool_state.proofs.Waiting.{kept_passed}
 use Rattle.pool_state.specs.Search.{IsSearch, IsLateSearch, AreSearches}
 use Rattle.pool_state.proofs.Searches.{late_search_told, late_search_passed, search_passed}
@@ -29,8 +30,11 @@ invariant_of-self g c =
     let s = c.in_ok-slot.slot in
     let P : List Place → Type 0 = λ qs. AreTold idle qs in
     let now : places_in c.tell_next-told.new.self.ring ≡ told_first (with_standing s Aside ps) = c.tell_next-told.ensures.places ∙ ap told_first c.pass.ensures.places in
-    kept_told c.self.inside.book.book.picture ps (places_in c.tell_next-told.new.self.ring) c.self.inside.waiting c.self.invariant
-    (subst P (sym now) (kept_passed idle s ps c.self.invariant.told))
+    let p = c.self.inside.book.book.picture in
+    let owed = c.self.inside.owed in
+    let Q : List Place → Type 0 = λ qs. NoneInLineIsLost p qs owed in
+    kept_told p ps (places_in c.tell_next-told.new.self.ring) owed owed c.self.inside.waiting c.self.invariant
+    (subst P (sym now) (kept_passed idle s ps c.self.invariant.told)) (subst Q (sym now) (none_lost-passed p ps owed s c.self.invariant.in_line))
 
 pub returns-clause-history : goal.returns-clause-history
 returns-clause-history g c =

@@ -10,7 +10,7 @@ invariant-loop g l = record {
   book : l.self.book ≡ book_asked (as_nanos l.now) l.counter l.fn.self.book;
   more : l.fn.self.book.picture.on_order.pending ≤ l.self.book.picture.on_order.pending;
   ordered : l.ordered ≡ has_ordered l.fn.self.book l.self.book;
-  same : l.self ≡ record l.fn.self { book = l.self.book; owed = 0 };
+  same : l.self ≡ record l.fn.self { book = l.self.book };
   parts : g.C.TakeCounter.parts l.tally ≡ g.C.TakeCounter.parts l.fn.tally;
   amount : g.C.TakeCounter.amount l.tally ≡ g.C.TakeCounter.amount l.fn.tally;
 }

@@ -39,6 +39,7 @@ loop-released-preserved g c =
       limits = c.evict_next.ensures.limits;
       next_id = c.evict_next.ensures.next_id;
       closed = c.evict_next.ensures.closed;
+      pending = c.evict_next.ensures.pending;
       last_error = c.evict_next.ensures.last_error;
     } in
     let v = goes_on t p q s (map seen_released c.loop-released.out.items) (seen_released c.in-Some.released) c.in-Some.ensures.released
@@ -74,6 +75,7 @@ returns-clause-comes_to g c =
       limits = c.evict_next.ensures.limits;
       next_id = c.evict_next.ensures.next_id;
       closed = c.evict_next.ensures.closed;
+      pending = c.evict_next.ensures.pending;
       last_error = c.evict_next.ensures.last_error;
     } in
     evicted t c.args.self.now.book.picture q s (map seen_released c.loop-released.out.items)

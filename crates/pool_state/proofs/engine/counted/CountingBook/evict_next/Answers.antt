@@ -2,6 +2,7 @@ use Rattle.std.proofs.Common.{◌-◌, max, false, Ok, sym, ◌∙◌, ap}
 use Rattle.std.specs.Duration.{as_nanos}
 use Rattle.r2d2_core.specs.Seen.{seen_take, seen_returned, map_ok}
 use Rattle.pool_state.proofs.Evicting.{next, idle_of_none, lent_after, closing, lent_then, released_next, never_refused, same_age, same_value, latest_after, taken_is, broken_is, one_went, none_went}
+use Rattle.pool_state.proofs.Waits.{more_pending_taken, more_pending}
 use Rattle.pool_state.proofs.engine.counted.CountingBook.evict_next.Goals as goal
 
 pub returns-in_default-clause-idle : goal.returns-in_default-clause-idle
@@ -76,3 +77,14 @@ returns-clause-after g c =
     let taken = taken_is t false b q _ lending.of_core.answer lending.of_core.after lending.noted in
     let came = broken_is t c.in-Found.id c.in-Found.value q back.new.self.book _ returning.of_core.answer returning.of_core.after returning.noted in
     one_went t c.in-Found.id (as_nanos c.in-Found.birth) c.in-Found.value b q back.new.self.book n taken came
+
+pub returns-in_default-clause-pending : goal.returns-in_default-clause-pending
+returns-in_default-clause-pending g c =
+    more_pending_taken c.args.now c.lend-taken.result.0 c.args.self.now.book.picture c.lend-taken.new.self.book.picture c.lend-taken.ensures.step.of_core
+
+pub returns-clause-pending : goal.returns-clause-pending
+returns-clause-pending g c =
+    let taken = c.lend-taken in
+    let back = c.give_back-answer in
+    more_pending c.args.now c.in-Found.id c.in-Found.value taken.result.0 back.result.0 c.args.self.now.book.picture taken.new.self.book.picture back.new.self.book.picture
+    taken.ensures.step.of_core back.ensures.step.of_core
