@@ -465,16 +465,8 @@ def of_crates():
 
 
 def chosen_of(crate, bodies, is_known, given):
-    """All of a crate's, or some: of one that wrong/tried knows, and in the gate of each, which fails for one that it lacks."""
-    is_drawn = is_known or given.proved
-    return drawn(bodies, given.seed or commit(), form.Crates(TOP)) if is_drawn and not given.all else bodies
-
-
-def without_receipt(crates):
-    """How many crates' bodies nobody tried as they are now; each is told by its name."""
-    for crate in crates:
-        print(f"{crate}: NOT TRIED as it is now: `tools/wrong/try prover --all {crate}` tries each body, and notes it in wrong/tried", flush=True)
-    return len(crates)
+    """All of a crate's, or some: of one that wrong/tried knows as it is."""
+    return drawn(bodies, given.seed or commit(), form.Crates(TOP)) if is_known and not given.all else bodies
 
 
 def try_all(given):
@@ -482,10 +474,9 @@ def try_all(given):
     repository, all_bodies = Repository(), of_crates()
     # (sums of what is tried: files may change while that goes on)
     sums = {crate: (repository.sum_of(crate, version(), mine), version()) for crate, mine in all_bodies.items()}
-    known, chosen, changed = tried(), {}, []
+    known, chosen = tried(), {}
     for crate in given.names or all_bodies:
         is_known = (crate, *sums[crate]) in known
-        changed += [] if is_known or given.all else [crate]
         chosen[crate] = chosen_of(crate, all_bodies[crate], is_known, given)
         print(f"{crate}: {len(chosen[crate])} bodies; it is {'as' if is_known else 'not as'} wrong/tried says", flush=True)
     # (the longest first)
@@ -506,4 +497,4 @@ def try_all(given):
     if given.all:
         renew(sums, {(it, *sums[it]) for it in crates if not failed[it]}, [it for it in crates if failed[it]])
     bad = sum(failed.values())
-    return sum(map(len, chosen.values())) - bad, bad + (without_receipt(changed) if given.proved else 0)
+    return sum(map(len, chosen.values())) - bad, bad
