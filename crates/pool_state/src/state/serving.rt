@@ -7,7 +7,7 @@ ghost use Rattle.r2d2_core.specs.BookSteps.{IsTake};
 ghost use Rattle.r2d2_core.specs.Seen.{seen_take};
 ghost use Rattle.pool_state.specs.Order.{Event, IsHistoryOf, IsPlaceIn, with_told, with_take};
 ghost use Rattle.pool_state.specs.Order.{with_wait, with_leave, with_pass, with_look};
-ghost use Rattle.pool_state.specs.Search.{AreSearches};
+ghost use Rattle.pool_state.specs.Search.{StopsAt, AreSearches};
 ghost use Rattle.pool_state.specs.Waiting.{waiting_in, before, stood_by, served, left_by, told_by};
 ghost use Rattle.pool_state.specs.Waiting.{is_kept, told_at, first_late, pass_first};
 ghost use Rattle.pool_state.specs.Waiting.{told_instead};
@@ -133,6 +133,10 @@ impl<P, C: TakeTotal> PoolState<P, C> {
     ) -> Option<ToWake>
         requires { AreSearches (as_nanos now) ends.now search.old self.old.places }
         ensures search { AreSearches (as_nanos now) ends.now search.new self.new.places }
+        ensures late { IfSome (first_late (as_nanos now) ends.now self.old.places)
+            (λ slot. search.new.late.at ≡ slot) }
+        ensures quiet { IfSome result
+            (λ to_wake. StopsAt to_wake.told search.new.quiet self.new.places) }
         ensures whether { is_some result
             ≡ is_some (first_late (as_nanos now) ends.now self.old.places) }
         ensures line { self.new.places ≡ pass_first (as_nanos now) ends.now self.old.places }
