@@ -61,6 +61,7 @@ fn both_lent() -> Status {
         idle: 0,
         lent: 2,
         opening: 0,
+        workers: None,
         waiting: 3,
         waiting_since: Some(Duration::from_millis(2)),
         failed_openings: 4,

@@ -16,6 +16,7 @@ pub(crate) fn reading(pool: &str, snapshot: Snapshot) -> Reading<'_> {
         idle: 2,
         lent: 1,
         opening: 2,
+        workers: None,
         waiting: 7,
         waiting_since: Some(Duration::from_secs(8)),
         failed_openings: 48,

@@ -193,6 +193,16 @@ fn texts_of_errors(rt: HostRuntime) -> Result<(), Fail> {
     })
 }
 
+// Who gives up is told that no worker runs, or nothing where that text finds no memory.
+#[test]
+fn the_text_that_no_worker_runs(rt: HostRuntime) -> Result<(), Fail> {
+    on_pools(rt, &[Kind::Polled], SMALL.workers(0), |_, pool| {
+        let error = pool.gives_up(50)?;
+        assert!(rt; error.message().is_none_or(|text| text.starts_with("no worker is running")));
+        equal(pool.status().timeouts, 1)
+    })
+}
+
 /// What is kept beside a connection, under its tag.
 #[derive(Debug, PartialEq, Drop)]
 struct Tagged {

@@ -32,4 +32,5 @@ mod telling;
 mod trying;
 mod turns;
 mod waking;
+mod workers;
 mod world;

@@ -108,6 +108,7 @@ fn in_status(status: Status, name: &str) -> Option<Option<u64>> {
     Some(Some(match name {
         "since" => return Some(status.waiting_since.map(milliseconds)),
         "latest" => return Some(status.latest_failure.map(milliseconds)),
+        "workers" => return Some(status.workers.map(u64::from)),
         "max_size" => u64::from(status.max_size),
         "wanted" => u64::from(status.wanted),
         "connections" => u64::from(status.connections),

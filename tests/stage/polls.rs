@@ -38,6 +38,36 @@ fn what_was_opened_comes_before_the_end_of_its_time(rt: HostRuntime) -> Result<(
     on_text(rt, &BY_HAND, SMALL, row)
 }
 
+// It was made a second earlier. However often it is polled, it asks for one sleep.
+#[test]
+fn a_call_has_its_whole_time_from_its_first_poll_on(rt: HostRuntime) -> Result<(), Fail> {
+    on_play(rt, &BY_HAND, SMALL, |mut play| {
+        play.run("get a")?;
+        let begun = play.world.sleeps_begun();
+        play.run("come p=70; pass 1000; pending p; is slept=70; pass 69; pending p p; asleep p")?;
+        play.run("pass 1; woken p; late p; with waited=70")?;
+        equal(play.world.sleeps_begun(), begun + 1)
+    })
+}
+
+// Its check ends at once. One has no time, and one comes to a pool that is closed.
+#[test]
+fn who_does_not_wait_asks_for_no_sleep(rt: HostRuntime) -> Result<(), Fail> {
+    on_play(rt, &BY_HAND, full(1).checked(), |mut play| {
+        let begun = play.world.sleeps_begun();
+        play.run("use; get a; ask p=0; late p; with waited=0; back a; close; ask q; closed q")?;
+        equal(play.world.sleeps_begun(), begun)
+    })
+}
+
+// The first of two checks takes 5 s of its first poll, and fails. It sleeps for the last second.
+#[test]
+fn a_check_leaves_what_is_left(rt: HostRuntime) -> Result<(), Fail> {
+    let row = "connects ~+*; checks 5-~+; ask p=6000; is slept=1000; pass 999; waits p; pass 1
+        late p; with waited=6000";
+    on_text(rt, &BY_HAND, full(2).checked(), row)
+}
+
 // Seven give up, the last one first, and the eighth is dropped.
 #[test]
 fn who_is_dropped_is_not_counted_among_those_who_gave_up(rt: HostRuntime) -> Result<(), Fail> {

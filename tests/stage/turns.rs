@@ -3,20 +3,30 @@
 
 use crate::rows::*;
 
-/// How often a connection comes back while somebody waits for it.
-const ROUNDS: u64 = 20;
+/// So often a connection comes back while somebody waits for it, at most, and so often one of them is
+/// to come first: on a busy machine a thread may lose its processor at any point.
+const ROUNDS: u64 = 100;
+
+const ENOUGH: u64 = 5;
 
 /// So often a `get` that finds one idle reads the clock: as it begins, takes it, and tells of that.
 const USUAL: u64 = 3;
 
-// How often one that waits comes before this thread, which returns and asks again. So many
-// nanoseconds pass before each return.
-fn before_who_returns<R: Host>(
+/// Who is to come first: the one that waits, or this thread, which returns and asks again.
+#[derive(Clone, Copy, PartialEq)]
+enum First {
+    Waiter,
+    Returner,
+}
+
+// Whether one of them comes first, often enough. So many nanoseconds pass before each return.
+fn comes_first<R: Host>(
     rt: R,
     world: &World,
     pool: &Pool<R>,
+    first: First,
     nanoseconds: u64,
-) -> Result<u64, Fail> {
+) -> Result<bool, Fail> {
     let (mut lent, mut count) = (pool.get()?, 0);
     for round in 1..=ROUNDS {
         let waits = pool.aside(move |calls| {
@@ -28,29 +38,41 @@ fn before_who_returns<R: Host>(
         world.pass_nanoseconds(nanoseconds);
         drop(lent);
         lent = pool.get_within(LONG)?;
-        count += u64::from(lent.mark() == round);
+        let was_used = lent.mark() == round;
+        count += u64::from(was_used == (first == First::Waiter));
         drop(lent);
         waits.join(&rt);
+        if count == ENOUGH {
+            return Ok(true);
+        }
         lent = pool.get_within(LONG)?;
     }
-    Ok(count)
+    Ok(false)
+}
+
+// Whether a `try_get` finds what this thread returned, before the one that waits takes it, often
+// enough.
+fn tries_first<R: Host>(world: &World, pool: &Pool<R>) -> Result<bool, Fail> {
+    let (mut lent, mut count) = (pool.get()?, 0);
+    for _ in 0..ROUNDS {
+        let waits = pool.begin(LONG)?;
+        world.pass_nanoseconds(3_500_000);
+        drop(lent);
+        count += u64::from(pool.try_get()?.is_some());
+        lent = pool.end(waits)??;
+        if count == ENOUGH {
+            return Ok(true);
+        }
+    }
+    Ok(false)
 }
 
 // But a `try_get` gives way to nobody.
 #[test]
 fn one_that_waits_comes_before_who_returns_and_asks_again(rt: HostRuntime) -> Result<(), Fail> {
     on_pools(rt, &OUT_OF_LINE, SMALL, |world, pool| {
-        let count = before_who_returns(rt, world, &pool, 3_500_000)?;
-        assert!(rt; count >= ROUNDS / 4, "{count}");
-        let (mut lent, mut count) = (pool.get()?, 0);
-        for _ in 0..ROUNDS {
-            let waits = pool.begin(LONG)?;
-            world.pass_nanoseconds(3_500_000);
-            drop(lent);
-            count += u64::from(pool.try_get()?.is_some());
-            lent = pool.end(waits)??;
-        }
-        assert!(rt; count >= ROUNDS / 4, "{count}");
+        assert!(rt; comes_first(rt, world, &pool, First::Waiter, 3_500_000)?);
+        assert!(rt; tries_first(world, &pool)?);
         Ok(())
     })
 }
@@ -60,9 +82,7 @@ fn one_that_waits_comes_before_who_returns_and_asks_again(rt: HostRuntime) -> Re
 fn no_turn_is_given_at_the_moment_of_another(rt: HostRuntime) -> Result<(), Fail> {
     on_pools(rt, &OUT_OF_LINE, SMALL, |world, pool| {
         world.pass_nanoseconds(500_000);
-        let count = before_who_returns(rt, world, &pool, 0)?;
-        // On a busy machine this thread may lose its processor before it asks again.
-        assert!(rt; count <= ROUNDS * 3 / 4, "{count}");
+        assert!(rt; comes_first(rt, world, &pool, First::Returner, 0)?);
         Ok(())
     })
 }

@@ -15,7 +15,8 @@ use std::test::Fail;
 use std::time::Duration;
 use std::{fmt, io};
 
-/// A sleep of so many ticks, or of more, never ends.
+/// A call with so many ticks has all the time there is. A sleep of half as many, or of more, never
+/// ends: it is what is left of a call's time, which the polls of other threads shorten.
 const NEVER: u64 = 3_600_000;
 
 /// The milliseconds of a tick: so a reap is due each 200 ticks.
@@ -165,7 +166,7 @@ impl Timer for World {
     type Sleep = Nap;
 
     fn sleep(&self, length: Duration) -> Nap {
-        if length >= ticks(NEVER) {
+        if length >= ticks(NEVER / 2) {
             return Nap::Never(pending());
         }
         let now = self.count(Count::Ticks);

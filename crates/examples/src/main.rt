@@ -8,14 +8,12 @@ mod choices;
 mod handlers;
 mod journal;
 mod kept;
-mod one_thread;
 mod pool_uses;
 mod rounds;
 mod service;
 mod settings;
 mod starting;
 mod stories;
-mod task_service;
 mod watched_service;
 
 use r2d2::{Builder, ManageConnection, PlainPool, PoolRuntime};
@@ -79,7 +77,6 @@ fn main(rt: HostRuntime) -> Result<ExitCode, anyhow::Error> {
         println!(rt; "{served} threads found a connection")?;
         println!(rt; "{state:?}")?;
         use_pools(rt)?;
-        task_service::served(rt)?;
     }
     watched_service::served(
         rt,

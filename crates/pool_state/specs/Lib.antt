@@ -1,4 +1,5 @@
 pub mod Tuning
+pub mod Checks
 pub mod Reasons
 pub mod Room
 pub mod Failed

@@ -1,6 +1,6 @@
 // What the lock of a pool guards, and how it is read.
 ghost use Rattle.std.specs.Prelude.{◌≡◌, ◌≤◌, ◌<◌, ◌+◌, ◌-◌, ◌↔◌, [], min, length};
-ghost use Rattle.std.specs.Prelude.{IfOk, IsTrue, false};
+ghost use Rattle.std.specs.Prelude.{IfOk, IsTrue, false, None};
 ghost use Rattle.std.specs.Duration.{as_nanos, max_nanos};
 ghost use Rattle.r2d2_core.specs.Reports.{IsSoundReport};
 ghost use Rattle.pool_state.specs.Waits.{count_of};
@@ -119,6 +119,7 @@ impl<P, C: TakeTotal> PoolState<P, C> {
         ensures idle { result.idle ≡ length self.now.book.picture.idle }
         ensures lent { result.lent ≡ length self.now.book.picture.lent }
         ensures opening { result.opening ≡ self.now.book.picture.on_order.pending }
+        ensures workers { result.workers ≡ None }
         ensures waiting { result.waiting ≡ all_who_wait (count_of self.now.waiting)
             self.now.places }
         ensures since { result.waiting_since

@@ -1,5 +1,5 @@
 // The counts of a pool.
-ghost use Rattle.std.specs.Prelude.{◌≡◌, ◌≤◌, length};
+ghost use Rattle.std.specs.Prelude.{◌≡◌, ◌≤◌, None, length};
 ghost use Rattle.r2d2_core.specs.Limits.{wanted_of};
 
 use crate::failures::Failures;
@@ -49,6 +49,9 @@ pub struct Status {
     /// How many are ordered and not there yet, those among them that failed and will be tried
     /// again.
     pub opening: u32,
+    /// How many workers of a pool for tasks are at work: those that were polled, and neither ended
+    /// nor were dropped. None for a pool of threads, which starts its own.
+    pub workers: Option<u32>,
     /// How many callers wait, for a connection or in a `drain`.
     pub waiting: u64,
     /// Since this moment there has been a caller waiting, without a break; None where nobody waits.
@@ -74,6 +77,18 @@ impl Status {
     ghost use Rattle.pool_state.specs.Since.{since_if};
     ghost use Rattle.pool_state.specs.Status.{IsStatus};
 
+    /// What r2d2 shows of it.
+    pub fn state(&self) -> State
+        ensures connections { result.connections ≡ self.now.connections }
+        ensures idle { result.idle_connections ≡ self.now.idle }
+    {
+        State {
+            connections: self.connections,
+            idle_connections: self.idle,
+            of_a_pool: (),
+        }
+    }
+
     // What the book shows, with so many callers who wait, since when somebody does if so, and what
     // failed.
     pub fn of<P>(book: &Book<P>, waiting: u64, since: Duration, failures: &Failures) -> Status
@@ -83,6 +98,7 @@ impl Status {
         ensures idle { result.idle ≡ length book.now.picture.idle }
         ensures lent { result.lent ≡ length book.now.picture.lent }
         ensures opening { result.opening ≡ book.now.picture.on_order.pending }
+        ensures workers { result.workers ≡ None }
         ensures waiting { result.waiting ≡ waiting }
         ensures since { result.waiting_since ≡ since_if waiting since }
         ensures openings { result.failed_openings ≡ failures.now.openings }
@@ -101,6 +117,7 @@ impl Status {
             idle,
             lent: connections - idle,
             opening: book.pending(),
+            workers: None,
             waiting,
             waiting_since: (waiting > 0).then_some(since),
             failed_openings: failures.openings,

@@ -1,6 +1,6 @@
 // The settings that r2d2 has not, each off by default: what a pool does in an outage, how the
 // lifetimes of its connections differ, and how many callers wait.
-ghost use Rattle.std.specs.Prelude.{◌≡◌, ◌≤◌, ◌<◌, ◌-◌, ◌*◌, ◌↔◌, ◌||◌, min, is_some};
+ghost use Rattle.std.specs.Prelude.{◌≡◌, ◌≤◌, ◌<◌, ◌-◌, ◌*◌, ◌||◌, min, is_some, option_map};
 ghost use Rattle.std.specs.Prelude.{MatchOption, if◌then◌else◌};
 ghost use Rattle.std.specs.Option.{ForSome};
 ghost use Rattle.std.specs.Duration.{as_nanos, max_nanos};
@@ -31,6 +31,7 @@ pub struct Tuning {
 impl Tuning {
     ghost use Rattle.std.specs.Prelude.{IsTrue, IsFalse, IsSome, IfSome};
     ghost use Rattle.std.specs.Option.{IsNone};
+    ghost use Rattle.pool_state.specs.Checks.{is_check_due};
     ghost use Rattle.pool_state.specs.Tuning.{IsOff, room_in_line};
 
     /// Each is off.
@@ -96,13 +97,8 @@ impl Tuning {
     /// Whether what is idle since this moment is idle for long enough to be checked. A clock that
     /// went back tells nothing: then it is.
     pub fn is_check_due(&self, idle_since: Option<Duration>, now: Duration) -> bool
-        ensures always { IsNone self.now.test_if_idle_for → IsTrue result }
-        ensures unknown { IsNone idle_since → IsTrue result }
-        ensures went_back { IfSome idle_since
-            (λ since. as_nanos now < as_nanos since → IsTrue result) }
-        ensures after { IfSome idle_since (λ since. as_nanos since ≤ as_nanos now
-            → IfSome self.now.test_if_idle_for
-            (λ least. IsTrue result ↔ (as_nanos least ≤ as_nanos now - as_nanos since))) }
+        ensures { result ≡ is_check_due self.now.test_if_idle_for (option_map as_nanos idle_since)
+            (as_nanos now) }
     {
         let (Some(least), Some(since)) = (self.test_if_idle_for, idle_since) else {
             return true;

@@ -7,8 +7,8 @@ use Rattle.r2d2.specs.declared.error.ErrorKind.TheVariants.{Timeout, Memory, Thr
 use Rattle.r2d2.specs.declared.error.ErrorKind.TheVariants.{QueueFull}
 
 -- what a contract sees of an error: why the call failed, and the bytes of the latest error of an
--- opening or a check, where one is known; of a call that gave up, what the pool showed then, how long
--- it had waited, and how many waited before it in line
+-- opening or a check, where one is known, or of why none is opened; of a call that gave up, what the
+-- pool showed then, how long it had waited, and how many waited before it in line
 pub record Failure : Type 0 where
   pub kind : ErrorKind
   pub message : Option (List ℕ)

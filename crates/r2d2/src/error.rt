@@ -27,9 +27,9 @@ pub enum ErrorKind {
 }
 
 /// Why a call failed, and for a timeout the latest error of an opening or a check, where one is
-/// known. It displays as `timed out waiting for connection`, then `: ` and that text; as `out of
-/// memory`; as `a worker could not be started`; as `the pool is closed`; or as `too many callers
-/// are waiting`.
+/// known, or else that no worker of a pool for tasks is running, where none is. It displays as
+/// `timed out waiting for connection`, then `: ` and that text; as `out of memory`; as `a worker
+/// could not be started`; as `the pool is closed`; or as `too many callers are waiting`.
 #[derive(Drop)]
 pub struct Error {
     kind: ErrorKind,
@@ -67,9 +67,9 @@ impl Model for Error {
 }
 
 impl Error {
-    /// No connection came in time; the text is the latest error's, if one is known. The call gave
-    /// up after so long, while the pool showed this, and so many waited before it, if it stood in
-    /// line; all three are left out where memory is refused.
+    /// No connection came in time; the text is the latest error's, if one is known, or says why
+    /// none is opened. The call gave up after so long, while the pool showed this, and so many
+    /// waited before it, if it stood in line; all three are left out where memory is refused.
     pub fn timeout(
         alloc: Global,
         message: Option<String>,
@@ -146,8 +146,8 @@ impl Error {
         self.kind
     }
 
-    /// The text of the latest error of an opening or a check, where one is known. Only a timeout
-    /// has one.
+    /// The text of the latest error of an opening or a check, where one is known; or else that no
+    /// worker of a pool for tasks is running, where none is. Only a timeout has one.
     pub fn message(&self) -> Option<&str>
         ensures text { option_map (λ text. text.now) result ≡ self.now.message }
         ensures only_timeouts { IsSome result → self.now.kind ≡ ErrorKind.Timeout }

@@ -33,7 +33,7 @@ pub mod engine;
 mod error;
 pub mod event;
 mod extensions;
-mod hooks;
+pub mod hooks;
 mod observe;
 mod payload;
 mod pool;

@@ -1,5 +1,6 @@
 //! The pool: one lock round its book, workers that open connections, and what it lends.
-ghost use Rattle.std.specs.Prelude.{◌≡◌, ℕ, ◌≤◌, ◌<◌, ◌+◌, ◌*◌, IfOk, IfErr, IfSome, OnErr};
+ghost use Rattle.std.specs.Prelude.{◌≡◌, ℕ, ◌≤◌, ◌<◌, ◌+◌, ◌*◌, None, IfOk, IfErr, IfSome};
+ghost use Rattle.std.specs.Prelude.{OnErr};
 ghost use Rattle.std.specs.Arc.{arc_value};
 ghost use Rattle.r2d2_core.specs.Reports.{IsSoundReport};
 
@@ -8,7 +9,7 @@ use self::lent::AnyConnection;
 use self::locking::SharedOf;
 use crate::config::{Builder, Config};
 use crate::event::{HandleEvent, NopEventHandler};
-use crate::hooks::Hooks;
+use crate::hooks::PoolHooks;
 use crate::payload::PayloadOf;
 use crate::{
     CustomizeConnection, Error, HandleError, ManageConnection, NopConnectionCustomizer,
@@ -78,18 +79,19 @@ pub type PlainPool<M, R> = Pool<M, NopErrorHandler, NopEventHandler, NopConnecti
 
 /// A pool of connections, whatever counts its takes.
 #[derive(Drop)]
-pub struct AnyPool<C: TakeTotal, M: ManageConnection, K: Hooks<M>, R: PoolRuntime> {
+pub struct AnyPool<C: TakeTotal, M: ManageConnection, K: PoolHooks<M>, R: PoolRuntime> {
     closer: Arc<Closer<PayloadOf<M>, C, M, K, R>>,
 }
 
 // Contracts see a pool as its settings: what its lock holds, other threads change.
-impl<C: TakeTotal, M: ManageConnection, K: Hooks<M>, R: PoolRuntime> Model for AnyPool<C, M, K, R> {
+impl<C: TakeTotal, M: ManageConnection, K: PoolHooks<M>, R: PoolRuntime> Model
+    for AnyPool<C, M, K, R> {
     ghost Value = { K };
 
     ghost view = { λ p. (arc_value (arc_value p.closer).shared).hooks };
 }
 
-impl<C: TakeTotal, M: ManageConnection, K: Hooks<M>, R: PoolRuntime> AnyPool<C, M, K, R> {
+impl<C: TakeTotal, M: ManageConnection, K: PoolHooks<M>, R: PoolRuntime> AnyPool<C, M, K, R> {
     ghost use Rattle.r2d2.specs.Failures.{IsOfMemory};
     ghost use Rattle.pool_state.specs.Status.{IsStatus};
 
@@ -109,7 +111,8 @@ impl<C: TakeTotal, M: ManageConnection, K: Hooks<M>, R: PoolRuntime> AnyPool<C, 
 
     /// What the pool is doing at this moment, in one look at it.
     pub fn status(&self) -> Status
-        ensures { IsStatus result }
+        ensures sums { IsStatus result }
+        ensures workers { result.workers ≡ None }
     {
         self.shared().status()
     }
@@ -323,7 +326,7 @@ impl<M: ManageConnection, R: PoolRuntime> PlainPool<M, R> {
 impl<
     C: TakeTotal,
     M: ManageConnection + fmt::Debug,
-    K: Hooks<M> + fmt::Debug,
+    K: PoolHooks<M> + fmt::Debug,
     R: PoolRuntime,
 > fmt::Debug for AnyPool<C, M, K, R> {
     fn fmt<W: fmt::Write>(&self, f: &mut fmt::Formatter<W>) -> fmt::Result {

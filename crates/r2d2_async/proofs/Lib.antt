@@ -3,3 +3,6 @@ pub mod Passing
 pub mod Needs
 pub mod Drained
 pub mod Closed
+pub mod InTime
+pub mod Ordering
+pub mod Making

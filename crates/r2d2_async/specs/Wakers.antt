@@ -1,7 +1,7 @@
 -- What wakes the callers in line.
 use Rattle.std.specs.Prelude.{◌≡◌, ◌≢◌, ◌<◌, ℕ, Bool, true, List, length, Option, Some, None, Vec, slice_index_or, IsSome}
 use Rattle.futures.specs.Slot.{IsLeftIn}
-use Rattle.futures.specs.WaitList.{WaitList, value_of, IsQueued}
+use Rattle.futures.specs.WaitList.{WaitList, value_of, IsQueued, IsParkedAt}
 use Rattle.futures.specs.declared.task.context.Context.{Context}
 use Rattle.futures.specs.declared.task.waker.Waker.{Waker}
 use Rattle.pool_state.specs.declared.line.place.Place.{Place}
@@ -28,6 +28,10 @@ KeepsOthers own old new = (slot : ℕ) → own ≢ Some slot → waker_at new sl
 -- one has its place in the list, under this key
 abbrev pub HasPlace : {T : Type 0} → WaitList T → ℕ → Type 0
 HasPlace list key = IsSome (value_of list key)
+
+-- the task of this poll sleeps there under its key, with this value, which says until when
+abbrev pub SleepsUntil : {T : Type 0} → Context → Context → WaitList T → ℕ → T → Type 0
+SleepsUntil old new list key until = IsParkedAt old new list key × (value_of list key ≡ Some until)
 
 -- nobody in the list sleeps
 abbrev pub NobodySleeps : {T : Type 0} → WaitList T → Type 0

@@ -4,6 +4,7 @@ ghost use Rattle.std.specs.Option.{ForSome};
 ghost use Rattle.std.specs.Arc.{arc_value};
 ghost use Rattle.r2d2.specs.Settings.{without_handlers};
 ghost use Rattle.r2d2.specs.Failures.{IsOfMemory};
+ghost use Rattle.r2d2_async.specs.InTime.{IsInOrder};
 
 use crate::hooks::Handlers;
 use crate::pool::Pool;
@@ -15,7 +16,7 @@ use pool_state::Tuning;
 use r2d2::event::HandleEvent;
 use r2d2::{Builder, CustomizeConnection, Error, HandleError, Settings};
 use r2d2_core::Book;
-use std::alloc::AllocError;
+use std::alloc::{AllocError, Global};
 use std::sync::{Arc, Mutex};
 use std::time::{Instant, SystemTime};
 
@@ -48,7 +49,7 @@ impl<
         ensures settings { IfOk result (λ pool. pool ≡ without_handlers builder) }
         ensures refused { IfErr result IsOfMemory }
     {
-        let (settings, book) = builder.into_book(rt.alloc()).map_err(|_| Error::memory())?;
+        let (settings, book) = first_book(builder, rt.alloc())?;
         let (settings, (error_handler, event_handler, connection_customizer)) =
             settings.without_handlers();
         let hooks = Handlers {
@@ -62,6 +63,22 @@ impl<
     }
 }
 
+// The settings, and a book that begins with them: what it orders first stands in order.
+fn first_book<P: Drop, M, H: Drop, V: Drop, Z: Drop>(
+    builder: Builder<M, H, V, Z>,
+    alloc: Global,
+) -> Result<(Settings<H, V, Z>, Book<P>), Error>
+    requires { ForSome builder.config.min_idle (λ n. n ≤ builder.config.max_size) }
+    ensures settings { IfOk result (λ made. made.0 ≡ builder) }
+    ensures in_order { IfOk result (λ made. IsInOrder made.1.picture.on_order) }
+    ensures refused { IfErr result IsOfMemory }
+{
+    match builder.into_book(alloc) {
+        Ok(made) => Ok(made),
+        Err(_) => Err(Error::memory()),
+    }
+}
+
 // What a pool over this book shares.
 fn shared_state<P: Drop, M: Drop, T: Drop, K: Drop, R: AsyncRuntime>(
     rt: R,
@@ -71,6 +88,7 @@ fn shared_state<P: Drop, M: Drop, T: Drop, K: Drop, R: AsyncRuntime>(
     manager: M,
     timer: T,
 ) -> Result<Arc<Closer<P, M, T, K, R>>, AllocError>
+    requires { IsInOrder book.picture.on_order }
     ensures { IfOk result
         (λ closer. (arc_value (arc_value closer).shared).settings ≡ settings) }
 {

@@ -1,15 +1,18 @@
 // How a task comes to a connection.
 ghost use Rattle.std.specs.Prelude.{◌≡◌, ◌⊎◌, ℕ, None, Some, IsSome, IfSome, IsSomeAnd, IfOk};
-ghost use Rattle.std.specs.Prelude.{IfErr};
+ghost use Rattle.std.specs.Prelude.{IfErr, ◌&&◌, false, is_some, option_map};
+ghost use Rattle.std.specs.Duration.{as_nanos};
 ghost use Rattle.futures.specs.Task.{Hears, IsArmed, Keeps};
 ghost use Rattle.futures.specs.Poll.{IfReady, OnPending};
 ghost use Rattle.r2d2.specs.Failures.{IsOfAGet};
+ghost use Rattle.pool_state.specs.Checks.{is_check_due};
 ghost use Rattle.r2d2_async.specs.Sources.{told_of, settings_of};
 
 use crate::hooks::Hooks;
 use crate::lent::PooledConnection;
-use crate::shared::{CloserOf, PayloadOf, SharedOf};
-use crate::task_book::{CallSpan, Looked};
+use crate::message::message_of;
+use crate::shared::{CloserOf, PayloadOf, SharedOf, Taken, take_idle};
+use crate::task_book::{CallSpan, Looked, TaskBook};
 use crate::{AsyncRuntime, ManageConnection, Timer};
 use futures::spin::lock;
 use futures::task::{Context, Poll};
@@ -17,6 +20,7 @@ use futures::{Future, ready};
 use pool_state::text_of;
 use r2d2::engine::Payload;
 use r2d2::event::ReleaseReason;
+use r2d2::hooks::Closed;
 use r2d2::{Error, Extension, Extensions};
 use std::sync::Arc;
 use std::time::Duration;
@@ -56,9 +60,10 @@ pub struct Get<M: ManageConnection, T: Timer, K: Hooks<M>, R: AsyncRuntime> {
     // The slot in line, where it stands there.
     place: Option<u32>,
     checking: Option<CheckingOf<M>>,
-    sleep: T::Sleep,
+    // Until its time is over; None until it has to wait.
+    sleep: Option<T::Sleep>,
     timeout: Duration,
-    // When it first looked.
+    // When it first looked: its time runs since then.
     start: Option<Duration>,
 }
 
@@ -66,35 +71,38 @@ impl<M: ManageConnection, T: Timer, K: Hooks<M>, R: AsyncRuntime> Get<M, T, K, R
     pub(crate) fn new(closer: Arc<CloserOf<M, T, K, R>>, timeout: Duration) -> Get<M, T, K, R>
         ensures closer { result.closer ≡ Some closer }
         ensures checking { result.checking ≡ None }
-        ensures sleeps { T.Sleep.can_poll result.sleep }
+        ensures sleep { result.sleep ≡ None }
     {
-        let sleep = closer.shared.timer.sleep(timeout);
         Get {
             closer: Some(closer),
             place: None,
             checking: None,
-            sleep,
+            sleep: None,
             timeout,
             start: None,
         }
     }
 
     // It is pending at its own sources; so it waits for the time to run out too.
+    #[cold]
     fn poll_sleep(&mut self, cx: &mut Context<'_>) -> Poll<Output<M, T, K, R>>
         requires closer { IsSome self.old.closer }
-        requires sleeps { T.Sleep.can_poll self.old.sleep }
-        ensures sleeps { OnPending result (T.Sleep.can_poll self.new.sleep) }
+        requires sleeps { IfSome self.old.sleep T.Sleep.can_poll }
+        ensures sleeps { OnPending result (IfSome self.new.sleep T.Sleep.can_poll) }
         ensures closer { OnPending result (self.new.closer ≡ self.old.closer) }
         ensures checking { OnPending result (self.new.checking ≡ self.old.checking) }
-        ensures heard { OnPending result
-            ((s : ℕ) → T.Sleep.needs self.new.sleep s → Hears cx.new s) }
+        ensures heard { OnPending result (IsSomeAnd self.new.sleep
+            (λ sleep. (s : ℕ) → T.Sleep.needs sleep s → Hears cx.new s)) }
         ensures value { IfReady result (λ r. IfErr r IsOfAGet) }
         ensures settings { IfReady result
             (λ r. IfOk r (λ lent. Some lent.settings ≡ settings_of self.old.closer)) }
         ensures kept { Keeps cx.old cx.new }
     {
-        if self.sleep.poll(cx).is_pending() {
-            return Poll::Pending;
+        if let Some(mut sleep) = self.sleep_left() {
+            if sleep.poll(cx).is_pending() {
+                self.sleep = Some(sleep);
+                return Poll::Pending;
+            }
         }
         let checking = self.checking.take();
         let closer = self.closer.take().unwrap();
@@ -107,7 +115,32 @@ impl<M: ManageConnection, T: Timer, K: Hooks<M>, R: AsyncRuntime> Get<M, T, K, R
         Poll::Ready(Err(give_up::<M, T, K, R>(shared, self.timeout, self.start, ahead)))
     }
 
+    // The sleep for the rest of its time, which begins where it first has to wait; None where no
+    // time is left then.
+    fn sleep_left(&mut self) -> Option<T::Sleep>
+        requires closer { IsSome self.old.closer }
+        requires sleeps { IfSome self.old.sleep T.Sleep.can_poll }
+        ensures sleeps { IfSome result T.Sleep.can_poll }
+        ensures closer { self.new.closer ≡ self.old.closer }
+        ensures checking { self.new.checking ≡ self.old.checking }
+    {
+        if let Some(sleep) = self.sleep.take() {
+            return Some(sleep);
+        }
+        let closer = self.closer.as_ref().unwrap();
+        let shared = &closer.shared;
+        // A check may have taken long, though it ended in its first poll.
+        let now = shared.moment();
+        let waited = now.saturating_sub(self.start.unwrap_or(now));
+        let left = self.timeout.saturating_sub(waited);
+        if left.is_zero() {
+            return None;
+        }
+        Some(shared.timer.sleep(left))
+    }
+
     // One poll of a check, if there is one: what to lend. None where it has to look.
+    #[cold]
     fn poll_check(&mut self, cx: &mut Context<'_>) -> Poll<Option<Found<PayloadOf<M>>>>
         requires checks { IfSome self.old.checking (λ c. M.Check.can_poll c.check) }
         ensures checks { IfSome self.new.checking (λ c. M.Check.can_poll c.check) }
@@ -161,6 +194,7 @@ impl<M: ManageConnection, T: Timer, K: Hooks<M>, R: AsyncRuntime> Get<M, T, K, R
 
     // One look for a connection: what to lend. None where it is to be checked first, or where it
     // has to look again.
+    #[inline(always)]
     fn poll_line(
         &mut self,
         cx: &mut Context<'_>,
@@ -176,50 +210,64 @@ impl<M: ManageConnection, T: Timer, K: Hooks<M>, R: AsyncRuntime> Get<M, T, K, R
             × IfSome self.new.closer (λ closer. Hears cx.new (told_of closer))) }
         ensures kept { Keeps cx.old cx.new }
     {
-        let closer = self.closer.as_ref().unwrap();
-        let shared = &closer.shared;
-        let keeps_place = shared.settings.config.test_on_check_out
-            || shared.settings.tuning.evict_idle_on_failed_check;
-        let (polled, now) = match lock(&shared.tasks) {
-            Some(mut tasks) => {
-                let now = shared.moment();
-                let start = self.start.unwrap_or(now);
-                self.start = Some(start);
-                let end = start.saturating_add(self.timeout);
-                tasks.pass_late(now);
-                let place = &mut self.place;
-                let call = CallSpan { start, end };
-                let polled = tasks.poll_look(now, call, cx, &shared.told, place, keeps_place);
-                (polled, now)
-            }
-            None => return cx.yield_now(),
-        };
-        let (id, payload, idle_since) = match ready!(polled) {
-            Looked::Closed => return Poll::Ready(Err(Error::closed())),
-            Looked::Full => return Poll::Ready(Err(Error::full())),
-            Looked::Found {
-                id,
-                payload,
-                idle_since,
-            } => (id, payload, idle_since),
-        };
-        Poll::Ready(Ok(self.if_unchecked(id, payload, idle_since, now)))
+        match ready!(self.look(cx)) {
+            Ok(taken) => Poll::Ready(Ok(self.if_unchecked(taken))),
+            Err(error) => Poll::Ready(Err(error)),
+        }
     }
 
-    // What it took now, where it is lent without a check; else its check begins, or it is closed.
-    fn if_unchecked(
-        &mut self,
-        id: u64,
-        payload: PayloadOf<M>,
-        idle_since: Option<Duration>,
-        now: Duration,
-    ) -> Option<Found<PayloadOf<M>>>
+    // The same under the lock: what it takes.
+    #[inline(always)]
+    fn look(&mut self, cx: &mut Context<'_>) -> Poll<Result<Taken<PayloadOf<M>>, Error>>
+        requires closer { IsSome self.old.closer }
+        ensures checking { self.new.checking ≡ self.old.checking }
+        ensures sleep { self.new.sleep ≡ self.old.sleep }
+        ensures closer { self.new.closer ≡ self.old.closer }
+        ensures refused { IfReady result (λ r. IfErr r IsOfAGet) }
+        ensures heard { OnPending result (IsArmed cx.new
+            × IfSome self.new.closer (λ closer. Hears cx.new (told_of closer))) }
+        ensures kept { Keeps cx.old cx.new }
+    {
+        let closer = self.closer.as_ref().unwrap();
+        let shared = &closer.shared;
+        let Some(mut tasks) = lock(&shared.tasks) else {
+            return cx.yield_now();
+        };
+        let now = shared.moment();
+        let start = self.start.unwrap_or(now);
+        self.start = Some(start);
+        tasks.pass_late(now);
+        // Who comes takes what is kept for nobody: then it needs no place, and no sleep.
+        if self.place.is_none() && tasks.book().idle() > 0 {
+            if let Some(taken) = take_idle(&mut tasks, now) {
+                return Poll::Ready(Ok(taken));
+            }
+        }
+        let end = start.saturating_add(self.timeout);
+        let call = CallSpan { start, end };
+        poll_place::<M, T, K, R>(shared, &mut tasks, now, call, cx, &mut self.place)
+    }
+
+    // What it took, where it is lent without a check; else its check begins, or it is closed.
+    #[inline(always)]
+    fn if_unchecked(&mut self, taken: Taken<PayloadOf<M>>) -> Option<Found<PayloadOf<M>>>
         requires closer { IsSome self.old.closer }
         requires checking { self.old.checking ≡ None }
         ensures checks { IfSome self.new.checking (λ c. M.Check.can_poll c.check) }
+        ensures due { IfSome (settings_of self.old.closer)
+            (λ settings. settings.tuning.evict_idle_on_failed_check ≡ false
+            → is_some self.new.checking ≡ (settings.config.test_on_check_out
+            && is_check_due settings.tuning.test_if_idle_for
+            (option_map as_nanos taken.idle_since) (as_nanos taken.at))) }
         ensures sleep { self.new.sleep ≡ self.old.sleep }
         ensures closer { self.new.closer ≡ self.old.closer }
     {
+        let Taken {
+            id,
+            payload,
+            at,
+            idle_since,
+        } = taken;
         let closer = self.closer.as_ref().unwrap();
         let shared = &closer.shared;
         if shared.settings.tuning.evict_idle_on_failed_check && shared.is_distrusted(idle_since) {
@@ -227,12 +275,12 @@ impl<M: ManageConnection, T: Timer, K: Hooks<M>, R: AsyncRuntime> Get<M, T, K, R
             return None;
         }
         if !shared.settings.config.test_on_check_out
-            || !shared.settings.tuning.is_check_due(idle_since, now)
+            || !shared.settings.tuning.is_check_due(idle_since, at)
         {
             return Some(Found {
                 id,
                 payload,
-                taken_at: Some(now),
+                taken_at: Some(at),
             });
         }
         let Payload {
@@ -243,13 +291,14 @@ impl<M: ManageConnection, T: Timer, K: Hooks<M>, R: AsyncRuntime> Get<M, T, K, R
         self.checking = Some(Checking {
             id,
             extensions,
-            began: now,
+            began: at,
             check,
         });
         None
     }
 
     // One look, and one poll of the check: what to lend.
+    #[inline(always)]
     fn poll_lent(&mut self, cx: &mut Context<'_>) -> Poll<Result<Found<PayloadOf<M>>, Error>>
         requires closer { IsSome self.old.closer }
         requires checks { IfSome self.old.checking (λ c. M.Check.can_poll c.check) }
@@ -264,8 +313,10 @@ impl<M: ManageConnection, T: Timer, K: Hooks<M>, R: AsyncRuntime> Get<M, T, K, R
             (λ c. (s : ℕ) → M.Check.needs c.check s → Hears cx.new s)) }
         ensures kept { Keeps cx.old cx.new }
     {
-        if let Some(found) = ready!(self.poll_check(cx)) {
-            return Poll::Ready(Ok(found));
+        if self.checking.is_some() {
+            if let Some(found) = ready!(self.poll_check(cx)) {
+                return Poll::Ready(Ok(found));
+            }
         }
         match ready!(self.poll_line(cx)) {
             Ok(Some(found)) => return Poll::Ready(Ok(found)),
@@ -280,10 +331,10 @@ impl<M: ManageConnection, T: Timer, K: Hooks<M>, R: AsyncRuntime> Get<M, T, K, R
     }
 
     // Lends what it has, and leaves the line.
-    fn lend(&mut self, found: Found<PayloadOf<M>>) -> Output<M, T, K, R>
+    #[inline(always)]
+    fn lend(&mut self, found: Found<PayloadOf<M>>) -> PooledConnection<M, T, K, R>
         requires closer { IsSome self.old.closer }
-        ensures settings { IfOk result (λ lent. Some lent.settings ≡ settings_of self.old.closer) }
-        ensures refused { IfErr result IsOfAGet }
+        ensures settings { Some result.settings ≡ settings_of self.old.closer }
     {
         let closer = self.closer.take().unwrap();
         let Found {
@@ -301,17 +352,48 @@ impl<M: ManageConnection, T: Timer, K: Hooks<M>, R: AsyncRuntime> Get<M, T, K, R
             let start = self.start.unwrap_or(lent_at);
             shared.hooks.check_out(id, start, lent_at);
         }
-        Ok(PooledConnection {
+        PooledConnection {
             closer,
             id,
             lent_at,
             payload,
-        })
+        }
+    }
+}
+
+// A look under the lock of one who stands in line, or comes to stand there: what it takes.
+fn poll_place<M: ManageConnection, T: Timer, K: Hooks<M>, R: AsyncRuntime>(
+    shared: &SharedOf<M, T, K, R>,
+    tasks: &mut TaskBook<PayloadOf<M>>,
+    now: Duration,
+    call: CallSpan,
+    cx: &mut Context<'_>,
+    place: &mut Option<u32>,
+) -> Poll<Result<Taken<PayloadOf<M>>, Error>>
+    ensures refused { IfReady result (λ r. IfErr r IsOfAGet) }
+    ensures heard { OnPending result (IsArmed cx.new × Hears cx.new shared.now.told.id) }
+    ensures kept { Keeps cx.old cx.new }
+{
+    let keeps_place = shared.may_fail_check();
+    match ready!(tasks.poll_look(now, call, cx, &shared.told, place, keeps_place)) {
+        Looked::Closed => Poll::Ready(Err(Error::closed())),
+        Looked::Full => Poll::Ready(Err(Error::full())),
+        Looked::Found {
+            id,
+            payload,
+            idle_since,
+        } => Poll::Ready(Ok(Taken {
+            id,
+            payload,
+            at: now,
+            idle_since,
+        })),
     }
 }
 
 // Leaves the line, and gives up a check: its connection goes with it. If its caller's time is over,
 // it tells of others as a failed one does.
+#[cold]
 fn abandon<M: ManageConnection, T: Timer, K: Hooks<M>, R: AsyncRuntime>(
     shared: &SharedOf<M, T, K, R>,
     place: &mut Option<u32>,
@@ -350,9 +432,10 @@ fn give_up<M: ManageConnection, T: Timer, K: Hooks<M>, R: AsyncRuntime>(
     let now = shared.moment();
     let waited = now.saturating_sub(start.unwrap_or(now));
     let status = shared.give_up();
-    let message = shared.take_error();
+    let alloc = shared.rt.alloc();
+    let message = message_of(alloc, shared.take_error(), &status);
     shared.hooks.timeout(timeout);
-    Error::timeout(shared.rt.alloc(), message, status, waited, ahead)
+    Error::timeout(alloc, message, status, waited, ahead)
 }
 
 // Closes a connection whose check failed, which began at this moment.
@@ -367,8 +450,12 @@ fn close_unsound<M: ManageConnection, T: Timer, K: Hooks<M>, R: AsyncRuntime>(
     shared.hooks.error(error);
     let distrusted_before = shared.settings.tuning.distrusts_before(began);
     if let Some(gone) = shared.fail_check(id, text, distrusted_before) {
-        let reason = ReleaseReason::CheckFailed;
-        shared.hooks.release(id, gone.age, reason, connection);
+        shared.hooks.release(Closed {
+            id,
+            age: gone.age,
+            reason: ReleaseReason::CheckFailed,
+            connection,
+        });
     }
 }
 
@@ -376,13 +463,15 @@ impl<M: ManageConnection, T: Timer, K: Hooks<M>, R: AsyncRuntime> Future for Get
     type Output = Result<PooledConnection<M, T, K, R>, Error>;
 
     // It has not ended yet.
-    ghost can_poll = { λ g. IsSome g.closer × (T.Sleep.can_poll g.sleep
+    ghost can_poll = { λ g. IsSome g.closer × (IfSome g.sleep T.Sleep.can_poll
         × IfSome g.checking (λ c. M.Check.can_poll c.check)) };
 
-    // In line, that it is told to look; else what its check waits for; and its time.
+    // In line, that it is told to look; else what its check waits for; and its time, for which it
+    // may not wait without a sleep: that would need whatever there is.
     ghost needs = { λ g s. ((g.checking ≡ None)
         × IsSomeAnd g.closer (λ closer. s ≡ told_of closer))
-        ⊎ (IsSomeAnd g.checking (λ c. M.Check.needs c.check s) ⊎ T.Sleep.needs g.sleep s) };
+        ⊎ (IsSomeAnd g.checking (λ c. M.Check.needs c.check s)
+        ⊎ IfSome g.sleep (λ sleep. T.Sleep.needs sleep s)) };
 
     // A connection of a pool with the same settings; or an error of a `get`.
     ghost gives = { λ g r. IfOk r (λ lent. Some lent.settings ≡ settings_of g.closer)
@@ -390,12 +479,12 @@ impl<M: ManageConnection, T: Timer, K: Hooks<M>, R: AsyncRuntime> Future for Get
 
     fn poll(&mut self, cx: &mut Context<'_>) -> Poll<Output<M, T, K, R>> {
         match self.poll_lent(cx) {
-            Poll::Pending => self.poll_sleep(cx),
-            Poll::Ready(Ok(found)) => Poll::Ready(self.lend(found)),
+            Poll::Ready(Ok(found)) => Poll::Ready(Ok(self.lend(found))),
             Poll::Ready(Err(error)) => {
                 self.closer = None;
                 Poll::Ready(Err(error))
             }
+            Poll::Pending => self.poll_sleep(cx),
         }
     }
 }

@@ -14,21 +14,11 @@ use crate::{AsyncRuntime, ManageConnection, Timer};
 use futures::spin::lock;
 use pool_state::has_room;
 use r2d2::event::ReleaseReason;
-use r2d2::{Error, Observe, Status};
+use r2d2::{Error, Observe, State, Status};
 use r2d2_core::{Released, Report};
 use std::marker::Model;
 use std::sync::Arc;
 use std::time::{Duration, SystemTime};
-
-/// How many connections a pool has at one moment.
-#[derive(Clone, Copy, PartialEq, Eq, Debug)]
-pub struct State {
-    /// How many connections there are, idle and lent ones together. Those that are being opened are
-    /// not among them.
-    pub connections: u32,
-    /// How many of them are idle.
-    pub idle_connections: u32,
-}
 
 /// A pool of connections for tasks. `build` makes one; a task of its own gets a pool over the same
 /// connections by `try_clone`.
@@ -67,30 +57,34 @@ impl<M: ManageConnection, T: Timer, K: Hooks<M>, R: AsyncRuntime> Pool<M, T, K, 
     pub fn get(&self) -> Result<Get<M, T, K, R>, Error>
         ensures settings { IfOk result (λ get. settings_of get.closer ≡ Some self.now) }
         ensures fresh { IfOk result (λ get. get.checking ≡ None) }
-        ensures sleeps { IfOk result (λ get. T.Sleep.can_poll get.sleep) }
+        ensures sleep { IfOk result (λ get. get.sleep ≡ None) }
         ensures refused { IfErr result IsOfMemory }
     {
         self.get_timeout(self.connection_timeout())
     }
 
     /// Lends an idle connection, the newest unless the setting `lending_order` says the oldest; the
-    /// future waits in line for one, and gives up once `timeout` has passed since this call.
+    /// future waits in line for one, and gives up once `timeout` has passed since its first poll.
+    /// It asks the timer for a sleep only where it has to wait.
     ///
     /// If the setting `test_on_check_out` is on, the connection is checked first; one that fails is
     /// closed, and the caller looks for another from the same place in line. A check that outlasts
     /// the timeout is given up, and its connection closed.
     ///
     /// The future's error is a timeout, with the text of the latest error of an opening or a check
-    /// if there was one; or `ErrorKind::Closed`, where the pool is closed; or
-    /// `ErrorKind::QueueFull`, at once, where as many stand in line as `max_waiting` allows. The
-    /// error of this call is lack of memory for a shared pointer: nothing later takes any.
+    /// if there was one, or else, where no worker is at work, with a text that says so; or
+    /// `ErrorKind::Closed`, where the pool is closed; or `ErrorKind::QueueFull`, at once, where as
+    /// many stand in line as `max_waiting` allows. The error of this call is lack of memory for a
+    /// shared pointer: but for that text, nothing later takes any.
     pub fn get_timeout(&self, timeout: Duration) -> Result<Get<M, T, K, R>, Error>
         ensures settings { IfOk result (λ get. settings_of get.closer ≡ Some self.now) }
         ensures fresh { IfOk result (λ get. get.checking ≡ None) }
-        ensures sleeps { IfOk result (λ get. T.Sleep.can_poll get.sleep) }
+        ensures sleep { IfOk result (λ get. get.sleep ≡ None) }
         ensures refused { IfErr result IsOfMemory }
     {
-        let closer = Arc::try_clone(&self.closer).map_err(|_| Error::memory())?;
+        let Ok(closer) = Arc::try_clone(&self.closer) else {
+            return Err(Error::memory());
+        };
         Ok(Get::new(closer, timeout))
     }
 
@@ -141,16 +135,13 @@ impl<M: ManageConnection, T: Timer, K: Hooks<M>, R: AsyncRuntime> Pool<M, T, K, 
     pub fn state(&self) -> State
         ensures { result.idle_connections ≤ result.connections }
     {
-        let status = self.status();
-        State {
-            connections: status.connections,
-            idle_connections: status.idle,
-        }
+        self.status().state()
     }
 
     /// What the pool is doing at this moment, in one look at it.
     pub fn status(&self) -> Status
-        ensures { IsStatus result }
+        ensures sums { IsStatus result }
+        ensures workers { IsSome result.workers }
     {
         self.shared().status()
     }

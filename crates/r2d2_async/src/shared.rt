@@ -1,5 +1,5 @@
 // What pools, workers, gets and lent connections share.
-ghost use Rattle.std.specs.Prelude.{◌≡◌, IfSome};
+ghost use Rattle.std.specs.Prelude.{◌≡◌, ◌||◌, Some, IsSome, IfSome};
 ghost use Rattle.pool_state.specs.Status.{IsStatus};
 
 use crate::hooks::Hooks;
@@ -9,7 +9,8 @@ use futures::spin::lock;
 use futures::task::Source;
 use r2d2::engine::{Outcome, Payload, Settled};
 use r2d2::event::ReleaseReason;
-use r2d2::{Settings, Status};
+use r2d2::hooks::Closed;
+use r2d2::{Extension, Settings, Status};
 use r2d2_core::machine::Leftover;
 use r2d2_core::{Gone, Refusal, Released, Returned};
 use std::rt::Clock;
@@ -57,14 +58,6 @@ pub struct Taken<P> {
     pub(crate) idle_since: Option<Duration>,
 }
 
-/// A connection that came back and is closed.
-#[derive(Drop)]
-pub struct Closed<P> {
-    pub(crate) age: Duration,
-    pub(crate) reason: ReleaseReason,
-    pub(crate) payload: P,
-}
-
 // `lock` gives up after 2^64 tries, which no run makes: what stands at its `None` is never run.
 impl<P: Drop, M, T, K, R: Clock> Shared<P, M, T, K, R> {
     /// The time since the pool was made; zero where the clock can't be read.
@@ -79,9 +72,18 @@ impl<P: Drop, M, T, K, R: Clock> Shared<P, M, T, K, R> {
         }
     }
 
+    /// Whether what a caller takes may be found unsound before it is lent.
+    pub(crate) fn may_fail_check(&self) -> bool
+        ensures { result ≡ (self.now.settings.config.test_on_check_out
+            || self.now.settings.tuning.evict_idle_on_failed_check) }
+    {
+        self.settings.config.test_on_check_out || self.settings.tuning.evict_idle_on_failed_check
+    }
+
     /// The counts.
     pub(crate) fn status(&self) -> Status
-        ensures { IsStatus result }
+        ensures sums { IsStatus result }
+        ensures workers { IsSome result.workers }
     {
         match lock(&self.tasks) {
             Some(tasks) => tasks.status(),
@@ -91,7 +93,8 @@ impl<P: Drop, M, T, K, R: Clock> Shared<P, M, T, K, R> {
 
     /// Another caller gives up, since its time is over: the counts, with it among them.
     pub(crate) fn give_up(&self) -> Status
-        ensures { IsStatus result }
+        ensures sums { IsStatus result }
+        ensures workers { IsSome result.workers }
     {
         match lock(&self.tasks) {
             Some(mut tasks) => tasks.give_up(),
@@ -137,31 +140,8 @@ impl<P: Drop, M, T, K, R: Clock> Shared<P, M, T, K, R> {
         }
     }
 
-    /// Puts a lent connection back. One that is unfit for some reason, too old, or evicted is
-    /// closed, and so is each where the pool is closed: it answers that one.
-    pub(crate) fn give_back(
-        &self,
-        id: u64,
-        payload: P,
-        unfit: Option<ReleaseReason>,
-    ) -> Option<Closed<P>> {
-        let mut tasks = lock(&self.tasks)?;
-        let now = self.moment();
-        let reason = tasks.reason_of_return(id, unfit);
-        let outlived = tasks.is_outlived(&self.settings.tuning, self.created_at, id, now);
-        let Ok(Returned::Closed { value, age, .. }) = tasks.give_back(
-            now, id, payload, unfit, outlived,
-        ) else {
-            return None;
-        };
-        Some(Closed {
-            age,
-            reason,
-            payload: value,
-        })
-    }
-
     /// A caller leaves the line, where it stands in it. If it was told to look, the next one is.
+    #[inline(always)]
     pub(crate) fn leave_line(&self, place: &mut Option<u32>) {
         if place.is_none() {
             return;
@@ -190,14 +170,7 @@ impl<P: Drop, M, T, K, R: Clock> Shared<P, M, T, K, R> {
         let mut tasks = lock(&self.tasks)?;
         let at = self.moment();
         tasks.pass_late(at);
-        let idle_since = tasks.book().next_idle_since();
-        let (id, payload) = tasks.try_take(at)?;
-        Some(Taken {
-            id,
-            payload,
-            at,
-            idle_since,
-        })
+        take_idle(&mut tasks, at)
     }
 
     /// Closes the book, wakes all who wait, and hands over what was idle.
@@ -206,9 +179,55 @@ impl<P: Drop, M, T, K, R: Clock> Shared<P, M, T, K, R> {
     }
 }
 
+impl<X: Drop, E: Extension + Drop, M, T, K, R: Clock> Shared<Payload<X, E>, M, T, K, R> {
+    /// Puts a lent connection back. One that is unfit for some reason, too old, or evicted is
+    /// closed, and so is each where the pool is closed: it answers that one.
+    #[inline(always)]
+    pub(crate) fn give_back(
+        &self,
+        id: u64,
+        payload: Payload<X, E>,
+        unfit: Option<ReleaseReason>,
+    ) -> Option<Closed<X>>
+        ensures { IfSome result (λ closed. closed.id ≡ id) }
+    {
+        let mut tasks = lock(&self.tasks)?;
+        let now = self.moment();
+        let reason = tasks.reason_of_return(id, unfit);
+        let outlived = tasks.is_outlived(&self.settings.tuning, self.created_at, id, now);
+        let returned = tasks.give_back(now, id, payload, unfit, outlived);
+        // What is kept beside the connection is dropped once the lock is free.
+        drop(tasks);
+        let Ok(Returned::Closed { value, age, .. }) = returned else {
+            return None;
+        };
+        let Payload { connection, .. } = value;
+        Some(Closed {
+            id,
+            age,
+            reason,
+            connection,
+        })
+    }
+}
+
+/// Takes the connection that is lent next, where it is not kept for those in line.
+#[inline(always)]
+pub(crate) fn take_idle<P: Drop>(tasks: &mut TaskBook<P>, at: Duration) -> Option<Taken<P>> {
+    let idle_since = tasks.book().next_idle_since();
+    let (id, payload) = tasks.try_take(at)?;
+    Some(Taken {
+        id,
+        payload,
+        at,
+        idle_since,
+    })
+}
+
 // What a closed pool shows.
 fn no_status(max_size: u32) -> Status
-    ensures { IsStatus result }
+    ensures sums { IsStatus result }
+    ensures workers { result.workers ≡ Some 0 }
 {
     Status {
         max_size,
@@ -217,6 +236,7 @@ fn no_status(max_size: u32) -> Status
         idle: 0,
         lent: 0,
         opening: 0,
+        workers: Some(0),
         waiting: 0,
         waiting_since: None,
         failed_openings: 0,
@@ -247,17 +267,10 @@ impl<M: ManageConnection, T, K: Hooks<M>, R: AsyncRuntime> SharedOf<M, T, K, R> 
     }
 
     /// Puts a lent connection back, and releases it where it is closed.
+    #[inline(always)]
     pub(crate) fn put_back(&self, id: u64, payload: PayloadOf<M>, unfit: Option<ReleaseReason>) {
-        if let Some(
-            Closed {
-                age,
-                reason,
-                payload,
-            },
-        ) = self.give_back(id, payload, unfit)
-        {
-            let Payload { connection, .. } = payload;
-            self.hooks.release(id, age, reason, connection);
+        if let Some(closed) = self.give_back(id, payload, unfit) {
+            self.hooks.release(closed);
         }
     }
 
@@ -265,7 +278,12 @@ impl<M: ManageConnection, T, K: Hooks<M>, R: AsyncRuntime> SharedOf<M, T, K, R> 
     pub(crate) fn release(&self, released: Released<PayloadOf<M>>, reason: ReleaseReason) {
         let Released { id, age, value } = released;
         let Payload { connection, .. } = value;
-        self.hooks.release(id, age, reason, connection);
+        self.hooks.release(Closed {
+            id,
+            age,
+            reason,
+            connection,
+        });
     }
 }
 

@@ -2,13 +2,17 @@
 // each of them.
 ghost use Rattle.std.specs.Prelude.{◌≡◌, ◌≢◌, ◌≤◌, ◌<◌, ◌↔◌, ℕ, [], length, true, false, None};
 ghost use Rattle.std.specs.Prelude.{IsSome, IsSomeAnd, IfSome, IfNone, IfOk, IsTrue, Some, vec_len, min};
-ghost use Rattle.std.specs.Prelude.{vec_capacity, slice_get, is_some, if◌then◌else◌, ◌-◌};
+ghost use Rattle.std.specs.Prelude.{vec_capacity, slice_get, is_some, if◌then◌else◌, ◌+◌, ◌-◌};
+ghost use Rattle.std.specs.Prelude.{◌^◌};
 ghost use Rattle.futures.specs.Task.{Covers, Keeps};
 ghost use Rattle.futures.specs.Poll.{IfReady, OnPending};
 ghost use Rattle.futures.specs.WaitList.{value_of, IsParkedAt, IsQueued, SameQueue, Leaves};
 ghost use Rattle.pool_state.specs.Waiting.{told_at};
 ghost use Rattle.r2d2_async.specs.Wakers.{waker_at, AreAwake, SleepsAt, KeepsOthers};
 ghost use Rattle.r2d2_async.specs.Wakers.{HasPlace, NobodySleeps, AreDrained, AreUpOnceClosed};
+ghost use Rattle.r2d2_async.specs.Wakers.{SleepsUntil};
+ghost use Rattle.r2d2_async.specs.InTime.{AreInTime, IsInTime, IsInOrder, IsTimely};
+ghost use Rattle.std.proofs.Props.{props};
 
 use crate::wakers::{
     asleep_at, clear_at, lent_in, no_wakers, park, register, wake, wake_drains, wake_workers,
@@ -51,7 +55,7 @@ pub struct CallSpan {
 ///
 /// Of those who wait the first ones, as many as connections are idle, were told to look: that is
 /// `PoolState`'s own fact. Here each who was told is awake: no waker of it is left. No drain
-/// sleeps once nothing is lent, and nobody else in a closed pool.
+/// sleeps once nothing is lent, and nobody else in a closed pool. No worker sleeps past what is due.
 #[derive(Drop)]
 pub struct TaskBook<P> {
     guarded: PoolState<P, Uncounted>,
@@ -59,13 +63,17 @@ pub struct TaskBook<P> {
     wakers: Vec<Option<Waker>>,
     // By the slot: when its time is over.
     ends: Vec<Duration>,
-    // Who waits for something to be ordered.
-    workers: WaitList<()>,
+    // Who waits for something to be ordered, each until a moment, or for good.
+    workers: WaitList<Option<Duration>>,
+    // How many workers are at work, asleep or not.
+    at_work: u32,
     // Who waits until nothing is lent.
     drains: WaitList<()>,
     ghost awake: { AreAwake guarded.places wakers },
     ghost drained: { AreDrained guarded.book.picture.lent drains },
     ghost up: { AreUpOnceClosed guarded.book.picture.on_order.closed wakers workers },
+    ghost in_order: { IsInOrder guarded.book.picture.on_order } by { Prim.hlevel props },
+    ghost in_time: { AreInTime guarded.book.picture.on_order workers } by { Prim.hlevel props },
 }
 
 impl<P: Drop> TaskBook<P> {
@@ -94,9 +102,11 @@ impl<P: Drop> TaskBook<P> {
     /// A book for which nobody waits yet, with room for so many in line. The error is lack of
     /// memory: all that the line needs is taken here.
     pub fn new(alloc: Global, book: Book<P>, room: u32) -> Result<TaskBook<P>, AllocError>
+        requires { IsInOrder book.picture.on_order }
         ensures book { IfOk result (λ tasks. tasks.guarded.book ≡ book) }
         ensures line { IfOk result (λ tasks. tasks.guarded.places ≡ []) }
         ensures slots { IfOk result (λ tasks. length tasks.wakers.items ≡ room) }
+        ensures nobody { IfOk result (λ tasks. tasks.at_work ≡ 0) }
     {
         let guarded = PoolState::new(CountingBook::plain(book), Line::new(alloc, room)?);
         Ok(TaskBook {
@@ -104,6 +114,7 @@ impl<P: Drop> TaskBook<P> {
             wakers: no_wakers(alloc, room)?,
             ends: no_ends(alloc, room)?,
             workers: WaitList::new(alloc)?,
+            at_work: 0,
             drains: WaitList::new(alloc)?,
         })
     }
@@ -115,12 +126,13 @@ impl<P: Drop> TaskBook<P> {
         self.guarded.book()
     }
 
-    /// The counts, with those of the callers who wait.
+    /// The counts, with those of the callers who wait, and of the workers at work.
     pub fn status(&self) -> Status
         ensures sums { IsStatus result }
         ensures idle { result.idle ≡ length self.now.guarded.book.picture.idle }
         ensures lent { result.lent ≡ length self.now.guarded.book.picture.lent }
         ensures opening { result.opening ≡ self.now.guarded.book.picture.on_order.pending }
+        ensures workers { result.workers ≡ Some self.now.at_work }
         ensures waiting { result.waiting
             ≡ all_who_wait (count_of self.now.guarded.waiting) self.now.guarded.places }
         ensures since { result.waiting_since
@@ -131,7 +143,10 @@ impl<P: Drop> TaskBook<P> {
         ensures latest { result.latest_failure ≡ self.now.guarded.failures.latest }
         ensures closed { result.closed ≡ self.now.guarded.book.picture.on_order.closed }
     {
-        self.guarded.status()
+        Status {
+            workers: Some(self.at_work),
+            ..self.guarded.status()
+        }
     }
 
     /// Another caller gives up, since its time is over: the counts, with it among them.
@@ -139,6 +154,8 @@ impl<P: Drop> TaskBook<P> {
         ensures sums { IsStatus result }
         ensures failures { IsOneTimeoutMore self.old.guarded.failures self.new.guarded.failures }
         ensures timeouts { result.timeouts ≡ self.new.guarded.failures.timeouts }
+        ensures workers { result.workers ≡ Some self.old.at_work }
+        ensures at_work { self.new.at_work ≡ self.old.at_work }
         ensures waiting { result.waiting
             ≡ all_who_wait (count_of self.old.guarded.waiting) self.old.guarded.places }
         ensures kept { self.new.guarded.waiting ≡ self.old.guarded.waiting }
@@ -146,7 +163,7 @@ impl<P: Drop> TaskBook<P> {
         ensures wakers { self.new.wakers ≡ self.old.wakers }
     {
         self.guarded.give_up();
-        self.guarded.status()
+        self.status()
     }
 
     /// What the book reports.
@@ -170,6 +187,7 @@ impl<P: Drop> TaskBook<P> {
 
     /// Takes an idle connection for a caller who does not wait: one that is not kept for those in
     /// line.
+    #[inline(always)]
     pub fn try_take(&mut self, now: Duration) -> Option<(u64, P)>
         ensures kept { IsTrue (is_kept self.old.guarded.book.picture
             self.old.guarded.places) → result ≡ None }
@@ -194,6 +212,7 @@ impl<P: Drop> TaskBook<P> {
 
     /// Passes those in line who were told to look, and whose time was over before they did. So one
     /// that is neither polled nor dropped keeps nothing any longer from those who came after it.
+    #[inline(always)]
     pub fn pass_late(&mut self, now: Duration)
         ensures line { self.new.guarded.places
             ≡ passed_late (waiting_in self.old.guarded.places) (as_nanos now)
@@ -352,6 +371,7 @@ impl<P: Drop> TaskBook<P> {
 
     /// Puts a lent connection back. One that is unfit, has outlived its own lifetime, or was opened
     /// before the latest eviction is closed, as a broken one is: it comes back, with the reason.
+    #[inline(always)]
     pub fn give_back(
         &mut self,
         now: Duration,
@@ -387,6 +407,7 @@ impl<P: Drop> TaskBook<P> {
 
     /// Whether the lent connection with this id has outlived its own lifetime, where lifetimes
     /// differ.
+    #[inline(always)]
     pub fn is_outlived(
         &self,
         tuning: &Tuning,
@@ -470,8 +491,11 @@ impl<P: Drop> TaskBook<P> {
     /// What a worker is to do.
     pub fn begin(&mut self, now: Duration) -> Job
         ensures step { IsBegin now result self.old.guarded.book self.new.guarded.book }
+        ensures timely { IsTimely result self.new.guarded.book.picture.on_order }
         ensures waiting { self.new.guarded.waiting ≡ self.old.guarded.waiting }
         ensures wakers { self.new.wakers ≡ self.old.wakers }
+        ensures workers { self.new.workers ≡ self.old.workers }
+        ensures at_work { self.new.at_work ≡ self.old.at_work }
     {
         self.guarded.begin(now)
     }
@@ -538,6 +562,8 @@ impl<P: Drop> TaskBook<P> {
     /// sleeps.
     pub fn close(&mut self) -> Leftover<P>
         ensures step { IsClose result self.old.guarded.book self.new.guarded.book }
+        // Each worker ends at its next poll.
+        ensures at_work { self.new.at_work ≡ self.old.at_work }
         ensures nobody { (slot : ℕ) → waker_at self.new.wakers slot ≡ None }
         ensures waits { WaitAsBefore self.old.guarded.waiting self.new.guarded.waiting }
         ensures workers { NobodySleeps self.new.workers }
@@ -558,31 +584,102 @@ impl<P: Drop> TaskBook<P> {
     ghost use Rattle.pool_state.specs.Since.{since_with};
     ghost use Rattle.pool_state.specs.Status.{all_who_wait};
     ghost use Rattle.pool_state.specs.Waits.{count_of};
+    ghost use Rattle.r2d2_core.specs.BookSteps.{IsBegin};
 
     /// A place for a worker. The error is lack of memory.
     pub fn add_worker(&mut self) -> Result<Ticket, AllocError>
         ensures place { IfOk result (λ ticket. HasPlace self.new.workers ticket.key) }
         ensures queue { SameQueue self.old.workers self.new.workers }
         ensures drains { self.new.drains ≡ self.old.drains }
+        ensures at_work { self.new.at_work ≡ self.old.at_work }
     {
-        self.workers.insert(())
+        self.workers.insert(None)
     }
 
-    /// A worker sleeps until something is ordered.
-    pub fn park_worker<U>(&mut self, cx: &mut Context<'_>, source: &Source, key: usize) -> Poll<U>
-        requires { self.old.guarded.book.picture.on_order.closed ≡ false }
+    /// A worker is counted among those at work, from its first poll on.
+    pub fn begin_work(&mut self, is_at_work: &mut bool)
+        ensures begun { is_at_work.new ≡ true }
+        ensures count { self.new.at_work ≡ (if is_at_work.old
+            then self.old.at_work
+            else min (self.old.at_work + 1) (2 ^ 32 - 1)) }
+        ensures guarded { self.new.guarded ≡ self.old.guarded }
+        ensures workers { self.new.workers ≡ self.old.workers }
+        ensures drains { self.new.drains ≡ self.old.drains }
+        ensures wakers { self.new.wakers ≡ self.old.wakers }
+    {
+        if !*is_at_work {
+            *is_at_work = true;
+            self.at_work = self.at_work.saturating_add(1);
+        }
+    }
+
+    /// It is at work no more.
+    pub fn end_work(&mut self, is_at_work: &mut bool)
+        ensures ended { is_at_work.new ≡ false }
+        ensures count { self.new.at_work ≡ (if is_at_work.old
+            then self.old.at_work - 1
+            else self.old.at_work) }
+        ensures guarded { self.new.guarded ≡ self.old.guarded }
+        ensures workers { self.new.workers ≡ self.old.workers }
+        ensures drains { self.new.drains ≡ self.old.drains }
+        ensures wakers { self.new.wakers ≡ self.old.wakers }
+    {
+        if *is_at_work {
+            *is_at_work = false;
+            self.at_work = self.at_work.saturating_sub(1);
+        }
+    }
+
+    /// A worker asks what it is to do. Where that is to wait, it sleeps until the moment that it is
+    /// told, or for good, unless something is ordered.
+    pub fn ask(&mut self, now: Duration, cx: &mut Context<'_>, source: &Source, key: usize) -> Job
+        ensures step { IsBegin now result self.old.guarded.book self.new.guarded.book }
+        ensures waits { (due : Duration) → result ≡ Job.Wait due
+            → Covers cx.new (λ s. s ≡ source.now.id) }
+        ensures rests { result ≡ Job.Nothing → Covers cx.new (λ s. s ≡ source.now.id) }
+        ensures until { (due : Duration) → result ≡ Job.Wait due → HasPlace self.old.workers key
+            → SleepsUntil cx.old cx.new self.new.workers key (Some due) }
+        ensures for_good { result ≡ Job.Nothing → HasPlace self.old.workers key
+            → SleepsUntil cx.old cx.new self.new.workers key None }
+        ensures kept { Keeps cx.old cx.new }
+        ensures at_work { self.new.at_work ≡ self.old.at_work }
+    {
+        let job = self.begin(now);
+        match job {
+            Job::Wait(due) => {
+                let _pending: Poll<()> = self.park_worker(cx, source, key, Some(due));
+            }
+            Job::Nothing => {
+                let _pending: Poll<()> = self.park_worker(cx, source, key, None);
+            }
+            Job::Open { .. } | Job::Reap | Job::Closed => {}
+        }
+        job
+    }
+
+    /// A worker sleeps until this moment, or for good, unless something is ordered before.
+    pub fn park_worker<U>(
+        &mut self,
+        cx: &mut Context<'_>,
+        source: &Source,
+        key: usize,
+        until: Option<Duration>,
+    ) -> Poll<U>
+        requires open { self.old.guarded.book.picture.on_order.closed ≡ false }
+        requires in_time { IsInTime until self.old.guarded.book.picture.on_order }
         ensures pending { result ≡ Poll.Pending }
         ensures registered { Covers cx.new (λ s. s ≡ source.now.id) }
         ensures kept { Keeps cx.old cx.new }
-        ensures parked { HasPlace self.old.workers key
-            → IsParkedAt cx.old cx.new self.new.workers key }
+        ensures until { HasPlace self.old.workers key
+            → SleepsUntil cx.old cx.new self.new.workers key until }
         ensures others { (other : ℕ) → IsQueued self.old.workers other
             → IsQueued self.new.workers other }
         ensures drains { self.new.drains ≡ self.old.drains }
         ensures line { self.new.wakers ≡ self.old.wakers }
         ensures guarded { self.new.guarded ≡ self.old.guarded }
+        ensures at_work { self.new.at_work ≡ self.old.at_work }
     {
-        park(&mut self.workers, cx, source, key)
+        park(&mut self.workers, cx, source, key, until)
     }
 
     /// A worker ends.
@@ -590,6 +687,7 @@ impl<P: Drop> TaskBook<P> {
         ensures free { value_of self.new.workers ticket.key ≡ None }
         ensures leaves { Leaves self.old.workers self.new.workers ticket.key }
         ensures drains { self.new.drains ≡ self.old.drains }
+        ensures at_work { self.new.at_work ≡ self.old.at_work }
     {
         let key = self.workers.redeem(ticket);
         self.workers.remove(key);
@@ -655,7 +753,7 @@ impl<P: Drop> TaskBook<P> {
         ensures line { self.new.wakers ≡ self.old.wakers }
         ensures guarded { self.new.guarded ≡ self.old.guarded }
     {
-        park(&mut self.drains, cx, source, key)
+        park(&mut self.drains, cx, source, key, ())
     }
 
     /// A drain ends.

@@ -3,7 +3,7 @@
 ghost use Rattle.std.specs.Prelude.{◌≡◌, ◌≢◌, ℕ, length, true, false, None, Some, IsSome};
 ghost use Rattle.std.specs.Prelude.{IfSome, IfNone, IfOk, IsTrue};
 ghost use Rattle.futures.specs.Task.{Covers, Keeps};
-ghost use Rattle.futures.specs.WaitList.{IsParkedAt, IsQueued};
+ghost use Rattle.futures.specs.WaitList.{IsParkedAt, IsQueued, Sets, value_of};
 ghost use Rattle.r2d2_async.specs.Wakers.{waker_at, SleepsAt, KeepsOthers, HasPlace};
 ghost use Rattle.r2d2_async.specs.Wakers.{NobodySleeps, AreDrained};
 
@@ -12,6 +12,7 @@ use futures::util::wait_list::WaitList;
 use pool_state::ToWake;
 use r2d2_core::Book;
 use std::alloc::{AllocError, Global};
+use std::time::Duration;
 
 /// So many slots, at which nobody sleeps.
 pub(crate) fn no_wakers(alloc: Global, room: u32) -> Result<Vec<Option<Waker>>, AllocError>
@@ -75,6 +76,7 @@ fn clear(wakers: &mut Vec<Option<Waker>>, slot: u32)
 }
 
 /// The same, where it stands in line.
+#[inline(always)]
 pub(crate) fn clear_at(wakers: &mut Vec<Option<Waker>>, place: Option<u32>)
     ensures cleared { IfSome place (λ slot. waker_at wakers.new slot ≡ None) }
     ensures slots { length wakers.new.items ≡ length wakers.old.items }
@@ -88,7 +90,12 @@ pub(crate) fn clear_at(wakers: &mut Vec<Option<Waker>>, place: Option<u32>)
 }
 
 /// Wakes those for whom a step left something.
-pub(crate) fn wake(wakers: &mut Vec<Option<Waker>>, workers: &mut WaitList<()>, to_wake: ToWake)
+#[inline(always)]
+pub(crate) fn wake(
+    wakers: &mut Vec<Option<Waker>>,
+    workers: &mut WaitList<Option<Duration>>,
+    to_wake: ToWake,
+)
     ensures told { IfSome to_wake.told (λ slot. waker_at wakers.new slot ≡ None) }
     ensures slots { length wakers.new.items ≡ length wakers.old.items }
     ensures alone { KeepsOthers to_wake.told wakers.old wakers.new }
@@ -108,7 +115,8 @@ pub(crate) fn wake(wakers: &mut Vec<Option<Waker>>, workers: &mut WaitList<()>, 
 }
 
 /// Wakes the workers, where they are to be woken.
-pub(crate) fn wake_workers(workers: &mut WaitList<()>, is_to_wake: bool)
+#[inline(always)]
+pub(crate) fn wake_workers(workers: &mut WaitList<Option<Duration>>, is_to_wake: bool)
     ensures workers { IsTrue is_to_wake → NobodySleeps workers.new }
     ensures rest { is_to_wake ≡ false → workers.new ≡ workers.old }
     ensures fewer { (key : ℕ) → IsQueued workers.new key → IsQueued workers.old key }
@@ -127,6 +135,7 @@ pub(crate) fn lent_in<P>(book: &Book<P>) -> u32
 
 /// Wakes those who wait until nothing is lent, where nothing is. (A method would owe that none of
 /// them sleeps then, which it brings about.)
+#[inline(always)]
 pub(crate) fn wake_drains<P>(drains: &mut WaitList<()>, book: &Book<P>)
     ensures { AreDrained book.now.picture.lent drains.new }
 {
@@ -135,24 +144,30 @@ pub(crate) fn wake_drains<P>(drains: &mut WaitList<()>, book: &Book<P>)
     }
 }
 
-/// One who waits beside the line sleeps until the list is woken.
-pub(crate) fn park<U>(
-    list: &mut WaitList<()>,
+/// One who waits beside the line sleeps until the list is woken, with this value.
+pub(crate) fn park<T: Copy, U>(
+    list: &mut WaitList<T>,
     cx: &mut Context<'_>,
     source: &Source,
     key: usize,
+    value: T,
 ) -> Poll<U>
     ensures pending { result ≡ Poll.Pending }
     ensures registered { Covers cx.new (λ s. s ≡ source.now.id) }
     ensures kept { Keeps cx.old cx.new }
     ensures parked { HasPlace list.old key → IsParkedAt cx.old cx.new list.new key }
+    ensures value { HasPlace list.old key → Sets list.old list.new key (Some value) }
     ensures others { (other : ℕ) → IsQueued list.old other → IsQueued list.new other }
+    ensures alone { (other : ℕ) → other ≢ key → IsQueued list.new other
+        → IsQueued list.old other }
+    ensures absent { value_of list.old key ≡ None → list.new ≡ list.old }
 {
+    if list.get(key).is_none() {
+        // Its ticket keeps its place.
+        return cx.yield_now();
+    }
+    list.set(key, value);
     if !list.is_queued(key) {
-        if list.get(key).is_none() {
-            // Its ticket keeps its place.
-            return cx.yield_now();
-        }
         list.enqueue(key);
     }
     list.register(cx, source, key)

@@ -1,5 +1,6 @@
 // How a worker opens and closes connections.
-ghost use Rattle.std.specs.Prelude.{◌≡◌, ◌⊎◌, ℕ, None, IfSome, IfOk, IsSomeAnd, vec_len};
+ghost use Rattle.std.specs.Prelude.{◌≡◌, ◌≢◌, ◌⊎◌, ◌-◌, ℕ, None, true, false, IfSome, IfOk, IsSomeAnd, vec_len};
+ghost use Rattle.std.specs.Duration.{as_nanos};
 ghost use Rattle.futures.specs.Task.{Covers, Hears, IsArmed, Keeps};
 ghost use Rattle.futures.specs.Poll.{IfReady, OnPending};
 ghost use Rattle.r2d2_async.specs.Sources.{orders_of};
@@ -45,7 +46,8 @@ enum Next {
 }
 
 /// A worker of a pool: a future that opens connections and closes expired ones until the pool is
-/// closed. As many openings go on at once as workers are spawned.
+/// closed. As many openings go on at once as workers are spawned. `Status::workers` counts it from
+/// its first poll until it has ended or is dropped.
 ///
 /// It may be dropped at any time: an opening in work counts as one that failed, and is tried again
 /// by another worker.
@@ -58,12 +60,15 @@ pub struct Worker<M: ManageConnection, T: Timer, K: Hooks<M>, R: AsyncRuntime> {
     // The latest moment that it saw: the clock may fail for one reading.
     seen: Duration,
     expired: Vec<Released<PayloadOf<M>>>,
+    // Whether it is counted among those at work.
+    is_at_work: bool,
 }
 
 impl<M: ManageConnection, T: Timer, K: Hooks<M>, R: AsyncRuntime> Worker<M, T, K, R> {
     // Its memory is taken here: the list for what a reap closes, and its place among the workers.
     pub(crate) fn new(shared: Arc<SharedOf<M, T, K, R>>) -> Result<Worker<M, T, K, R>, Error>
-        ensures { IfOk result (λ worker. (worker.opening ≡ None) × (worker.sleep ≡ None)) }
+        ensures fresh { IfOk result (λ worker. (worker.opening ≡ None) × (worker.sleep ≡ None)) }
+        ensures at_work { IfOk result (λ worker. worker.is_at_work ≡ false) }
     {
         let room = shared.settings.config.max_size as usize;
         let expired = Vec::with_capacity(shared.rt.alloc(), room).map_err(|_| Error::memory())?;
@@ -81,18 +86,24 @@ impl<M: ManageConnection, T: Timer, K: Hooks<M>, R: AsyncRuntime> Worker<M, T, K
             sleep: None,
             seen: Duration::ZERO,
             expired,
+            is_at_work: false,
         })
     }
 
-    // Asks the book, and lies down under the same lock where there is nothing to do now.
+    // Asks the book, and lies down under the same lock where there is nothing to do now. It is at
+    // work from its first question on, until it is told to end.
     fn ask(&mut self, cx: &mut Context<'_>) -> Next
         requires opening { self.old.opening ≡ None }
         ensures shared { self.new.shared ≡ self.old.shared }
         ensures opening { self.new.opening ≡ None }
         ensures sleep { self.new.sleep ≡ self.old.sleep }
+        ensures ends { result ≡ Next.End → self.new.is_at_work ≡ false }
+        ensures works { result ≢ Next.End → result ≢ Next.Again → self.new.is_at_work ≡ true }
         ensures idle { result ≡ Next.Idle → Covers cx.new (λ s. s ≡ orders_of self.new.shared) }
         ensures sleeps { (d : _) (l : _) → result ≡ Next.Sleep d l
             → Covers cx.new (λ s. s ≡ orders_of self.new.shared) }
+        ensures length { (d : _) (l : _) → result ≡ Next.Sleep d l
+            → as_nanos l ≡ as_nanos d - as_nanos self.new.seen }
         ensures kept { Keeps cx.old cx.new }
     {
         let shared = &self.shared;
@@ -101,7 +112,8 @@ impl<M: ManageConnection, T: Timer, K: Hooks<M>, R: AsyncRuntime> Worker<M, T, K
         };
         let now = shared.moment();
         self.seen = self.seen.max(now);
-        match tasks.begin(now) {
+        tasks.begin_work(&mut self.is_at_work);
+        match tasks.ask(now, cx, &shared.ordered, self.ticket.key()) {
             Job::Open { tries } => Next::Open(tries),
             Job::Reap => {
                 if has_room(tasks.book(), &self.expired) {
@@ -109,20 +121,15 @@ impl<M: ManageConnection, T: Timer, K: Hooks<M>, R: AsyncRuntime> Worker<M, T, K
                 }
                 Next::Reap
             }
-            Job::Wait(due) => {
-                let key = self.ticket.key();
-                let _pending: Poll<()> = tasks.park_worker(cx, &shared.ordered, key);
-                Next::Sleep {
-                    due,
-                    length: due.saturating_sub(self.seen),
-                }
+            Job::Wait(due) => Next::Sleep {
+                due,
+                length: due.saturating_sub(self.seen),
+            },
+            Job::Nothing => Next::Idle,
+            Job::Closed => {
+                tasks.end_work(&mut self.is_at_work);
+                Next::End
             }
-            Job::Nothing => {
-                let key = self.ticket.key();
-                let _pending: Poll<()> = tasks.park_worker(cx, &shared.ordered, key);
-                Next::Idle
-            }
-            Job::Closed => Next::End,
         }
     }
 
@@ -283,13 +290,17 @@ impl<M: ManageConnection, T: Timer, K: Hooks<M>, R: AsyncRuntime> Drop for Worke
             sleep: _,
             seen: _,
             expired: _,
+            mut is_at_work,
         } = self;
         if let Some(Opening { tries, connect }) = opening {
             drop(connect);
             shared.fail(tries, None);
         }
         match lock_or_give_up(&shared.tasks) {
-            Ok(mut tasks) => tasks.remove_worker(ticket),
+            Ok(mut tasks) => {
+                tasks.end_work(&mut is_at_work);
+                tasks.remove_worker(ticket)
+            }
             Err(gave_up) => ticket.abandon(gave_up),
         }
     }

@@ -29,7 +29,8 @@ fn common(settings: Settings) -> Builder<Manager> {
         .test_if_idle_for(settings.length_if(settings.test_if_idle_for))
         .evict_idle_on_failed_check(settings.evict_idle_on_failed_check)
         .journal_room(settings.journal_room)
-        .thread_pool(settings.workers)
+        // (A pool for tasks may have none.)
+        .thread_pool(settings.workers.max(1))
         .max_retry_delay(settings.length_if(settings.max_retry_delay))
         .lifetime_jitter(settings.length_if(settings.lifetime_jitter))
 }
@@ -191,6 +192,10 @@ impl<R: Host> Pool<R> {
                 Calls::QuietTask(tasks) => spawned(rt, tasks.worker()?)?,
                 _ => break,
             }
+        }
+        if world.kind == Kind::Spawned {
+            // Else a call without time may end before a worker's thread has begun.
+            pool.until(|status| status.workers == Some(settings.workers as u32))?;
         }
         if !settings.is_unchecked {
             pool.until(|status| status.idle >= status.wanted)?;

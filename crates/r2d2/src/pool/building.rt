@@ -9,13 +9,13 @@ ghost use Rattle.r2d2.specs.Failures.{IsOfMemory, IsOfMemoryOrThreads, IsOfABuil
 use super::closing::Closer;
 use super::locking::{Shared, SharedOf};
 use super::{AnyPool, CountedPool, Pool, PoolRuntime};
-use crate::config::{Builder, Settings};
+use crate::config::{Builder, Config, Settings};
 use crate::event::HandleEvent;
-use crate::hooks::Hooks;
+use crate::hooks::PoolHooks;
 use crate::payload::PayloadOf;
 use crate::{CustomizeConnection, Error, ErrorKind, HandleError, ManageConnection};
 use pool_state::engine::{Counted, CountingBook, TakeTotal};
-use pool_state::{Line, PoolState, Tuning};
+use pool_state::{Line, PoolState};
 use r2d2_core::{Book, Limits, Released};
 use std::alloc::{AllocError, Global};
 use std::sync::ledger::Ledger;
@@ -63,8 +63,7 @@ impl<
     {
         let (settings, book, lists) = self.prepared(rt.alloc())?;
         let book = CountingBook::plain(book);
-        let (listens, tuning) = (settings.listens, settings.tuning);
-        open_pool(rt, book, settings.config, listens, tuning, manager, lists)
+        open_pool(rt, book, settings, manager, lists)
     }
 
     /// Makes a pool whose takes are counted, and is otherwise as `build_unchecked`.
@@ -85,8 +84,7 @@ impl<
     {
         let (settings, book, lists) = self.prepared(rt.alloc())?;
         let book = Counted::new(book, total);
-        let (listens, tuning) = (settings.listens, settings.tuning);
-        open_pool(rt, book, settings.config, listens, tuning, manager, lists)
+        open_pool(rt, book, settings, manager, lists)
     }
 
     // The settings, a book in which nothing has happened, and a list for each worker.
@@ -123,21 +121,24 @@ type Prepared<M, H, V, Z> = (
 );
 
 // The pool over what its lock is to guard, with a worker for each list.
-fn open_pool<C: TakeTotal + Send + 'static, M: ManageConnection, K: Hooks<M>, R: PoolRuntime>(
+fn open_pool<
+    C: TakeTotal + Send + 'static,
+    M: ManageConnection,
+    H: HandleError<M::Error>,
+    V: HandleEvent + 'static,
+    Z: CustomizeConnection<M::Connection, M::Error>,
+    R: PoolRuntime,
+>(
     rt: R,
     book: CountingBook<PayloadOf<M>, C>,
-    hooks: K,
-    listens: bool,
-    tuning: Tuning,
+    settings: Settings<H, V, Z>,
     manager: M,
     lists: Vec<Vec<Released<PayloadOf<M>>>>,
-) -> Result<AnyPool<C, M, K, R>, Error>
-    ensures settings { IfOk result (λ pool. pool ≡ hooks) }
+) -> Result<AnyPool<C, M, Config<H, V, Z>, R>, Error>
+    ensures settings { IfOk result (λ pool. pool ≡ settings.config) }
     ensures refused { IfErr result IsOfMemoryOrThreads }
 {
-    let closer = shared_state(rt, book, hooks, listens, tuning, manager).map_err(
-        |_| Error::memory(),
-    )?;
+    let closer = shared_state(rt, book, settings, manager).map_err(|_| Error::memory())?;
     start_workers(&closer, lists)?;
     Ok(AnyPool { closer })
 }
@@ -173,20 +174,27 @@ fn reap_lists<P: Drop>(
 }
 
 // The state that workers, pools and lent connections share.
-fn shared_state<P: Drop, C: TakeTotal, M: Drop, K: Drop, R: PoolRuntime>(
+fn shared_state<P: Drop, C: TakeTotal, M: Drop, H: Drop, V: Drop, Z: Drop, R: PoolRuntime>(
     rt: R,
     book: CountingBook<P, C>,
-    hooks: K,
-    listens: bool,
-    tuning: Tuning,
+    settings: Settings<H, V, Z>,
     manager: M,
-) -> Result<Arc<Closer<P, C, M, K, R>>, AllocError>
-    ensures hooks { IfOk result (λ closer. (arc_value (arc_value closer).shared).hooks ≡ hooks) }
+) -> Result<Arc<Closer<P, C, M, Config<H, V, Z>, R>>, AllocError>
+    ensures hooks { IfOk result
+        (λ closer. (arc_value (arc_value closer).shared).hooks ≡ settings.config) }
     ensures listens { IfOk result
-        (λ closer. (arc_value (arc_value closer).shared).listens ≡ listens) }
+        (λ closer. (arc_value (arc_value closer).shared).listens ≡ settings.listens) }
+    ensures checks { IfOk result (λ closer. (arc_value (arc_value closer).shared).checks
+        ≡ settings.config.test_on_check_out) }
     ensures tuning { IfOk result
-        (λ closer. (arc_value (arc_value closer).shared).tuning ≡ tuning) }
+        (λ closer. (arc_value (arc_value closer).shared).tuning ≡ settings.tuning) }
 {
+    let Settings {
+        config,
+        tuning,
+        listens,
+        ..
+    } = settings;
     let made = Instant::now(&rt).ok();
     let created_at = SystemTime::now(&rt).ok();
     let room = tuning.room_in_line();
@@ -198,7 +206,8 @@ fn shared_state<P: Drop, C: TakeTotal, M: Drop, K: Drop, R: PoolRuntime>(
         slots,
         workers: Condvar::new(),
         manager,
-        hooks,
+        checks: config.test_on_check_out,
+        hooks: config,
         listens,
         tuning,
         made,
@@ -221,7 +230,12 @@ fn slots(alloc: Global, room: u32) -> Result<Vec<Condvar>, AllocError>
 }
 
 // Starts a worker for each list, in a thread of its own.
-fn start_workers<C: TakeTotal + Send + 'static, M: ManageConnection, K: Hooks<M>, R: PoolRuntime>(
+fn start_workers<
+    C: TakeTotal + Send + 'static,
+    M: ManageConnection,
+    K: PoolHooks<M>,
+    R: PoolRuntime,
+>(
     closer: &Arc<Closer<PayloadOf<M>, C, M, K, R>>,
     lists: Vec<Vec<Released<PayloadOf<M>>>>,
 ) -> Result<(), Error>
@@ -237,7 +251,7 @@ fn start_workers<C: TakeTotal + Send + 'static, M: ManageConnection, K: Hooks<M>
 }
 
 // Starts a worker; false where its thread can't be started.
-fn start<C: TakeTotal + Send + 'static, M: ManageConnection, K: Hooks<M>, R: PoolRuntime>(
+fn start<C: TakeTotal + Send + 'static, M: ManageConnection, K: PoolHooks<M>, R: PoolRuntime>(
     shared: Arc<SharedOf<C, M, K, R>>,
     expired: Vec<Released<PayloadOf<M>>>,
 ) -> bool {
@@ -246,7 +260,7 @@ fn start<C: TakeTotal + Send + 'static, M: ManageConnection, K: Hooks<M>, R: Poo
 }
 
 // The whole life of a worker.
-fn work<C: TakeTotal, M: ManageConnection, K: Hooks<M>, R: PoolRuntime>(
+fn work<C: TakeTotal, M: ManageConnection, K: PoolHooks<M>, R: PoolRuntime>(
     shared: Arc<SharedOf<C, M, K, R>>,
     expired: Vec<Released<PayloadOf<M>>>,
 ) {

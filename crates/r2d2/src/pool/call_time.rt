@@ -46,6 +46,7 @@ impl CallTime {
     ghost use Rattle.std.specs.Option.{IsNone};
     ghost use Rattle.r2d2.specs.CallTime.{begun_at, looked_at, start_of, waited_of, left_of};
     ghost use Rattle.r2d2.specs.CallTime.{may_still_take, with_one_less};
+    ghost use Rattle.pool_state.specs.Checks.{is_check_due};
 
     /// Of a call that looked at the clock as it began, or did not.
     pub(super) fn new(start: Option<Duration>) -> CallTime
@@ -103,13 +104,8 @@ impl CallTime {
     /// Whether what it took last is idle for long enough to be checked.
     #[inline(always)]
     pub(super) fn has_check_due(&self, tuning: &Tuning) -> bool
-        ensures always { IsNone tuning.now.test_if_idle_for → IsTrue result }
-        ensures unknown { IsNone self.now.idle_since → IsTrue result }
-        ensures went_back { IfSome self.now.idle_since
-            (λ since. self.now.step < since → IsTrue result) }
-        ensures due { IfSome self.now.idle_since (λ since. since ≤ self.now.step
-            → IfSome tuning.now.test_if_idle_for
-            (λ least. IsTrue result ↔ (as_nanos least ≤ self.now.step - since))) }
+        ensures { result ≡ is_check_due tuning.now.test_if_idle_for self.now.idle_since
+            self.now.step }
     {
         tuning.is_check_due(self.idle_since, self.step)
     }

@@ -1,7 +1,7 @@
 // What is lent is checked first, and what a failed check tells of the others.
-ghost use Rattle.std.specs.Prelude.{◌≡◌, ◌≤◌, ◌-◌, Some, false, IfSome, IsTrue, IsFalse};
+ghost use Rattle.std.specs.Prelude.{◌≡◌, ◌&&◌, ◌||◌, Some, false, IfSome, IsTrue, IsFalse};
 ghost use Rattle.std.specs.Option.{IsNone};
-ghost use Rattle.std.specs.Duration.{as_nanos};
+ghost use Rattle.pool_state.specs.Checks.{is_check_due};
 
 use super::PoolRuntime;
 use super::call_time::CallTime;
@@ -9,29 +9,30 @@ use super::lent::Lent;
 use super::locking::SharedOf;
 use crate::ManageConnection;
 use crate::event::ReleaseReason;
-use crate::hooks::{Closed, Hooks};
+use crate::hooks::{Closed, PoolHooks};
 use crate::payload::{Payload, PayloadOf};
 use pool_state::engine::{Settled, TakeTotal};
 use pool_state::text_of;
 use std::time::Duration;
 
-impl<C: TakeTotal, M: ManageConnection, K: Hooks<M>, R: PoolRuntime> SharedOf<C, M, K, R> {
+impl<C: TakeTotal, M: ManageConnection, K: PoolHooks<M>, R: PoolRuntime> SharedOf<C, M, K, R> {
     /// Whether what a call took is checked before it is lent.
     #[inline(always)]
     pub(super) fn is_to_check(&self, time: &CallTime) -> bool
-        ensures due { IsTrue result → IfSome self.now.tuning.test_if_idle_for
-            (λ least. IfSome time.now.idle_since (λ since. since ≤ time.now.step
-            → as_nanos least ≤ time.now.step - since)) }
+        ensures { result ≡ (self.now.checks
+            && is_check_due self.now.tuning.test_if_idle_for time.now.idle_since
+            time.now.step) }
     {
-        self.hooks.test_on_check_out() && time.has_check_due(&self.tuning)
+        self.checks && time.has_check_due(&self.tuning)
     }
 
     /// Whether what a call takes may be closed for a check, of it or of another.
     #[inline(always)]
     pub(super) fn may_fail_check(&self) -> bool
-        ensures { IsTrue self.now.tuning.evict_idle_on_failed_check → IsTrue result }
+        ensures { result ≡ (self.now.checks
+            || self.now.tuning.evict_idle_on_failed_check) }
     {
-        self.hooks.test_on_check_out() || self.tuning.evict_idle_on_failed_check
+        self.checks || self.tuning.evict_idle_on_failed_check
     }
 
     /// The connection, where it need not be checked, or its check finds it sound. Else it is

@@ -6,14 +6,14 @@ use super::PoolRuntime;
 use super::locking::SharedOf;
 use crate::ManageConnection;
 use crate::event::ReleaseReason;
-use crate::hooks::{Closed, Hooks};
+use crate::hooks::{Closed, PoolHooks};
 use crate::payload::{Payload, PayloadOf};
 use pool_state::engine::{TakeCounter, TakeTotal};
 use pool_state::has_room;
 use r2d2_core::{Book, Released};
 use std::alloc::AllocError;
 
-impl<C: TakeCounter, M: ManageConnection, K: Hooks<M>, R: PoolRuntime> SharedOf<C, M, K, R> {
+impl<C: TakeCounter, M: ManageConnection, K: PoolHooks<M>, R: PoolRuntime> SharedOf<C, M, K, R> {
     /// Closes what is idle now, and has what is lent now closed as it comes back. It answers how
     /// many were idle. The error is lack of memory for the list of those; then nothing has changed.
     pub(super) fn evict(&self, tally: &mut C::Tally) -> Result<usize, AllocError>
@@ -41,7 +41,7 @@ impl<C: TakeCounter, M: ManageConnection, K: Hooks<M>, R: PoolRuntime> SharedOf<
     }
 }
 
-impl<C: TakeTotal, M: ManageConnection, K: Hooks<M>, R: PoolRuntime> SharedOf<C, M, K, R> {
+impl<C: TakeTotal, M: ManageConnection, K: PoolHooks<M>, R: PoolRuntime> SharedOf<C, M, K, R> {
     /// Releases what was closed under the lock.
     pub(super) fn release(&self, released: Released<PayloadOf<M>>, reason: ReleaseReason) {
         let Released { id, age, value } = released;

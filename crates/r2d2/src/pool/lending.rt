@@ -8,13 +8,13 @@ use super::call_time::CallTime;
 use super::lent::AnyConnection;
 use super::locking::SharedOf;
 use super::{AnyPool, PoolRuntime};
-use crate::hooks::Hooks;
+use crate::hooks::PoolHooks;
 use crate::{Error, ErrorKind, ManageConnection};
 use pool_state::engine::{TakeCounter, TakeTotal};
 use std::sync::Arc;
 use std::time::Duration;
 
-impl<C: TakeCounter, M: ManageConnection, K: Hooks<M>, R: PoolRuntime> AnyPool<C, M, K, R> {
+impl<C: TakeCounter, M: ManageConnection, K: PoolHooks<M>, R: PoolRuntime> AnyPool<C, M, K, R> {
     ghost use Rattle.r2d2.specs.Failures.{IsOfMemory, IsOfAGet};
 
     /// Lends a connection that passed its check, and waits for one at most so long. With no timeout
@@ -117,7 +117,7 @@ impl<C: TakeCounter, M: ManageConnection, K: Hooks<M>, R: PoolRuntime> AnyPool<C
     }
 }
 
-impl<C: TakeTotal, M: ManageConnection, K: Hooks<M>, R: PoolRuntime> SharedOf<C, M, K, R> {
+impl<C: TakeTotal, M: ManageConnection, K: PoolHooks<M>, R: PoolRuntime> SharedOf<C, M, K, R> {
     // The moment at which a call begins, where somebody sees it.
     fn start_of_call(&self) -> Option<Duration>
         ensures { is_some result ≡ self.now.listens }

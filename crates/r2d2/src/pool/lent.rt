@@ -4,7 +4,7 @@ ghost use Rattle.std.specs.Prelude.{◌≡◌};
 use super::PoolRuntime;
 use super::closing::Closer;
 use crate::event::ReleaseReason;
-use crate::hooks::Hooks;
+use crate::hooks::PoolHooks;
 use crate::payload::{Payload, PayloadOf};
 use crate::{Extensions, ManageConnection};
 use pool_state::engine::{Outcome, Settled, TakeTotal};
@@ -23,7 +23,7 @@ pub struct Lent<P> {
 }
 
 /// A connection that a pool lent, whatever counts its takes.
-pub struct AnyConnection<C: TakeTotal, M: ManageConnection, K: Hooks<M>, R: PoolRuntime> {
+pub struct AnyConnection<C: TakeTotal, M: ManageConnection, K: PoolHooks<M>, R: PoolRuntime> {
     pub(super) closer: Arc<Closer<PayloadOf<M>, C, M, K, R>>,
     /// When it was lent.
     pub(super) lent_at: Duration,
@@ -32,7 +32,7 @@ pub struct AnyConnection<C: TakeTotal, M: ManageConnection, K: Hooks<M>, R: Pool
 
 // Contracts see a lent connection as what can be reached through it, the settings of its pool, and
 // how it was lent.
-impl<C: TakeTotal, M: ManageConnection, K: Hooks<M>, R: PoolRuntime> Model
+impl<C: TakeTotal, M: ManageConnection, K: PoolHooks<M>, R: PoolRuntime> Model
     for AnyConnection<C, M, K, R> {
     ghost use Rattle.std.specs.Arc.{arc_value};
     ghost use Rattle.r2d2.specs.Lent.{SeenConnection};
@@ -49,7 +49,7 @@ impl<C: TakeTotal, M: ManageConnection, K: Hooks<M>, R: PoolRuntime> Model
     } };
 }
 
-impl<C: TakeTotal, M: ManageConnection, K: Hooks<M>, R: PoolRuntime> AnyConnection<C, M, K, R> {
+impl<C: TakeTotal, M: ManageConnection, K: PoolHooks<M>, R: PoolRuntime> AnyConnection<C, M, K, R> {
     ghost use Rattle.std.specs.Borrow.{sem, Lends};
     ghost use Rattle.r2d2.specs.contracts.extensions.Extensions.{the_row as extensions_row};
     ghost use Rattle.r2d2.specs.contracts.pool.lent.AnyConnection.{the_row};
@@ -119,7 +119,7 @@ impl<C: TakeTotal, M: ManageConnection, K: Hooks<M>, R: PoolRuntime> AnyConnecti
     }
 }
 
-impl<C: TakeTotal, M: ManageConnection, K: Hooks<M>, R: PoolRuntime> Deref
+impl<C: TakeTotal, M: ManageConnection, K: PoolHooks<M>, R: PoolRuntime> Deref
     for AnyConnection<C, M, K, R> {
     type Target = M::Connection;
 
@@ -130,7 +130,7 @@ impl<C: TakeTotal, M: ManageConnection, K: Hooks<M>, R: PoolRuntime> Deref
     }
 }
 
-impl<C: TakeTotal, M: ManageConnection, K: Hooks<M>, R: PoolRuntime> DerefMut
+impl<C: TakeTotal, M: ManageConnection, K: PoolHooks<M>, R: PoolRuntime> DerefMut
     for AnyConnection<C, M, K, R> {
     ghost use Rattle.std.specs.Borrow.{sem, Lends};
     ghost use Rattle.r2d2.specs.contracts.pool.lent.AnyConnection.{the_row};
@@ -150,7 +150,7 @@ impl<C: TakeTotal, M: ManageConnection, K: Hooks<M>, R: PoolRuntime> DerefMut
     }
 }
 
-impl<C: TakeTotal, M: ManageConnection, K: Hooks<M>, R: PoolRuntime> fmt::Debug
+impl<C: TakeTotal, M: ManageConnection, K: PoolHooks<M>, R: PoolRuntime> fmt::Debug
     for AnyConnection<C, M, K, R>
 where
     M::Connection: fmt::Debug,
@@ -160,7 +160,7 @@ where
     }
 }
 
-impl<C: TakeTotal, M: ManageConnection, K: Hooks<M>, R: PoolRuntime> Drop
+impl<C: TakeTotal, M: ManageConnection, K: PoolHooks<M>, R: PoolRuntime> Drop
     for AnyConnection<C, M, K, R> {
     // Puts the connection back, and only then lets the pool go.
     fn drop(self) {

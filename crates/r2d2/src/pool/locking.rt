@@ -1,5 +1,5 @@
 // The lock of a pool, how it is taken, and who is woken once it is free.
-ghost use Rattle.std.specs.Prelude.{◌≡◌, ◌≤◌, ◌-◌, IfOk, IsTrue, ◌↔◌};
+ghost use Rattle.std.specs.Prelude.{◌≡◌, ◌≤◌, ◌-◌, None, IfOk, IsTrue, ◌↔◌};
 ghost use Rattle.std.specs.Duration.{as_nanos};
 ghost use Rattle.r2d2_core.specs.Reports.{IsSoundReport};
 
@@ -36,6 +36,8 @@ pub struct Shared<B, M, K, R> {
     pub(super) hooks: K,
     /// Whether a handler of events was set: if not, nobody sees when a call began or ended.
     pub(super) listens: bool,
+    /// Whether a connection is checked before it is lent: the setting `test_on_check_out`.
+    pub(super) checks: bool,
     /// The settings that r2d2 has not.
     pub(super) tuning: Tuning,
     /// When the pool was made; None where the clock could not be read.
@@ -173,7 +175,8 @@ impl<P: Drop, C: TakeTotal, M, K, R: Clock + Wait> Shared<PoolState<P, C>, M, K,
 
     /// The counts, with those of the callers who wait.
     pub(super) fn status(&self) -> Status
-        ensures { IsStatus result }
+        ensures sums { IsStatus result }
+        ensures workers { result.workers ≡ None }
     {
         self.guarded.lock(&self.rt).status()
     }

@@ -53,6 +53,8 @@ impl<P: Drop, C: TakeCounter, M, K, R: Clock + Wait + AllocGlobal> Shared<
             (λ _. C.amount tally.new ≡ C.amount tally.old + C.per_take)) }
         ensures refused { OnErr result (C.amount tally.new ≡ C.amount tally.old) }
         ensures error { IfErr result IsOfAGet }
+        ensures full { IfErr result (λ error. error.kind ≡ ErrorKind.QueueFull
+            → IsSome self.now.tuning.max_waiting) }
         ensures waits { IsSome timeout → IfOk result IsSome }
         ensures at_once { IsNone timeout → IsOk result }
         ensures looks { IfOk result (λ found. IsSome found → IsSome time.new.start) }
@@ -101,6 +103,8 @@ impl<P: Drop, C: TakeCounter, M, K, R: Clock + Wait + AllocGlobal> Shared<
         ensures lent { IfOk result (λ _. C.amount tally.new ≡ C.amount tally.old + C.per_take) }
         ensures refused { OnErr result (C.amount tally.new ≡ C.amount tally.old) }
         ensures error { IfErr result IsOfAGet }
+        ensures full { IfErr result (λ error. error.kind ≡ ErrorKind.QueueFull
+            → IsSome self.now.tuning.max_waiting) }
         ensures looks { IsOk result → IsSome time.new.start }
     {
         // Modelled in model/waiting.pml: keep both alike.
@@ -143,6 +147,8 @@ impl<P: Drop, C: TakeCounter, M, K, R: Clock + Wait + AllocGlobal> Shared<
         ensures lent { IfOk result (λ _. C.amount tally.new ≡ C.amount tally.old + C.per_take) }
         ensures refused { OnErr result (C.amount tally.new ≡ C.amount tally.old) }
         ensures error { IfErr result IsOfAGet }
+        ensures full { IfErr result (λ error. error.kind ≡ ErrorKind.QueueFull
+            → IsSome self.now.tuning.max_waiting) }
         ensures looks { IsSome time.new.start }
     {
         // Modelled in model/waiting.pml: keep both alike.
@@ -212,6 +218,7 @@ impl<P: Drop, C: TakeTotal, M, K, R: Clock + Wait + AllocGlobal> Shared<PoolStat
     ) -> Option<MutexGuard<'a, PoolState<P, C>>>
         ensures begun { IsSome result → IsSome time.new.start }
         ensures once { IsSome time.old.start → time.new ≡ time.old }
+        ensures full { IsNone result → IsSome self.now.tuning.max_waiting }
     {
         if guarded.is_refused(self.tuning.max_waiting) {
             return None;

@@ -5,7 +5,7 @@ use super::PoolRuntime;
 use super::locking::SharedOf;
 use crate::ManageConnection;
 use crate::event::ReleaseReason;
-use crate::hooks::Hooks;
+use crate::hooks::PoolHooks;
 use crate::payload::{Payload, PayloadOf, open};
 use pool_state::engine::{Outcome, TakeTotal};
 use pool_state::{PoolState, has_room, reason_of_reap, text_of};
@@ -13,7 +13,7 @@ use r2d2_core::{Job, Limits, Refusal, Released};
 use std::sync::MutexGuard;
 use std::time::Duration;
 
-impl<C: TakeTotal, M: ManageConnection, K: Hooks<M>, R: PoolRuntime> SharedOf<C, M, K, R> {
+impl<C: TakeTotal, M: ManageConnection, K: PoolHooks<M>, R: PoolRuntime> SharedOf<C, M, K, R> {
     /// Does what is due, and waits where nothing is, until the pool is closed. The list is for the
     /// connections that a reap closes.
     pub(super) fn work(&self, mut expired: Vec<Released<PayloadOf<M>>>) {

@@ -3,6 +3,7 @@ use Rattle.pool_state.specs.Guarded.{SeenState}
 use Rattle.r2d2_async.proofs.Awake.{awake_gone}
 use Rattle.r2d2_async.proofs.Drained.{drained_kept}
 use Rattle.r2d2_async.proofs.Closed.{up_kept}
+use Rattle.r2d2_async.proofs.InTime.{same_order, step_in_time}
 use Rattle.r2d2_async.proofs.task_book.TaskBook.leave.Goals as goal
 
 pub invariant_of-self : goal.invariant_of-self
@@ -15,4 +16,7 @@ invariant_of-self g c =
       drained = drained_kept old.guarded.book.picture.lent left.new.self.book.picture.lent old.drains (ap (λ (s : SeenState _ _). s.book.picture.lent) left.ensures.same) old.drained;
       up = up_kept old.guarded.book.picture.on_order.closed left.new.self.book.picture.on_order.closed old.wakers c.wake.new.wakers old.workers c.wake.new.workers
           (ap (λ (s : SeenState _ _). s.book.picture.on_order.closed) left.ensures.same) (λ s none. c.wake.ensures.others s (c.clear_at.ensures.others s none)) c.wake.ensures.fewer old.up;
+      in_order = same_order old.guarded.book.picture.on_order left.new.self.book.picture.on_order (ap (λ (s : SeenState _ _). s.book.picture.on_order) left.ensures.same) old.in_order;
+      in_time = step_in_time left.result.workers old.guarded.book.picture.on_order left.new.self.book.picture.on_order old.workers c.wake.new.workers c.wake.ensures.workers c.wake.ensures.rest
+          (λ none. (ap (λ (s : SeenState _ _). s.book.picture.on_order.scheduled) left.ensures.same, ap (λ (s : SeenState _ _). s.book.picture.on_order.next_reap) left.ensures.same)) old.in_time;
     }

@@ -5,6 +5,7 @@ use Rattle.pool_state.specs.Guarded.{SeenState}
 use Rattle.r2d2_async.proofs.Awake.{awake_passed, awake_none_passed}
 use Rattle.r2d2_async.proofs.Drained.{drained_kept}
 use Rattle.r2d2_async.proofs.Closed.{up_kept}
+use Rattle.r2d2_async.proofs.InTime.{same_order, same_times, step_in_time}
 use Rattle.r2d2_async.proofs.task_book.TaskBook.pass_one.Goals as goal
 
 pub invariant_of-self : goal.invariant_of-self
@@ -18,6 +19,9 @@ invariant_of-self g c =
       drained = drained_kept old.guarded.book.picture.lent step.new.self.book.picture.lent old.drains (ap (λ (s : SeenState _ _). s.book.picture.lent) step.ensures.same) old.drained;
       up = up_kept old.guarded.book.picture.on_order.closed step.new.self.book.picture.on_order.closed old.wakers c.wake.new.wakers old.workers c.wake.new.workers
           (ap (λ (s : SeenState _ _). s.book.picture.on_order.closed) step.ensures.same) c.wake.ensures.others c.wake.ensures.fewer old.up;
+      in_order = same_order old.guarded.book.picture.on_order step.new.self.book.picture.on_order (ap (λ (s : SeenState _ _). s.book.picture.on_order) step.ensures.same) old.in_order;
+      in_time = step_in_time c.in-Some.to_wake.workers old.guarded.book.picture.on_order step.new.self.book.picture.on_order old.workers c.wake.new.workers c.wake.ensures.workers c.wake.ensures.rest
+          (λ none. (ap (λ (s : SeenState _ _). s.book.picture.on_order.scheduled) step.ensures.same, ap (λ (s : SeenState _ _). s.book.picture.on_order.next_reap) step.ensures.same)) old.in_time;
     }
 
 pub invariant_of-self-in-None : goal.invariant_of-self-in-None
@@ -31,4 +35,6 @@ invariant_of-self-in-None g c =
       drained = drained_kept old.guarded.book.picture.lent step.new.self.book.picture.lent old.drains (ap (λ (s : SeenState _ _). s.book.picture.lent) step.ensures.same) old.drained;
       up = up_kept old.guarded.book.picture.on_order.closed step.new.self.book.picture.on_order.closed old.wakers old.wakers old.workers old.workers
           (ap (λ (s : SeenState _ _). s.book.picture.on_order.closed) step.ensures.same) (λ s none. none) (λ key queued. queued) old.up;
+      in_order = same_order old.guarded.book.picture.on_order step.new.self.book.picture.on_order (ap (λ (s : SeenState _ _). s.book.picture.on_order) step.ensures.same) old.in_order;
+      in_time = same_times old.guarded.book.picture.on_order step.new.self.book.picture.on_order old.workers (ap (λ (s : SeenState _ _). s.book.picture.on_order) step.ensures.same) old.in_time;
     }

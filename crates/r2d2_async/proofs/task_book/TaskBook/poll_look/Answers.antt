@@ -8,6 +8,8 @@ use Rattle.r2d2_async.specs.Wakers.{AreAwake}
 use Rattle.r2d2_async.proofs.Awake.{awake_look, awake_registered, awake_same, look_keeps}
 use Rattle.r2d2_async.proofs.Drained.{drained_kept, drained_looked}
 use Rattle.r2d2_async.proofs.Closed.{up_open, looked_same}
+use Rattle.r2d2_async.proofs.InTime.{same_order, same_times, step_in_time}
+use Rattle.r2d2_async.proofs.Ordering.{looked_in_order, looked_quiet}
 use Rattle.r2d2_async.proofs.task_book.TaskBook.poll_look.Goals as goal
 
 pub invariant_of-self-in-Found-1 : goal.invariant_of-self-in-Found-1
@@ -22,6 +24,11 @@ invariant_of-self-in-Found-1 g c =
       up = up_open look.new.self.book.picture.on_order.closed c.wake.new.wakers c.wake.new.workers
           (ap (λ (b : SeenBook _). b.picture.on_order.closed) look.ensures.book
           ∙ (looked_same (as_nanos c.args.now) look.result.0 (waiting_in look.new.self.places) old.guarded.owed old.guarded.book ∙ is_open));
+      in_order = looked_in_order (as_nanos c.args.now) look.result.0 (waiting_in look.new.self.places) old.guarded.owed old.guarded.book look.new.self.book look.ensures.book old.in_order;
+      in_time = step_in_time look.result.1.workers old.guarded.book.picture.on_order look.new.self.book.picture.on_order old.workers c.wake.new.workers
+          c.wake.ensures.workers c.wake.ensures.rest
+          (looked_quiet (as_nanos c.args.now) look.result.0 (waiting_in look.new.self.places) old.guarded.owed look.result.1.workers old.guarded.book look.new.self.book
+          look.ensures.book look.ensures.workers) old.in_time;
     }
 
 pub invariant_of-self-in-Full : goal.invariant_of-self-in-Full
@@ -42,6 +49,13 @@ invariant_of-self-in-Full g c =
           (ap (λ (b : SeenState _ _). b.book.picture.on_order.closed) c.refuse.ensures.same
           ∙ (ap (λ (b : SeenBook _). b.picture.on_order.closed) look.ensures.book
           ∙ (looked_same (as_nanos c.args.now) look.result.0 (waiting_in look.new.self.places) old.guarded.owed old.guarded.book ∙ is_open)));
+      in_order = same_order look.new.self.book.picture.on_order c.refuse.new.self.book.picture.on_order (ap (λ (b : SeenState _ _). b.book.picture.on_order) c.refuse.ensures.same)
+          (looked_in_order (as_nanos c.args.now) look.result.0 (waiting_in look.new.self.places) old.guarded.owed old.guarded.book look.new.self.book look.ensures.book old.in_order);
+      in_time = same_times look.new.self.book.picture.on_order c.refuse.new.self.book.picture.on_order c.wake.new.workers (ap (λ (b : SeenState _ _). b.book.picture.on_order) c.refuse.ensures.same)
+          (step_in_time look.result.1.workers old.guarded.book.picture.on_order look.new.self.book.picture.on_order old.workers c.wake.new.workers
+          c.wake.ensures.workers c.wake.ensures.rest
+          (looked_quiet (as_nanos c.args.now) look.result.0 (waiting_in look.new.self.places) old.guarded.owed look.result.1.workers old.guarded.book look.new.self.book
+          look.ensures.book look.ensures.workers) old.in_time);
     }
 
 pub invariant_of-self-in-Stands : goal.invariant_of-self-in-Stands
@@ -66,6 +80,13 @@ invariant_of-self-in-Stands g c =
           (ap (λ (b : SeenState _ _). b.book.picture.on_order.closed) c.wait_in_line.ensures.same
           ∙ (ap (λ (b : SeenBook _). b.picture.on_order.closed) look.ensures.book
           ∙ (looked_same (as_nanos c.args.now) look.result.0 (waiting_in look.new.self.places) old.guarded.owed old.guarded.book ∙ is_open)));
+      in_order = same_order look.new.self.book.picture.on_order c.wait_in_line.new.self.book.picture.on_order (ap (λ (b : SeenState _ _). b.book.picture.on_order) c.wait_in_line.ensures.same)
+          (looked_in_order (as_nanos c.args.now) look.result.0 (waiting_in look.new.self.places) old.guarded.owed old.guarded.book look.new.self.book look.ensures.book old.in_order);
+      in_time = same_times look.new.self.book.picture.on_order c.wait_in_line.new.self.book.picture.on_order c.wake.new.workers (ap (λ (b : SeenState _ _). b.book.picture.on_order) c.wait_in_line.ensures.same)
+          (step_in_time look.result.1.workers old.guarded.book.picture.on_order look.new.self.book.picture.on_order old.workers c.wake.new.workers
+          c.wake.ensures.workers c.wake.ensures.rest
+          (looked_quiet (as_nanos c.args.now) look.result.0 (waiting_in look.new.self.places) old.guarded.owed look.result.1.workers old.guarded.book look.new.self.book
+          look.ensures.book look.ensures.workers) old.in_time);
     }
 
 -- one who takes has a connection, and passes nothing on

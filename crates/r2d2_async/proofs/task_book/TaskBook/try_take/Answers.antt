@@ -5,6 +5,9 @@ use Rattle.pool_state.specs.Guarded.{SeenState}
 use Rattle.r2d2_async.proofs.Awake.{awake_same}
 use Rattle.r2d2_async.proofs.Drained.{drained_lent}
 use Rattle.r2d2_async.proofs.Closed.{up_kept, lent_same}
+use Rattle.r2d2_core.specs.Seen.{seen_take}
+use Rattle.r2d2_async.proofs.InTime.{step_in_time}
+use Rattle.r2d2_async.proofs.Ordering.{lent_in_order, lent_quiet}
 use Rattle.r2d2_async.proofs.task_book.TaskBook.try_take.Goals as goal
 
 pub invariant_of-self : goal.invariant_of-self
@@ -18,4 +21,12 @@ invariant_of-self g c =
           (lent_same (as_nanos c.args.now) (is_kept old.guarded.book.picture old.guarded.places) old.guarded.book c.look_once-taken.new.self.book
           (λ kept. (c.look_once-taken.ensures.kept kept).1) (λ free. (c.look_once-taken.ensures.step free).of_core.after))
           (λ s none. none) c.wake_workers.ensures.fewer old.up;
+      in_order = lent_in_order (as_nanos c.args.now) (is_kept old.guarded.book.picture old.guarded.places) old.guarded.book c.look_once-taken.new.self.book
+          (λ kept. (c.look_once-taken.ensures.kept kept).1) (λ free. (c.look_once-taken.ensures.step free).of_core.after) old.in_order;
+      in_time = step_in_time c.look_once-taken.result.1 old.guarded.book.picture.on_order c.look_once-taken.new.self.book.picture.on_order old.workers
+          c.wake_workers.new.workers c.wake_workers.ensures.workers c.wake_workers.ensures.rest
+          (lent_quiet (as_nanos c.args.now) (is_kept old.guarded.book.picture old.guarded.places) c.look_once-taken.result.1 (seen_take c.look_once-taken.result.0)
+          old.guarded.book c.look_once-taken.new.self.book (λ kept. (c.look_once-taken.ensures.kept kept).1)
+          (λ free. (c.look_once-taken.ensures.step free).of_core.after) (λ free. (c.look_once-taken.ensures.step free).of_core.answer)
+          c.look_once-taken.ensures.workers) old.in_time;
     }

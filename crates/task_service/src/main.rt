@@ -1,15 +1,18 @@
-// A service of tasks, all of them on one thread: requests that stand in line for a connection,
-// metrics, and an end that waits for what is still lent.
+//! A service of tasks, all of them on one thread: requests that stand in line for a connection,
+//! metrics, and an end that waits for what is still lent.
+#![tactic(auto)]
+
 ghost use Rattle.std.specs.Prelude.{IfSome};
 
-use crate::Numbers;
-use crate::one_thread::{LoopTimer, Nap, Ticks};
+mod one_thread;
+
 use anyhow::ensure;
 use futures::channel::mpsc::{Receiver, Sender, channel};
 use futures::executor::{EventLoop, TaskSet};
 use futures::future::{Ready, join, ready};
 use futures::task::{Context, Doorbell, Poll};
 use futures::{Future, Stream};
+use one_thread::{LoopTimer, Nap, Ticks};
 use pool_metrics::Metrics;
 use r2d2::{NopConnectionCustomizer, NopErrorHandler, PoolRuntime};
 use r2d2_async::{Builder, Drain, Get, Handlers, ManageConnection, Pool, PooledConnection, Timer};
@@ -20,6 +23,10 @@ use std::time::{Duration, Instant};
 
 /// How many requests there are.
 const REQUESTS: u32 = 20;
+
+/// Opens connections that are numbers.
+#[derive(Drop)]
+struct Numbers;
 
 impl ManageConnection for Numbers {
     type Connection = u32;
@@ -130,8 +137,8 @@ impl<R: PoolRuntime> Future for Closing<R> {
     }
 }
 
-/// Answers requests on this thread, and says what the metrics counted.
-pub fn served<R: PoolRuntime + RandomSource + Print>(rt: R) -> Result<(), anyhow::Error> {
+// Answers requests on this thread, and says what the metrics counted.
+fn main(rt: HostRuntime) -> Result<(), anyhow::Error> {
     let metrics = Metrics::new(rt, 2)?;
     let came_back = serve(rt, metrics.try_clone()?)?;
     ensure!(came_back, "some connections did not come back");
