@@ -27,6 +27,9 @@ INSIDE = "inside_"
 OTHERS = {"metrics": ["stage"], "verdicts": ["metrics", "stage"]}
 # Modules of the tests that stand among the crates, since they are proved there.
 LAID = {"crates/pool/src/surface/pool_uses.rt": "crates/examples/src/pool_uses.rt"}
+# The crate in which several folders of tests stand together, each as a module.
+TOGETHER = "all_tests"
+HEAD_OF_CRATE = r"^(//!|#!\[).*\n"
 SECONDS = "400"
 
 
@@ -126,6 +129,55 @@ def listed():
     return [file for file in said.stdout.splitlines() if os.path.lexists(os.path.join(TOP, file))]
 
 
+def are_together(names):
+    """Those of the folders that can stand in one crate, so that what they stand on is compiled once: with those whose modules they name,
+    and have none by the same name in the place of one."""
+    fit = [name for name in names if not name.startswith(INSIDE)]
+    return [name for name in fit if all(it in fit and tops_of(name) & tops_of(it) <= {"lib"} for it in OTHERS.get(name, []))]
+
+
+def libraries_of(name):
+    """What the crate of a folder of tests stands on."""
+    lines = open(os.path.join(TESTS, "libraries.txt"), encoding="utf-8").read().splitlines()
+    return next(line.partition(":")[2].split() for line in lines if line.startswith(name + ":"))
+
+
+def tops_of(name):
+    """The modules at the top of a folder of tests that stand in it."""
+    folder = os.path.join(TESTS, name)
+    return {top_of(folder, file) for file in sources(folder)}
+
+
+def as_module(name, text, is_root):
+    """The text of a file of a folder of tests where that is a module and no crate. Modules of other folders are those of the others."""
+    def named(found):
+        owner = next(it for it in [name, *OTHERS.get(name, [])] if found[1] in tops_of(it))
+        return f"pub(crate) mod {found[1]};" if owner == name else f"use crate::{owner}::{found[1]};"
+
+    text = re.sub(r"\bcrate::(?=\w)", f"crate::{name}::", re.sub(HEAD_OF_CRATE, "", text, flags=re.M))
+    return re.sub(r"^mod (\w+);", named, text, flags=re.M) if is_root else text
+
+
+def put_together(copy, names):
+    """Puts a crate into the copy in which these folders of tests stand together."""
+    crates = os.path.join(copy, "crates")
+    for name in names:
+        source, owned = os.path.join(crates, name, "src"), tops_of(name)
+        for file in sources(source):
+            if top_of(source, file) in owned:
+                place = os.path.relpath(file, source)
+                is_root = place == "lib.rt"
+                text = open(file, encoding="utf-8").read()
+                path = os.path.join(crates, TOGETHER, "src", f"{name}.rt" if is_root else os.path.join(name, place))
+                os.makedirs(os.path.dirname(path), exist_ok=True)
+                write(path, as_module(name, text, is_root))
+    modules = "".join(f"\n#[cfg(test)]\nmod {name};" for name in sorted(names))
+    write(os.path.join(crates, TOGETHER, "src", "lib.rt"), f"//! Tests of several folders.\n#![tactic(auto)]\n{modules}\n")
+    libraries = sorted({it for name in names for it in libraries_of(name)})
+    with open(os.path.join(copy, "crates.txt"), "a", encoding="utf-8") as it:
+        it.write(f"{TOGETHER}: {' '.join(libraries)}\n")
+
+
 def put(source, copy, file):
     os.makedirs(os.path.dirname(os.path.join(copy, file)) or copy, exist_ok=True)
     shutil.copy(source, os.path.join(copy, file), follow_symlinks=False)
@@ -159,7 +211,7 @@ def lay(copy, file, source):
     """Puts a module that is proved in the repository among the tests: without what only the head of a crate may say."""
     text = open(os.path.join(TOP, source), encoding="utf-8").read()
     with open(os.path.join(copy, file), "w", encoding="utf-8") as it:
-        it.write(re.sub(r"^(//!|#!\[).*\n", "", text, flags=re.M))
+        it.write(re.sub(HEAD_OF_CRATE, "", text, flags=re.M))
 
 
 def fill(copy):

@@ -9,6 +9,7 @@ import os
 import signal
 import subprocess
 import tempfile
+import threading
 import time
 
 import unchecked
@@ -36,24 +37,43 @@ def stamp(sources, top):
 
 
 class Group:
-    """Programs that were started, each the first of a group of its own: all are ended where this is left."""
+    """Programs that were started, also by several threads, each the first of a group of its own: all are ended where this is left."""
+
+    def __init__(self):
+        self.started, self.lock, self.is_over = [], threading.Lock(), False
 
     def __enter__(self):
-        self.started = []
         return self
 
     def start(self, words, folder, **how):
-        process = subprocess.Popen(words, cwd=folder, stdin=subprocess.DEVNULL, stdout=subprocess.PIPE, stderr=subprocess.STDOUT,
-                                   start_new_session=True, **how)
-        self.started.append(process)
+        with self.lock:
+            if self.is_over:
+                raise Failed("stopped")
+            process = subprocess.Popen(words, cwd=folder, stdin=subprocess.DEVNULL, stdout=subprocess.PIPE, stderr=subprocess.STDOUT,
+                                       start_new_session=True, **how)
+            self.started.append(process)
         return process
+
+    def ran(self, words, folder):
+        """Runs a program to its end: its status, and what it says. What it puts aside is in the folder."""
+        process = self.start(words, folder, env={**os.environ, "TMPDIR": folder})
+        said, _ = process.communicate()
+        return process.returncode, said.decode(errors="replace")
 
     def run(self, words, folder):
         """Runs a program to its end, and fails with what it says where it fails."""
-        process = self.start(words, folder)
-        said, _ = process.communicate()
-        if process.returncode != 0:
-            raise Failed(said.decode(errors="replace").strip() or f"{words[0]} failed")
+        status, said = self.ran(words, folder)
+        if status != 0:
+            raise Failed(said.strip() or f"{words[0]} failed")
+
+    def stop(self):
+        """Ends what runs, for another thread, which waits for it. Nothing else begins."""
+        with self.lock:
+            self.is_over = True
+            for process in self.started:
+                if process.poll() is None:
+                    with contextlib.suppress(OSError):
+                        os.killpg(process.pid, signal.SIGTERM)
 
     def __exit__(self, *_):
         for process in self.started:
@@ -104,6 +124,11 @@ def with_checks(group, crate, folder, code):
     group.run([f"{kit()}/toolchain/bin/clang", *CLANG, os.path.join(folder, MODULE), "-o", code], folder)
 
 
+def in_haste(group, crate, folder, code):
+    """Compiles the module as it is, in a fifth of the time: for what runs once, not a second long."""
+    group.run([f"{kit()}/toolchain/bin/clang", *CLANG, "-O0", os.path.join(folder, MODULE), "-o", code], folder)
+
+
 def as_proved(group, crate, folder, code):
     """Compiles the module as a proved build would have it: with no checks, and as fast."""
     tools, text = kit(), os.path.join(folder, "module.ll")
@@ -125,16 +150,22 @@ def link(group, code, program, folder):
                f"{tools}/c/libos_c.a", f"{tools}/c/liblibc_c.a"], folder)
 
 
-def compile_program(crate, path, compiled=with_checks):
-    """Compiles the program of a crate into a file, which is there only once it is whole. Others may do the same beside it."""
-    kept = os.path.dirname(path)
-    os.makedirs(kept, exist_ok=True)
-    with tempfile.TemporaryDirectory(prefix="half-", dir=kept) as folder, Group() as group:
+def compile_by(group, crate, path, compiled, *flags):
+    """Compiles the program of a crate into a file, which is there only once it is whole; with `--test` the program of its tests."""
+    with tempfile.TemporaryDirectory(prefix="half-", dir=os.path.dirname(path)) as folder:
         module, code, program = (os.path.join(folder, name) for name in (MODULE, "program.o", "program"))
-        catch_module(group, crate, folder, module)
+        catch_module(group, crate, folder, module, *flags)
         compiled(group, crate, folder, code)
         link(group, code, program, folder)
         os.replace(program, path)
+
+
+def compile_program(crate, path, compiled=with_checks):
+    """Compiles the program of a crate, and leaves nothing else beside it. Others may do the same."""
+    kept = os.path.dirname(path)
+    os.makedirs(kept, exist_ok=True)
+    with Group() as group:
+        compile_by(group, crate, path, compiled)
     for other in os.listdir(kept):
         if other != os.path.basename(path) and not other.startswith("half-"):
             # Another call may do the same.

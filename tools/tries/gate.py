@@ -104,6 +104,7 @@ def try_what_is_kept():
     said = "".join(prove.how_many_kept([part, later]))
     check("what this run proved is not said to be kept", "Of 3 crates, 1 proofs are kept" in said, said)
     check("where nothing is, that is said too", "Of 1 crates, 0 proofs" in "".join(prove.how_many_kept([without_kept(prove)])))
+    prove.takes_names = lambda: True
     words = prove.proofs(["r2d2_core"]).words
     prove.Part.is_anew = True
     anew = prove.proofs(["r2d2_core"]).words
@@ -127,14 +128,28 @@ def try_what_is_named(prove):
 
     was = os.environ.get("CI")
     check("the longest chain comes first, and the rest beside it", named("pool_steps") == [[["r2d2_async"]], [["pool_steps"]]], named("pool_steps"))
-    beside = [["pool_audit", "pool_steps", "worked_rows"], ["pool_metrics", "first_pool"]]
-    check("reports and metrics are proved beside it", named() == [[["r2d2_async"], ["examples"], []], beside], named())
+    beside = [["pool_audit", "pool_steps", "worked_rows"], ["first_pool", "examples"]]
+    check("reports and metrics are proved beside it", named() == [[["r2d2_async"], ["task_service"], []], beside], named())
     check("with --anew all is one run", named("pool_steps", is_anew=True) == [[["r2d2_async", "pool_steps"]], []])
     check("in CI it is one of all crates", named("pool_steps", in_ci=True) == named(is_anew=True, in_ci=True) == [[[]], []])
+    try_an_older_toolchain(prove, named)
     try_what_waits(prove)
     del os.environ["CI"]
     if was is not None:
         os.environ["CI"] = was
+
+
+def try_an_older_toolchain(prove, named):
+    """One whose gate takes no names, and keeps nothing: what `./prove` promises is proved in a copy that has no other crates."""
+    prove.takes_names = lambda: False
+    below = [["pool_lines", "pool_state", "pool_steps", "r2d2", "r2d2_async", "r2d2_core"]]
+    check("without names it is one run, of all that these stand on", named("pool_steps") == [below, []], named("pool_steps"))
+    words = prove.proofs(["pool_lines"]).words
+    check("in a copy of these crates", words[3:] == ["tools/some", "pool_lines", "r2d2_core"], words)
+    check("and one of all crates as it is", named() == [[[]], []] and prove.proofs().words[3:] == ["rt", "ci"], prove.proofs().words)
+    prove.Part.is_anew = True
+    check("which is anew without a word", prove.proofs().words[3:] == ["rt", "ci"], prove.proofs().words)
+    prove.Part.is_anew, prove.takes_names = False, lambda: True
 
 
 def try_what_waits(prove):
@@ -147,6 +162,28 @@ def try_what_waits(prove):
     chain.lines.append("rt: low proved\n")
     thread.join(3)
     check("and begins then", part.is_over and part.passed == 1)
+
+
+def try_the_model(top):
+    """Which of its searches are made, by what model/searched says, and that this is said."""
+    model, prove = set_up.module_of(os.path.join(TOP, "tools", "model")), set_up.prove()
+    model.SEARCHED, every, folder = os.path.join(top, "searched"), list(model.wanted([])), model.FOLDER
+    check("no search is known where none is noted", not model.are_known(every))
+    model.note(every)
+    check("what is noted is known", model.are_known(every))
+    other = [(every[0][0], every[0][1] + " LINE=9", every[0][2]), *every[1:]]
+    check("and is not, where a search is another one", not model.are_known(other) and not model.are_known(every[1:]))
+    model.FOLDER = top
+    check("or where the model is", not model.are_known(every))
+    model.FOLDER = folder
+    with contextlib.redirect_stdout(io.StringIO()) as said:
+        chosen = model.drawn(every)
+    kinds = [sum(it[2] == is_wrong for it in chosen) for is_wrong in (False, True)]
+    check("of those that are known some are made, and of the wrong ones", kinds == [3, 3] and set(chosen) <= set(every), kinds)
+    part = prove.Part("the model of waiting", [])
+    part.lines, part.is_over = [*said.getvalue().splitlines(keepends=True), "6 passed, 0 failed, 0 skipped\n"], True
+    told = list(prove.not_checked([part], []))[0]
+    check("the others are told of", told == f"the model of waiting: all but 6 of {len(every)} searches, which went well before, as model/searched says", told)
 
 
 def types_of(module, budget):
@@ -324,6 +361,7 @@ def tried():
     try_what_is_kept()
     try_refusals_at_once()
     with tempfile.TemporaryDirectory() as top:
+        try_the_model(top)
         try_ctrl_c(top)
         try_the_compiler(top)
         try_tools_without(top)

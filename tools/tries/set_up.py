@@ -139,7 +139,7 @@ def try_what_was_not_checked(top):
     said = list(script.not_checked([model, wrong, stopped], []))
     wanted = [
         f"the model of waiting, {model.skipped} of it: the model of waiting is skipped: spin is missing",
-        "wrong bodies: of r2d2 all but three each, which were refused before, as wrong/tried says",
+        "wrong bodies: of r2d2 all but one each, which were refused before, as wrong/tried says",
         "the blocks of code: stopped, since another part failed",
     ]
     check("what was not checked is said", model.skipped > 0 and said[:3] == wanted and len(said) == 5, said)

@@ -28,8 +28,9 @@ import form
 TOP = os.path.dirname(os.path.dirname(os.path.dirname(os.path.realpath(__file__))))
 TRIED = os.path.join(TOP, "wrong", "tried")
 PARTS = ("src", "specs", "proofs")
-HEAD = "# The crates whose wrong bodies the prover all refused, with a sum of what that rests on, and by which toolchain: written by tools/wrong/try prover --all.\n"
-DRAWN = 3
+HEAD = "# The crates whose wrong bodies the prover all refused, with a sum of what that rests on, and by which logic: written by tools/wrong/try prover --all.\n"
+# Of a crate whose bodies are known to be refused so many are tried again; and so many functions are few for one check.
+DRAWN, FEW = 1, 3
 # The most memory that a check was seen to take, in bytes.
 ONE_CHECK = 4_000_000_000
 
@@ -193,10 +194,10 @@ class Repository:
         found = [file for part in parts for file in glob.glob(os.path.join(TOP, "crates", crate, part, "**"), recursive=True)]
         return sorted(it for it in found if os.path.isfile(it))
 
-    def sum_of(self, crate, toolchain, mine):
+    def sum_of(self, crate, rules, mine):
         """A sum of the bodies, of the crate, and of what its clauses mean by the crates below. Where a contract below says less, the crate's
         own proof fails; where one says more, a body that broke a clause still breaks it."""
-        total = hashlib.sha256(toolchain.encode())
+        total = hashlib.sha256(rules.encode())
         definitions, models = self.meant_by(crate)
         for path in [*(it.path for it in mine), *definitions, *self.files(crate)]:
             total.update(repr((os.path.relpath(path, TOP), read(path))).encode())
@@ -225,8 +226,10 @@ class Repository:
 
 
 @functools.lru_cache(maxsize=None)
-def version():
-    return subprocess.run(["rt", "version"], capture_output=True, text=True, check=True).stdout.strip()
+def logic():
+    """The rules by which the toolchain proves. Kits that have the same refuse the same: a false goal has no proof by them."""
+    said = subprocess.run(["rt", "version"], capture_output=True, text=True, check=True).stdout
+    return re.search(r"logic \w+", said)[0]
 
 
 def commit():
@@ -364,7 +367,7 @@ class Bench:
         """Asks for these functions. Where the prover knows one by another name, or several by this one, it asks for all that end so."""
         asked = {name for it in only for name in self.names.get(it, [it])}
         # (a second job takes a seventh more of the processor, which pays where it is asked for many)
-        words = [rtlib().RATTLE, "check", *self.words_of("1" if len(only) <= DRAWN else "2")]
+        words = [rtlib().RATTLE, "check", *self.words_of("1" if len(only) <= FEW else "2")]
         words += [word for it in sorted(asked) for word in ("--only", it)]
         status, output = self.room.run([*words, "--incremental", os.path.join(self.folder, "out", "checked")], self.folder)
         unknown, several = UNKNOWN.search(output), SEVERAL.search(output)
@@ -425,7 +428,7 @@ def smaller(left, batch, said):
 
 
 def tried():
-    """What wrong/tried says: crates, each with a sum and a toolchain."""
+    """What wrong/tried says: crates, each with a sum and a logic."""
     lines = read(TRIED).splitlines() if os.path.exists(TRIED) else []
     return {tuple(line.split(" ", 2)) for line in lines if line and not line.startswith("#")}
 
@@ -473,7 +476,7 @@ def try_all(given):
     """How many passed, and how many did not."""
     repository, all_bodies = Repository(), of_crates()
     # (sums of what is tried: files may change while that goes on)
-    sums = {crate: (repository.sum_of(crate, version(), mine), version()) for crate, mine in all_bodies.items()}
+    sums = {crate: (repository.sum_of(crate, logic(), mine), logic()) for crate, mine in all_bodies.items()}
     known, chosen = tried(), {}
     for crate in given.names or all_bodies:
         is_known = (crate, *sums[crate]) in known
