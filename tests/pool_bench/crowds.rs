@@ -52,6 +52,7 @@ pub fn once<R: PoolRuntime + RandomSource>(
     [name, tasks, calls]: [Option<&str>; 3],
 ) -> Result<(), anyhow::Error> {
     let scenario = match name {
+        Some("task_get_drop") => Scenario::TaskGetDrop,
         Some("task_dropped") => Scenario::TaskDropped,
         Some("task_timed_out") => Scenario::TaskTimedOut,
         _ => Scenario::Tasks,
@@ -63,8 +64,8 @@ pub fn once<R: PoolRuntime + RandomSource>(
     Ok(())
 }
 
-// Zero for what is no number.
-fn number(word: Option<&str>) -> u32 {
+/// Zero for what is no number.
+pub fn number(word: Option<&str>) -> u32 {
     match word {
         Some(word) => word.parse::<u32>().unwrap_or(0),
         None => 0,

@@ -2,7 +2,9 @@
 //! threads, `max_size`, how many operations were timed, and the nanoseconds for each, the least and
 //! the median of twenty-five runs; `-` for both where several threads hardly met. Given a scenario's
 //! name too, it runs that one alone. Given `waits`, it prints how long callers wait for a connection,
-//! without a line and in one. Given `tasks`, it prints the lines of several numbers of tasks; given
+//! without a line and in one; given `long_waits`, that of loads of some ten seconds. Given `growth`,
+//! it prints how long others wait while much is done under the lock; given `build` and a number, it
+//! builds a pool of so many connections, and prints how long that took. Given `tasks`, it prints the lines of several numbers of tasks; given
 //! `once`, a scenario of those, how many tasks there are and how many calls they make together, it
 //! makes those calls, as for a profile. Else it says how to run it.
 #![tactic(auto)]
@@ -14,6 +16,7 @@ mod contended;
 mod crowds;
 mod gate;
 mod growing;
+mod growth;
 mod leaving;
 mod pools;
 mod scenario;
@@ -22,11 +25,12 @@ mod waits;
 
 use contended::{goes_round, is_served};
 use growing::{BATCH, BATCHES};
+use growth::longest_wait;
 use r2d2::PoolRuntime;
 use scenario::{Case, Scenario, is_chosen};
 use std::random::RandomSource;
 use std::{env, thread};
-use waits::waited;
+use waits::{Load, waited};
 
 /// Calls of a scenario of one thread, in one run.
 const CALLS: u32 = 2_000;
@@ -37,9 +41,21 @@ fn main(rt: HostRuntime) -> Result<(), anyhow::Error> {
     // The only scenario to run, or all.
     let word = words.next();
     let only = word.as_deref();
-    if what.as_deref() == Some("waits") {
-        return waits::measure(rt, |pool, gate, load| {
+    let (short, long) = (waits::short(), waits::long());
+    let loads: &[Load] = match what.as_deref() {
+        Some("waits") => &short,
+        Some("long_waits") => &long,
+        _ => &[],
+    };
+    if !loads.is_empty() {
+        return waits::measure(rt, loads, |pool, gate, load| {
             let calls = move || waited(rt, pool, gate, load);
+            Ok(thread::spawn(&rt, calls)?)
+        });
+    }
+    if what.as_deref() == Some("growth") {
+        return growth::measure(rt, |pool, is_over| {
+            let calls = move || longest_wait(rt, pool, is_over);
             Ok(thread::spawn(&rt, calls)?)
         });
     }
@@ -76,8 +92,9 @@ fn without_threads<R: PoolRuntime + RandomSource + Print>(
     match what {
         Some("tasks") => crowds::measure(rt),
         Some("once") => crowds::once(rt, chosen),
+        Some("build") => growth::build(rt, crowds::number(chosen[0])),
         _ => {
-            let modes = "waits, tasks, or once SCENARIO TASKS CALLS";
+            let modes = "waits, long_waits, growth, build SIZE, tasks, or once SCENARIO TASKS CALLS";
             println!(rt; "usage: pool_bench bench [SCENARIO], {modes}")?;
             Ok(())
         }

@@ -10,12 +10,10 @@ use std::sync::{Arc, Barrier};
 use std::thread::{self, JoinHandle};
 use std::time::{Duration, Instant};
 
-/// How many callers there are.
-const CALLERS: u32 = 8;
-
-/// What the callers do with a pool of this size.
+/// What so many callers do with a pool of this size.
 #[derive(Clone, Copy)]
 pub struct Load {
+    pub callers: u32,
     pub max_size: u32,
     /// How many microseconds each connection is held: by turning for short, by sleeping for long.
     pub held_us: u32,
@@ -27,10 +25,42 @@ pub struct Load {
 /// How long each call of a caller waited, in nanoseconds; None where one was not served.
 pub type Waits = Option<Vec<u64>>;
 
+/// Loads of two seconds at most.
+pub fn short() -> [Load; 6] {
+    [
+        load(8, 1, 0, 10_000),
+        load(8, 1, 20, 2_000),
+        load(8, 1, 1_000, 250),
+        load(8, 4, 0, 10_000),
+        load(8, 4, 20, 2_000),
+        load(8, 4, 1_000, 250),
+    ]
+}
+
+/// Loads of some ten seconds, in which who is not served for long is seen.
+pub fn long() -> [Load; 3] {
+    [
+        load(8, 1, 50, 22_000),
+        load(8, 1, 1_000, 1_180),
+        load(64, 8, 1_000, 1_180),
+    ]
+}
+
+fn load(callers: u32, max_size: u32, held_us: u32, calls: u32) -> Load
+    requires { 0 < max_size }
+{
+    Load {
+        callers,
+        max_size,
+        held_us,
+        calls,
+    }
+}
+
 /// Times each load, without a line and with one, and prints a line for each: how many nanoseconds
 /// passed for each call of all, and the waits in microseconds. `start` starts a thread of calls that
 /// begins once the gate opens.
-pub fn measure<R, S>(rt: R, start: S) -> Result<(), anyhow::Error>
+pub fn measure<R, S>(rt: R, loads: &[Load], start: S) -> Result<(), anyhow::Error>
 where
     R: PoolRuntime + Print,
     S: Fn(PlainPool<Nothings, R>, Arc<Barrier>, Load) -> Result<JoinHandle<Waits>, anyhow::Error>
@@ -38,20 +68,13 @@ where
     requires { S.IsAlwaysCallable start }
 {
     println!(rt; "way callers max_size held_us calls ns_for_each p50_us p99_9_us longest_us")?;
-    for &max_size in &[1, 4] {
-        for &(held_us, calls) in &[(0, 10_000), (20, 2_000), (1_000, 250)] {
-            let load = Load {
-                max_size,
-                held_us,
-                calls,
-            };
-            let builder = Builder::new().max_size(max_size).test_on_check_out(false);
-            let pool = builder.build(rt, Nothings)?;
-            print(rt, "any", load, &pool, &start)?;
-            let builder = Builder::new().max_size(max_size).test_on_check_out(false);
-            let pool = builder.fair_queue(Some(CALLERS)).build(rt, Nothings)?;
-            print(rt, "line", load, &pool, &start)?;
-        }
+    for &load in loads {
+        let builder = Builder::new().max_size(load.max_size).test_on_check_out(false);
+        let pool = builder.build(rt, Nothings)?;
+        print(rt, "any", load, &pool, &start)?;
+        let builder = Builder::new().max_size(load.max_size).test_on_check_out(false);
+        let pool = builder.fair_queue(Some(load.callers)).build(rt, Nothings)?;
+        print(rt, "line", load, &pool, &start)?;
     }
     Ok(())
 }
@@ -69,23 +92,25 @@ where
     S: Fn(PlainPool<Nothings, R>, Arc<Barrier>, Load) -> Result<JoinHandle<Waits>, anyhow::Error>,
     requires { S.IsAlwaysCallable start.now }
 {
-    let gate = gate::for_callers(rt, CALLERS)?;
-    let mut callers = Vec::new(rt.alloc());
-    for _ in 0..CALLERS {
-        callers.push(start(pool.try_clone()?, Arc::try_clone(&gate)?, load)?)?;
+    let gate = gate::for_callers(rt, load.callers)?;
+    let mut threads = Vec::new(rt.alloc());
+    for _ in 0..load.callers {
+        threads.push(start(pool.try_clone()?, Arc::try_clone(&gate)?, load)?)?;
     }
     let begun = gate::open(rt, &gate)?;
-    let mut waits = joined(rt, callers)?;
+    let mut waits = joined(rt, threads)?;
     let took = begun.elapsed(&rt)?.as_nanos();
     waits.sort_unstable();
     let each = took.checked_div(waits.len() as u128).unwrap_or(0);
     let Load {
+        callers,
         max_size,
         held_us,
         calls,
+        ..
     } = load;
     println!(rt;
-        "{way} {CALLERS} {max_size} {held_us} {calls} {each} {} {} {}",
+        "{way} {callers} {max_size} {held_us} {calls} {each} {} {} {}",
         part(&waits, 500),
         part(&waits, 999),
         part(&waits, 1000)

@@ -1,7 +1,9 @@
 //! Times the calls of r2d2's pool in the scenarios of `tests/pool_bench`, under their names and
 //! with their figures, and prints the same lines: the name, the threads, `max_size`, how many
 //! operations were timed, and the nanoseconds for each, the least and the median of the runs; `-`
-//! for both where several threads hardly met. Given `waits`, it prints how long callers wait.
+//! for both where several threads hardly met. Given `waits`, it prints how long callers wait; given
+//! `long_waits`, that of loads of some ten seconds; given `build` and a number, it builds a pool of so
+//! many connections, and prints how many nanoseconds that took.
 
 mod alone;
 mod contended;
@@ -18,10 +20,19 @@ use scenario::{measure, Case};
 const CALLS: u32 = 2_000;
 
 fn main() {
-    if std::env::args().nth(1).as_deref() == Some("waits") {
-        waits::measure();
-        return;
+    let words: Vec<String> = std::env::args().skip(1).collect();
+    match words.iter().map(String::as_str).collect::<Vec<_>>()[..] {
+        ["waits"] => waits::measure(&waits::SHORT),
+        ["long_waits"] => waits::measure(&waits::LONG),
+        ["build", size] => {
+            let size = size.parse().expect("how many connections");
+            println!("{}", growing::build(one_thread(size, 1)).as_nanos());
+        }
+        _ => measure_all(),
     }
+}
+
+fn measure_all() {
     println!("scenario threads max_size ops least_ns median_ns");
     measure_alone();
     contended::measure_pools();

@@ -6,24 +6,39 @@ use std::sync::Arc;
 use std::thread;
 use std::time::{Duration, Instant};
 
-/// How many callers there are.
-const CALLERS: u32 = 8;
+/// So many callers, `max_size`, how many microseconds a connection is held, and the calls of each.
+pub type Load = (u32, u32, u64, u32);
+
+/// Loads of two seconds at most.
+pub const SHORT: [Load; 6] = [
+    (8, 1, 0, 10_000),
+    (8, 1, 20, 2_000),
+    (8, 1, 1_000, 250),
+    (8, 4, 0, 10_000),
+    (8, 4, 20, 2_000),
+    (8, 4, 1_000, 250),
+];
+
+/// Loads of some ten seconds, in which who is not served for long is seen.
+pub const LONG: [Load; 3] = [
+    (8, 1, 50, 22_000),
+    (8, 1, 1_000, 1_180),
+    (64, 8, 1_000, 1_180),
+];
 
 /// Times each load, and prints a line for each: how many nanoseconds passed for each call of all,
 /// and the waits in microseconds.
-pub fn measure() {
+pub fn measure(loads: &[Load]) {
     println!("way callers max_size held_us calls ns_for_each p50_us p99_9_us longest_us");
-    for max_size in [1, 4] {
-        for (held_us, calls) in [(0, 10_000), (20, 2_000), (1_000, 250)] {
-            measure_load(max_size, held_us, calls);
-        }
+    for load in loads {
+        measure_load(*load);
     }
 }
 
-fn measure_load(max_size: u32, held_us: u64, calls: u32) {
+fn measure_load((callers, max_size, held_us, calls): Load) {
     let pool = open_pool(max_size, false);
-    let gate = gate::for_callers(CALLERS);
-    let callers: Vec<_> = (0..CALLERS)
+    let gate = gate::for_callers(callers);
+    let threads: Vec<_> = (0..callers)
         .map(|_| {
             let (theirs, gate) = (pool.clone(), Arc::clone(&gate));
             thread::spawn(move || {
@@ -34,8 +49,8 @@ fn measure_load(max_size: u32, held_us: u64, calls: u32) {
         .collect();
     let begun = gate::open(&gate);
     let mut waits: Vec<u64> = Vec::new();
-    for caller in callers {
-        waits.extend(caller.join().expect("a call was not served"));
+    for thread in threads {
+        waits.extend(thread.join().expect("a call was not served"));
     }
     let each = begun.elapsed().as_nanos() / waits.len() as u128;
     waits.sort_unstable();
@@ -43,7 +58,7 @@ fn measure_load(max_size: u32, held_us: u64, calls: u32) {
         waits[(waits.len() * of_a_thousand / 1000).min(waits.len() - 1)] / 1000
     };
     println!(
-        "r2d2 {CALLERS} {max_size} {held_us} {calls} {each} {} {} {}",
+        "r2d2 {callers} {max_size} {held_us} {calls} {each} {} {} {}",
         part(500),
         part(999),
         part(1000)
