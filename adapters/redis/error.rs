@@ -1,22 +1,48 @@
 //! What fails.
 
+use redis_codec::{CodecError, Fault};
 use std::alloc::AllocError;
 use std::io;
 use thiserror::Error;
 
-/// Why a command or an opening failed. After each of these but `Refused` the connection is broken.
+/// Why a command or an opening failed. After each of these but `Refused` the connection is broken,
+/// and after a refusal that begins with READONLY too.
 #[derive(Debug, Drop, Error)]
 pub enum RedisError {
-    #[error("{0}")]
-    Io(#[from] io::Error),
-    /// The server's own words.
+    #[error("{address}: {error}")]
+    Io { address: String, error: io::Error },
+    #[error("no answer in {millis} ms from {address}")]
+    Timeout { address: String, millis: u128 },
+    #[error("{address} closed the connection")]
+    Closed { address: String },
+    /// The server's own words, with control characters escaped.
     #[error("redis: {0}")]
     Refused(String),
+    /// What the server said has the password in it.
+    #[error("redis: the login was refused")]
+    Login,
     #[error("redis: a reply that is not understood")]
     Protocol,
+    #[error("redis: a reply is larger than the limits allow")]
+    TooMuch,
+    #[error("redis: bytes came that nobody asked for")]
+    Unasked,
+    #[error("redis: the session of an earlier caller could not be ended")]
+    Reset,
     /// An earlier command broke the connection.
     #[error("redis: the connection is broken")]
     Broken,
     #[error(transparent)]
     Memory(#[from(alloc)] AllocError),
+}
+
+impl From<CodecError> for RedisError {
+    fn from(error: CodecError) -> RedisError {
+        match error {
+            CodecError::Memory => RedisError::Memory(AllocError),
+            CodecError::Fault(Fault::Malformed) => RedisError::Protocol,
+            CodecError::Fault(Fault::TooMuch) => RedisError::TooMuch,
+            CodecError::Unasked => RedisError::Unasked,
+        }
+    }
 }

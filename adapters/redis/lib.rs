@@ -2,13 +2,17 @@
 #![tactic(auto)]
 
 mod connection;
+mod deadline;
 mod error;
 mod manager;
-mod session;
+mod reply;
+mod reset;
+mod socket;
 mod wire;
 
 pub use connection::RedisConnection;
 pub use error::RedisError;
 pub use manager::RedisConnectionManager;
-pub use session::Session;
-pub use wire::Reply;
+pub use redis_codec::{Limits, Session};
+pub use reply::Reply;
+pub use reset::Reset;

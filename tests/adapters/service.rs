@@ -27,6 +27,9 @@ pub trait Counting {
 
     /// Whether a request that the server refuses is an error, and the next one is not.
     fn is_refused(&mut self) -> bool;
+
+    /// Sends requests, with a `;` after each but the last, and tells what came of each.
+    fn run(&mut self, alloc: Global, requests: &str) -> Result<String, AllocError>;
 }
 
 impl Counting for RedisConnection {
@@ -44,8 +47,7 @@ impl Counting for RedisConnection {
     fn leave_open(&mut self, what: &str) -> bool {
         match what {
             "watch" => self.command(&["WATCH", "watched"]).is_ok(),
-            // The reply is a list, which is not understood.
-            "subscribe" => self.command(&["SUBSCRIBE", "news"]).is_err(),
+            "subscribe" => self.command(&["SUBSCRIBE", "news"]).is_ok(),
             "monitor" => self.command(&["MONITOR"]).is_ok(),
             // The server takes words in capitals or not.
             _ => self.command(&["Multi"]).is_ok() && self.command(&["INCR", "0"]).is_ok(),
@@ -54,13 +56,32 @@ impl Counting for RedisConnection {
 
     fn transact(&mut self) -> bool {
         let is_begun = self.command(&["MULTI"]).is_ok();
-        // The reply to EXEC is a list, which is not understood.
-        is_begun && self.command(&["INCR", "more"]).is_ok() && self.command(&["EXEC"]).is_err()
+        is_begun
+            && self.command(&["INCR", "more"]).is_ok()
+            && matches!(self.command(&["EXEC"]), Ok(Reply::List(_)))
     }
 
     fn is_refused(&mut self) -> bool {
         let refused = matches!(self.command(&["NONE"]), Err(RedisError::Refused(_)));
         refused && !self.is_broken() && self.ping().is_ok()
+    }
+
+    fn run(&mut self, alloc: Global, requests: &str) -> Result<String, AllocError> {
+        let mut told = String::new(alloc);
+        for request in requests.split(';') {
+            let mut words = Vec::new(alloc);
+            for word in request.split_whitespace() {
+                words.push(word)?;
+            }
+            match self.command(words.as_slice()) {
+                Ok(reply) => match reply.as_text() {
+                    Some(text) => write!(told, "{} | ", text.trim())?,
+                    None => write!(told, "{reply:?} | ")?,
+                },
+                Err(error) => write!(told, "! {error} | ")?,
+            }
+        }
+        Ok(told)
     }
 }
 
@@ -86,6 +107,13 @@ impl Counting for PostgresConnection {
     fn is_refused(&mut self) -> bool {
         let refused = matches!(self.query("SELECT 1/0"), Err(PostgresError::Refused(_)));
         refused && self.session() == Session::Idle && self.query("SELECT 1").is_ok()
+    }
+
+    fn run(&mut self, alloc: Global, requests: &str) -> Result<String, AllocError> {
+        match self.query(requests) {
+            Ok(rows) => format!(in alloc; "{} rows", rows.len()),
+            Err(error) => format!(in alloc; "! {error}"),
+        }
     }
 }
 
@@ -115,6 +143,16 @@ pub enum Checks {
     Never,
 }
 
+/// How connections are lent.
+#[derive(Clone, Copy)]
+pub struct Lending {
+    pub checks: Checks,
+    /// How long a `get` waits.
+    pub patience: Duration,
+    /// Whether there is one connection alone.
+    pub is_of_one: bool,
+}
+
 #[derive(Drop)]
 pub struct App<M: ManageConnection, R: PoolRuntime> {
     pool: PlainPool<M, R>,
@@ -126,13 +164,14 @@ impl<M: ManageConnection, R: PoolRuntime + Print> App<M, R>
 where
     M::Connection: Counting,
 {
-    pub fn new(rt: R, manager: M, checks: Checks) -> Result<App<M, R>, Fail> {
+    pub fn new(rt: R, manager: M, lending: Lending) -> Result<App<M, R>, Fail> {
         let hour = Duration::from_secs(3600);
+        let checks = lending.checks;
         let pool = Builder::new()
-            .max_size(4)
+            .max_size(if lending.is_of_one { 1 } else { 4 })
             .test_on_check_out(!matches!(checks, Checks::Never))
             .test_if_idle_for(matches!(checks, Checks::AfterAnHour).then_some(hour))
-            .connection_timeout(Duration::from_secs(20))
+            .connection_timeout(lending.patience)
             .max_retry_delay(Some(Duration::from_millis(200)))
             .build_unchecked(rt, manager)?;
         let zero = || AtomicU64::new(0);
@@ -244,6 +283,12 @@ where
             },
             "refuse" => match self.pool.get() {
                 Ok(mut connection) => println!(self.rt; "= {}", connection.is_refused())?,
+                Err(error) => println!(self.rt; "= {error}")?,
+            },
+            "run" => match self.pool.get() {
+                Ok(mut connection) => {
+                    println!(self.rt; "= {}", connection.run(self.rt.alloc(), rest)?)?
+                }
                 Err(error) => println!(self.rt; "= {error}")?,
             },
             "get" => match self.pool.get() {

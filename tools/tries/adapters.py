@@ -1,6 +1,6 @@
 """The adapters of adapters/, in a repository that `vendor` makes: a service over each is driven against a real server on
-loopback, of Debian's packages redis-server and postgresql. Where one is not installed nobody has tried that adapter. And the first
-program over tokio, which needs no server."""
+loopback, of Debian's packages redis-server and postgresql. Where one is not installed nobody has tried that adapter. And a scripted
+peer in the place of Redis, and the first program over tokio, which need no server."""
 import contextlib
 import os
 import re
@@ -11,6 +11,8 @@ import subprocess
 import tempfile
 import threading
 
+import redis_peer
+import redis_sessions
 import trying
 from copies import Runs, TESTS
 from servers import HOST, SECONDS, Forwarder, Postgres, Redis, within
@@ -116,6 +118,19 @@ class Service:
             return self.process.wait()
 
 
+class Peers:
+    """What is tried with a scripted peer."""
+
+    def __init__(self, program, tally):
+        self.program, self.tally = program, tally
+
+    def check(self, what, holds, seen=""):
+        self.tally.check(f"redis, a scripted peer: {what}", holds, seen)
+
+    def at(self, port, kind, *words):
+        return Service(self.program, kind, port, *words)
+
+
 class Trial:
     """What is tried with one kind of server."""
 
@@ -131,6 +146,11 @@ class Trial:
 
     def service(self, port, *words):
         service = Service(self.program, self.kind.NAME, port, *(words or self.words))
+        self.running.append(service)
+        return service
+
+    def service_of(self, kind, *words):
+        service = Service(self.program, kind, self.server.port, *words)
         self.running.append(service)
         return service
 
@@ -150,6 +170,7 @@ class Trial:
             else:
                 for what in LEFT:
                     self.try_left_unchecked(what)
+                redis_sessions.try_sessions(self)
                 self.try_silence()
                 self.try_password()
         finally:
@@ -192,8 +213,7 @@ class Trial:
     def try_left_unchecked(self, what):
         """What a caller left reaches nobody, though no check comes before the next lending: the connection is closed as it comes
         back."""
-        service = Service(self.program, "redis-unchecked-for-an-hour", self.server.port)
-        self.running.append(service)
+        service = self.service_of("redis-unchecked-for-an-hour")
         service.goes(40)
         self.check(f"{what} is left", service.ask(f"open {what}") == "true")
         # So a transaction fails that begins where this is watched.
@@ -216,8 +236,7 @@ class Trial:
     def try_silence(self):
         """A server stands still for longer than a read waits. What it answers late is no answer to another request, and each
         connection that waits for one is closed as it comes back: no check before a lending is needed for that."""
-        service = Service(self.program, "redis-unchecked", self.server.port)
-        self.running.append(service)
+        service = self.service_of("redis-unchecked")
         begun = {**service.goes(40), "total": self.server.total()}
         self.server.process.send_signal(signal.SIGSTOP)
         service.begins(8)
@@ -321,6 +340,8 @@ def try_servers(kinds, mine, place, tally):
     aside = os.path.join(place, "aside")
     os.mkdir(aside)
     program = built(mine, aside, tally)
+    if program:
+        redis_peer.try_peer(Peers(program, tally))
     for kind in kinds if program else []:
         folder = os.path.join(place, f"with_{kind.NAME}")
         os.mkdir(folder)
@@ -352,6 +373,5 @@ def tried():
         mine = os.path.join(place, "mine")
         repository(mine)
         try_tokio(mine, tally)
-        if kinds:
-            try_servers(kinds, mine, place, tally)
+        try_servers(kinds, mine, place, tally)
     return tally

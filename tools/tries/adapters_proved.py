@@ -13,18 +13,31 @@ from tally import Tally
 
 CRATES = ["redis", "postgres", "first_redis", "first_postgres", "first_tokio"]
 # What they stand on, whose proofs this repository may have kept.
-BELOW = ["r2d2_core", "pool_state", "r2d2", "r2d2_async"]
+BELOW = ["r2d2_core", "pool_state", "r2d2", "r2d2_async", "redis_codec"]
 # What the redis manager asks at a return.
-HAS_BROKEN = "connection.is_broken() || connection.session() != Session::Fresh"
+HAS_BROKEN = "!connection.come_back(self.reset, &self.login)"
+# A read that goes on where its call's deadline is not over, and one that has a deadline of its own.
+READ_BY = """            let left = deadline.left(self.rt)?;
+            if self.read_limit > left.saturating_add(deadline.tenth()) {
+                self.stream.set_read_timeout(Some(left))?;
+                self.read_limit = left;
+            }
+            match self.stream.read(piece) {
+                Ok(0) => return Err(io::Error::from(io::ErrorKind::UnexpectedEof)),
+                Err(error) if may_go_on(&error) => self.read_limit = Duration::MAX,
+"""
+READ_BY_ITSELF = """            self.stream.set_read_timeout(Some(Duration::from_millis(500)))?;
+            match self.stream.read(piece) {
+                Ok(0) => return Err(io::Error::from(io::ErrorKind::UnexpectedEof)),
+"""
 # A function, a passage of its file, and what somebody could write in its place. The prover refuses each.
 REFUSED = [
-    ("redis::connection::RedisConnection::new", "is_broken: false,", "is_broken: true,"),
     ("redis::connection::RedisConnection::is_broken", "{\n        self.is_broken\n", "{\n        let _ = self;\n        false\n"),
-    ("redis::connection::RedisConnection::exchange", "self.is_broken = true;\n        self.wire", "self.wire"),
-    ("redis::connection::RedisConnection::command", "words.first()", "words.last()"),
-    ("redis::session::Session::after", "(_, Command::Exec, Said::Aborted | Said::Other)\n            | (_, Command::Discard", "(_, Command::Discard"),
-    ("redis::session::Said::of_refusal", 'b"EXECABORT "', 'b"E"'),
-    ("redis::session::is", "word.eq_ignore_ascii_case(name)", "word == name"),
+    ("redis::connection::RedisConnection::exchange", "self.is_broken = true;\n        self.wire.ask(words", "self.wire.ask(words"),
+    ("redis::connection::RedisConnection::quiet_exchange", "if self.is_broken {\n            return Err(RedisError::Broken);\n        }\n", ""),
+    ("redis::connection::RedisConnection::come_back", "Reset::IfMarked if session == Session::PLAIN => true,", "Reset::IfMarked => true,"),
+    ("redis::connection::RedisConnection::send_reset", "self.resetting = count;\n", ""),
+    ("redis::deadline::Deadline::left", "if left.is_zero() { Err(late) } else { Ok(left) }", "Ok(left)"),
     ("redis::manager::RedisConnectionManagerManageConnection::has_broken", HAS_BROKEN, "{\n            let _ = connection;\n            false\n        }"),
     ("postgres::answer::Session::of", "Ok(Session::InFailedTransaction)", "Ok(Session::Broken)"),
     ("postgres::connection::PostgresConnection::session", "{\n        self.session\n", "{\n        let _ = self;\n        Session::Idle\n"),
@@ -34,13 +47,19 @@ REFUSED = [
 # A file, such a passage, and the check that is to fail: the bodies of a list are made together.
 SEEN = [
     [
-        ("redis/manager", HAS_BROKEN, "connection.session() != Session::Fresh", "redis: each that did is closed"),
+        ("redis/manager", HAS_BROKEN, "connection.is_broken()", "redis: if-marked: a database is not seen by the next caller"),
+        ("redis/socket", READ_BY, READ_BY_ITSELF, "redis, a scripted peer: a value that drips: the deadline"),
+        ("redis/reply", "list.push(made.pop().ok_or(RedisError::Protocol)?)?;", "list.insert(0, made.pop().ok_or(RedisError::Protocol)?)?;", "redis, a scripted peer: an answer byte by byte: the text"),
+        ("redis/reply", "if letter.is_control() {", "if letter == '\\r' {", "redis, a scripted peer: a refusal with control characters: the text"),
         ("postgres/manager", "!connection.end_transaction()", "connection.session() == crate::answer::Session::Broken", "postgres: nobody meets what was left open"),
         ("postgres/login", "!= proof.reply.as_str()", "== \"\"", "postgres: a server that does not know the password"),
     ],
     [
-        ("redis/manager", HAS_BROKEN, "connection.is_broken()", "redis: answers after multi"),
-        ("redis/wire", "Ok(Answer::Refusal(String::from_str(self.alloc, rest)?))", "Ok(Answer::Reply(Reply::Nothing))", "redis: a refusal is an error, and no more"),
+        ("redis/wire", "self.socket.must_be_quiet(deadline)", "{\n            let _ = deadline;\n            Ok(())\n        }", "redis, a scripted peer: an answer that comes twice, the second 0.1 s later"),
+        ("redis/connection", 'text.starts_with(b"READONLY")', 'text.starts_with(b"LOADING")', "redis, a scripted peer: a demoted server is left"),
+        ("redis/reset", "if text.as_str().contains(password.as_str())", "if text.as_str() == password.as_str()", "redis, a scripted peer: no error has the password"),
+        ("redis/socket", "io::ErrorKind::TimedOut => RedisError::Timeout {", "io::ErrorKind::NotFound => RedisError::Timeout {", "redis, a scripted peer: silence: the text"),
+        ("redis/reset", "session.subscriptions || session.monitor || session.settings", "session.subscriptions || session.monitor", "redis: always: a setting is not seen by the next caller"),
         ("postgres/answer", "refused = Some(PostgresError::Refused(wire.refusal()?))", "{}", "postgres: a refusal is an error, and no more"),
         ("postgres/connection", "self.session = answer.session;", "self.session = Session::Idle;", "postgres: what was left open is not counted"),
     ],

@@ -1,0 +1,5 @@
+pub mod Again
+pub mod Wholes
+pub mod Numbers
+pub mod Bounds
+pub mod Words

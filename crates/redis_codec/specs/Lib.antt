@@ -1,0 +1,5 @@
+pub mod Resp
+pub mod Answers
+pub mod Requests
+pub mod Sessions
+pub mod Talks

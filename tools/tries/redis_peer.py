@@ -1,0 +1,221 @@
+"""A scripted peer in the place of Redis: what no real server does, or not when it is asked to."""
+import contextlib
+import re
+import socket
+import threading
+import time
+
+from servers import HOST
+
+# The service waits for so long, and a tenth more is let pass; the rest is a busy machine's.
+DEADLINE, SLACK = 0.5, 0.45
+PONG = b"+PONG\r\n"
+# 16 MiB is the most of one answer.
+HUGE = b"$16777217\r\n"
+
+
+def words_of(stream):
+    """The words of the next request; none at the end."""
+    line = stream.readline()
+    if not line:
+        return None
+    words = []
+    for _ in range(int(line[1:])):
+        length = int(stream.readline()[1:])
+        words.append(stream.read(length + 2)[:-2])
+    return words
+
+
+class Peer:
+    """Answers each PING, and any other request by `play(connection, words, number)`: the number is that of the connection."""
+
+    def __init__(self, play, greeting=PONG):
+        self.play, self.greeting, self.count, self.asked = play, greeting, 0, []
+        self.listener = socket.create_server((HOST, 0))
+        self.port = self.listener.getsockname()[1]
+        threading.Thread(target=self.accept, daemon=True).start()
+
+    def accept(self):
+        with contextlib.suppress(OSError):
+            while True:
+                connection = self.listener.accept()[0]
+                self.count += 1
+                threading.Thread(target=self.serve, args=[connection, self.count], daemon=True).start()
+
+    def serve(self, connection, number):
+        connection.setsockopt(socket.IPPROTO_TCP, socket.TCP_NODELAY, 1)
+        # So who waits for ever is told so, and the check fails.
+        connection.settimeout(6 * DEADLINE)
+        with contextlib.suppress(OSError, ValueError), connection, connection.makefile("rb") as stream:
+            while (words := words_of(stream)) is not None:
+                self.asked.append(words)
+                if words == [b"PING"]:
+                    connection.sendall(self.greeting)
+                else:
+                    self.play(connection, words, number)
+
+    def close(self):
+        self.listener.close()
+
+
+def sends(*pieces, pause=0.0):
+    """A peer that answers so, piece by piece."""
+    def play(connection, words, number):
+        for piece in pieces:
+            connection.sendall(piece)
+            time.sleep(pause)
+    return play
+
+
+def sends_forever(begin, piece, pause=0.0):
+    """For ever, to one whose deadline is long over by then."""
+    def play(connection, words, number):
+        end = time.monotonic() + 6 * DEADLINE
+        connection.sendall(begin)
+        while time.monotonic() < end:
+            connection.sendall(piece)
+            if pause:
+                time.sleep(pause)
+        connection.shutdown(socket.SHUT_RDWR)
+    return play
+
+
+def each_byte(answer):
+    return [answer[i:i + 1] for i in range(len(answer))]
+
+
+LATE = r"no answer in 500 ms from 127\.0\.0\.1:\d+"
+NESTED = b"*4\r\n:-7\r\n$3\r\na\r\n\r\n*2\r\n+word\r\n$-1\r\n-ERR no\r\n"
+NESTED_TOLD = 'List([Number(-7), Value([97, 13, 10]), List([Status("word"), Nothing]), Refused("ERR no")])'
+TOO_MUCH, NOT_UNDERSTOOD = "redis: a reply is larger than the limits allow", "redis: a reply that is not understood"
+# What is tried, what the peer does, and what the caller is told.
+ANSWERS = [
+    ("an answer byte by byte", sends(*each_byte(NESTED), pause=0.002), re.escape(NESTED_TOLD)),
+    ("an empty list and an empty value", sends(b"*2\r\n*0\r\n$0\r\n\r\n"), re.escape("List([List([]), Value([])])")),
+    ("a map", sends(b"%1\r\n+key\r\n_\r\n"), re.escape('List([Status("key"), Nothing])')),
+    ("no list", sends(b"*-1\r\n"), "Nothing"),
+    ("the least number", sends(b":-9223372036854775808\r\n"), r"Number\(-9223372036854775808\)"),
+    ("a number that is too large", sends(b":9223372036854775808\r\n"), NOT_UNDERSTOOD),
+    ("silence", sends(), LATE),
+    ("half an answer", sends(b"$5\r\nab"), LATE),
+    ("a value that drips", sends_forever(b"$1000\r\n", b"x", 0.05), LATE),
+    ("a list that drips", sends_forever(b"*1000\r\n", b":1\r\n", 0.05), LATE),
+    ("a line without an end", sends_forever(b"+", b"x" * 65536), f"{TOO_MUCH}|{LATE}"),
+    ("a list without an end", sends_forever(b"*1000000000000\r\n", b":1\r\n" * 4096), TOO_MUCH),
+    ("lists in lists without an end", sends_forever(b"", b"*1\r\n" * 64), TOO_MUCH),
+    ("a value that is too large", sends(HUGE), TOO_MUCH),
+    ("a length that no machine has", sends(b"$999999999999999999\r\n"), f"{TOO_MUCH}|{NOT_UNDERSTOOD}"),
+    ("a length below zero", sends(b"$-2\r\n"), NOT_UNDERSTOOD),
+    ("a length of letters", sends(b"*two\r\n"), NOT_UNDERSTOOD),
+    ("a length that is too small", sends(b"$3\r\nabcdef\r\n"), NOT_UNDERSTOOD),
+    ("another protocol", sends(b"HTTP/1.1 400 Bad Request\r\n\r\n"), NOT_UNDERSTOOD),
+    ("a refusal with control characters", sends(b"-ERR \x1b[31m\x00red\r\n"), re.escape(r"! redis: ERR \u{1b}[31m\u{0}red")),
+    ("a refusal that is no text", sends(b"-ERR \xff\xfe\r\n"), re.escape(r"! redis: ERR \xff\xfe")),
+]
+
+
+@contextlib.contextmanager
+def at_peer(trial, play, *words, kind="redis-never", greeting=PONG):
+    peer = Peer(play, greeting)
+    service = trial.at(peer.port, kind, *words)
+    try:
+        yield peer, service
+    finally:
+        service.end()
+        peer.close()
+
+
+def try_answers(trial):
+    for what, play, wanted in ANSWERS:
+        with at_peer(trial, play) as (_, service):
+            service.ask("get")
+            begun = time.monotonic()
+            told = service.ask("run GET it")
+            lasted = time.monotonic() - begun
+            trial.check(f"{what}: the text", re.search(rf"(^|! )({wanted}) \| *$", told), told)
+            trial.check(f"{what}: the deadline", lasted < DEADLINE * 1.1 + SLACK, lasted)
+
+
+def try_doubled(trial):
+    """An answer that comes twice is that of one command, whenever the second comes."""
+    for pause in (0.0, 0.1):
+        def play(connection, words, number, pause=pause):
+            answer = b"$%d\r\n%s\r\n" % (len(words[1]), words[1])
+            connection.sendall(answer)
+            if words[1] == b"one":
+                time.sleep(pause)
+                connection.sendall(answer)
+        with at_peer(trial, play) as (peer, service):
+            first = service.ask("run GET one")
+            # (it comes before the next request is sent: what comes after that, nobody can tell from its answer)
+            time.sleep(2 * pause)
+            told = [service.ask(f"run GET {word}") for word in ("two", "three")]
+            is_so = first == "one |" and not any("one" in it for it in told) and told[-1] == "three |"
+            trial.check(f"an answer that comes twice, the second {pause} s later", is_so, (first, told))
+
+
+def try_reset_in_time(trial):
+    """The thread that returns a connection waits for no answer. The next caller's command does, by its own deadline."""
+    def play(connection, words, number):
+        if words[0] == b"RESET" and number == 1 and [b"SELECT", b"3"] in peer.asked:
+            return
+        connection.sendall(b"+RESET\r\n" if words[0] == b"RESET" else b"+OK\r\n")
+    with at_peer(trial, play, kind="redis-if-marked") as (peer, service):
+        begun = time.monotonic()
+        told = service.ask("run SELECT 3")
+        lasted = time.monotonic() - begun
+        trial.check("a return waits for no answer", told == "OK |" and lasted < DEADLINE / 2, (told, lasted))
+        told = service.ask("run GET it")
+        trial.check("a reset that is not answered", re.search(LATE, told) and [b"GET", b"it"] not in peer.asked, (told, peer.asked))
+        told = service.ask("run GET it")
+        trial.check("after it another connection is lent", told == "OK |" and peer.count == 2, (told, peer.count))
+
+
+def try_parts(trial):
+    """A server that has no RESET is asked for its parts; what those can't bring back is closed."""
+    def play(connection, words, number):
+        connection.sendall(b"-ERR unknown command 'RESET'\r\n" if words[0] == b"RESET" else b"+OK\r\n")
+    with at_peer(trial, play, kind="redis-if-marked") as (peer, service):
+        service.ask("run SELECT 3;MULTI;WATCH a;CLIENT SETNAME mine")
+        service.ask("run GET it")
+        asked = [it for it in peer.asked if it != [b"PING"]][5:]
+        parts = [[b"DISCARD"], [b"UNWATCH"], [b"CLIENT", b"SETNAME", b""], [b"SELECT", b"0"], [b"GET", b"it"]]
+        trial.check("the parts of a reset", asked == parts and peer.count == 1, (asked, peer.count))
+        service.ask("run HELLO 3")
+        service.ask("run GET it")
+        trial.check("what has no part is closed", peer.count == 2, peer.count)
+
+
+def try_demoted(trial):
+    """A server that may not write any more is left."""
+    def play(connection, words, number):
+        connection.sendall(b"-READONLY You can't write against a read only replica.\r\n" if number == 1 else b"+OK\r\n")
+    with at_peer(trial, play) as (peer, service):
+        told = [service.ask("run SET it 1") for _ in range(2)]
+        trial.check("a demoted server is left", "READONLY" in told[0] and told[1] == "OK |", (told, peer.count))
+
+
+def try_secrets(trial):
+    """A server that repeats what it was sent."""
+    def play(connection, words, number):
+        connection.sendall(b"-ERR unknown command 'AUTH', with args beginning with: '" + words[-1] + b"'\r\n")
+    with at_peer(trial, play, "hidden") as (_, service):
+        told = service.ask("get")
+        is_so = "the login was refused" in told and "hidden" not in told + "".join(service.said)
+        trial.check("no error has the password", is_so, (told, service.said))
+
+
+def try_openings(trial):
+    """Who accepts and does not answer, or goes away."""
+    with at_peer(trial, sends(), greeting=b"") as (_, service):
+        told = service.ask("get")
+        trial.check("an opening that is not answered", re.search(LATE, told), told)
+    with at_peer(trial, lambda connection, words, number: connection.shutdown(socket.SHUT_RDWR)) as (_, service):
+        service.ask("get")
+        told = service.ask("run GET it")
+        trial.check("a connection that is closed", re.search(r"! 127\.0\.0\.1:\d+ closed the connection", told), told)
+
+
+def try_peer(trial):
+    for attempt in (try_answers, try_doubled, try_reset_in_time, try_parts, try_demoted, try_secrets, try_openings):
+        attempt(trial)
