@@ -4,26 +4,64 @@ use std::alloc::AllocError;
 use std::io;
 use thiserror::Error;
 
-/// Why a query or an opening failed. After each of these but `Refused` the connection is broken.
+/// Why a query or an opening failed. After each of these but `Refused` and `ZeroByte` the
+/// connection is broken.
 #[derive(Debug, Drop, Error)]
 pub enum PostgresError {
-    #[error("{0}")]
-    Io(#[from] io::Error),
-    /// The server's own words. It is broken too where the server says that this is the end, as in
-    /// a shutdown.
-    #[error("postgres: {0}")]
-    Refused(String),
+    #[error("{address}: {error}")]
+    Io { address: String, error: io::Error },
+    #[error("no answer in {millis} ms from {address}")]
+    Timeout { address: String, millis: u128 },
+    #[error("{address} closed the connection")]
+    Closed { address: String },
+    /// The server's own words, with control characters escaped, and its SQLSTATE. The connection is
+    /// broken too where that is 25006, 57P01, 57P02, 57P03 or of class 08, or where the server says
+    /// that this is the end.
+    #[error("postgres: {text} (SQLSTATE {state})")]
+    Refused { state: String, text: String },
+    /// What the server said has the password in it.
+    #[error("postgres: the login was refused")]
+    Login,
     #[error("postgres: a message that is not understood")]
     Protocol,
+    #[error("postgres: an answer is larger than the limits allow")]
+    TooMuch,
+    #[error("postgres: bytes came that nobody asked for")]
+    Unasked,
+    #[error("postgres: the session of an earlier caller could not be ended")]
+    Reset,
+    /// Nothing was sent.
+    #[error("postgres: a query has a zero byte in it")]
+    ZeroByte,
     #[error("postgres: the server asks for a password, and there is none")]
     NoPassword,
     #[error("postgres: the server asks for a kind of login that this client has not")]
     UnknownLogin,
+    #[error("postgres: the server asked for no proof of the password")]
+    NoProof,
+    #[error("postgres: the server's nonce does not go on from this login's")]
+    ForeignNonce,
+    #[error("postgres: the server asks for fewer rounds than 4096, or more than 1000000")]
+    Rounds,
+    #[error("postgres: the rounds of the login take too long")]
+    SlowLogin,
     #[error("postgres: the server does not know the password itself")]
     UnknownServer,
+    #[error("postgres: there are no random bytes: {0}")]
+    Random(io::Error),
     /// An earlier query broke the connection.
     #[error("postgres: the connection is broken")]
     Broken,
     #[error(transparent)]
     Memory(#[from(alloc)] AllocError),
+}
+
+impl PostgresError {
+    /// The SQLSTATE of a refusal, as `23505`.
+    pub fn state(&self) -> Option<&str> {
+        match self {
+            PostgresError::Refused { state, .. } => Some(state.as_str()),
+            _ => None,
+        }
+    }
 }

@@ -3,13 +3,19 @@
 
 mod answer;
 mod connection;
+mod deadline;
 mod error;
 mod login;
 mod manager;
+mod mark;
+mod refusal;
+mod reset;
 mod scram;
+mod socket;
 mod wire;
 
-pub use answer::{Row, Session};
+pub use answer::{Limits, Row, Session};
 pub use connection::PostgresConnection;
 pub use error::PostgresError;
 pub use manager::PostgresConnectionManager;
+pub use reset::Reset;

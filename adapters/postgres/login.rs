@@ -3,11 +3,11 @@
 ghost use Rattle.std.specs.Prelude.{◌≢◌, IfOk};
 
 use crate::answer::Session;
+use crate::deadline::Deadline;
 use crate::error::PostgresError;
 use crate::scram::Scram;
 use crate::wire::Wire;
 use md5::{Digest, Md5};
-use std::alloc::{AllocError, Global};
 
 /// Version 3.0 of the protocol.
 const VERSION: u32 = 196_608;
@@ -23,33 +23,71 @@ const GOES_ON: u32 = 11;
 const ENDS: u32 = 12;
 /// The way of SASL that is known here.
 const MECHANISM: &str = "SCRAM-SHA-256";
+/// How much a server may say in a login, in bytes.
+const LOGIN: usize = 64 * 1024;
 
 /// Who a connection is for. `random` is for this login alone.
 #[derive(Drop)]
 pub struct Login<'a> {
-    pub alloc: Global,
+    pub rt: HostRuntime,
     pub user: &'a str,
     pub database: &'a str,
     pub password: Option<&'a str>,
+    /// Whether a server that asks for no password is taken too.
+    pub is_lenient: bool,
     pub random: [u8; 18],
+}
+
+/// How a connection has begun, and the server's key for a cancel.
+#[derive(Drop)]
+pub struct Begun {
+    pub session: Session,
+    pub key: Option<[u8; 8]>,
+}
+
+/// How far a login is.
+#[derive(Clone, Copy, PartialEq, Eq)]
+enum Stage {
+    Begun,
+    /// The server was shown that the client knows the password.
+    Proved,
+    /// The server has taken it.
+    Taken,
 }
 
 impl Login<'_> {
     /// Begins, and returns once the server is ready for a query.
-    pub fn run(&self, wire: &mut Wire) -> Result<Session, PostgresError>
-        ensures { IfOk result (λ session. session ≢ Session.Broken) }
+    pub fn run(&self, wire: &mut Wire, deadline: Deadline) -> Result<Begun, PostgresError>
+        ensures { IfOk result (λ begun. begun.session ≢ Session.Broken) }
     {
-        wire.send(None, self.start()?.as_slice())?;
+        wire.allow(LOGIN);
+        wire.send(None, self.start()?.as_slice(), deadline)?;
+        let (mut stage, mut key) = (Stage::Begun, None);
         for _ in 0..u64::MAX {
-            match wire.receive()? {
-                b'R' => self.answer(wire)?,
-                b'E' => return Err(PostgresError::Refused(wire.refusal()?)),
-                b'S' | b'K' | b'N' => {}
-                b'Z' => return Session::of(wire.body()),
+            match wire.receive(deadline)? {
+                b'R' => stage = self.answer(wire, stage, deadline)?,
+                b'E' => return Err(self.refused(wire.refusal()?)),
+                b'K' => key = key_in(wire.body()),
+                b'S' | b'N' => {}
+                b'Z' if stage == Stage::Taken => {
+                    let session = Session::of(wire.body())?;
+                    return Ok(Begun { session, key });
+                }
                 _ => return Err(PostgresError::Protocol),
             }
         }
         Err(PostgresError::Protocol)
+    }
+
+    // A server, or a proxy before it, may know the password, and repeat it.
+    fn refused(&self, error: PostgresError) -> PostgresError {
+        match (&error, self.password) {
+            (PostgresError::Refused { state, text }, Some(password))
+                if text.as_str().contains(password) || state.as_str().contains(password) => {
+                PostgresError::Login
+            }
+            _ => error,
+        }
     }
 
     // Names and values, each with a zero after it, which none of them may have in it.
@@ -57,7 +95,7 @@ impl Login<'_> {
         if self.user.contains('\0') || self.database.contains('\0') {
             return Err(PostgresError::Protocol);
         }
-        let mut body = Vec::new(self.alloc);
+        let mut body = Vec::new(self.rt.alloc());
         body.extend_from_slice(&VERSION.to_be_bytes())?;
         for text in ["user", self.user, "database", self.database] {
             body.extend_from_slice(text.as_bytes())?;
@@ -67,16 +105,28 @@ impl Login<'_> {
         Ok(body)
     }
 
-    fn answer(&self, wire: &mut Wire) -> Result<(), PostgresError> {
+    fn answer(
+        &self,
+        wire: &mut Wire,
+        stage: Stage,
+        deadline: Deadline,
+    ) -> Result<Stage, PostgresError> {
         let (asked, rest) = asked_in(wire.body())?;
-        match asked {
-            DONE => Ok(()),
-            BY_MD5 => {
+        match (asked, stage) {
+            (DONE, Stage::Proved) => Ok(Stage::Taken),
+            (DONE, Stage::Begun) if self.password.is_none() || self.is_lenient => Ok(Stage::Taken),
+            (DONE, Stage::Begun) => Err(PostgresError::NoProof),
+            (BY_MD5, Stage::Begun) => {
                 let answer = self.hashed(rest)?;
-                wire.send(Some(b'p'), answer.as_slice())
+                wire.send(Some(b'p'), answer.as_slice(), deadline)?;
+                Ok(Stage::Proved)
             }
-            BY_SASL if is_offered(rest) => self.answer_by_scram(wire),
-            _ => Err(PostgresError::UnknownLogin),
+            (BY_SASL, Stage::Begun) if is_offered(rest) => {
+                self.answer_by_scram(wire, deadline)?;
+                Ok(Stage::Proved)
+            }
+            (_, Stage::Begun) => Err(PostgresError::UnknownLogin),
+            _ => Err(PostgresError::Protocol),
         }
     }
 
@@ -89,35 +139,55 @@ impl Login<'_> {
         let mut hasher = Md5::new();
         hasher.update(self.password()?);
         hasher.update(self.user);
-        let inner = hex::encode(self.alloc, &hasher.finalize())?;
+        let inner = hex::encode(self.rt.alloc(), &hasher.finalize())?;
         let mut hasher = Md5::new();
         hasher.update(inner.as_bytes());
         hasher.update(salt);
-        let outer = hex::encode(self.alloc, &hasher.finalize())?;
-        let mut answer = Vec::new(self.alloc);
+        let outer = hex::encode(self.rt.alloc(), &hasher.finalize())?;
+        let mut answer = Vec::new(self.rt.alloc());
         answer.extend_from_slice(b"md5")?;
         answer.extend_from_slice(outer.as_bytes())?;
         answer.push(0)?;
         Ok(answer)
     }
 
-    fn answer_by_scram(&self, wire: &mut Wire) -> Result<(), PostgresError> {
+    fn answer_by_scram(&self, wire: &mut Wire, deadline: Deadline) -> Result<(), PostgresError> {
         let password = self.password()?;
-        let scram = Scram::new(self.alloc, &self.random)?;
+        let scram = Scram::new(self.rt, &self.random)?;
         let first = scram.first()?;
         let length = u32::try_from(first.len()).map_err(|_| PostgresError::Protocol)?;
-        let mut body = Vec::new(self.alloc);
+        let mut body = Vec::new(self.rt.alloc());
         body.extend_from_slice(MECHANISM.as_bytes())?;
         body.push(0)?;
         body.extend_from_slice(&length.to_be_bytes())?;
         body.extend_from_slice(first.as_bytes())?;
-        wire.send(Some(b'p'), body.as_slice())?;
-        let proof = scram.proof(text_of(wire, GOES_ON)?, password)?;
-        wire.send(Some(b'p'), proof.message.as_bytes())?;
-        if text_of(wire, ENDS)? != proof.reply.as_str() {
+        wire.send(Some(b'p'), body.as_slice(), deadline)?;
+        let challenge = self.text_of(wire, GOES_ON, deadline)?;
+        let proof = scram.proof(challenge, password, deadline)?;
+        wire.send(Some(b'p'), proof.message.as_bytes(), deadline)?;
+        if self.text_of(wire, ENDS, deadline)? != proof.reply.as_str() {
             return Err(PostgresError::UnknownServer);
         }
         Ok(())
+    }
+
+    // The text of the server's next message, which is to be this one.
+    fn text_of<'w>(
+        &self,
+        wire: &'w mut Wire,
+        wanted: u32,
+        deadline: Deadline,
+    ) -> Result<&'w str, PostgresError> {
+        match wire.receive(deadline)? {
+            b'R' => {}
+            b'E' => return Err(self.refused(wire.refusal()?)),
+            _ => return Err(PostgresError::Protocol),
+        }
+        let (asked, text) = asked_in(wire.body())?;
+        if asked != wanted {
+            return Err(PostgresError::Protocol);
+        }
+        str::from_utf8(text).map_err(|_| PostgresError::Protocol)
     }
 }
 
@@ -135,16 +205,10 @@ fn asked_in(body: &[u8]) -> Result<(u32, &[u8]), PostgresError> {
     }
 }
 
-// The text of the server's next message, which is to be this one.
-fn text_of(wire: &mut Wire, wanted: u32) -> Result<&str, PostgresError> {
-    match wire.receive()? {
-        b'R' => {}
-        b'E' => return Err(PostgresError::Refused(wire.refusal()?)),
-        _ => return Err(PostgresError::Protocol),
+// The name of the connection that a cancel asks for, and its secret.
+fn key_in(body: &[u8]) -> Option<[u8; 8]> {
+    match body {
+        [a, b, c, d, e, f, g, h] => Some([*a, *b, *c, *d, *e, *f, *g, *h]),
+        _ => None,
     }
-    let (asked, text) = asked_in(wire.body())?;
-    if asked != wanted {
-        return Err(PostgresError::Protocol);
-    }
-    str::from_utf8(text).map_err(|_| PostgresError::Protocol)
 }

@@ -1,15 +1,16 @@
-//! Opens connections to PostgreSQL, checks them, and ends transactions that were left open.
+//! Opens connections to PostgreSQL, and checks them.
 
-ghost use Rattle.std.specs.Prelude.{◌<◌};
+ghost use Rattle.std.specs.Prelude.{◌≡◌, ◌<◌, ◌⊎◌, IsFalse, IsTrue};
 ghost use Rattle.std.specs.Duration.{as_nanos};
 
-use crate::connection::PostgresConnection;
+use crate::answer::{Limits, Session};
+use crate::connection::{PostgresConnection, Timeouts};
 use crate::error::PostgresError;
 use crate::login::Login;
+use crate::mark::Mark;
+use crate::reset::Reset;
 use r2d2::ManageConnection;
 use std::alloc::AllocError;
-use std::io;
-use std::net::{TcpStream, ToSocketAddrs};
 use std::random::RandomSource;
 use std::time::Duration;
 
@@ -22,15 +23,18 @@ pub struct PostgresConnectionManager {
     user: String,
     database: String,
     password: Option<String>,
-    timeout: Duration,
+    is_lenient: bool,
+    reset: Reset,
+    timeouts: Timeouts,
+    limits: Limits,
 }
 
 impl PostgresConnectionManager {
     /// `address` is a host and a port, as `127.0.0.1:5432`. A name is looked up at each opening, so
     /// that a server is found where it has moved to; the look-up has the system's own timeout.
-    /// `timeout` is that of connecting to one address, of each read and of each write: so a query
-    /// that computes for longer fails, and its connection is broken. The server goes on with it, but
-    /// for a `statement_timeout` of its own.
+    /// `timeout` is that of an opening with its login, of a check and of a query, each from its
+    /// beginning to its end. A query that takes longer fails; the server is asked to cancel it, and
+    /// its connection is closed.
     pub fn new(
         rt: HostRuntime,
         address: &str,
@@ -46,25 +50,57 @@ impl PostgresConnectionManager {
             user: String::from_str(rt.alloc(), user)?,
             database: String::from_str(rt.alloc(), database)?,
             password: None,
-            timeout,
+            is_lenient: false,
+            reset: Reset::IfMarked,
+            timeouts: Timeouts {
+                connect: timeout,
+                check: timeout,
+                command: timeout,
+            },
+            limits: Limits {
+                bytes: 16 * 1024 * 1024,
+                rows: 1024 * 1024,
+            },
         })
     }
 
-    /// Logs in with a password, by SCRAM-SHA-256 or MD5, as the server asks. It is never sent.
+    /// Logs in with a password, by SCRAM-SHA-256 or MD5, as the server asks. It is never sent. A
+    /// server that asks for no proof of it is refused.
     pub fn with_password(self, password: &str) -> Result<Self, AllocError> {
         let password = Some(String::from_str(self.rt.alloc(), password)?);
         Ok(PostgresConnectionManager { password, ..self })
     }
 
-    fn connected(&self) -> io::Result<TcpStream> {
-        let mut last = io::Error::from(io::ErrorKind::NotFound);
-        for address in self.address.as_str().to_socket_addrs(&self.rt)? {
-            match TcpStream::connect_timeout(&self.rt, &address, self.timeout) {
-                Ok(stream) => return Ok(stream),
-                Err(error) => last = error,
-            }
-        }
-        Err(last)
+    /// The same, but that a server is taken too which asks for none: who answers there need not be
+    /// the server that knows the password.
+    pub fn with_password_if_asked(self, password: &str) -> Result<Self, AllocError> {
+        let manager = self.with_password(password)?;
+        Ok(PostgresConnectionManager {
+            is_lenient: true,
+            ..manager
+        })
+    }
+
+    /// When a connection that comes back is reset: where its session may differ from how it began,
+    /// until another mode is set.
+    pub fn with_reset(self, reset: Reset) -> Self {
+        PostgresConnectionManager { reset, ..self }
+    }
+
+    /// How long an opening, a check and a query may take. A query is overrun by no more than a
+    /// tenth, in which it is cancelled; where the server can't be reached for that, by 200 ms more.
+    pub fn with_timeouts(self, connect: Duration, check: Duration, command: Duration) -> Self {
+        let timeouts = Timeouts {
+            connect,
+            check,
+            command,
+        };
+        PostgresConnectionManager { timeouts, ..self }
+    }
+
+    /// How much one answer may have: 16 MiB, and 1,048,576 rows, until another limit is set.
+    pub fn with_limits(self, limits: Limits) -> Self {
+        PostgresConnectionManager { limits, ..self }
     }
 }
 
@@ -76,32 +112,37 @@ impl ManageConnection for PostgresConnectionManager {
     type Extension = ();
 
     fn connect(&self) -> Result<PostgresConnection, PostgresError> {
-        let stream = self.connected()?;
-        stream.set_nodelay(true)?;
-        stream.set_read_timeout(Some(self.timeout))?;
-        stream.set_write_timeout(Some(self.timeout))?;
-        let mut connection = PostgresConnection::new(self.rt.alloc(), stream)?;
         let mut random = [0; 18];
-        self.rt.fill_bytes(&mut random)?;
-        connection.log_in(&Login {
-            alloc: self.rt.alloc(),
+        self.rt
+            .fill_bytes(&mut random)
+            .map_err(PostgresError::Random)?;
+        let login = Login {
+            rt: self.rt,
             user: self.user.as_str(),
             database: self.database.as_str(),
             password: self.password.as_deref(),
+            is_lenient: self.is_lenient,
             random,
-        })?;
-        Ok(connection)
+        };
+        let address = self.address.as_str();
+        PostgresConnection::open(self.rt, address, &login, self.timeouts, self.limits)
     }
 
     fn is_valid(&self, connection: &mut PostgresConnection) -> Result<(), PostgresError> {
-        connection.query("SELECT 1")?;
-        Ok(())
+        connection.check()
     }
 
-    /// A transaction that a caller left open is rolled back here, in the caller's own thread: the
-    /// next caller finds none. What else a session keeps, as SET does, stays: add a query of your
-    /// own, as `DISCARD ALL`.
-    fn has_broken(&self, connection: &mut PostgresConnection) -> bool {
-        !connection.end_transaction()
+    /// A connection is closed, and not lent on, that is broken, that the server said something on
+    /// unasked, or whose session can't be brought back as the mode says. A transaction that a
+    /// caller left open is rolled back.
+    fn has_broken(&self, connection: &mut PostgresConnection) -> bool
+        ensures broken { connection.old.session ≡ Session.Broken → IsTrue result }
+        ensures idle { IsFalse result → connection.new.session ≡ Session.Idle }
+        ensures marked { IsFalse result → self.now.reset ≡ Reset.IfMarked →
+            (connection.new.mark ≡ Mark.Plain) ⊎ (0 < connection.new.resetting) }
+        ensures always { IsFalse result → self.now.reset ≡ Reset.Always →
+            0 < connection.new.resetting }
+    {
+        !connection.come_back(self.reset)
     }
 }

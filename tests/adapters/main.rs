@@ -1,9 +1,12 @@
 //! A service over a pool of connections to a real server, which lines on standard input drive
 //! (tools/try adapters). The words are `redis ADDRESS [[USER] PASSWORD]`, for a user at database 2,
-//! or `postgres ADDRESS USER [PASSWORD]`; with one word it writes itself to that place. Of Redis
-//! there are kinds: `redis-unchecked` lends without a check, `redis-unchecked-for-an-hour` without
+//! or `postgres ADDRESS USER [PASSWORD]`; with one word it writes itself to that place. There are
+//! kinds of both: `redis-unchecked` lends without a check, `redis-unchecked-for-an-hour` without
 //! one of what came back within it; `redis-never`, `redis-if-marked` and `redis-always` reset at a
-//! return as they say, have one connection, check nothing, and wait for half a second.
+//! return as they say, have one connection, check nothing, and wait for half a second; so do those
+//! of `postgres`, which take 100 rows and 64 KiB. `postgres-eight` has eight connections, and waits
+//! for a second; `postgres-salted` waits for fifteen; `postgres-lenient` takes a server that asks
+//! for no password. In place of `postgres`, `calm` waits for ten seconds.
 #![tactic(auto)]
 
 mod service;
@@ -11,7 +14,7 @@ mod service;
 use self::service::{App, Checks, Lending};
 use postgres::PostgresConnectionManager;
 use r2d2::{ManageConnection, PoolRuntime};
-use redis::{RedisConnectionManager, Reset};
+use redis::RedisConnectionManager;
 use std::test::Fail;
 use std::time::Duration;
 use std::{env, fs, thread};
@@ -23,8 +26,6 @@ fn main(rt: HostRuntime) -> Result<(), Fail> {
     for word in env::args(&rt)?.skip(1) {
         words.push(word)?;
     }
-    // A server on a busy machine has answered long before.
-    let timeout = Duration::from_secs(10);
     match words.as_slice() {
         [place] => {
             // What `rt try` runs lies there under this name.
@@ -34,11 +35,8 @@ fn main(rt: HostRuntime) -> Result<(), Fail> {
         }
         [kind, address, rest @ ..] if kind.as_str().starts_with("redis") => {
             let settings = Settings::of(kind.as_str());
-            let manager = RedisConnectionManager::new(
-                rt,
-                address.as_str(),
-                settings.timeout,
-            )?.with_reset(settings.reset);
+            let manager = RedisConnectionManager::new(rt, address.as_str(), settings.timeout)?;
+            let manager = settings.of_redis(manager);
             match rest {
                 [] => serve(rt, manager, settings.lending),
                 [password] => {
@@ -51,55 +49,94 @@ fn main(rt: HostRuntime) -> Result<(), Fail> {
                 }
             }
         }
-        [_, address, user, rest @ ..] => {
-            let (address, user) = (address.as_str(), user.as_str());
-            let manager = PostgresConnectionManager::new(rt, address, user, "postgres", timeout)?;
+        [kind, address, user, rest @ ..] => {
+            let settings = Settings::of(kind.as_str());
+            let manager = PostgresConnectionManager::new(
+                rt,
+                address.as_str(),
+                user.as_str(),
+                "postgres",
+                settings.timeout,
+            )?;
+            let manager = settings.of_postgres(manager);
             match rest {
-                [] => serve(rt, manager, always()),
-                [password, ..] => serve(rt, manager.with_password(password.as_str())?, always()),
+                [] => serve(rt, manager, settings.lending),
+                [password, ..] if kind.as_str() == "postgres-lenient" => {
+                    let manager = manager.with_password_if_asked(password.as_str())?;
+                    serve(rt, manager, settings.lending)
+                }
+                [password, ..] => {
+                    let manager = manager.with_password(password.as_str())?;
+                    serve(rt, manager, settings.lending)
+                }
             }
         }
         _ => Ok(()),
     }
 }
 
-fn always() -> Lending {
-    Lending {
-        checks: Checks::Always,
-        patience: Duration::from_secs(20),
-        is_of_one: false,
-    }
-}
-
-// How a service of a kind uses Redis.
+// How a service of a kind uses its server.
 #[derive(Clone, Copy)]
 struct Settings {
     lending: Lending,
-    reset: Reset,
+    mode: Mode,
     timeout: Duration,
+}
+
+/// When it resets.
+#[derive(Clone, Copy, PartialEq, Eq)]
+enum Mode {
+    Never,
+    IfMarked,
+    Always,
 }
 
 impl Settings {
     fn of(kind: &str) -> Settings {
-        let (checks, reset, timeout) = match kind {
+        let (name, rest) = kind.split_once('-').unwrap_or((kind, ""));
+        let (checks, mode, timeout, size, patience) = match rest {
             // A server stands still for longer than this.
-            "redis-unchecked" => (Checks::Never, Reset::IfMarked, 2000),
-            "redis-unchecked-for-an-hour" => (Checks::AfterAnHour, Reset::IfMarked, 10_000),
-            "redis-never" => (Checks::Never, Reset::Never, 500),
-            "redis-if-marked" => (Checks::Never, Reset::IfMarked, 500),
-            "redis-always" => (Checks::Never, Reset::Always, 500),
-            _ => (Checks::Always, Reset::IfMarked, 10_000),
+            "unchecked" => (Checks::Never, Mode::IfMarked, 2000, 4, 20),
+            "unchecked-for-an-hour" => (Checks::AfterAnHour, Mode::IfMarked, 10_000, 4, 20),
+            "never" => (Checks::Never, Mode::Never, 500, 1, 3),
+            "if-marked" => (Checks::Never, Mode::IfMarked, 500, 1, 3),
+            "always" => (Checks::Never, Mode::Always, 500, 1, 3),
+            "eight" => (Checks::Always, Mode::IfMarked, 1000, 8, 20),
+            "salted" => (Checks::Never, Mode::IfMarked, 15_000, 4, 14),
+            _ => (Checks::Always, Mode::IfMarked, 10_000, 4, 20),
         };
-        let is_of_one = timeout == 500;
         Settings {
             lending: Lending {
                 checks,
-                patience: Duration::from_secs(if is_of_one { 3 } else { 20 }),
-                is_of_one,
+                patience: Duration::from_secs(patience),
+                size,
             },
-            reset,
-            timeout: Duration::from_millis(timeout),
+            mode,
+            timeout: Duration::from_millis(if name == "calm" { 10_000 } else { timeout }),
         }
+    }
+
+    fn of_redis(&self, manager: RedisConnectionManager) -> RedisConnectionManager {
+        manager.with_reset(match self.mode {
+            Mode::Never => redis::Reset::Never,
+            Mode::IfMarked => redis::Reset::IfMarked,
+            Mode::Always => redis::Reset::Always,
+        })
+    }
+
+    fn of_postgres(&self, manager: PostgresConnectionManager) -> PostgresConnectionManager {
+        let manager = manager.with_reset(match self.mode {
+            Mode::Never => postgres::Reset::Never,
+            Mode::IfMarked => postgres::Reset::IfMarked,
+            Mode::Always => postgres::Reset::Always,
+        });
+        if self.lending.size > 1 {
+            return manager;
+        }
+        manager.with_limits(postgres::Limits {
+            bytes: 64 * 1024,
+            rows: 100,
+        })
     }
 }
 

@@ -1,6 +1,6 @@
 //! What its threads do, and what the lines say.
 
-use postgres::{PostgresConnection, PostgresError, Session};
+use postgres::{PostgresConnection, PostgresError, Row, Session};
 use r2d2::{Builder, ErrorKind, ManageConnection, PlainPool, PoolRuntime};
 use redis::{RedisConnection, RedisError, Reply};
 use std::alloc::{AllocError, Global};
@@ -105,16 +105,42 @@ impl Counting for PostgresConnection {
     }
 
     fn is_refused(&mut self) -> bool {
-        let refused = matches!(self.query("SELECT 1/0"), Err(PostgresError::Refused(_)));
+        let refused = matches!(self.query("SELECT 1/0"), Err(PostgresError::Refused { .. }));
         refused && self.session() == Session::Idle && self.query("SELECT 1").is_ok()
     }
 
+    // Each may be of several statements. One after a `#` tells how many rows it was about.
     fn run(&mut self, alloc: Global, requests: &str) -> Result<String, AllocError> {
-        match self.query(requests) {
-            Ok(rows) => format!(in alloc; "{} rows", rows.len()),
-            Err(error) => format!(in alloc; "! {error}"),
+        let mut told = String::new(alloc);
+        for request in requests.split(";;") {
+            let request = request.trim();
+            let error = match request.strip_prefix("#") {
+                Some(request) => match self.execute(request) {
+                    Ok(count) => {
+                        write!(told, "{count} rows | ")?;
+                        continue;
+                    }
+                    Err(error) => error,
+                },
+                None => match self.query(request) {
+                    Ok(rows) => {
+                        write_rows(&mut told, rows.as_slice())?;
+                        continue;
+                    }
+                    Err(error) => error,
+                },
+            };
+            write!(told, "! {error} | ")?;
         }
+        Ok(told)
     }
+}
+
+fn write_rows(told: &mut String, rows: &[Row]) -> Result<(), AllocError> {
+    for row in rows {
+        write!(told, "{:?} ", row.columns())?;
+    }
+    told.push_str("| ")
 }
 
 /// What all threads count.
@@ -149,8 +175,8 @@ pub struct Lending {
     pub checks: Checks,
     /// How long a `get` waits.
     pub patience: Duration,
-    /// Whether there is one connection alone.
-    pub is_of_one: bool,
+    /// How many connections there are at most.
+    pub size: u32,
 }
 
 #[derive(Drop)]
@@ -168,7 +194,7 @@ where
         let hour = Duration::from_secs(3600);
         let checks = lending.checks;
         let pool = Builder::new()
-            .max_size(if lending.is_of_one { 1 } else { 4 })
+            .max_size(lending.size)
             .test_on_check_out(!matches!(checks, Checks::Never))
             .test_if_idle_for(matches!(checks, Checks::AfterAnHour).then_some(hour))
             .connection_timeout(lending.patience)

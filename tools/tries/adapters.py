@@ -1,16 +1,16 @@
 """The adapters of adapters/, in a repository that `vendor` makes: a service over each is driven against a real server on
-loopback, of Debian's packages redis-server and postgresql. Where one is not installed nobody has tried that adapter. And a scripted
-peer in the place of Redis, and the first program over tokio, which need no server."""
+loopback, of Debian's packages redis-server and postgresql. Where one is not installed nobody has tried that adapter. And scripted
+peers in the place of both, and the first program over tokio, which need no server."""
 import contextlib
 import os
 import re
 import signal
-import socket
-import struct
 import subprocess
 import tempfile
 import threading
 
+import postgres_peer
+import postgres_sessions
 import redis_peer
 import redis_sessions
 import trying
@@ -22,6 +22,8 @@ SERVERS = [Redis, Postgres]
 # The first programs, with what each stands on.
 FIRST = {"first_redis": "r2d2 redis anyhow", "first_postgres": "r2d2 postgres anyhow", "first_tokio": "r2d2_async tokio futures anyhow"}
 CONNECTIONS = 4
+# Whether queries are tried that wait at a locked table: where a machine is busy, as beside proofs, cancels come too late.
+IS_CALM = False
 # What a caller of Redis may leave to the next one.
 LEFT = ["multi", "watch", "subscribe", "monitor"]
 # The service's checks read no memory that has ended; it keeps what its threads have, which is no leak.
@@ -119,13 +121,13 @@ class Service:
 
 
 class Peers:
-    """What is tried with a scripted peer."""
+    """What is tried with a scripted peer in the place of a server."""
 
-    def __init__(self, program, tally):
-        self.program, self.tally = program, tally
+    def __init__(self, program, tally, name):
+        self.program, self.tally, self.name = program, tally, name
 
     def check(self, what, holds, seen=""):
-        self.tally.check(f"redis, a scripted peer: {what}", holds, seen)
+        self.tally.check(f"{self.name}, a scripted peer: {what}", holds, seen)
 
     def at(self, port, kind, *words):
         return Service(self.program, kind, port, *words)
@@ -167,6 +169,9 @@ class Trial:
             self.try_drain(service)
             if self.kind is Postgres:
                 self.try_logins()
+                postgres_sessions.try_sessions(self)
+                if IS_CALM:
+                    self.try_locked()
             else:
                 for what in LEFT:
                     self.try_left_unchecked(what)
@@ -299,40 +304,37 @@ class Trial:
         self.check("a wrong password", "password authentication failed" in wrong, wrong)
         none = self.service(self.server.port, "salted").ask("get")
         self.check("no password", "asks for a password, and there is none" in none, none)
-        with false_server() as port:
-            false = self.service(port, "salted", "kept").ask("get")
-        self.check("a server that does not know the password", "does not know the password itself" in false, false)
+    def try_locked(self):
+        """Queries that wait for a lock are cancelled: the server is not left with what their callers have given up. On a busy machine one of
+        some tries is enough, as a cancel has little time."""
+        for _ in range(4):
+            service = self.service_of("postgres-eight", *self.words)
+            seen = self.locked(service)
+            if all(is_so for _, is_so, _ in seen):
+                break
+        for what, is_so, shown in seen:
+            self.check(what, is_so, shown)
 
-
-@contextlib.contextmanager
-def false_server():
-    """A port at which a server takes each login by SCRAM, and does not know the password."""
-    def message(kind, asked, text=b""):
-        body = struct.pack("!I", asked) + text
-        return kind + struct.pack("!I", len(body) + 4) + body
-
-    def read(stream, has_kind):
-        head = stream.read(5 if has_kind else 4)
-        return stream.read(struct.unpack("!I", head[-4:])[0] - 4)
-
-    def take(connection):
-        with contextlib.suppress(OSError, struct.error, IndexError), connection, connection.makefile("rb") as stream:
-            read(stream, False)
-            connection.sendall(message(b"R", 10, b"SCRAM-SHA-256\0\0"))
-            nonce = read(stream, True).partition(b"r=")[2]
-            connection.sendall(message(b"R", 11, b"r=" + nonce + b"more,s=c2FsdA==,i=1"))
-            read(stream, True)
-            connection.sendall(message(b"R", 12, b"v=" + b"A" * 43 + b"=") + message(b"R", 0) + b"Z\0\0\0\5I")
-            stream.read(1)
-
-    def accept(listener):
-        with contextlib.suppress(OSError):
-            while True:
-                threading.Thread(target=take, args=[listener.accept()[0]], daemon=True).start()
-
-    with socket.create_server((HOST, 0)) as listener:
-        threading.Thread(target=accept, args=[listener], daemon=True).start()
-        yield listener.getsockname()[1]
+    def locked(self, service):
+        """What is to be checked of a service whose queries wait for a lock, with whether it is so, and what was seen."""
+        before, total = service.goes(40), self.server.total()
+        locks = "BEGIN; LOCK TABLE counts; SELECT pg_sleep(6)"
+        holder = subprocess.Popen(self.server.words_of(locks), stdin=subprocess.DEVNULL, stdout=subprocess.DEVNULL)
+        is_locked = within(SECONDS, lambda: self.server.ask("SELECT count(*) FROM pg_locks WHERE mode = 'AccessExclusiveLock'") != "0")
+        service.begins(200)
+        most = 0
+        while holder.poll() is None:
+            # (without the holder)
+            most = max(most, self.server.connections() - 1)
+        counts = service.rests()
+        told = self.server.total() - total
+        again = service.goes(40)
+        return [
+            ("queries run out of time at a lock", is_locked and counts["failed"] >= 8 and before["failed"] == 0, (before, counts)),
+            ("a locked table leaves the server with no more than two connections for each", 8 <= most <= 16, most),
+            ("no query is counted that was cancelled", told == counts["done"] - before["done"], (before, counts, told)),
+            ("after that all is well", again["failed"] == counts["failed"], (counts, again)),
+        ]
 
 
 def try_servers(kinds, mine, place, tally):
@@ -341,7 +343,8 @@ def try_servers(kinds, mine, place, tally):
     os.mkdir(aside)
     program = built(mine, aside, tally)
     if program:
-        redis_peer.try_peer(Peers(program, tally))
+        redis_peer.try_peer(Peers(program, tally, "redis"))
+        postgres_peer.try_peer(Peers(program, tally, "postgres"))
     for kind in kinds if program else []:
         folder = os.path.join(place, f"with_{kind.NAME}")
         os.mkdir(folder)

@@ -30,6 +30,12 @@ READ_BY_ITSELF = """            self.stream.set_read_timeout(Some(Duration::from
             match self.stream.read(piece) {
                 Ok(0) => return Err(io::Error::from(io::ErrorKind::UnexpectedEof)),
 """
+# The same of the other adapter, which leaves half of a call's tenth to a cancel.
+READ_BY_HALF = READ_BY.replace("deadline.tenth()", "deadline.tenth() / 2")
+# Memory for what a length says, before any of it has come.
+TAKE, TAKE_AT_ONCE = "        self.body.clear();\n", "        self.body.clear();\n        self.body.resize(count, 0)?;\n        self.body.clear();\n"
+# What the postgres manager asks at a return.
+POSTGRES_BROKEN = "!connection.come_back(self.reset)"
 # A function, a passage of its file, and what somebody could write in its place. The prover refuses each.
 REFUSED = [
     ("redis::connection::RedisConnection::is_broken", "{\n        self.is_broken\n", "{\n        let _ = self;\n        false\n"),
@@ -41,8 +47,17 @@ REFUSED = [
     ("redis::manager::RedisConnectionManagerManageConnection::has_broken", HAS_BROKEN, "{\n            let _ = connection;\n            false\n        }"),
     ("postgres::answer::Session::of", "Ok(Session::InFailedTransaction)", "Ok(Session::Broken)"),
     ("postgres::connection::PostgresConnection::session", "{\n        self.session\n", "{\n        let _ = self;\n        Session::Idle\n"),
-    ("postgres::connection::PostgresConnection::exchange", "self.session = Session::Broken;\n", ""),
-    ("postgres::connection::PostgresConnection::end_transaction", "        self.session == Session::Idle\n", "        true\n"),
+    ("postgres::connection::PostgresConnection::exchange", "        self.session = Session::Broken;\n        match", "        match"),
+    ("postgres::connection::PostgresConnection::exchange", "self.session = answer.session;", "self.session = Session::Idle;"),
+    ("postgres::connection::PostgresConnection::talk", "self.mark = self.mark.and(answer.mark);", "self.mark = answer.mark;"),
+    ("postgres::connection::PostgresConnection::end_reset", "        self.resetting = 0;\n        self.mark", "        self.mark"),
+    ("postgres::connection::PostgresConnection::come_back", "self.session != Session::Broken && ", ""),
+    ("postgres::connection::PostgresConnection::send_reset", 'queries.push("ROLLBACK")?;', "{}"),
+    ("postgres::connection::PostgresConnection::send_reset", "Reset::IfMarked => self.mark != Mark::Plain,", "Reset::IfMarked => false,"),
+    ("postgres::connection::PostgresConnection::send_reset", "        self.resetting = queries.len();\n", ""),
+    ("postgres::deadline::Deadline::left", "if left.is_zero() { Err(late) } else { Ok(left) }", "Ok(left)"),
+    ("postgres::manager::PostgresConnectionManagerManageConnection::has_broken", POSTGRES_BROKEN, "connection.session() == crate::answer::Session::Broken"),
+    ("postgres::mark::Mark::and", "(Mark::Plain, Mark::Plain) => Mark::Plain,", "(_, Mark::Plain) => Mark::Plain,"),
 ]
 # A file, such a passage, and the check that is to fail: the bodies of a list are made together.
 SEEN = [
@@ -51,8 +66,13 @@ SEEN = [
         ("redis/socket", READ_BY, READ_BY_ITSELF, "redis, a scripted peer: a value that drips: the deadline"),
         ("redis/reply", "list.push(made.pop().ok_or(RedisError::Protocol)?)?;", "list.insert(0, made.pop().ok_or(RedisError::Protocol)?)?;", "redis, a scripted peer: an answer byte by byte: the text"),
         ("redis/reply", "if letter.is_control() {", "if letter == '\\r' {", "redis, a scripted peer: a refusal with control characters: the text"),
-        ("postgres/manager", "!connection.end_transaction()", "connection.session() == crate::answer::Session::Broken", "postgres: nobody meets what was left open"),
-        ("postgres/login", "!= proof.reply.as_str()", "== \"\"", "postgres: a server that does not know the password"),
+        ("postgres/manager", POSTGRES_BROKEN, "connection.session() == crate::answer::Session::Broken", "postgres: nobody meets what was left open"),
+        ("postgres/login", "!= proof.reply.as_str()", "== \"\"", "postgres, a scripted peer: a wrong signature: the text"),
+        ("postgres/socket", READ_BY_HALF, READ_BY_ITSELF, "postgres, a scripted peer: a row that drips: the deadline"),
+        ("postgres/connection", "self.wire.cancel(key, asking, answer).ok();", "let _ = (key, asking, answer);", "postgres: a locked table leaves the server with no more than two connections for each"),
+        ("postgres/refusal", "if letter.is_control() {", "if letter == '\\r' {", "postgres, a scripted peer: a refusal with control characters: the text"),
+        ("postgres/answer", "return Ok((None, rest));", "return Ok((Some(String::new(alloc)), rest));", "postgres, a scripted peer: an answer byte by byte: the text"),
+        ("postgres/wire", TAKE, TAKE_AT_ONCE, "postgres, a scripted peer: a length that is told takes no memory"),
     ],
     [
         ("redis/wire", "self.socket.must_be_quiet(deadline)", "{\n            let _ = deadline;\n            Ok(())\n        }", "redis, a scripted peer: an answer that comes twice, the second 0.1 s later"),
@@ -60,8 +80,21 @@ SEEN = [
         ("redis/reset", "if text.as_str().contains(password.as_str())", "if text.as_str() == password.as_str()", "redis, a scripted peer: no error has the password"),
         ("redis/socket", "io::ErrorKind::TimedOut => RedisError::Timeout {", "io::ErrorKind::NotFound => RedisError::Timeout {", "redis, a scripted peer: silence: the text"),
         ("redis/reset", "session.subscriptions || session.monitor || session.settings", "session.subscriptions || session.monitor", "redis: always: a setting is not seen by the next caller"),
-        ("postgres/answer", "refused = Some(PostgresError::Refused(wire.refusal()?))", "{}", "postgres: a refusal is an error, and no more"),
-        ("postgres/connection", "self.session = answer.session;", "self.session = Session::Idle;", "postgres: what was left open is not counted"),
+        ("postgres/wire", "if self.begin != self.end {", "if self.begin > self.end {", "postgres, a scripted peer: an answer that comes twice, the second 0.0 s later"),
+        ("postgres/connection", "self.send_reset(reset).is_ok();", "self.send_reset(reset).is_ok() && self.end_reset(Deadline::new(self.rt, self.timeouts.check)).is_ok();", "postgres, a scripted peer: a return waits for no answer"),
+        ("postgres/answer", "self.refused = Some(wire.refusal()?);", "{}", "postgres: a refusal is an error, and no more"),
+        ("postgres/answer", "self.affected = self.affected.saturating_add(count.parse().unwrap_or(0));", "self.affected = count.parse().unwrap_or(self.affected);", "postgres, a scripted peer: how many rows the statements were about"),
+        ("postgres/answer", "self.rows.len() >= limits.rows", "self.rows.len() > limits.rows", "postgres, a scripted peer: a row more: the text"),
+        ("postgres/answer", "b'S' | b'A' => self.mark = self.mark.and(Mark::Marked),", "b'S' | b'A' => {}", "postgres, a scripted peer: a setting that the server tells of: a reset"),
+        ("postgres/login", "if self.password.is_none() || self.is_lenient =>", "if self.password.is_none() || !self.is_lenient =>", "postgres, a scripted peer: a login without a proof: the text"),
+        ("postgres/login", "if text.as_str().contains(password)", "if text.as_str() == password", "postgres, a scripted peer: a refusal that repeats the password: nobody is told the password"),
+        ("postgres/mark", '"LOAD" => Mark::Lasting', '"LOAD" => Mark::Marked', "postgres: always: a library"),
+        ("postgres/scram", "const FEWEST_ROUNDS: u32 = 4096;", "const FEWEST_ROUNDS: u32 = 1;", "postgres, a scripted peer: too few rounds: the text"),
+        ("postgres/scram", "!nonce.starts_with(self.nonce.as_str()) || nonce.len() == self.nonce.len()", "nonce.len() == self.nonce.len()", "postgres, a scripted peer: a foreign nonce: the text"),
+        ("postgres/refusal", 'b"25006" | b"57P01"', 'b"57P01"', "postgres, a scripted peer: the state 25006 breaks a connection"),
+        ("postgres/wire", "self.socket.must_be_quiet(deadline)", "{\n            let _ = deadline;\n            Ok(())\n        }", "postgres, a scripted peer: an answer that comes twice, the second 0.1 s later"),
+        ("postgres/mark", '["--", "/*", "&\\""]', '["--", "--", "&\\""]', "postgres: if-marked: a lock behind a comment is not seen by the next caller"),
+        ("postgres/mark", 'b"pg_temp"', 'b"no_temp"', "postgres: if-marked: a table among the temporary ones is not seen by the next caller"),
     ],
 ]
 

@@ -1,14 +1,10 @@
-"""A scripted peer in the place of Redis: what no real server does, or not when it is asked to."""
-import contextlib
+"""A scripted peer in the place of Redis."""
 import re
 import socket
-import threading
 import time
 
-from servers import HOST
+from peer import DEADLINE, LATE, Peer, each_byte, sends, sends_forever, service_at, try_answer, try_each
 
-# The service waits for so long, and a tenth more is let pass; the rest is a busy machine's.
-DEADLINE, SLACK = 0.5, 0.45
 PONG = b"+PONG\r\n"
 # 16 MiB is the most of one answer.
 HUGE = b"$16777217\r\n"
@@ -26,65 +22,22 @@ def words_of(stream):
     return words
 
 
-class Peer:
+class RedisPeer(Peer):
     """Answers each PING, and any other request by `play(connection, words, number)`: the number is that of the connection."""
 
     def __init__(self, play, greeting=PONG):
-        self.play, self.greeting, self.count, self.asked = play, greeting, 0, []
-        self.listener = socket.create_server((HOST, 0))
-        self.port = self.listener.getsockname()[1]
-        threading.Thread(target=self.accept, daemon=True).start()
+        self.play, self.greeting = play, greeting
+        super().__init__()
 
-    def accept(self):
-        with contextlib.suppress(OSError):
-            while True:
-                connection = self.listener.accept()[0]
-                self.count += 1
-                threading.Thread(target=self.serve, args=[connection, self.count], daemon=True).start()
-
-    def serve(self, connection, number):
-        connection.setsockopt(socket.IPPROTO_TCP, socket.TCP_NODELAY, 1)
-        # So who waits for ever is told so, and the check fails.
-        connection.settimeout(6 * DEADLINE)
-        with contextlib.suppress(OSError, ValueError), connection, connection.makefile("rb") as stream:
-            while (words := words_of(stream)) is not None:
-                self.asked.append(words)
-                if words == [b"PING"]:
-                    connection.sendall(self.greeting)
-                else:
-                    self.play(connection, words, number)
-
-    def close(self):
-        self.listener.close()
+    def take(self, connection, stream, number):
+        while (words := words_of(stream)) is not None:
+            self.asked.append(words)
+            if words == [b"PING"]:
+                connection.sendall(self.greeting)
+            else:
+                self.play(connection, words, number)
 
 
-def sends(*pieces, pause=0.0):
-    """A peer that answers so, piece by piece."""
-    def play(connection, words, number):
-        for piece in pieces:
-            connection.sendall(piece)
-            time.sleep(pause)
-    return play
-
-
-def sends_forever(begin, piece, pause=0.0):
-    """For ever, to one whose deadline is long over by then."""
-    def play(connection, words, number):
-        end = time.monotonic() + 6 * DEADLINE
-        connection.sendall(begin)
-        while time.monotonic() < end:
-            connection.sendall(piece)
-            if pause:
-                time.sleep(pause)
-        connection.shutdown(socket.SHUT_RDWR)
-    return play
-
-
-def each_byte(answer):
-    return [answer[i:i + 1] for i in range(len(answer))]
-
-
-LATE = r"no answer in 500 ms from 127\.0\.0\.1:\d+"
 NESTED = b"*4\r\n:-7\r\n$3\r\na\r\n\r\n*2\r\n+word\r\n$-1\r\n-ERR no\r\n"
 NESTED_TOLD = 'List([Number(-7), Value([97, 13, 10]), List([Status("word"), Nothing]), Refused("ERR no")])'
 TOO_MUCH, NOT_UNDERSTOOD = "redis: a reply is larger than the limits allow", "redis: a reply that is not understood"
@@ -114,26 +67,15 @@ ANSWERS = [
 ]
 
 
-@contextlib.contextmanager
 def at_peer(trial, play, *words, kind="redis-never", greeting=PONG):
-    peer = Peer(play, greeting)
-    service = trial.at(peer.port, kind, *words)
-    try:
-        yield peer, service
-    finally:
-        service.end()
-        peer.close()
+    return service_at(trial, RedisPeer(play, greeting), kind, *words)
 
 
 def try_answers(trial):
     for what, play, wanted in ANSWERS:
         with at_peer(trial, play) as (_, service):
             service.ask("get")
-            begun = time.monotonic()
-            told = service.ask("run GET it")
-            lasted = time.monotonic() - begun
-            trial.check(f"{what}: the text", re.search(rf"(^|! )({wanted}) \| *$", told), told)
-            trial.check(f"{what}: the deadline", lasted < DEADLINE * 1.1 + SLACK, lasted)
+            try_answer(trial, what, service, "run GET it", wanted)
 
 
 def try_doubled(trial):
@@ -141,8 +83,10 @@ def try_doubled(trial):
     for pause in (0.0, 0.1):
         def play(connection, words, number, pause=pause):
             answer = b"$%d\r\n%s\r\n" % (len(words[1]), words[1])
-            connection.sendall(answer)
-            if words[1] == b"one":
+            is_doubled = words[1] == b"one"
+            # (without a pause both come in one piece)
+            connection.sendall(answer * 2 if is_doubled and not pause else answer)
+            if is_doubled and pause:
                 time.sleep(pause)
                 connection.sendall(answer)
         with at_peer(trial, play) as (peer, service):
@@ -217,5 +161,4 @@ def try_openings(trial):
 
 
 def try_peer(trial):
-    for attempt in (try_answers, try_doubled, try_reset_in_time, try_parts, try_demoted, try_secrets, try_openings):
-        attempt(trial)
+    try_each(trial, (try_answers, try_doubled, try_reset_in_time, try_parts, try_demoted, try_secrets, try_openings))

@@ -156,9 +156,11 @@ class Postgres(Server):
     def how(self):
         return self.user
 
+    def words_of(self, query):
+        return [self.program("psql"), "-h", HOST, "-p", str(self.port), "-U", "postgres", "-Atqc", query, "postgres"]
+
     def ask(self, query):
-        words = [self.program("psql"), "-h", HOST, "-p", str(self.port), "-U", "postgres", "-Atqc", query, "postgres"]
-        done = subprocess.run(words, stdin=subprocess.DEVNULL, capture_output=True, text=True, timeout=SECONDS)
+        done = subprocess.run(self.words_of(query), stdin=subprocess.DEVNULL, capture_output=True, text=True, timeout=SECONDS)
         if done.returncode:
             raise ValueError(done.stderr)
         return done.stdout.strip()

@@ -1,0 +1,46 @@
+//! By when a call is over, however many reads and writes it takes.
+
+ghost use Rattle.std.specs.Prelude.{◌<◌, ◌≤◌, IfOk};
+ghost use Rattle.std.specs.Duration.{as_nanos};
+
+use std::io;
+use std::time::{Duration, Instant};
+
+#[derive(Clone, Copy)]
+pub struct Deadline {
+    // When it began. With a clock that fails nothing is left.
+    begun: Option<Instant>,
+    length: Duration,
+}
+
+impl Deadline {
+    /// So long from now.
+    pub fn new(rt: HostRuntime, length: Duration) -> Deadline {
+        Deadline {
+            begun: Instant::now(&rt).ok(),
+            length,
+        }
+    }
+
+    /// What is left of it; the error is `TimedOut` once that is nothing.
+    pub fn left(&self, rt: HostRuntime) -> io::Result<Duration>
+        ensures some { IfOk result (λ left. 0 < as_nanos left) }
+        ensures within { IfOk result (λ left. as_nanos left ≤ as_nanos self.now.length) }
+    {
+        let late = io::Error::from(io::ErrorKind::TimedOut);
+        let Some(begun) = self.begun else {
+            return Err(late);
+        };
+        let left = self.length.saturating_sub(begun.elapsed(&rt)?);
+        if left.is_zero() { Err(late) } else { Ok(left) }
+    }
+
+    /// By how much it may be passed.
+    pub fn tenth(&self) -> Duration {
+        self.length / 10
+    }
+
+    pub fn millis(&self) -> u128 {
+        self.length.as_millis()
+    }
+}

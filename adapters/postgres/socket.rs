@@ -1,0 +1,192 @@
+//! The socket: what waits, and for how long.
+
+use crate::deadline::Deadline;
+use crate::error::PostgresError;
+use std::alloc::Global;
+use std::io;
+use std::io::{Read, Write};
+use std::net::{SocketAddr, TcpStream, ToSocketAddrs};
+use std::time::Duration;
+
+#[derive(Drop)]
+pub struct Socket {
+    rt: HostRuntime,
+    stream: TcpStream,
+    address: String,
+    // Which of the name's addresses it is.
+    peer: SocketAddr,
+    // How long a read and a write wait, as the system was told last.
+    read_limit: Duration,
+    write_limit: Duration,
+}
+
+impl Socket {
+    /// Connects to the first address of a name at which somebody listens. The look-up of the name
+    /// has the system's own timeout.
+    pub fn open(
+        rt: HostRuntime,
+        address: &str,
+        deadline: Deadline,
+    ) -> Result<Socket, PostgresError> {
+        match connected(rt, address, deadline) {
+            Ok((stream, peer)) => Ok(Socket {
+                rt,
+                stream,
+                address: String::from_str(rt.alloc(), address)?,
+                peer,
+                read_limit: Duration::MAX,
+                write_limit: Duration::MAX,
+            }),
+            Err(error) => Err(explained(rt.alloc(), address, deadline, error)),
+        }
+    }
+
+    /// Another one to the same server, not only to the same name.
+    pub fn beside(&self, deadline: Deadline) -> Result<Socket, PostgresError> {
+        let opened = match deadline.left(self.rt) {
+            Ok(left) => TcpStream::connect_timeout(&self.rt, &self.peer, left),
+            Err(error) => Err(error),
+        };
+        match opened {
+            Ok(stream) => Ok(Socket {
+                rt: self.rt,
+                stream,
+                address: String::from_str(self.rt.alloc(), self.address.as_str())?,
+                peer: self.peer,
+                read_limit: Duration::MAX,
+                write_limit: Duration::MAX,
+            }),
+            Err(error) => Err(self.explained(deadline, error)),
+        }
+    }
+
+    /// Sends all of it.
+    pub fn send(&mut self, bytes: &[u8], deadline: Deadline) -> Result<(), PostgresError> {
+        match self.write_by(bytes, deadline) {
+            Ok(()) => Ok(()),
+            Err(error) => Err(self.explained(deadline, error)),
+        }
+    }
+
+    /// Waits for bytes, and says how many came.
+    pub fn receive(
+        &mut self,
+        piece: &mut [u8],
+        deadline: Deadline,
+    ) -> Result<usize, PostgresError> {
+        match self.read_by(piece, deadline) {
+            Ok(count) => Ok(count),
+            Err(error) => Err(self.explained(deadline, error)),
+        }
+    }
+
+    /// Looks whether bytes came, or the end of the stream, and waits for neither.
+    pub fn must_be_quiet(&mut self, deadline: Deadline) -> Result<(), PostgresError> {
+        match self.peeked() {
+            Err(error) if error.kind() == io::ErrorKind::WouldBlock => Ok(()),
+            Err(error) => Err(self.explained(deadline, error)),
+            Ok(0) => Err(self.explained(deadline, io::Error::from(io::ErrorKind::UnexpectedEof))),
+            Ok(_) => Err(PostgresError::Unasked),
+        }
+    }
+
+    fn peeked(&mut self) -> io::Result<usize> {
+        let mut byte = [0; 1];
+        self.stream.set_nonblocking(true)?;
+        let seen = self.stream.peek(&mut byte);
+        self.stream.set_nonblocking(false)?;
+        seen
+    }
+
+    // A read waits for no longer than is left, but for a twentieth of the whole: so the system need
+    // not be told anew for each. The other twentieth of what a call may overrun is for a cancel.
+    fn read_by(&mut self, piece: &mut [u8], deadline: Deadline) -> io::Result<usize> {
+        for _ in 0..u64::MAX {
+            let left = deadline.left(self.rt)?;
+            if self.read_limit > left.saturating_add(deadline.tenth() / 2) {
+                self.stream.set_read_timeout(Some(left))?;
+                self.read_limit = left;
+            }
+            match self.stream.read(piece) {
+                Ok(0) => return Err(io::Error::from(io::ErrorKind::UnexpectedEof)),
+                Err(error) if may_go_on(&error) => self.read_limit = Duration::MAX,
+                done => return done,
+            }
+        }
+        Err(io::Error::from(io::ErrorKind::TimedOut))
+    }
+
+    fn write_by(&mut self, bytes: &[u8], deadline: Deadline) -> io::Result<()> {
+        let mut rest = bytes;
+        for _ in 0..u64::MAX {
+            if rest.is_empty() {
+                return Ok(());
+            }
+            let left = deadline.left(self.rt)?;
+            if self.write_limit > left.saturating_add(deadline.tenth() / 2) {
+                self.stream.set_write_timeout(Some(left))?;
+                self.write_limit = left;
+            }
+            match self.stream.write(rest) {
+                Ok(count) => rest = &rest[count..],
+                Err(error) if may_go_on(&error) => self.write_limit = Duration::MAX,
+                Err(error) => return Err(error),
+            }
+        }
+        Err(io::Error::from(io::ErrorKind::TimedOut))
+    }
+
+    fn explained(&self, deadline: Deadline, error: io::Error) -> PostgresError {
+        explained(self.rt.alloc(), self.address.as_str(), deadline, error)
+    }
+}
+
+fn connected(
+    rt: HostRuntime,
+    address: &str,
+    deadline: Deadline,
+) -> io::Result<(TcpStream, SocketAddr)> {
+    let mut addresses: Vec<SocketAddr> = Vec::new(rt.alloc());
+    for address in address.to_socket_addrs(&rt)? {
+        addresses.push(address)?;
+    }
+    let mut last = io::Error::from(io::ErrorKind::NotFound);
+    let mut others = u32::try_from(addresses.len()).unwrap_or(u32::MAX);
+    for address in addresses.as_slice() {
+        // What is left is shared by the addresses that are left.
+        let share = deadline.left(rt)? / others.max(1);
+        others = others.saturating_sub(1);
+        match TcpStream::connect_timeout(&rt, address, share) {
+            Ok(stream) => {
+                stream.set_nodelay(true)?;
+                return Ok((stream, *address));
+            }
+            Err(error) => last = error,
+        }
+    }
+    Err(last)
+}
+
+// Whether a read or a write may succeed when it is tried again, if there is time.
+fn may_go_on(error: &io::Error) -> bool {
+    matches!(
+        error.kind(),
+        io::ErrorKind::WouldBlock | io::ErrorKind::TimedOut | io::ErrorKind::Interrupted
+    )
+}
+
+// The error with the server's address, and what it was that took too long.
+fn explained(alloc: Global, address: &str, deadline: Deadline, error: io::Error) -> PostgresError {
+    let address = match String::from_str(alloc, address) {
+        Ok(address) => address,
+        Err(error) => return PostgresError::Memory(error),
+    };
+    match error.kind() {
+        io::ErrorKind::TimedOut => PostgresError::Timeout {
+            address,
+            millis: deadline.millis(),
+        },
+        io::ErrorKind::UnexpectedEof => PostgresError::Closed { address },
+        _ => PostgresError::Io { address, error },
+    }
+}

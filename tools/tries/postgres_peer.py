@@ -1,0 +1,361 @@
+"""A scripted peer in the place of PostgreSQL."""
+import base64
+import hashlib
+import hmac
+import re
+import socket
+import struct
+import time
+
+from peer import DEADLINE, LATE, Peer, each_byte, sends, sends_forever, service_at, try_answer, try_each
+from servers import SECONDS
+
+CANCEL, SECRET = 80877102, b"hush"
+PASSWORD = "hidden-word"
+# The service takes so much: 64 KiB, and 100 rows.
+LONG, MANY = 64 * 1024, 100
+
+
+def message(kind, body=b""):
+    return kind + struct.pack("!I", len(body) + 4) + body
+
+
+def asks(what, text=b""):
+    return message(b"R", struct.pack("!I", what) + text)
+
+
+def row(*values):
+    texts = (struct.pack("!i", -1) if it is None else struct.pack("!i", len(it)) + it for it in values)
+    return message(b"D", struct.pack("!H", len(values)) + b"".join(texts))
+
+
+def done(name):
+    return message(b"C", name + b"\0")
+
+
+def ready(how=b"I"):
+    return message(b"Z", how)
+
+
+def refusal(state, text, severity=b"ERROR"):
+    return message(b"E", b"".join(it + b"\0" for it in (b"S" + severity, b"V" + severity, b"C" + state, b"M" + text, b"")))
+
+
+NOTICE, SETTING = message(b"N", b"VNOTICE\0Mnews\0\0"), message(b"S", b"TimeZone\0UTC\0")
+BEGUN, ONE = asks(0), row(b"1") + done(b"SELECT 1") + ready()
+# The answers to what a reset asks.
+RESET = {b"DISCARD ALL": done(b"DISCARD ALL") + ready(), b"ROLLBACK": done(b"ROLLBACK") + ready()}
+
+
+def body_of(stream, length):
+    if len(length) != 4:
+        raise ValueError("the end")
+    return stream.read(struct.unpack("!I", length)[0] - 4)
+
+
+def message_of(stream):
+    """The body of the next message."""
+    return body_of(stream, stream.read(5)[1:])
+
+
+class PostgresPeer(Peer):
+    """Takes each login by `login(peer, connection, stream, number)`, and answers each query by `play(connection, query, number)`: the number is
+    that of the connection. What asks for the end of another's query is no connection of these."""
+
+    def __init__(self, play, login=None):
+        self.play, self.login, self.cancelled, self.ended = play, login, [], []
+        # (the service's checks make the rounds of a login a hundred times as long)
+        self.PATIENCE = SECONDS if login else Peer.PATIENCE
+        super().__init__()
+
+    def take(self, connection, stream, number):
+        start = body_of(stream, stream.read(4))
+        if struct.unpack("!I", start[:4])[0] == CANCEL:
+            self.count -= 1
+            # What was cancelled after its connection had ended is told from what was not.
+            self.cancelled.append((start[4:], list(self.ended)))
+            return
+        key = struct.pack("!I", number) + SECRET
+        if self.login:
+            self.login(self, connection, stream, number)
+        connection.sendall(BEGUN + SETTING + message(b"K", key) + ready())
+        try:
+            while query := message_of(stream)[:-1]:
+                self.asked.append(query)
+                self.play(connection, query, number)
+        finally:
+            self.ended.append(key)
+
+
+TOO_MUCH, NOT_UNDERSTOOD = "postgres: an answer is larger than the limits allow", "postgres: a message that is not understood"
+VALUES = row(b"a", None, b"") + done(b"SELECT 1") + ready()
+VALUES_TOLD = re.escape('[Some("a"), None, Some("")]')
+TWO = row(b"1") + done(b"SELECT 1") + row(b"2") + row(b"3") + done(b"UPDATE 2") + done(b"SET") + done(b"INSERT 0 4") + ready()
+# What is tried, what the peer does, and what the caller is told.
+ANSWERS = [
+    ("an answer byte by byte", sends(*each_byte(VALUES), pause=0.002), VALUES_TOLD),
+    ("an answer in two pieces", sends(VALUES[:3], VALUES[3:], pause=0.02), VALUES_TOLD),
+    ("two statements", sends(TWO), r'\[Some\("1"\)\] \[Some\("2"\)\] \[Some\("3"\)\]'),
+    ("what is told between", sends(NOTICE + message(b"T", b"\0\0") + row(b"1") + SETTING + NOTICE + done(b"SELECT 1") + ready()), r'\[Some\("1"\)\]'),
+    ("an empty query", sends(message(b"I") + ready()), ""),
+    ("a row of no columns", sends(row() + done(b"SELECT 1") + ready()), r"\[\]"),
+    ("as many rows as may come", sends(row(b"1") * MANY + done(b"SELECT 100") + ready()), r'(\[Some\("1"\)\] ?){100}'),
+    ("a row more", sends(row(b"1") * (MANY + 1) + done(b"SELECT 101") + ready()), TOO_MUCH),
+    ("silence", sends(), LATE),
+    ("half an answer", sends(VALUES[:-1]), LATE),
+    ("a row that drips", sends_forever(message(b"D", b"x" * 1000)[:9], b"x", 0.05), LATE),
+    ("notices that drip", sends_forever(b"", NOTICE, 0.05), LATE),
+    ("rows without an end", sends_forever(b"", row(b"1") * 64), TOO_MUCH),
+    ("notices without an end", sends_forever(b"", NOTICE * 64), TOO_MUCH),
+    ("nulls without an end", sends(row(*[None] * 3000)), TOO_MUCH),
+    ("a row that is too large", sends(message(b"D", b"x" * LONG)), TOO_MUCH),
+    ("a length of two gigabytes", sends(b"D\x7f\xff\xff\xff"), TOO_MUCH),
+    ("a length that no machine has", sends(b"D\xff\xff\xff\xff"), TOO_MUCH),
+    ("a length that is not its own", sends(b"D\0\0\0\3"), NOT_UNDERSTOOD),
+    ("a text longer than its row", sends(message(b"D", b"\0\1\0\0\0\5abcd") + ready()), NOT_UNDERSTOOD),
+    ("fewer columns than are told", sends(message(b"D", b"\0\2\0\0\0\1a") + ready()), NOT_UNDERSTOOD),
+    ("more columns than are told", sends(message(b"D", b"\0\1\0\0\0\1abc") + ready()), NOT_UNDERSTOOD),
+    ("a text that is no UTF-8", sends(row(b"\xff") + ready()), NOT_UNDERSTOOD),
+    ("a statement's end without a zero", sends(message(b"C", b"SELECT 1") + ready()), NOT_UNDERSTOOD),
+    ("a state that there is not", sends(ready(b"Q")), NOT_UNDERSTOOD),
+    ("a message that there is not", sends(message(b"?") + ready()), NOT_UNDERSTOOD),
+    ("a server that waits for data", sends(message(b"G", b"\0\0\0")), NOT_UNDERSTOOD),
+    ("another protocol", sends(b"HTTP/1.1 400 Bad Request\r\n\r\n"), f"{NOT_UNDERSTOOD}|{TOO_MUCH}"),
+    ("a refusal with control characters", sends(refusal(b"XX000", b"\x1b[31mred") + ready()), re.escape(r"postgres: \u{1b}[31mred (SQLSTATE XX000)")),
+    ("a refusal that is no text", sends(refusal(b"XX000", b"\xff") + ready()), re.escape(r"postgres: \xff (SQLSTATE XX000)")),
+]
+
+
+def at_peer(trial, play, *words, kind="postgres-never", login=None):
+    return service_at(trial, PostgresPeer(play, login), kind, *(words or ["somebody"]))
+
+
+def try_answers(trial):
+    for what, play, wanted in ANSWERS:
+        with at_peer(trial, play) as (_, service):
+            service.ask("get")
+            try_answer(trial, what, service, "run SELECT it", wanted)
+    with at_peer(trial, sends(TWO)) as (_, service):
+        told = service.ask("run # SELECT it")
+        trial.check("how many rows the statements were about", told == "7 rows |", told)
+
+
+def try_doubled(trial):
+    """An answer that comes twice is that of one query, whenever the second comes."""
+    for pause in (0.0, 0.1):
+        def play(connection, query, number, pause=pause):
+            answer = row(query) + done(b"SELECT 1") + ready()
+            is_doubled = query == b"one"
+            # (without a pause both come in one piece)
+            connection.sendall(answer * 2 if is_doubled and not pause else answer)
+            if is_doubled and pause:
+                time.sleep(pause)
+                connection.sendall(answer)
+        with at_peer(trial, play) as (_, service):
+            told = [service.ask("run one")]
+            # (it comes before the next query is sent: what comes after that, nobody can tell from its answer)
+            time.sleep(2 * pause)
+            told += [service.ask(f"run {word}") for word in ("two", "three")]
+            is_so = "one" in told[0] and not any("one" in it for it in told[1:]) and "three" in told[2]
+            trial.check(f"an answer that comes twice, the second {pause} s later", is_so, told)
+
+
+def try_reset_in_time(trial):
+    """The thread that returns a connection waits for no answer. The next caller's query does, by its own deadline."""
+    def play(connection, query, number):
+        if query in RESET:
+            if number > 1:
+                connection.sendall(RESET[query])
+        else:
+            connection.sendall(done(b"SET" if b"SET" in query else b"SELECT 0") + ready())
+    with at_peer(trial, play, kind="postgres-if-marked") as (peer, service):
+        begun = time.monotonic()
+        told = service.ask("run SET it")
+        lasted = time.monotonic() - begun
+        trial.check("a return waits for no answer", told == "|" and lasted < DEADLINE / 2, (told, lasted))
+        told = service.ask("run SELECT it")
+        trial.check("a reset that is not answered", re.search(LATE, told) and b"SELECT it" not in peer.asked, (told, peer.asked))
+        told = service.ask("run SELECT it")
+        trial.check("after it another connection is lent", told == "|" and peer.count == 2, (told, peer.count))
+    def refuses(connection, query, number):
+        connection.sendall(refusal(b"25001", b"no") + ready() if query in RESET else done(b"SET") + ready())
+    with at_peer(trial, refuses, kind="postgres-if-marked") as (peer, service):
+        service.ask("run SET it")
+        told = [service.ask("run SET it") for _ in range(2)]
+        trial.check("a reset that is refused", "SQLSTATE 25001" in told[0] and told[1] == "|" and peer.count == 2, (told, peer.asked))
+
+
+# A query, the name of its statement, and whether it is taken for one that leaves nothing.
+MARKS = [
+    ("SELECT n, count(*) FROM t WHERE (n > 1) AND n IN (1, 2) GROUP BY n", b"SELECT 1", True),
+    ("UPDATE t SET n = coalesce(n, 0) + 1 WHERE id = 3 RETURNING n", b"UPDATE 1", True),
+    ("DELETE FROM t", b"DELETE 3", True),
+    ("SELECT mine(1)", b"SELECT 1", False),
+    ("SELECT count (*), mine (1)", b"SELECT 1", False),
+    ("SELECT evil.count(1)", b"SELECT 1", False),
+    ("SELECT evil . count (1)", b"SELECT 1", False),
+    ('SELECT "count" (1)', b"SELECT 1", False),
+    ("SELECT 1 INTO pg_temp_3.t", b"SELECT 1", False),
+    ("UPDATE t SET id = DEFAULT", b"UPDATE 1", False),
+    ("INSERT INTO t VALUES (1)", b"INSERT 0 1", False),
+    ("SELECT 1", b"SET", False),
+]
+
+
+def try_marks(trial):
+    """What is known to leave nothing is not reset; anything else is."""
+    for query, name, is_plain in MARKS:
+        answers = {**RESET, query.encode(): done(name) + ready()}
+        def play(connection, asked, number, answers=answers):
+            connection.sendall(answers.get(asked, ONE))
+        with at_peer(trial, play, kind="postgres-if-marked") as (peer, service):
+            service.ask(f"run {query}")
+            service.ask("run SELECT 2")
+            is_so = peer.asked == [query.encode(), *([] if is_plain else [b"DISCARD ALL"]), b"SELECT 2"]
+            trial.check(f"{query}, {name.decode()}: {'no' if is_plain else 'a'} reset", is_so, peer.asked)
+    for what, told in (("a setting that the server tells of", SETTING), ("a message to who listens", message(b"A", b"\0\0\0\1news\0\0")), ("a refusal", refusal(b"22012", b"no"))):
+        def tells(connection, asked, number, told=told):
+            connection.sendall(RESET.get(asked, told + ONE if asked == b"SELECT 1" else ONE))
+        with at_peer(trial, tells, kind="postgres-if-marked") as (peer, service):
+            service.ask("run SELECT 1")
+            service.ask("run SELECT 2")
+            trial.check(f"{what}: a reset", peer.asked == [b"SELECT 1", b"DISCARD ALL", b"SELECT 2"], peer.asked)
+
+
+# A state, the severity, and whether the connection is left.
+STATES = [(b"25006", b"ERROR", True), (b"57P01", b"ERROR", True), (b"57P02", b"ERROR", True), (b"57P03", b"ERROR", True), (b"08006", b"ERROR", True),
+          (b"08P01", b"ERROR", True), (b"57P05", b"FATAL", True), (b"23505", b"ERROR", False), (b"57014", b"ERROR", False), (b"42501", b"ERROR", False)]
+
+
+def try_states(trial):
+    """The state decides what a refusal breaks, and not the text."""
+    for state, severity, is_left in STATES:
+        def play(connection, query, number, state=state, severity=severity):
+            text = b"no" if is_left else b"FATAL 57P01: terminating connection, read-only"
+            connection.sendall(refusal(state, text, severity) + ready() if number == 1 else ONE)
+        with at_peer(trial, play) as (peer, service):
+            told = service.ask("run SELECT 1")
+            service.ask("run SELECT 1")
+            is_so = f"(SQLSTATE {state.decode()})" in told and peer.count == (2 if is_left else 1)
+            trial.check(f"the state {state.decode()} {'breaks' if is_left else 'does not break'} a connection", is_so, (told, peer.count))
+
+
+def try_cancel(trial):
+    """A query that takes too long is cancelled, by the key of its connection, before that ends."""
+    # (a cancel has a twentieth of what the query has, which on a busy machine is little where that is half a second)
+    with at_peer(trial, sends(), kind="calm-never", login=takes) as (peer, service):
+        service.ask("run SELECT 1")
+        keys = [key for key, _ in peer.cancelled]
+        trial.check("a late query is cancelled", keys == [b"\0\0\0\1" + SECRET], peer.cancelled)
+        trial.check("it is cancelled before its connection ends", not any(ended for _, ended in peer.cancelled), peer.cancelled)
+    with at_peer(trial, sends(ONE)) as (peer, service):
+        service.ask("run SELECT 1")
+        trial.check("an answered query is not cancelled", not peer.cancelled, peer.cancelled)
+
+
+def try_memory(trial):
+    """A length that is told takes no memory: what comes does."""
+    with at_peer(trial, sends(message(b"D", b"x" * 15_000_000)[:9]), kind="postgres-eight") as (_, service):
+        def taken():
+            with open(f"/proc/{service.process.pid}/statm") as it:
+                return int(it.read().split()[1]) * 4096
+        service.ask("go 1")
+        time.sleep(0.1)
+        before = taken()
+        time.sleep(0.5)
+        trial.check("a length that is told takes no memory", taken() - before < 4_000_000, (before, taken()))
+
+
+def scram(nonce_of=lambda nonce: nonce + b"more", rounds=4096, sign=True, ends=True):
+    """A login by SCRAM of a server that knows the password. One that fails is asked for once: the rounds take long."""
+    def login(peer, connection, stream, number):
+        if number > 1 and not (sign and ends):
+            stream.read(1)
+        connection.sendall(asks(10, b"SCRAM-SHA-256\0\0"))
+        bare = message_of(stream).partition(b"n,,")[2]
+        nonce = bare.partition(b"r=")[2]
+        peer.asked.append(nonce)
+        first = b"r=%s,s=%s,i=%d" % (nonce_of(nonce), base64.b64encode(b"salt"), rounds)
+        connection.sendall(asks(11, first))
+        last = message_of(stream).rpartition(b",p=")[0]
+        salted = hashlib.pbkdf2_hmac("sha256", PASSWORD.encode(), b"salt", rounds)
+        key = hmac.digest(salted, b"Server Key" if sign else b"Other Key", "sha256")
+        signed = base64.b64encode(hmac.digest(key, b",".join((bare, first, last)), "sha256"))
+        if ends:
+            connection.sendall(asks(12, b"v=" + signed))
+    return login
+
+
+def says(*messages):
+    """A login in which the server says this, and waits."""
+    def login(peer, connection, stream, number):
+        for it in messages:
+            connection.sendall(it)
+        stream.read(1)
+    return login
+
+
+def takes(peer, connection, stream, number):
+    """A login that is taken at once, by a peer that has patience."""
+
+
+def drips(peer, connection, stream, number):
+    sends_forever(b"", NOTICE, 0.05)(connection, b"", 0)
+
+
+def floods(peer, connection, stream, number):
+    sends_forever(b"", NOTICE * 64)(connection, b"", 0)
+
+
+NO_PROOF, FOREIGN = "postgres: the server asked for no proof of the password", "postgres: the server's nonce does not go on from this login's"
+ROUNDS = "postgres: the server asks for fewer rounds than 4096, or more than 1000000"
+# What is tried, how the server takes the login, and what the caller is told.
+LOGINS = [
+    ("a login without a proof", None, NO_PROOF),
+    ("a wrong signature", scram(sign=False), "postgres: the server does not know the password itself"),
+    ("no signature", scram(ends=False), NOT_UNDERSTOOD),
+    ("a foreign nonce", scram(lambda nonce: b"A" + nonce[1:] + b"more"), FOREIGN),
+    ("a nonce that does not go on", scram(lambda nonce: nonce), FOREIGN),
+    ("too few rounds", scram(rounds=4095), ROUNDS),
+    ("too many rounds", scram(rounds=1_000_001), ROUNDS),
+    ("rounds that take too long", scram(rounds=1_000_000), "postgres: the rounds of the login take too long"),
+    ("a server that is ready at once", says(ready()), NOT_UNDERSTOOD),
+    ("a password that is to be sent", says(asks(3)), "postgres: the server asks for a kind of login that this client has not"),
+    ("a login that is not answered", says(), LATE),
+    ("a login that drips", drips, LATE),
+    ("a login without an end", floods, TOO_MUCH),
+    ("a refusal that repeats the password", says(refusal(b"28P01", b"no: " + PASSWORD.encode(), b"FATAL")), "postgres: the login was refused"),
+]
+
+
+def try_logins(trial):
+    for what, login, wanted in LOGINS:
+        kind = "postgres-salted" if "signature" in what else "postgres-never"
+        with at_peer(trial, sends(ONE), "somebody", PASSWORD, kind=kind, login=login) as (_, service):
+            # (what the opening failed with is told once the `get` has waited for three seconds)
+            told = service.ask("get")
+            trial.check(f"{what}: the text", re.search(wanted, told), told)
+            trial.check_each_time(f"{what}: nobody is told the password", PASSWORD not in told + "".join(service.said), (told, service.said))
+    with at_peer(trial, sends(ONE), "somebody", PASSWORD, kind="postgres-lenient") as (_, service):
+        told = service.ask("get")
+        trial.check("a login without a proof, where that is allowed", told == "lent", told)
+    with at_peer(trial, sends(ONE), "somebody", PASSWORD, kind="postgres", login=scram()) as (peer, service):
+        told = [service.ask("get"), service.ask("evict"), service.ask("get")]
+        is_so = told[0] == told[2] == "lent" and len(set(peer.asked) - {b"SELECT 1"}) >= 2
+        trial.check("a login with a proof, each with a nonce of its own", is_so, (told, peer.asked))
+
+
+def try_ends(trial):
+    """Who goes away, and what is no query."""
+    with at_peer(trial, lambda connection, query, number: connection.shutdown(socket.SHUT_RDWR)) as (_, service):
+        service.ask("get")
+        told = service.ask("run SELECT 1")
+        trial.check("a connection that is closed", re.search(r"! 127\.0\.0\.1:\d+ closed the connection", told), told)
+    with at_peer(trial, sends(ONE)) as (peer, service):
+        told = service.ask("run SELECT 1;; SELECT \0;; SELECT 1")
+        wanted = '[Some("1")] | ! postgres: a query has a zero byte in it | [Some("1")] |'
+        trial.check("a query with a zero byte", told == wanted and len(peer.asked) == 2 and peer.count == 1, (told, peer.asked))
+
+
+def try_peer(trial):
+    try_each(trial, (try_answers, try_doubled, try_reset_in_time, try_marks, try_states, try_cancel, try_memory, try_logins, try_ends))
