@@ -1,53 +1,13 @@
 //! A first program with a pool for tasks, on tokio's runtime.
 #![tactic(auto)]
 
-use futures::future::{Pending, Ready, pending};
-use futures::task::{Context, Poll};
-use futures::{Future, FutureExt, future, ready};
-use r2d2_async::{Builder, ManageConnection, Pool, Timer};
+use futures::future::Ready;
+use futures::{FutureExt, future};
+use r2d2_async::{Builder, ManageConnection, Pool};
 use std::alloc::AllocError;
 use std::io;
-use std::time::{Clock, Duration};
 use tokio::runtime::LocalRuntime;
-use tokio::time;
-
-/// The timer of tokio's runtime.
-#[derive(Drop)]
-struct TokioTimer<R> {
-    time: time::Handle,
-    rt: R,
-}
-
-impl<R: Clock + Drop> Timer for TokioTimer<R> {
-    type Sleep = TokioSleep;
-
-    fn sleep(&self, length: Duration) -> TokioSleep {
-        TokioSleep {
-            sleep: self.time.sleep(&self.rt, length).ok(),
-            never: pending(),
-        }
-    }
-}
-
-/// A sleep, which never ends without memory, without a clock, or once the runtime is gone.
-#[derive(Drop)]
-struct TokioSleep {
-    sleep: Option<time::Sleep>,
-    never: Pending<()>,
-}
-
-impl Future for TokioSleep {
-    type Output = ();
-
-    fn poll(&mut self, cx: &mut Context<'_>) -> Poll<()> {
-        if let Some(sleep) = &mut self.sleep {
-            if ready!(sleep.poll(cx)).is_ok() {
-                return Poll::Ready(());
-            }
-        }
-        self.never.poll(cx)
-    }
-}
+use tokio_timer::TokioTimer;
 
 /// Opens connections that are numbers.
 #[derive(Drop)]
@@ -79,10 +39,7 @@ impl ManageConnection for Numbers {
 
 fn main(rt: HostRuntime) -> Result<(), anyhow::Error> {
     let mut runtime = LocalRuntime::new(&rt)?;
-    let timer = TokioTimer {
-        time: runtime.handle().time().clone()?,
-        rt,
-    };
+    let timer = TokioTimer::new(rt, runtime.handle())?;
     let pool = Pool::build(Builder::new().max_size(4), rt, Numbers, timer)?;
     let workers = runtime.task_set(&rt)?;
     workers.spawn(pool.worker()?).map_err(io::Error::from)?;

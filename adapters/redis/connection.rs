@@ -5,19 +5,13 @@ ghost use Rattle.redis_codec.specs.Sessions.{plain};
 
 use crate::deadline::Deadline;
 use crate::error::RedisError;
-use crate::reply::{Reply, escaped};
-use crate::reset::{Login, Reset, is_lasting, is_left_open};
+use crate::greeting::Greeting;
+use crate::reply::Reply;
+use crate::reset::{Login, Reset};
+use crate::settings::{Settings, Timeouts};
+use crate::standing::Standing;
 use crate::wire::Wire;
-use redis_codec::{Item, Limits, Session};
-use std::time::Duration;
-
-/// How long a call may take, from its beginning to its end.
-#[derive(Clone, Copy)]
-pub struct Timeouts {
-    pub connect: Duration,
-    pub check: Duration,
-    pub command: Duration,
-}
+use redis_codec::{Item, Session};
 
 /// A connection to Redis.
 #[derive(Drop)]
@@ -25,41 +19,32 @@ pub struct RedisConnection {
     rt: HostRuntime,
     wire: Wire,
     timeouts: Timeouts,
-    is_broken: bool,
-    // Whether the server has RESET.
-    has_reset: bool,
-    // How many answers to a reset were not read yet.
-    resetting: usize,
+    standing: Standing,
 }
 
 impl RedisConnection {
     /// Connects to a server, and logs in.
     pub(crate) fn open(
         rt: HostRuntime,
-        address: &str,
-        login: &Login,
-        reset: Reset,
-        timeouts: Timeouts,
-        limits: Limits,
+        settings: &Settings,
     ) -> Result<RedisConnection, RedisError> {
-        let deadline = Deadline::new(rt, timeouts.connect);
+        let deadline = Deadline::new(rt, settings.timeouts.connect);
+        let address = settings.address.as_str();
         let mut connection = RedisConnection {
             rt,
-            wire: Wire::open(rt, address, limits, deadline)?,
-            timeouts,
-            is_broken: false,
-            has_reset: false,
-            resetting: 0,
+            wire: Wire::open(rt, address, settings.limits, deadline)?,
+            timeouts: settings.timeouts,
+            standing: Standing::new(),
         };
-        connection.begin(login, reset, deadline)?;
+        connection.begin(&settings.login, settings.reset, deadline)?;
         Ok(connection)
     }
 
     /// Whether a command has not had its reply, and never will.
     pub fn is_broken(&self) -> bool
-        ensures { result ≡ self.now.is_broken }
+        ensures { result ≡ self.now.standing.is_broken }
     {
-        self.is_broken
+        self.standing.is_broken
     }
 
     /// How what was sent so far has left the session at the server. A reset that is not over yet
@@ -72,8 +57,9 @@ impl RedisConnection {
 
     /// Sends a command, as `&["INCR", "visits"]`, and reads its reply.
     pub fn command(&mut self, words: &[&str]) -> Result<Reply, RedisError>
-        ensures ok { IsOk result → IsFalse self.new.is_broken }
-        ensures stays { IsTrue self.old.is_broken → IsErr result × IsTrue self.new.is_broken }
+        ensures ok { IsOk result → IsFalse self.new.standing.is_broken }
+        ensures stays { IsTrue self.old.standing.is_broken →
+            IsErr result × IsTrue self.new.standing.is_broken }
     {
         let mut bytes: Vec<&[u8]> = Vec::new(self.rt.alloc());
         for word in words {
@@ -84,54 +70,22 @@ impl RedisConnection {
 
     /// The same with words of any bytes, as `&[b"SET", key, value]`.
     pub fn call(&mut self, words: &[&[u8]]) -> Result<Reply, RedisError>
-        ensures ok { IsOk result → IsFalse self.new.is_broken }
-        ensures stays { IsTrue self.old.is_broken → IsErr result × IsTrue self.new.is_broken }
+        ensures ok { IsOk result → IsFalse self.new.standing.is_broken }
+        ensures stays { IsTrue self.old.standing.is_broken →
+            IsErr result × IsTrue self.new.standing.is_broken }
     {
         let deadline = Deadline::new(self.rt, self.timeouts.command);
         let items = self.quiet_exchange(words, deadline)?;
-        self.replied(items)
+        self.standing.replied(self.rt.alloc(), items)
     }
 
     /// Asks for a reply that has no other use.
     pub fn ping(&mut self) -> Result<(), RedisError>
-        ensures ok { IsOk result → IsFalse self.new.is_broken }
+        ensures ok { IsOk result → IsFalse self.new.standing.is_broken }
     {
         let deadline = Deadline::new(self.rt, self.timeouts.check);
         let items = self.quiet_exchange(&[b"PING"], deadline)?;
-        self.is_pong(items)
-    }
-
-    fn is_pong(&mut self, items: Vec<Item>) -> Result<(), RedisError>
-        ensures ok { IsOk result → self.new.is_broken ≡ self.old.is_broken }
-        ensures ok_sound { IsFalse self.old.is_broken → IsOk result → IsFalse self.new.is_broken }
-    {
-        match self.replied(items)?.as_text() {
-            Some("PONG") => Ok(()),
-            _ => {
-                self.is_broken = true;
-                Err(RedisError::Protocol)
-            }
-        }
-    }
-
-    // The reply of these items. A server that may not write any more is none to stay at.
-    fn replied(&mut self, items: Vec<Item>) -> Result<Reply, RedisError>
-        ensures broken { IsTrue self.old.is_broken → IsTrue self.new.is_broken }
-        ensures ok { IsOk result → self.new.is_broken ≡ self.old.is_broken }
-    {
-        if let [Item::Refusal(text), ..] = items.as_slice() {
-            if text.starts_with(b"READONLY") {
-                self.is_broken = true;
-            }
-            return Err(RedisError::Refused(escaped(self.rt.alloc(), text.as_slice())?));
-        }
-        match Reply::of(self.rt.alloc(), items) {
-            Ok(reply) => Ok(reply),
-            Err(error) => {
-                self.is_broken = true;
-                Err(error)
-            }
-        }
+        self.standing.is_pong(self.rt.alloc(), items)
     }
 
     // An exchange with a server that has said nothing since it answered last.
@@ -140,15 +94,15 @@ impl RedisConnection {
         words: &[&[u8]],
         deadline: Deadline,
     ) -> Result<Vec<Item>, RedisError>
-        ensures broken { IsErr result ↔ IsTrue self.new.is_broken }
-        ensures stays { IsTrue self.old.is_broken → IsErr result }
+        ensures broken { IsErr result ↔ IsTrue self.new.standing.is_broken }
+        ensures stays { IsTrue self.old.standing.is_broken → IsErr result }
     {
-        if self.is_broken {
+        if self.standing.is_broken {
             return Err(RedisError::Broken);
         }
-        self.is_broken = true;
-        self.wire.end_reset(self.resetting, deadline)?;
-        self.resetting = 0;
+        self.standing.is_broken = true;
+        self.wire.end_reset(self.standing.resetting, deadline)?;
+        self.standing.resetting = 0;
         self.wire.must_be_quiet(deadline)?;
         self.exchange(words, deadline)
     }
@@ -156,100 +110,72 @@ impl RedisConnection {
     // It is broken from before the command is sent until its answer is there, so each `?` leaves it
     // broken: an answer that comes late would be taken for that of the next command.
     fn exchange(&mut self, words: &[&[u8]], deadline: Deadline) -> Result<Vec<Item>, RedisError>
-        ensures broken { IsErr result ↔ IsTrue self.new.is_broken }
-        ensures resetting { self.new.resetting ≡ self.old.resetting }
+        ensures broken { IsErr result ↔ IsTrue self.new.standing.is_broken }
+        ensures resetting { self.new.standing.resetting ≡ self.old.standing.resetting }
     {
-        self.is_broken = true;
+        self.standing.is_broken = true;
         self.wire.ask(words, deadline)?;
         let items = self.wire.receive(deadline)?;
-        self.is_broken = false;
+        self.standing.is_broken = false;
         Ok(items)
     }
 
-    // A server that is full or stopped, or a proxy before it, may accept and never answer: so an
-    // answer is waited for. What is said here is how each session begins.
     fn begin(&mut self, login: &Login, reset: Reset, deadline: Deadline) -> Result<(), RedisError> {
-        if reset != Reset::Never {
-            self.find_reset(deadline)?;
-        }
-        let mut requests = Vec::new(self.rt.alloc());
-        let count = login.ask(self.rt.alloc(), &mut self.wire.talk, &mut requests)?;
+        let alloc = self.rt.alloc();
+        let mut requests = Vec::new(alloc);
+        let mut greeting = Greeting::ask(alloc, login, reset, &mut self.wire.talk, &mut requests)?;
         self.wire.send(requests.as_slice(), deadline)?;
-        for _ in 0..count {
-            let items = self.wire.receive(deadline)?;
-            login.must_be_taken(self.rt.alloc(), items)?;
-        }
-        let items = self.exchange(&[b"PING"], deadline)?;
-        self.is_pong(items)?;
-        self.wire.talk.begin();
-        Ok(())
-    }
-
-    // Whether the server has RESET, as those since 6.2 have.
-    fn find_reset(&mut self, deadline: Deadline) -> Result<(), RedisError> {
-        let items = self.exchange(&[b"RESET"], deadline)?;
-        self.has_reset = match items.as_slice() {
-            [Item::Word(text)] => text.as_slice() == b"RESET".as_slice(),
-            // The user at first may have no leave for it.
-            [Item::Refusal(text)] if text.starts_with(b"NOPERM") => false,
-            [Item::Refusal(text)] if !text.starts_with(b"ERR unknown command") => {
-                return Err(RedisError::Refused(escaped(self.rt.alloc(), text.as_slice())?));
+        for _ in 0..u64::MAX {
+            if greeting.is_over() {
+                break;
             }
-            _ => false,
-        };
+            let items = self.wire.receive(deadline)?;
+            greeting.answered(alloc, login, &mut self.standing, items)?;
+        }
+        // What was said here is how each session begins.
+        self.wire.talk.begin();
         Ok(())
     }
 
     /// Comes back from a caller. Whether it may be lent on: to a caller who finds the session as it
     /// began, or as the mode says. It waits for no answer.
     pub(crate) fn come_back(&mut self, reset: Reset, login: &Login) -> bool
-        ensures broken { IsTrue self.old.is_broken → IsFalse result }
-        ensures never { IsTrue result → self.old.resetting ≡ 0 → reset ≡ Reset.Never →
+        ensures broken { IsTrue self.old.standing.is_broken → IsFalse result }
+        ensures never { IsTrue result → self.old.standing.resetting ≡ 0 → reset ≡ Reset.Never →
             IsFalse self.old.wire.talk.session.transaction
             × IsFalse self.old.wire.talk.session.watch
             × IsFalse self.old.wire.talk.session.subscriptions
             × IsFalse self.old.wire.talk.session.monitor }
         ensures marked { IsTrue result → reset ≡ Reset.IfMarked →
-            (self.new.wire.talk.session ≡ plain) ⊎ (0 < self.new.resetting) }
-        ensures always { IsTrue result → reset ≡ Reset.Always → 0 < self.new.resetting }
+            (self.new.wire.talk.session ≡ plain) ⊎ (0 < self.new.standing.resetting) }
+        ensures always { IsTrue result → reset ≡ Reset.Always → 0 < self.new.standing.resetting }
     {
-        if self.is_broken {
-            return false;
-        }
-        // Nothing was said since the last reset was sent.
-        if self.resetting > 0 {
-            return true;
-        }
-        let session = self.wire.talk.session();
-        let deadline = Deadline::new(self.rt, self.timeouts.check);
-        let is_kept = self.wire.must_be_quiet(deadline).is_ok()
-            && match reset {
-                Reset::Never => !is_left_open(session),
-                Reset::IfMarked if session == Session::PLAIN => true,
-                Reset::IfMarked | Reset::Always => self.send_reset(session, login).is_ok(),
-            };
-        self.is_broken = !is_kept;
+        let is_kept = self.end_session(reset, login).is_ok();
+        self.standing.is_broken = !is_kept;
         is_kept
     }
 
-    fn send_reset(&mut self, session: Session, login: &Login) -> Result<(), RedisError>
-        ensures ok { IsOk result → 0 < self.new.resetting }
+    fn end_session(&mut self, reset: Reset, login: &Login) -> Result<(), RedisError>
+        ensures broken { IsTrue self.old.standing.is_broken → IsErr result }
+        ensures never { IsOk result → self.old.standing.resetting ≡ 0 → reset ≡ Reset.Never →
+            IsFalse self.old.wire.talk.session.transaction
+            × IsFalse self.old.wire.talk.session.watch
+            × IsFalse self.old.wire.talk.session.subscriptions
+            × IsFalse self.old.wire.talk.session.monitor }
+        ensures marked { IsOk result → reset ≡ Reset.IfMarked →
+            (self.new.wire.talk.session ≡ plain) ⊎ (0 < self.new.standing.resetting) }
+        ensures always { IsOk result → reset ≡ Reset.Always → 0 < self.new.standing.resetting }
     {
-        if is_lasting(session) {
-            return Err(RedisError::Reset);
-        }
         let deadline = Deadline::new(self.rt, self.timeouts.check);
-        let mut requests = Vec::new(self.rt.alloc());
-        let count = if self.has_reset {
-            login.ask_anew(self.rt.alloc(), &mut self.wire.talk, &mut requests)?
-        } else {
-            login.ask_in_parts(self.rt.alloc(), session, &mut self.wire.talk, &mut requests)?
-        };
-        if count == 0 {
-            return Err(RedisError::Reset);
+        // (What comes of a reset is read by the next command.)
+        if self.standing.resetting == 0 {
+            self.wire.must_be_quiet(deadline)?;
         }
-        self.wire.send(requests.as_slice(), deadline)?;
-        self.resetting = count;
-        Ok(())
+        let (alloc, talk) = (self.rt.alloc(), &mut self.wire.talk);
+        let requests = self.standing.come_back(alloc, talk, reset, login)?;
+        if requests.is_empty() {
+            return Ok(());
+        }
+        self.wire.send(requests.as_slice(), deadline)
     }
 }

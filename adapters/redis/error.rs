@@ -1,7 +1,8 @@
 //! What fails.
 
+use crate::deadline::Deadline;
 use redis_codec::{CodecError, Fault};
-use std::alloc::AllocError;
+use std::alloc::{AllocError, Global};
 use std::io;
 use thiserror::Error;
 
@@ -43,6 +44,29 @@ impl From<CodecError> for RedisError {
             CodecError::Fault(Fault::Malformed) => RedisError::Protocol,
             CodecError::Fault(Fault::TooMuch) => RedisError::TooMuch,
             CodecError::Unasked => RedisError::Unasked,
+        }
+    }
+}
+
+impl RedisError {
+    /// An error of the socket, with the server's address, and what it was that took too long.
+    pub fn of_socket(
+        alloc: Global,
+        address: &str,
+        deadline: Deadline,
+        error: io::Error,
+    ) -> RedisError {
+        let address = match String::from_str(alloc, address) {
+            Ok(address) => address,
+            Err(error) => return RedisError::Memory(error),
+        };
+        match error.kind() {
+            io::ErrorKind::TimedOut => RedisError::Timeout {
+                address,
+                millis: deadline.millis(),
+            },
+            io::ErrorKind::UnexpectedEof => RedisError::Closed { address },
+            _ => RedisError::Io { address, error },
         }
     }
 }

@@ -4,15 +4,22 @@
 mod connection;
 mod deadline;
 mod error;
+mod greeting;
 mod manager;
 mod reply;
 mod reset;
+mod settings;
 mod socket;
+mod standing;
 mod wire;
 
 pub use connection::RedisConnection;
+pub use deadline::Deadline;
 pub use error::RedisError;
+pub use greeting::Greeting;
 pub use manager::RedisConnectionManager;
 pub use redis_codec::{Limits, Session};
 pub use reply::Reply;
-pub use reset::Reset;
+pub use reset::{Login, Reset};
+pub use settings::{Settings, Timeouts};
+pub use standing::{Standing, must_be_a_word};

@@ -4,9 +4,10 @@ ghost use Rattle.std.specs.Prelude.{◌≡◌, ◌<◌, ◌⊎◌, IsFalse, IsTr
 ghost use Rattle.std.specs.Duration.{as_nanos};
 ghost use Rattle.redis_codec.specs.Sessions.{plain};
 
-use crate::connection::{RedisConnection, Timeouts};
+use crate::connection::RedisConnection;
 use crate::error::RedisError;
 use crate::reset::{Login, Reset};
+use crate::settings::{Settings, Timeouts};
 use r2d2::ManageConnection;
 use redis_codec::Limits;
 use std::alloc::AllocError;
@@ -17,11 +18,7 @@ use std::time::Duration;
 pub struct RedisConnectionManager {
     // Not a parameter: the threads of a pool must know that what they call returns.
     rt: HostRuntime,
-    address: String,
-    login: Login,
-    reset: Reset,
-    timeouts: Timeouts,
-    limits: Limits,
+    settings: Settings,
 }
 
 impl RedisConnectionManager {
@@ -32,8 +29,7 @@ impl RedisConnectionManager {
     pub fn new(rt: HostRuntime, address: &str, timeout: Duration) -> Result<Self, AllocError>
         requires { 0 < as_nanos timeout }
     {
-        Ok(RedisConnectionManager {
-            rt,
+        let settings = Settings {
             address: String::from_str(rt.alloc(), address)?,
             login: Login {
                 user: None,
@@ -51,47 +47,55 @@ impl RedisConnectionManager {
                 parts: 1024 * 1024,
                 depth: 32,
             },
-        })
+        };
+        Ok(RedisConnectionManager { rt, settings })
     }
 
     /// Each connection begins with `AUTH password`.
     pub fn with_password(mut self, password: &str) -> Result<Self, AllocError> {
-        self.login.password = Some(String::from_str(self.rt.alloc(), password)?);
+        self.settings.login.password = Some(String::from_str(self.rt.alloc(), password)?);
         Ok(self)
     }
 
     /// The user of an access control list, with the password.
     pub fn with_user(mut self, user: &str, password: &str) -> Result<Self, AllocError> {
-        self.login.user = Some(String::from_str(self.rt.alloc(), user)?);
+        self.settings.login.user = Some(String::from_str(self.rt.alloc(), user)?);
         self.with_password(password)
     }
 
     /// Each session begins at this database.
     pub fn with_database(mut self, database: u32) -> Self {
-        self.login.database = database;
+        self.settings.login.database = database;
         self
     }
 
     /// When a connection that comes back is reset: where its session differs from how it began,
     /// until another mode is set.
-    pub fn with_reset(self, reset: Reset) -> Self {
-        RedisConnectionManager { reset, ..self }
+    pub fn with_reset(mut self, reset: Reset) -> Self {
+        self.settings.reset = reset;
+        self
     }
 
     /// How long an opening, a check and a command may take.
-    pub fn with_timeouts(self, connect: Duration, check: Duration, command: Duration) -> Self {
-        let timeouts = Timeouts {
+    pub fn with_timeouts(mut self, connect: Duration, check: Duration, command: Duration) -> Self {
+        self.settings.timeouts = Timeouts {
             connect,
             check,
             command,
         };
-        RedisConnectionManager { timeouts, ..self }
+        self
     }
 
     /// How much one answer may take: 16 MiB in texts and values, 1,048,576 parts, and 32 lists
     /// within one another, until another limit is set.
-    pub fn with_limits(self, limits: Limits) -> Self {
-        RedisConnectionManager { limits, ..self }
+    pub fn with_limits(mut self, limits: Limits) -> Self {
+        self.settings.limits = limits;
+        self
+    }
+
+    /// What was set, for a manager of connections that wait in another way, and the runtime.
+    pub fn into_settings(self) -> (HostRuntime, Settings) {
+        (self.rt, self.settings)
     }
 }
 
@@ -103,15 +107,7 @@ impl ManageConnection for RedisConnectionManager {
     type Extension = ();
 
     fn connect(&self) -> Result<RedisConnection, RedisError> {
-        let address = self.address.as_str();
-        RedisConnection::open(
-            self.rt,
-            address,
-            &self.login,
-            self.reset,
-            self.timeouts,
-            self.limits,
-        )
+        RedisConnection::open(self.rt, &self.settings)
     }
 
     fn is_valid(&self, connection: &mut RedisConnection) -> Result<(), RedisError> {
@@ -121,12 +117,12 @@ impl ManageConnection for RedisConnectionManager {
     /// A connection is closed, and not lent on, that is broken, that the server said something on
     /// unasked, or whose session can't be brought back as the mode says.
     fn has_broken(&self, connection: &mut RedisConnection) -> bool
-        ensures broken { IsTrue connection.old.is_broken → IsTrue result }
-        ensures marked { IsFalse result → self.now.reset ≡ Reset.IfMarked →
-            (connection.new.wire.talk.session ≡ plain) ⊎ (0 < connection.new.resetting) }
-        ensures always { IsFalse result → self.now.reset ≡ Reset.Always →
-            0 < connection.new.resetting }
+        ensures broken { IsTrue connection.old.standing.is_broken → IsTrue result }
+        ensures marked { IsFalse result → self.now.settings.reset ≡ Reset.IfMarked →
+            (connection.new.wire.talk.session ≡ plain) ⊎ (0 < connection.new.standing.resetting) }
+        ensures always { IsFalse result → self.now.settings.reset ≡ Reset.Always →
+            0 < connection.new.standing.resetting }
     {
-        !connection.come_back(self.reset, &self.login)
+        !connection.come_back(self.settings.reset, &self.settings.login)
     }
 }

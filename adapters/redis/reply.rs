@@ -50,9 +50,9 @@ impl Reply {
         None
     }
 
-    // The reply of these parts. The last part is taken first, so that the replies of a list are
-    // there before the list.
-    pub(crate) fn of(alloc: Global, items: Vec<Item>) -> Result<Reply, RedisError> {
+    /// The reply of these parts.
+    pub fn of(alloc: Global, items: Vec<Item>) -> Result<Reply, RedisError> {
+        // The last part is taken first, so that the replies of a list are there before the list.
         let mut items = items;
         items.reverse();
         let mut replies = Vec::new(alloc);

@@ -2,7 +2,6 @@
 
 use crate::deadline::Deadline;
 use crate::error::RedisError;
-use std::alloc::Global;
 use std::io;
 use std::io::{Read, Write};
 use std::net::{SocketAddr, TcpStream, ToSocketAddrs};
@@ -30,7 +29,7 @@ impl Socket {
                 read_limit: Duration::MAX,
                 write_limit: Duration::MAX,
             }),
-            Err(error) => Err(explained(rt.alloc(), address, deadline, error)),
+            Err(error) => Err(RedisError::of_socket(rt.alloc(), address, deadline, error)),
         }
     }
 
@@ -107,7 +106,7 @@ impl Socket {
     }
 
     fn explained(&self, deadline: Deadline, error: io::Error) -> RedisError {
-        explained(self.rt.alloc(), self.address.as_str(), deadline, error)
+        RedisError::of_socket(self.rt.alloc(), self.address.as_str(), deadline, error)
     }
 }
 
@@ -139,20 +138,4 @@ fn may_go_on(error: &io::Error) -> bool {
         error.kind(),
         io::ErrorKind::WouldBlock | io::ErrorKind::TimedOut | io::ErrorKind::Interrupted
     )
-}
-
-// The error with the server's address, and what it was that took too long.
-fn explained(alloc: Global, address: &str, deadline: Deadline, error: io::Error) -> RedisError {
-    let address = match String::from_str(alloc, address) {
-        Ok(address) => address,
-        Err(error) => return RedisError::Memory(error),
-    };
-    match error.kind() {
-        io::ErrorKind::TimedOut => RedisError::Timeout {
-            address,
-            millis: deadline.millis(),
-        },
-        io::ErrorKind::UnexpectedEof => RedisError::Closed { address },
-        _ => RedisError::Io { address, error },
-    }
 }

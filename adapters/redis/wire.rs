@@ -6,6 +6,7 @@ ghost use Rattle.redis_codec.specs.Sessions.{plain};
 use crate::deadline::Deadline;
 use crate::error::RedisError;
 use crate::socket::Socket;
+use crate::standing::must_be_a_word;
 use redis_codec::{Conversation, Item, Limits};
 
 const PIECE: usize = 16 * 1024;
@@ -69,10 +70,7 @@ impl Wire {
             return Ok(());
         }
         for _ in 0..count {
-            let items = self.receive(deadline)?;
-            if !matches!(items.as_slice(), [Item::Word(_)]) {
-                return Err(RedisError::Reset);
-            }
+            must_be_a_word(self.receive(deadline)?)?;
         }
         self.talk.begin();
         Ok(())

@@ -1,6 +1,6 @@
 """The adapters of adapters/, in a repository that `vendor` makes: a service over each is driven against a real server on
-loopback, of Debian's packages redis-server and postgresql. Where one is not installed nobody has tried that adapter. And scripted
-peers in the place of both, and the first program over tokio, which need no server."""
+loopback, of Debian's packages redis-server and postgresql, and one of tasks. Where a server is not installed nobody has tried that
+adapter. And scripted peers in the place of both, and the first program over tokio, which need no server."""
 import contextlib
 import os
 import re
@@ -13,6 +13,7 @@ import postgres_peer
 import postgres_sessions
 import redis_peer
 import redis_sessions
+import redis_tasks
 import trying
 from copies import Runs, TESTS
 from servers import HOST, SECONDS, Forwarder, Postgres, Redis, within
@@ -20,7 +21,15 @@ from tally import TOP, Tally
 
 SERVERS = [Redis, Postgres]
 # The first programs, with what each stands on.
-FIRST = {"first_redis": "r2d2 redis anyhow", "first_postgres": "r2d2 postgres anyhow", "first_tokio": "r2d2_async tokio futures anyhow"}
+FIRST = {
+    "first_redis": "r2d2 redis anyhow", "first_postgres": "r2d2 postgres anyhow", "first_tokio": "r2d2_async tokio_timer tokio futures anyhow",
+    "first_redis_tasks": "r2d2_async redis_tasks tokio_timer tokio futures anyhow",
+}
+# The services, each with its folder of tests and what it stands on.
+SERVICES = {
+    "service": ("adapters", "r2d2 redis postgres"),
+    "service_of_tasks": ("redis_tasks", "r2d2 r2d2_async redis_tasks tokio_timer tokio futures"),
+}
 CONNECTIONS = 4
 # Whether queries are tried that wait at a locked table: where a machine is busy, as beside proofs, cancels come too late.
 IS_CALM = False
@@ -44,12 +53,14 @@ def put_source(source, crate):
 
 
 def repository(mine):
-    """A repository with both pools, both adapters, the first programs and the service."""
+    """A repository with both pools, the adapters, the first programs and the services."""
     os.makedirs(mine)
     subprocess.run(["git", "init", "-q", mine], check=True)
     subprocess.run([os.path.join(TOP, "vendor"), "--async", "--redis", "--postgres", mine], check=True, stdout=subprocess.DEVNULL)
-    lines = "service: r2d2 redis postgres\n"
-    put_source(os.path.join(TESTS, "adapters"), os.path.join(mine, "crates", "service"))
+    lines = ""
+    for name, (tests, libraries) in SERVICES.items():
+        put_source(os.path.join(TESTS, tests), os.path.join(mine, "crates", name))
+        lines += f"{name}: {libraries}\n"
     for name, libraries in FIRST.items():
         put_source(os.path.join(TOP, "adapters", name), os.path.join(mine, "crates", name))
         lines += f"{name}: {libraries}\n"
@@ -57,13 +68,13 @@ def repository(mine):
         it.write(lines)
 
 
-def built(mine, aside, tally):
-    """The service, built without proof. It hands itself out."""
-    program = os.path.join(aside, "service")
-    how = {"cwd": os.path.join(mine, "crates", "service"), "env": {**os.environ, "TMPDIR": aside}}
+def built(name, mine, aside, tally):
+    """A service, built without proof. It hands itself out."""
+    program = os.path.join(aside, name)
+    how = {"cwd": os.path.join(mine, "crates", name), "env": {**os.environ, "TMPDIR": aside}}
     _, said = Runs().run(trying.command("--", program), **how)
     is_built = os.path.exists(program)
-    tally.check("the service is built", is_built, said[-3000:])
+    tally.check(f"the {name} is built".replace("_", " "), is_built, said[-3000:])
     if is_built:
         os.chmod(program, 0o700)
     return program if is_built else None
@@ -304,6 +315,7 @@ class Trial:
         self.check("a wrong password", "password authentication failed" in wrong, wrong)
         none = self.service(self.server.port, "salted").ask("get")
         self.check("no password", "asks for a password, and there is none" in none, none)
+
     def try_locked(self):
         """Queries that wait for a lock are cancelled: the server is not left with what their callers have given up. On a busy machine one of
         some tries is enough, as a cancel has little time."""
@@ -341,10 +353,11 @@ def try_servers(kinds, mine, place, tally):
     """The service of a repository at these servers."""
     aside = os.path.join(place, "aside")
     os.mkdir(aside)
-    program = built(mine, aside, tally)
+    program = built("service", mine, aside, tally)
     if program:
         redis_peer.try_peer(Peers(program, tally, "redis"))
         postgres_peer.try_peer(Peers(program, tally, "postgres"))
+        try_tasks_of(kinds, mine, aside, place, tally)
     for kind in kinds if program else []:
         folder = os.path.join(place, f"with_{kind.NAME}")
         os.mkdir(folder)
@@ -353,6 +366,16 @@ def try_servers(kinds, mine, place, tally):
             Trial(kind, program, folder, tally).run()
         except (RuntimeError, OSError, ValueError, subprocess.SubprocessError) as error:
             tally.check(kind.NAME, False, error)
+
+
+def try_tasks_of(kinds, mine, aside, place, tally):
+    """The service of tasks, at Redis."""
+    program = built("service_of_tasks", mine, aside, tally) if Redis in kinds else None
+    if program:
+        try:
+            redis_tasks.TaskTrial(program, SETTINGS, place, tally, Service).run(mine)
+        except (RuntimeError, OSError, ValueError, subprocess.SubprocessError) as error:
+            tally.check("redis for tasks", False, error)
 
 
 def those_there(tally):

@@ -11,11 +11,12 @@ import adapters
 from copies import Runs
 from tally import Tally
 
-CRATES = ["redis", "postgres", "first_redis", "first_postgres", "first_tokio"]
+# (first_redis_tasks is run alone: that each of its hundred tasks may be polled is a loop's invariant, and it has no ghost line)
+CRATES = ["redis", "postgres", "tokio_timer", "redis_tasks", "first_redis", "first_postgres", "first_tokio"]
 # What they stand on, whose proofs this repository may have kept.
 BELOW = ["r2d2_core", "pool_state", "r2d2", "r2d2_async", "redis_codec"]
 # What the redis manager asks at a return.
-HAS_BROKEN = "!connection.come_back(self.reset, &self.login)"
+HAS_BROKEN = "!connection.come_back(self.settings.reset, &self.settings.login)"
 # A read that goes on where its call's deadline is not over, and one that has a deadline of its own.
 READ_BY = """            let left = deadline.left(self.rt)?;
             if self.read_limit > left.saturating_add(deadline.tenth()) {
@@ -38,11 +39,11 @@ TAKE, TAKE_AT_ONCE = "        self.body.clear();\n", "        self.body.clear();
 POSTGRES_BROKEN = "!connection.come_back(self.reset)"
 # A function, a passage of its file, and what somebody could write in its place. The prover refuses each.
 REFUSED = [
-    ("redis::connection::RedisConnection::is_broken", "{\n        self.is_broken\n", "{\n        let _ = self;\n        false\n"),
-    ("redis::connection::RedisConnection::exchange", "self.is_broken = true;\n        self.wire.ask(words", "self.wire.ask(words"),
-    ("redis::connection::RedisConnection::quiet_exchange", "if self.is_broken {\n            return Err(RedisError::Broken);\n        }\n", ""),
-    ("redis::connection::RedisConnection::come_back", "Reset::IfMarked if session == Session::PLAIN => true,", "Reset::IfMarked => true,"),
-    ("redis::connection::RedisConnection::send_reset", "self.resetting = count;\n", ""),
+    ("redis::connection::RedisConnection::is_broken", "{\n        self.standing.is_broken\n", "{\n        let _ = self;\n        false\n"),
+    ("redis::connection::RedisConnection::exchange", "self.standing.is_broken = true;\n        self.wire.ask(words", "self.wire.ask(words"),
+    ("redis::connection::RedisConnection::quiet_exchange", "if self.standing.is_broken {\n            return Err(RedisError::Broken);\n        }\n", ""),
+    ("redis::standing::Standing::come_back", "Reset::IfMarked if session == Session::PLAIN => Ok(none),", "Reset::IfMarked => Ok(none),"),
+    ("redis::standing::Standing::ask_to_reset", "self.resetting = count;\n", ""),
     ("redis::deadline::Deadline::left", "if left.is_zero() { Err(late) } else { Ok(left) }", "Ok(left)"),
     ("redis::manager::RedisConnectionManagerManageConnection::has_broken", HAS_BROKEN, "{\n            let _ = connection;\n            false\n        }"),
     ("postgres::answer::Session::of", "Ok(Session::InFailedTransaction)", "Ok(Session::Broken)"),
@@ -66,6 +67,11 @@ SEEN = [
         ("redis/socket", READ_BY, READ_BY_ITSELF, "redis, a scripted peer: a value that drips: the deadline"),
         ("redis/reply", "list.push(made.pop().ok_or(RedisError::Protocol)?)?;", "list.insert(0, made.pop().ok_or(RedisError::Protocol)?)?;", "redis, a scripted peer: an answer byte by byte: the text"),
         ("redis/reply", "if letter.is_control() {", "if letter == '\\r' {", "redis, a scripted peer: a refusal with control characters: the text"),
+        # Together these lend on a connection that has sent half of what was said over it.
+        ("redis_tasks/connection", "        self.standing.is_broken = true;\n        let answered", "        let answered", "redis for tasks: an answer of a request that was given up is nobody's"),
+        ("redis_tasks/connection", "self.socket.must_be_quiet(deadline)?;\n        self.socket.talk", "let _ = deadline;\n        self.socket.talk", "redis for tasks: an answer that comes twice, the second 0.1 s later"),
+        ("redis_tasks/manager", HAS_BROKEN, "connection.is_broken()", "redis for tasks: if-marked: a database is not seen by the next caller"),
+        ("redis_tasks/opening", "if self.addresses.is_empty() => Poll::Ready(Err(error)),", "if self.addresses.is_empty() => {\n                let _ = error;\n                Poll::Pending\n            }", "redis for tasks: served again soon after a restart"),
         ("postgres/manager", POSTGRES_BROKEN, "connection.session() == crate::answer::Session::Broken", "postgres: nobody meets what was left open"),
         ("postgres/login", "!= proof.reply.as_str()", "== \"\"", "postgres, a scripted peer: a wrong signature: the text"),
         ("postgres/socket", READ_BY_HALF, READ_BY_ITSELF, "postgres, a scripted peer: a row that drips: the deadline"),
@@ -76,10 +82,11 @@ SEEN = [
     ],
     [
         ("redis/wire", "self.socket.must_be_quiet(deadline)", "{\n            let _ = deadline;\n            Ok(())\n        }", "redis, a scripted peer: an answer that comes twice, the second 0.1 s later"),
-        ("redis/connection", 'text.starts_with(b"READONLY")', 'text.starts_with(b"LOADING")', "redis, a scripted peer: a demoted server is left"),
+        ("redis/standing", 'text.starts_with(b"READONLY")', 'text.starts_with(b"LOADING")', "redis, a scripted peer: a demoted server is left"),
         ("redis/reset", "if text.as_str().contains(password.as_str())", "if text.as_str() == password.as_str()", "redis, a scripted peer: no error has the password"),
-        ("redis/socket", "io::ErrorKind::TimedOut => RedisError::Timeout {", "io::ErrorKind::NotFound => RedisError::Timeout {", "redis, a scripted peer: silence: the text"),
+        ("redis/error", "io::ErrorKind::TimedOut => RedisError::Timeout {", "io::ErrorKind::NotFound => RedisError::Timeout {", "redis, a scripted peer: silence: the text"),
         ("redis/reset", "session.subscriptions || session.monitor || session.settings", "session.subscriptions || session.monitor", "redis: always: a setting is not seen by the next caller"),
+        ("redis_tasks/patience", "Deadline::new(rt, length)", "Deadline::new(rt, length.saturating_mul(2))", "redis for tasks: at a silent server: the deadline of each command"),
         ("postgres/wire", "if self.begin != self.end {", "if self.begin > self.end {", "postgres, a scripted peer: an answer that comes twice, the second 0.0 s later"),
         ("postgres/connection", "self.send_reset(reset).is_ok();", "self.send_reset(reset).is_ok() && self.end_reset(Deadline::new(self.rt, self.timeouts.check)).is_ok();", "postgres, a scripted peer: a return waits for no answer"),
         ("postgres/answer", "self.refused = Some(wire.refusal()?);", "{}", "postgres: a refusal is an error, and no more"),
@@ -199,5 +206,10 @@ def tried():
         bring_proofs(mine)
         try_proofs(mine, tally)
         try_refused(mine, tally)
+        # Here no proof runs beside the servers.
+        adapters.IS_CALM = True
+        inner = os.path.join(place, "right")
+        os.mkdir(inner)
+        adapters.try_servers(adapters.those_there(tally), mine, inner, tally)
         try_seen(place, tally)
     return tally

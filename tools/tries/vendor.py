@@ -147,7 +147,7 @@ def try_metrics(measured):
 
 def try_options(place):
     """With all that there is beside the pool."""
-    mine, crates = os.path.join(place, "all"), ["r2d2_async", "pool_metrics", "pool_reports", "redis_codec", "redis", "postgres"]
+    mine, crates = os.path.join(place, "all"), ["r2d2_async", "tokio_timer", "pool_metrics", "pool_reports", "redis_codec", "redis", "redis_tasks", "postgres"]
     os.mkdir(mine)
     words = ["--postgres", "--async", "--redis", "--reports", mine, "--metrics"]
     answers("with all options", 0, "put there: HANDLES: made; it reads 'Handles allowed: Threads, Wait, Net.'", *words)
@@ -180,11 +180,23 @@ def try_tasks(place):
     steps = [line.strip() for line in done.stdout.splitlines() if line.startswith("    ")]
     wanted = [
         f"cd {mine} && mkdir -p crates/hello/src", f"cp {first} crates/hello/src/main.rt",
-        "echo 'hello: r2d2_async tokio futures anyhow' >> crates.txt",
+        "echo 'hello: r2d2_async tokio_timer tokio futures anyhow' >> crates.txt",
         "echo 'Handles allowed: Print, Threads, Wait, Net.' > HANDLES    # tokio needs Net",
         "cd crates/hello && rt try    # runs it without proof, in half a minute",
     ]
     check("the steps to a first program of tasks", steps == wanted and os.path.isfile(first), steps)
+    arrives(mine, "tokio_timer")
+
+
+def try_redis_for_tasks(place):
+    """Who wants Redis and tasks gets what is for both, and its first program."""
+    mine, first = os.path.join(place, "both"), os.path.join(TOP, "adapters", "first_redis_tasks", "main.rs")
+    os.mkdir(mine)
+    told = "    echo 'hello: r2d2_async redis_tasks tokio_timer tokio futures anyhow' >> crates.txt"
+    answers("Redis for tasks tells what its first program stands on", 0, told, "--redis", "--async", mine)
+    arrives(mine, "redis_tasks")
+    check("its first program is there", os.path.isfile(first))
+    check("who wants no tasks does not get it", not os.path.exists(os.path.join(place, "redis", "crates", "redis_tasks")))
 
 
 def try_refusals(place):
@@ -226,6 +238,7 @@ def tried():
         try_options(place)
         try_an_adapter(place)
         try_tasks(place)
+        try_redis_for_tasks(place)
         try_refusals(place)
         try_nobody_who_reads(os.path.join(place, "unread"))
     return TALLY

@@ -64,8 +64,18 @@ impl Conversation {
         ensures err { OnErr result (self.new ≡ self.old) }
     {
         let bytes = request(self.alloc, words)?;
-        self.owed.push_back(Command::of(words))?;
+        self.expect(Command::of(words))?;
         Ok(bytes)
+    }
+
+    /// The same for a request whose bytes were made before, by `request`: an answer to this command
+    /// is waited for from now on. The error is lack of memory, and changes nothing.
+    pub fn expect(&mut self, command: Command) -> Result<(), AllocError>
+        ensures ok { OnOk result (self.new ≡ asked command self.old) }
+        ensures err { OnErr result (self.new ≡ self.old) }
+    {
+        self.owed.push_back(command)?;
+        Ok(())
     }
 
     /// The next bytes that came. The error is lack of memory, and changes nothing.

@@ -1,0 +1,66 @@
+//! How a session begins. A server that is full or stopped, or a proxy before it, may accept and
+//! never answer: so an answer is waited for.
+
+use crate::error::RedisError;
+use crate::reset::{Login, Reset};
+use crate::standing::Standing;
+use redis_codec::{Conversation, Item};
+use std::alloc::{AllocError, Global};
+
+/// The requests of it, which go out together, and those of them that are not answered yet.
+#[derive(Clone, Copy)]
+pub struct Greeting {
+    finds_reset: bool,
+    logins: usize,
+    pings: usize,
+}
+
+impl Greeting {
+    /// Asks them: they are appended to these bytes.
+    pub fn ask(
+        alloc: Global,
+        login: &Login,
+        reset: Reset,
+        talk: &mut Conversation,
+        bytes: &mut Vec<u8>,
+    ) -> Result<Greeting, AllocError> {
+        let finds_reset = reset != Reset::Never;
+        if finds_reset {
+            let request = talk.ask(&[b"RESET"])?;
+            bytes.extend_from_slice(request.as_slice())?;
+        }
+        let logins = login.ask(alloc, talk, bytes)?;
+        let request = talk.ask(&[b"PING"])?;
+        bytes.extend_from_slice(request.as_slice())?;
+        Ok(Greeting {
+            finds_reset,
+            logins,
+            pings: 1,
+        })
+    }
+
+    /// Whether all of them are answered.
+    pub fn is_over(&self) -> bool {
+        self.pings == 0
+    }
+
+    /// The next answer. With the last one the session has begun.
+    pub fn answered(
+        &mut self,
+        alloc: Global,
+        login: &Login,
+        standing: &mut Standing,
+        items: Vec<Item>,
+    ) -> Result<(), RedisError> {
+        if self.finds_reset {
+            self.finds_reset = false;
+            return standing.find_reset(alloc, items);
+        }
+        if self.logins > 0 {
+            self.logins -= 1;
+            return login.must_be_taken(alloc, items);
+        }
+        self.pings = 0;
+        standing.is_pong(alloc, items)
+    }
+}

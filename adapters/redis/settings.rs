@@ -1,0 +1,24 @@
+//! What a manager was told.
+
+use crate::reset::{Login, Reset};
+use redis_codec::Limits;
+use std::time::Duration;
+
+/// Where the server is, who logs in, and how long to wait.
+#[derive(Drop)]
+pub struct Settings {
+    /// A host and a port.
+    pub address: String,
+    pub login: Login,
+    pub reset: Reset,
+    pub timeouts: Timeouts,
+    pub limits: Limits,
+}
+
+/// How long a call may take, from its beginning to its end.
+#[derive(Clone, Copy)]
+pub struct Timeouts {
+    pub connect: Duration,
+    pub check: Duration,
+    pub command: Duration,
+}

@@ -1,0 +1,154 @@
+//! How a connection stands, whoever waits for it: whether it is sound, and what is still owed.
+
+ghost use Rattle.std.specs.Prelude.{◌≡◌, ◌<◌, ◌⊎◌, IsErr, IsFalse, IsOk, IsTrue};
+ghost use Rattle.redis_codec.specs.Sessions.{plain};
+
+use crate::error::RedisError;
+use crate::reply::{Reply, escaped};
+use crate::reset::{Login, Reset, is_lasting, is_left_open};
+use redis_codec::{Conversation, Item, Session};
+use std::alloc::Global;
+
+#[derive(Clone, Copy)]
+pub struct Standing {
+    /// Whether a command has not had its reply, and never will.
+    pub is_broken: bool,
+    /// How many answers to a reset were not read yet.
+    pub resetting: usize,
+    /// Whether the server has RESET.
+    pub has_reset: bool,
+}
+
+impl Standing {
+    /// That of a connection that was just opened.
+    pub fn new() -> Standing
+        ensures { IsFalse result.is_broken }
+    {
+        Standing {
+            is_broken: false,
+            resetting: 0,
+            has_reset: false,
+        }
+    }
+
+    /// The reply of these items. A server that may not write any more is none to stay at.
+    pub fn replied(&mut self, alloc: Global, items: Vec<Item>) -> Result<Reply, RedisError>
+        ensures broken { IsTrue self.old.is_broken → IsTrue self.new.is_broken }
+        ensures ok { IsOk result → self.new.is_broken ≡ self.old.is_broken }
+    {
+        if let [Item::Refusal(text), ..] = items.as_slice() {
+            if text.starts_with(b"READONLY") {
+                self.is_broken = true;
+            }
+            return Err(RedisError::Refused(escaped(alloc, text.as_slice())?));
+        }
+        match Reply::of(alloc, items) {
+            Ok(reply) => Ok(reply),
+            Err(error) => {
+                self.is_broken = true;
+                Err(error)
+            }
+        }
+    }
+
+    /// The answer to a PING.
+    pub fn is_pong(&mut self, alloc: Global, items: Vec<Item>) -> Result<(), RedisError>
+        ensures ok { IsOk result → self.new.is_broken ≡ self.old.is_broken }
+        ensures ok_sound { IsFalse self.old.is_broken → IsOk result → IsFalse self.new.is_broken }
+    {
+        match self.replied(alloc, items)?.as_text() {
+            Some("PONG") => Ok(()),
+            _ => {
+                self.is_broken = true;
+                Err(RedisError::Protocol)
+            }
+        }
+    }
+
+    /// The answer to a RESET, which shows whether the server has it, as those since 6.2 have.
+    pub fn find_reset(&mut self, alloc: Global, items: Vec<Item>) -> Result<(), RedisError> {
+        self.has_reset = match items.as_slice() {
+            [Item::Word(text)] => text.as_slice() == b"RESET".as_slice(),
+            // The user at first may have no leave for it.
+            [Item::Refusal(text)] if text.starts_with(b"NOPERM") => false,
+            [Item::Refusal(text)] if !text.starts_with(b"ERR unknown command") => {
+                return Err(RedisError::Refused(escaped(alloc, text.as_slice())?));
+            }
+            _ => false,
+        };
+        Ok(())
+    }
+
+    /// Comes back from a caller: the requests that end the session, to be sent at once, which are
+    /// none where it is as it began. After an error it can't be lent on. Nothing may have come that
+    /// nobody asked for, but for answers to a reset.
+    pub fn come_back(
+        &mut self,
+        alloc: Global,
+        talk: &mut Conversation,
+        reset: Reset,
+        login: &Login,
+    ) -> Result<Vec<u8>, RedisError>
+        ensures sound { IsTrue self.old.is_broken → IsErr result }
+        ensures same { self.new.is_broken ≡ self.old.is_broken }
+        ensures never { IsOk result → self.old.resetting ≡ 0 → reset ≡ Reset.Never →
+            IsFalse talk.old.session.transaction × IsFalse talk.old.session.watch
+            × IsFalse talk.old.session.subscriptions × IsFalse talk.old.session.monitor }
+        ensures marked { IsOk result → reset ≡ Reset.IfMarked →
+            (talk.new.session ≡ plain) ⊎ (0 < self.new.resetting) }
+        ensures always { IsOk result → reset ≡ Reset.Always → 0 < self.new.resetting }
+    {
+        let none = Vec::new(alloc);
+        if self.is_broken {
+            return Err(RedisError::Broken);
+        }
+        // Nothing was said since the last reset was sent.
+        if self.resetting > 0 {
+            return Ok(none);
+        }
+        if !talk.is_settled() {
+            return Err(RedisError::Unasked);
+        }
+        let session = talk.session();
+        match reset {
+            Reset::Never if is_left_open(session) => Err(RedisError::Reset),
+            Reset::Never => Ok(none),
+            Reset::IfMarked if session == Session::PLAIN => Ok(none),
+            Reset::IfMarked | Reset::Always => self.ask_to_reset(alloc, session, talk, login),
+        }
+    }
+
+    fn ask_to_reset(
+        &mut self,
+        alloc: Global,
+        session: Session,
+        talk: &mut Conversation,
+        login: &Login,
+    ) -> Result<Vec<u8>, RedisError>
+        ensures ok { IsOk result → 0 < self.new.resetting }
+        ensures same { self.new.is_broken ≡ self.old.is_broken }
+    {
+        if is_lasting(session) {
+            return Err(RedisError::Reset);
+        }
+        let mut requests = Vec::new(alloc);
+        let count = if self.has_reset {
+            login.ask_anew(alloc, talk, &mut requests)?
+        } else {
+            login.ask_in_parts(alloc, session, talk, &mut requests)?
+        };
+        if count == 0 {
+            return Err(RedisError::Reset);
+        }
+        self.resetting = count;
+        Ok(requests)
+    }
+}
+
+/// An answer to a reset.
+pub fn must_be_a_word(items: Vec<Item>) -> Result<(), RedisError> {
+    match items.as_slice() {
+        [Item::Word(_)] => Ok(()),
+        _ => Err(RedisError::Reset),
+    }
+}
