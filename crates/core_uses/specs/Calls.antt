@@ -1,10 +1,10 @@
 -- What the calls of `caller` leave of a core. A moment is in nanoseconds.
 use Rattle.std.specs.Prelude.{ℕ, None}
-use Rattle.r2d2_core.specs.Jobs.{SeenJob, Open, Reap, Wait, Nothing, Closed}
-use Rattle.r2d2_core.specs.Refusals.{unless_refused}
-use Rattle.r2d2_core.specs.OnOrder.{number_refusal}
-use Rattle.r2d2_core.specs.Picture.{Picture}
-use Rattle.r2d2_core.specs.Table.{begin_answer, after_begin, after_number, after_admit, after_check}
+use Rattle.pool_machine.specs.Jobs.{SeenJob, Open, Reap, Wait, Nothing, Closed}
+use Rattle.pool_machine.specs.Refusals.{unless_refused}
+use Rattle.pool_machine.specs.OnOrder.{number_refusal}
+use Rattle.pool_machine.specs.Picture.{Picture}
+use Rattle.pool_machine.specs.Table.{begin_answer, after_begin, after_number, after_admit, after_check}
 
 module _ {T : Type 0} where
   -- an opening in work has the next id, and its value comes in

@@ -1,7 +1,7 @@
 -- A count of lent connections that a caller keeps beside a core.
 use Rattle.std.specs.Prelude.{◌≡◌, ℕ, length, Option, Some, None}
-use Rattle.r2d2_core.specs.Picture.{Picture}
-use Rattle.r2d2_core.specs.Connections.{SeenIdleConnection}
+use Rattle.pool_machine.specs.Picture.{Picture}
+use Rattle.pool_machine.specs.Connections.{SeenIdleConnection}
 
 module _ {T : Type 0} where
   -- the count is that of the core's lent connections

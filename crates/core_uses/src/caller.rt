@@ -3,8 +3,8 @@
 
 ghost use Rattle.std.specs.Prelude.{◌≡◌, ◌+◌, if◌then◌else◌, true, is_some};
 ghost use Rattle.std.specs.Duration.{as_nanos};
-ghost use Rattle.r2d2_core.specs.Connections.{birth_in};
-ghost use Rattle.r2d2_core.specs.Table.{next_of, after_take};
+ghost use Rattle.pool_machine.specs.Connections.{birth_in};
+ghost use Rattle.pool_machine.specs.Table.{next_of, after_take};
 ghost use Rattle.core_uses.specs.Counted.{IsCounted, shown_found};
 ghost use Rattle.core_uses.specs.Calls.{after_open, after_discard};
 

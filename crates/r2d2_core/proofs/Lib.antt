@@ -1,6 +1,3 @@
-pub mod Lists
-pub mod Scheduling
-pub mod Facts
 pub mod Histories
 pub mod Follows
 pub mod Reusing

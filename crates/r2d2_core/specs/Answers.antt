@@ -3,21 +3,21 @@ use Rattle.std.specs.Prelude.{ℕ, ◌+◌, ◌-◌, min, ◌^◌, Bool, false, 
 use Rattle.std.specs.Prelude.{if◌then◌else◌, List, [], ◌∷◌, map, length, Option, None, is_some}
 use Rattle.std.specs.Prelude.{Ok}
 use Rattle.std.specs.List.{list_any}
-use Rattle.r2d2_core.specs.declared.run.Step.{Step}
-use Rattle.r2d2_core.specs.declared.run.Step.TheVariants as step
-use Rattle.r2d2_core.specs.declared.machine.answers.Refusal.{Refusal}
-use Rattle.r2d2_core.specs.declared.machine.answers.Refusal.TheVariants as refusal
-use Rattle.r2d2_core.specs.Limits.{wanted_of, top_up, later_by, delay_of, has_reached}
-use Rattle.r2d2_core.specs.Sums.{FitsIn, IsReplenished}
-use Rattle.r2d2_core.specs.Lending.{next_to_lend}
-use Rattle.r2d2_core.specs.Connections.{closed_of, pair_of}
-use Rattle.r2d2_core.specs.Refusals.{refused_if, ok_unless, ok_or_back}
-use Rattle.r2d2_core.specs.Seen.{SeenAnswer, Taken, Found, Empty, Begun, Numbered, Admitted, Failed}
-use Rattle.r2d2_core.specs.Seen.{CheckFailed, PutBack, Kept, Closed, Reaped}
-use Rattle.r2d2_core.specs.Seen.{TakeError, Close}
-use Rattle.r2d2_core.specs.Picture.{Picture}
-use Rattle.r2d2_core.specs.Seen.{take_with}
-use Rattle.r2d2_core.specs.Seen.{or_text}
+use Rattle.pool_machine.specs.declared.step.Step.{Step}
+use Rattle.pool_machine.specs.declared.step.Step.TheVariants as step
+use Rattle.pool_machine.specs.declared.machine.answers.Refusal.{Refusal}
+use Rattle.pool_machine.specs.declared.machine.answers.Refusal.TheVariants as refusal
+use Rattle.pool_machine.specs.Limits.{wanted_of, top_up, later_by, delay_of, has_reached}
+use Rattle.pool_machine.specs.Sums.{FitsIn, IsReplenished}
+use Rattle.pool_machine.specs.Lending.{next_to_lend}
+use Rattle.pool_machine.specs.Connections.{closed_of, pair_of}
+use Rattle.pool_machine.specs.Refusals.{refused_if, ok_unless, ok_or_back}
+use Rattle.pool_machine.specs.Seen.{SeenAnswer, Taken, Found, Empty, Begun, Numbered, Admitted, Failed}
+use Rattle.pool_machine.specs.Seen.{CheckFailed, PutBack, Kept, Closed, Reaped}
+use Rattle.pool_machine.specs.Seen.{TakeError, Close}
+use Rattle.pool_machine.specs.Picture.{Picture}
+use Rattle.pool_machine.specs.Seen.{take_with}
+use Rattle.pool_machine.specs.Seen.{or_text}
 use Rattle.r2d2_core.specs.History.{History, Made, Then, limits_of, is_closed, now_of, moment_of}
 use Rattle.r2d2_core.specs.Deeds.{connections_of, idle_of, lent_of, birth_of}
 use Rattle.r2d2_core.specs.Pending.{pending_of, job_of, in_work_at, next_id_of, numbered_of}

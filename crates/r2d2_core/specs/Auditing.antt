@@ -1,8 +1,8 @@
 -- What a report's audit looks at, test by test.
 use Rattle.std.specs.Prelude.{◌≡◌, ℕ, ◌+◌, Bool, true, ◌==◌, ◌||◌, ◌&&◌, not, nat_le, List, [], ◌∷◌}
 use Rattle.std.specs.Prelude.{length, map}
-use Rattle.r2d2_core.specs.declared.schedule.limits.LimitSettings.{LimitSettings}
-use Rattle.r2d2_core.specs.Connections.{SeenLentConnection, id_of_idle, id_of_lent}
+use Rattle.pool_machine.specs.declared.schedule.limits.LimitSettings.{LimitSettings}
+use Rattle.pool_machine.specs.Connections.{SeenLentConnection, id_of_idle, id_of_lent}
 use Rattle.r2d2_core.specs.Bases.{SeenBase, BareConnection}
 use Rattle.r2d2_core.specs.declared.journal.report.Report.{Report}
 

@@ -5,12 +5,12 @@ use Rattle.std.specs.Duration.{as_nanos}
 use Rattle.std.specs.declared.time.Duration.{Duration}
 use Rattle.std.specs.List.{All}
 use Rattle.std.specs.List.Sorted.{IsNonDecreasingBy}
-use Rattle.r2d2_core.specs.declared.schedule.limits.LimitSettings.{LimitSettings}
-use Rattle.r2d2_core.specs.Limits.{wanted_of}
-use Rattle.r2d2_core.specs.Sums.{FitsIn}
-use Rattle.r2d2_core.specs.Ids.{copies_of}
-use Rattle.r2d2_core.specs.Connections.{SeenIdleConnection, SeenLentConnection, idle_connection}
-use Rattle.r2d2_core.specs.Connections.{lent_connection, id_of_idle, id_of_lent, since_of}
+use Rattle.pool_machine.specs.declared.schedule.limits.LimitSettings.{LimitSettings}
+use Rattle.pool_machine.specs.Limits.{wanted_of}
+use Rattle.pool_machine.specs.Sums.{FitsIn}
+use Rattle.pool_machine.specs.Ids.{copies_of}
+use Rattle.pool_machine.specs.Connections.{SeenIdleConnection, SeenLentConnection, idle_connection}
+use Rattle.pool_machine.specs.Connections.{lent_connection, id_of_idle, id_of_lent, since_of}
 
 -- an idle connection without its payload
 abbrev pub BareConnection : Type 0

@@ -1,8 +1,8 @@
 -- What a book shows, and what holds of each.
 use Rattle.std.specs.Prelude.{◌≡◌, List, map}
-use Rattle.r2d2_core.specs.declared.schedule.limits.LimitSettings.{LimitSettings}
-use Rattle.r2d2_core.specs.Connections.{SeenIdleConnection, idle_connection}
-use Rattle.r2d2_core.specs.Picture.{Picture, IsSound}
+use Rattle.pool_machine.specs.declared.schedule.limits.LimitSettings.{LimitSettings}
+use Rattle.pool_machine.specs.Connections.{SeenIdleConnection, idle_connection}
+use Rattle.pool_machine.specs.Picture.{Picture, IsSound}
 use Rattle.r2d2_core.specs.Records.{SeenRecord}
 use Rattle.r2d2_core.specs.Bases.{SeenBase, BareConnection, IsLegalBase}
 use Rattle.r2d2_core.specs.Folding.{replay, AreLegalFrom}

@@ -1,8 +1,8 @@
 -- What keeps of the fields of a book.
 use Rattle.std.specs.Prelude.{ℕ, ◌+◌, ◌==◌, ◌≤◌, ◌≡◌, List, [], map, if◌then◌else◌}
-use Rattle.r2d2_core.specs.declared.schedule.limits.LimitSettings.{LimitSettings}
-use Rattle.r2d2_core.specs.Ids.{copies_of}
-use Rattle.r2d2_core.specs.Picture.{Picture, IsSound}
+use Rattle.pool_machine.specs.declared.schedule.limits.LimitSettings.{LimitSettings}
+use Rattle.pool_machine.specs.Ids.{copies_of}
+use Rattle.pool_machine.specs.Picture.{Picture, IsSound}
 use Rattle.r2d2_core.specs.Records.{SeenRecord}
 use Rattle.r2d2_core.specs.Bases.{SeenBase, base_of}
 use Rattle.r2d2_core.specs.Folding.{replay, known_in}

@@ -2,15 +2,15 @@
 use Rattle.std.specs.Prelude.{◌≡◌, ℕ, Bool, List, Option, Result, String, length}
 use Rattle.std.specs.declared.time.Duration.{Duration}
 use Rattle.std.specs.Duration.{as_nanos}
-use Rattle.r2d2_core.specs.declared.schedule.Job.{Job}
-use Rattle.r2d2_core.specs.declared.machine.answers.Refusal.{Refusal}
-use Rattle.r2d2_core.specs.declared.machine.answers.Take.{Take}
-use Rattle.r2d2_core.specs.declared.machine.answers.Gone.{Gone}
-use Rattle.r2d2_core.specs.declared.machine.answers.Returned.{Returned}
-use Rattle.r2d2_core.specs.declared.machine.answers.Released.{Released}
-use Rattle.r2d2_core.specs.Seen.{seen_take, seen_returned, seen_gone, map_ok}
-use Rattle.r2d2_core.specs.Picture.{Picture}
-use Rattle.r2d2_core.specs.CoreSteps as core
+use Rattle.pool_machine.specs.declared.schedule.Job.{Job}
+use Rattle.pool_machine.specs.declared.machine.answers.Refusal.{Refusal}
+use Rattle.pool_machine.specs.declared.machine.answers.Take.{Take}
+use Rattle.pool_machine.specs.declared.machine.answers.Gone.{Gone}
+use Rattle.pool_machine.specs.declared.machine.answers.Returned.{Returned}
+use Rattle.pool_machine.specs.declared.machine.answers.Released.{Released}
+use Rattle.pool_machine.specs.Seen.{seen_take, seen_returned, seen_gone, map_ok}
+use Rattle.pool_machine.specs.Picture.{Picture}
+use Rattle.pool_machine.specs.CoreSteps as core
 use Rattle.r2d2_core.specs.Journal.{SeenJournal}
 use Rattle.r2d2_core.specs.Book.{SeenBook}
 use Rattle.r2d2_core.specs.Noted.{noted_take, noted_admission, noted_return, noted_check}

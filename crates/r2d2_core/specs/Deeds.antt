@@ -2,13 +2,13 @@
 -- of an id says where its connection is.
 use Rattle.std.specs.Prelude.{ℕ, ◌-◌, Bool, true, false, ◌==◌, if◌then◌else◌, List, [], ◌∷◌, ◌++◌}
 use Rattle.std.specs.Prelude.{map, filter_map, count_by, Option, Some, None, Ok}
-use Rattle.r2d2_core.specs.declared.run.Step.{Step}
-use Rattle.r2d2_core.specs.declared.run.Step.TheVariants as step
-use Rattle.r2d2_core.specs.Ids.{latest}
-use Rattle.r2d2_core.specs.Connections.{SeenIdleConnection, SeenLentConnection, idle_connection}
-use Rattle.r2d2_core.specs.Connections.{lent_connection}
-use Rattle.r2d2_core.specs.Seen as seen
-use Rattle.r2d2_core.specs.Seen.{SeenAnswer, Found, PutBack, Closed, Reaped, Close, CheckFailed}
+use Rattle.pool_machine.specs.declared.step.Step.{Step}
+use Rattle.pool_machine.specs.declared.step.Step.TheVariants as step
+use Rattle.pool_machine.specs.Ids.{latest}
+use Rattle.pool_machine.specs.Connections.{SeenIdleConnection, SeenLentConnection, idle_connection}
+use Rattle.pool_machine.specs.Connections.{lent_connection}
+use Rattle.pool_machine.specs.Seen as seen
+use Rattle.pool_machine.specs.Seen.{SeenAnswer, Found, PutBack, Closed, Reaped, Close, CheckFailed}
 use Rattle.r2d2_core.specs.History.{History, Made, Then, moment_of}
 
 -- what was done to a connection, and when; where it came to be idle, with the payload that was

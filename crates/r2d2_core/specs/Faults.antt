@@ -5,8 +5,8 @@ use Rattle.r2d2_core.specs.declared.journal.faults.Fault.{Fault}
 use Rattle.r2d2_core.specs.declared.journal.faults.Fault.TheVariants as fault
 use Rattle.r2d2_core.specs.declared.journal.replaying.Wrong.{Wrong}
 use Rattle.r2d2_core.specs.declared.journal.replaying.Wrong.TheVariants as wrong
-use Rattle.r2d2_core.specs.Limits.{seen_limits}
-use Rattle.r2d2_core.specs.Ids.{copies_of}
+use Rattle.pool_machine.specs.Limits.{seen_limits}
+use Rattle.pool_machine.specs.Ids.{copies_of}
 use Rattle.r2d2_core.specs.Bases.{IsLegalBase}
 use Rattle.r2d2_core.specs.Folding.{replay, known_in, AreLegalFrom}
 use Rattle.r2d2_core.specs.Reports.{seen_base, seen_records, told_in}

@@ -3,12 +3,12 @@
 use Rattle.std.specs.Prelude.{◌≡◌, ℕ, ◌+◌, ◌-◌, ◌≤◌, Bool, true, false, ◌==◌, ◌||◌, ◌&&◌, not}
 use Rattle.std.specs.Prelude.{nat_lt, nat_le, List, [], ◌∷◌, ◌++◌, length, filter, is_some}
 use Rattle.std.specs.Prelude.{option_map, unwrap_or, flat_map}
-use Rattle.r2d2_core.specs.declared.schedule.limits.LimitSettings.{LimitSettings}
-use Rattle.r2d2_core.specs.Limits.{top_up, has_reached}
-use Rattle.r2d2_core.specs.Ids.{found, without, copies_of}
-use Rattle.r2d2_core.specs.Lending.{next_to_lend}
-use Rattle.r2d2_core.specs.Connections.{SeenLentConnection, idle_connection, lent_connection}
-use Rattle.r2d2_core.specs.Connections.{id_of_idle, id_of_lent, birth_in, is_expired, is_kept}
+use Rattle.pool_machine.specs.declared.schedule.limits.LimitSettings.{LimitSettings}
+use Rattle.pool_machine.specs.Limits.{top_up, has_reached}
+use Rattle.pool_machine.specs.Ids.{found, without, copies_of}
+use Rattle.pool_machine.specs.Lending.{next_to_lend}
+use Rattle.pool_machine.specs.Connections.{SeenLentConnection, idle_connection, lent_connection}
+use Rattle.pool_machine.specs.Connections.{id_of_idle, id_of_lent, birth_in, is_expired, is_kept}
 use Rattle.r2d2_core.specs.Records.{SeenRecord, Taken, Ordered, Admitted, Kept, Closed, Reaped}
 use Rattle.r2d2_core.specs.Records.{ClosedAll}
 use Rattle.r2d2_core.specs.Bases.{SeenBase, BareConnection, ids_in_base}

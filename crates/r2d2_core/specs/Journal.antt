@@ -1,7 +1,7 @@
 -- What a contract sees of the records that are kept.
 use Rattle.std.specs.Prelude.{◌≡◌, ℕ, ◌+◌, ◌-◌, ◌^◌, min, nat_lt, List, [], ◌∷◌, ◌++◌, length, drop}
 use Rattle.std.specs.Prelude.{Option, Some, None, if◌then◌else◌}
-use Rattle.r2d2_core.specs.declared.schedule.limits.LimitSettings.{LimitSettings}
+use Rattle.pool_machine.specs.declared.schedule.limits.LimitSettings.{LimitSettings}
 use Rattle.r2d2_core.specs.Records.{SeenRecord, is_take, takes_in}
 use Rattle.r2d2_core.specs.Bases.{SeenBase, first_base}
 use Rattle.r2d2_core.specs.Folding.{folded}

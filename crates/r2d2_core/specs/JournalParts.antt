@@ -5,8 +5,8 @@ use Rattle.std.specs.Duration.{as_nanos}
 use Rattle.r2d2_core.specs.declared.journal.bounded.Before.{Before}
 use Rattle.r2d2_core.specs.declared.journal.bounded.Before.TheVariants as before
 use Rattle.r2d2_core.specs.declared.journal.bounded.Journal.TheInside.{Inside}
-use Rattle.r2d2_core.specs.declared.schedule.limits.LimitSettings.{LimitSettings}
-use Rattle.r2d2_core.specs.Limits.{seen_limits}
+use Rattle.pool_machine.specs.declared.schedule.limits.LimitSettings.{LimitSettings}
+use Rattle.pool_machine.specs.Limits.{seen_limits}
 use Rattle.r2d2_core.specs.Records.{SeenRecord, seen_record}
 use Rattle.r2d2_core.specs.Bases.{SeenBase, IsLegalBase, first_base}
 use Rattle.r2d2_core.specs.Records.{moment_of_record}

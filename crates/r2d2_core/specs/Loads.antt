@@ -5,7 +5,7 @@ use Rattle.std.specs.Duration.{as_nanos}
 use Rattle.r2d2_core.specs.declared.journal.load.Load.{Load}
 use Rattle.r2d2_core.specs.Records.{SeenRecord, Taken, Ordered, Admitted, Kept, Closed, Reaped, ClosedAll}
 use Rattle.r2d2_core.specs.Bases.{SeenBase}
-use Rattle.r2d2_core.specs.Limits.{seen_limits, later_by}
+use Rattle.pool_machine.specs.Limits.{seen_limits, later_by}
 
 -- it tells what a base does, but for which connections those are
 pub record IsLoadOf (b : SeenBase) (load : Load) : Type 0 where

@@ -1,8 +1,8 @@
 -- What a book notes at each call: its journal after the call, by the answer. A book notes the
 -- raised moment of a step.
 use Rattle.std.specs.Prelude.{ℕ, max, Result}
-use Rattle.r2d2_core.specs.declared.machine.answers.Refusal.{Refusal}
-use Rattle.r2d2_core.specs.Seen.{SeenTake, SeenReturned, SeenGone}
+use Rattle.pool_machine.specs.declared.machine.answers.Refusal.{Refusal}
+use Rattle.pool_machine.specs.Seen.{SeenTake, SeenReturned, SeenGone}
 use Rattle.r2d2_core.specs.Recorded.{record_of_take, record_of_admission, record_of_return}
 use Rattle.r2d2_core.specs.Recorded.{record_of_check, record_of_reap, record_of_close}
 use Rattle.r2d2_core.specs.Journal.{SeenJournal, with_noted}

@@ -5,14 +5,14 @@ use Rattle.std.specs.Prelude.{if◌then◌else◌, List, [], ◌∷◌, ◌++◌
 use Rattle.std.specs.Prelude.{Some, None, Ok}
 use Rattle.std.specs.List.{range_with_len}
 use Rattle.std.specs.Duration.{as_nanos}
-use Rattle.r2d2_core.specs.declared.run.Step.{Step}
-use Rattle.r2d2_core.specs.declared.run.Step.TheVariants as step
-use Rattle.r2d2_core.specs.Limits.{wanted_of, later_by, has_reaps}
-use Rattle.r2d2_core.specs.Openings.{SeenOpening, opening, with_opening, with_many}
-use Rattle.r2d2_core.specs.Jobs.{SeenJob, Open, Reap, Closed as JobClosed, first_job}
-use Rattle.r2d2_core.specs.OnOrder.{SeenOnOrder}
-use Rattle.r2d2_core.specs.Seen.{SeenAnswer, Taken, Found, Empty, Begun, Numbered, Failed, PutBack}
-use Rattle.r2d2_core.specs.Seen.{Closed, Reaped, CheckFailed}
+use Rattle.pool_machine.specs.declared.step.Step.{Step}
+use Rattle.pool_machine.specs.declared.step.Step.TheVariants as step
+use Rattle.pool_machine.specs.Limits.{wanted_of, later_by, has_reaps}
+use Rattle.pool_machine.specs.Openings.{SeenOpening, opening, with_opening, with_many}
+use Rattle.pool_machine.specs.Jobs.{SeenJob, Open, Reap, Closed as JobClosed, first_job}
+use Rattle.pool_machine.specs.OnOrder.{SeenOnOrder}
+use Rattle.pool_machine.specs.Seen.{SeenAnswer, Taken, Found, Empty, Begun, Numbered, Failed, PutBack}
+use Rattle.pool_machine.specs.Seen.{Closed, Reaped, CheckFailed}
 use Rattle.r2d2_core.specs.History.{History, Made, Then, limits_of, start_of, first_of, is_closed}
 use Rattle.r2d2_core.specs.History.{moment_of}
 use Rattle.r2d2_core.specs.Deeds.{admits, admitted_count}

@@ -2,9 +2,9 @@
 -- changes neither what is idle, lent, connected or pending nor whether the pool is closed.
 use Rattle.std.specs.Prelude.{ℕ, Bool, ◌==◌, ◌&&◌, if◌then◌else◌, Option, Some, None, Result, Ok}
 use Rattle.std.specs.Prelude.{Err}
-use Rattle.r2d2_core.specs.declared.machine.answers.Refusal.{Refusal}
-use Rattle.r2d2_core.specs.Seen.{SeenTake, Found, Empty, SeenReturned, SeenGone}
-use Rattle.r2d2_core.specs.Seen.{Kept as CameToBeIdle, Closed as CameToBeClosed}
+use Rattle.pool_machine.specs.declared.machine.answers.Refusal.{Refusal}
+use Rattle.pool_machine.specs.Seen.{SeenTake, Found, Empty, SeenReturned, SeenGone}
+use Rattle.pool_machine.specs.Seen.{Kept as CameToBeIdle, Closed as CameToBeClosed}
 use Rattle.r2d2_core.specs.Records.{SeenRecord, Taken, Ordered, Admitted, Kept, Closed, Reaped}
 use Rattle.r2d2_core.specs.Records.{ClosedAll}
 

@@ -5,9 +5,9 @@ use Rattle.r2d2_core.specs.declared.journal.replay.Replay.{Replay}
 use Rattle.r2d2_core.specs.declared.journal.replay.Standing.{Standing}
 use Rattle.r2d2_core.specs.declared.journal.replay.Standing.TheVariants as standing
 use Rattle.r2d2_core.specs.declared.journal.running_base.Rooms.{Rooms}
-use Rattle.r2d2_core.specs.declared.schedule.limits.LimitSettings.{LimitSettings}
-use Rattle.r2d2_core.specs.Limits.{seen_limits}
-use Rattle.r2d2_core.specs.Ids.{copies_of}
+use Rattle.pool_machine.specs.declared.schedule.limits.LimitSettings.{LimitSettings}
+use Rattle.pool_machine.specs.Limits.{seen_limits}
+use Rattle.pool_machine.specs.Ids.{copies_of}
 use Rattle.r2d2_core.specs.Records.{SeenRecord}
 use Rattle.r2d2_core.specs.Bases.{SeenBase, IsLegalBase}
 use Rattle.r2d2_core.specs.Folding.{replay, all_follow, known_in}

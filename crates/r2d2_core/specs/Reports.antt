@@ -3,10 +3,10 @@ use Rattle.std.specs.Prelude.{◌≡◌, ◌+◌, List, length, map}
 use Rattle.std.specs.Duration.{as_nanos}
 use Rattle.r2d2_core.specs.declared.journal.base.Base.{Base}
 use Rattle.r2d2_core.specs.declared.journal.report.Report.{Report}
-use Rattle.r2d2_core.specs.Limits.{seen_limits, wanted_of}
-use Rattle.r2d2_core.specs.Sums.{FitsIn, IsReplenished}
+use Rattle.pool_machine.specs.Limits.{seen_limits, wanted_of}
+use Rattle.pool_machine.specs.Sums.{FitsIn, IsReplenished}
 use Rattle.r2d2_core.specs.Records.{SeenRecord, seen_record, takes_in}
-use Rattle.r2d2_core.specs.Connections.{id_of_idle, id_of_lent}
+use Rattle.pool_machine.specs.Connections.{id_of_idle, id_of_lent}
 use Rattle.r2d2_core.specs.Bases.{SeenBase, base_of, seen_bare, seen_lent, IsLegalBase, first_base}
 use Rattle.r2d2_core.specs.Folding.{replay, AreLegalFrom}
 use Rattle.r2d2_core.specs.Book.{SeenBook, bare}

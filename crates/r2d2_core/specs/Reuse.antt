@@ -9,10 +9,10 @@ use Rattle.std.specs.Duration.{as_nanos}
 use Rattle.std.specs.declared.time.Duration.{Duration}
 use Rattle.r2d2_core.specs.declared.reuse.Move.{Move}
 use Rattle.r2d2_core.specs.declared.reuse.Move.TheVariants as move
-use Rattle.r2d2_core.specs.declared.schedule.limits.LendingOrder.{LendingOrder}
-use Rattle.r2d2_core.specs.declared.schedule.limits.LendingOrder.TheVariants as lending
-use Rattle.r2d2_core.specs.Lending.{still_idle}
-use Rattle.r2d2_core.specs.Limits.{has_reached}
+use Rattle.pool_machine.specs.declared.schedule.limits.LendingOrder.{LendingOrder}
+use Rattle.pool_machine.specs.declared.schedule.limits.LendingOrder.TheVariants as lending
+use Rattle.pool_machine.specs.Lending.{still_idle}
+use Rattle.pool_machine.specs.Limits.{has_reached}
 
 -- each moment is at most every one after it
 pub record IsSorted (idle : List Duration) : Type 0 where

@@ -3,7 +3,7 @@ use Rattle.std.specs.Prelude.{ℕ, ◌+◌, false, List, [], ◌∷◌, ◌++◌
 use Rattle.std.specs.Duration.{as_nanos}
 use Rattle.r2d2_core.specs.declared.journal.running_base.Rooms.{Rooms}
 use Rattle.r2d2_core.specs.declared.journal.running_base.RunningBase.TheInside.{Inside}
-use Rattle.r2d2_core.specs.Connections.{SeenLentConnection}
+use Rattle.pool_machine.specs.Connections.{SeenLentConnection}
 use Rattle.r2d2_core.specs.Records.{SeenRecord, Taken, Admitted, Kept}
 use Rattle.r2d2_core.specs.Bases.{SeenBase, BareConnection, base_of}
 

@@ -2,12 +2,12 @@
 ghost use Rattle.std.specs.Prelude.{◌≡◌, ◌≤◌, length, vec_len, vec_capacity, option_map, IfOk, OnOk};
 ghost use Rattle.std.specs.Duration.{as_nanos};
 
-use crate::machine::{Core, Gone, Leftover, Refusal, Released, Returned, Take};
-use crate::schedule::{Job, Limits};
 pub use base::Base;
 use bounded::{Before, Journal};
 pub use faults::Fault;
 pub use load::Load;
+use pool_machine::machine::{Core, Gone, Leftover, Refusal, Released, Returned, Take};
+use pool_machine::schedule::{Job, Limits};
 pub use record::Record;
 pub use replay::Replay;
 pub use report::Report;
@@ -26,12 +26,12 @@ mod replaying;
 pub mod report;
 mod running_base;
 
-/// A core that notes what each step did, in a journal of bounded room. Where there is no room for
-/// one more record, the oldest is folded into the journal's base, which tells what stood before the
+/// A core that notes what each step did, in a journal of bounded room. If there is no room for one
+/// more record, the oldest is folded into the journal's base, which says what stood before the
 /// others.
 ///
 /// Its steps and readings are those of a core. All memory, that of the journal too, is taken at the
-/// making: no step takes any.
+/// creation: no step takes any.
 #[derive(Drop)]
 pub struct Book<T, A: Allocator = Global> {
     alloc: A,
@@ -52,17 +52,17 @@ impl<T, A: Allocator> Model for Book<T, A> {
 
 impl<T, A: Allocator> Book<T, A> {
     ghost use Rattle.std.specs.Prelude.{IsTrue};
-    ghost use Rattle.r2d2_core.specs.Picture.{HoldsNothing};
-    ghost use Rattle.r2d2_core.specs.Limits.{seen_limits};
-    ghost use Rattle.r2d2_core.specs.Connections.{since_of, birth_in};
-    ghost use Rattle.r2d2_core.specs.Lending.{next_to_lend};
-    ghost use Rattle.r2d2_core.specs.Table.{first_picture};
+    ghost use Rattle.pool_machine.specs.Picture.{HoldsNothing};
+    ghost use Rattle.pool_machine.specs.Limits.{seen_limits};
+    ghost use Rattle.pool_machine.specs.Connections.{since_of, birth_in};
+    ghost use Rattle.pool_machine.specs.Lending.{next_to_lend};
+    ghost use Rattle.pool_machine.specs.Table.{first_picture};
     ghost use Rattle.r2d2_core.specs.Journal.{first_journal, CountsTakes};
     ghost use Rattle.r2d2_core.specs.Book.{seen_book, HasFacts};
     ghost use Rattle.r2d2_core.specs.Reports.{seen_base, IsReportOf, IsSoundReport};
 
     /// A book of a core whose ids are counted from 0, made at the moment `now`, that keeps the
-    /// newest records, `room` of them at most. The error comes only where its memory is refused.
+    /// newest records, `room` of them at most. The error comes only if its memory is refused.
     pub fn new(
         alloc: A,
         limits: Limits,
@@ -171,7 +171,7 @@ impl<T, A: Allocator> Book<T, A> {
         self.machine.limits()
     }
 
-    /// How many takes found a connection since the making; it stops at `u64::MAX`.
+    /// How many takes found a connection since the creation; it stops at `u64::MAX`.
     pub fn takes(&self) -> u64
         ensures value { result ≡ self.now.journal.takes }
         ensures counted { CountsTakes self.now.journal }
@@ -181,8 +181,8 @@ impl<T, A: Allocator> Book<T, A> {
     }
 
     /// What the book shows now, and its records, in memory of the book's own allocator. The error
-    /// comes only where that is refused; then nothing changes, and the next report that finds
-    /// memory answers the same.
+    /// comes only if that is refused; then nothing changes, and the next report that finds memory
+    /// returns the same.
     pub fn report(&self) -> Result<Report<A>, AllocError>
     where
         A: Copy,
@@ -267,7 +267,7 @@ impl<T, A: Allocator> Book<T, A> {
         self.machine.number(tries)
     }
 
-    /// As `Core::admit`. It is noted where it is accepted.
+    /// As `Core::admit`. It is noted if it is accepted.
     pub fn admit(&mut self, now: Duration, id: u64, value: T) -> Result<(), (Refusal, T)>
         ensures { IsAdmission now id value result self.old self.new }
     {
@@ -289,7 +289,7 @@ impl<T, A: Allocator> Book<T, A> {
         self.machine.fail(now, tries, text)
     }
 
-    /// As `Core::fail_check`. It is noted where it is accepted.
+    /// As `Core::fail_check`. It is noted if it is accepted.
     pub fn fail_check(
         &mut self,
         now: Duration,
@@ -304,7 +304,7 @@ impl<T, A: Allocator> Book<T, A> {
         answer
     }
 
-    /// As `Core::put_back`. It is noted where it is accepted.
+    /// As `Core::put_back`. It is noted if it is accepted.
     #[inline(always)]
     pub fn put_back(
         &mut self,
@@ -321,7 +321,7 @@ impl<T, A: Allocator> Book<T, A> {
         answer
     }
 
-    /// As `Core::reap`. It is noted where it closed or ordered.
+    /// As `Core::reap`. It is noted if it closed or ordered.
     pub fn reap(&mut self, now: Duration, out: &mut Vec<Released<T>>) -> u32
         requires empty { vec_len out.old ≡ 0 }
         requires room { self.old.picture.on_order.limits.max_size ≤ vec_capacity out.old }

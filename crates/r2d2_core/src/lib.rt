@@ -1,8 +1,8 @@
 //! The core of a generic connection pool: which connections are idle, lent or on order, and what
-//! each step does to them. It uses no thread, lock or atomic, and takes memory only where it is
+//! each step does to them. It uses no thread, lock or atomic, and takes memory only when it is
 //! made.
 //!
-//! You tell a [`Core`] what happened, and when; it answers what to do. Opening, checking and
+//! You report to a [`Core`] what happened, and when; it returns what to do. Opening, checking and
 //! closing connections is yours.
 //!
 //! ```rust

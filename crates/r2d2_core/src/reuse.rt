@@ -6,8 +6,8 @@ ghost use Rattle.std.specs.Duration.{as_nanos};
 ghost use Rattle.r2d2_core.specs.Reuse.{IsSorted, moment_in, picked, after_pick, newest_list};
 ghost use Rattle.r2d2_core.specs.Reuse.{oldest_list, other_list, raised_now, expired, IsBetween};
 ghost use Rattle.r2d2_core.specs.Reuse.{order_after, other_after};
-ghost use Rattle.r2d2_core.specs.declared.schedule.limits.LendingOrder.TheVariants.{NewestFirst};
-ghost use Rattle.r2d2_core.specs.declared.schedule.limits.LendingOrder.TheVariants.{OldestFirst};
+ghost use Rattle.pool_machine.specs.declared.schedule.limits.LendingOrder.TheVariants.{NewestFirst};
+ghost use Rattle.pool_machine.specs.declared.schedule.limits.LendingOrder.TheVariants.{OldestFirst};
 
 use std::alloc::{AllocError, Global};
 use std::marker::Model;
@@ -25,11 +25,11 @@ pub enum Move {
 /// How many connections are expired in the end.
 #[derive(Clone, Copy, PartialEq, Eq, Debug)]
 pub struct Comparison {
-    /// Where each take lends the newest one.
+    /// If each take lends the newest one.
     pub newest_first: usize,
-    /// Where each take lends the oldest one.
+    /// If each take lends the oldest one.
     pub oldest_first: usize,
-    /// Where each take lends the one that a pick names.
+    /// If each take lends the one that a pick names.
     pub other: usize,
 }
 

@@ -7,16 +7,16 @@ use Rattle.std.specs.Duration.{as_nanos}
 use Rattle.std.specs.declared.time.Duration.{Duration}
 use Rattle.std.proofs.lemmas.List.{map-id}
 use Rattle.std.proofs.lemmas.Bool.{eq-eqb, ne_eqb}
-use Rattle.r2d2_core.specs.declared.run.Step.TheVariants as step
-use Rattle.r2d2_core.specs.declared.machine.answers.Refusal.{Refusal}
-use Rattle.r2d2_core.specs.declared.machine.answers.Refusal.TheVariants as refusal
-use Rattle.r2d2_core.specs.Ids.{found, without, same_id, copies_of}
-use Rattle.r2d2_core.specs.Connections.{id_of_idle, id_of_lent}
-use Rattle.r2d2_core.specs.Refusals.{refused_if, ok_or_back, unless_refused}
-use Rattle.r2d2_core.specs.Seen.{Admitted}
-use Rattle.r2d2_core.specs.OnOrder.{admit_refusal}
-use Rattle.r2d2_core.specs.Picture.{IsSound}
-use Rattle.r2d2_core.specs.Table.{admitted_at, admit_answer, after_admit}
+use Rattle.pool_machine.specs.declared.step.Step.TheVariants as step
+use Rattle.pool_machine.specs.declared.machine.answers.Refusal.{Refusal}
+use Rattle.pool_machine.specs.declared.machine.answers.Refusal.TheVariants as refusal
+use Rattle.pool_machine.specs.Ids.{found, without, same_id, copies_of}
+use Rattle.pool_machine.specs.Connections.{id_of_idle, id_of_lent}
+use Rattle.pool_machine.specs.Refusals.{refused_if, ok_or_back, unless_refused}
+use Rattle.pool_machine.specs.Seen.{Admitted}
+use Rattle.pool_machine.specs.OnOrder.{admit_refusal}
+use Rattle.pool_machine.specs.Picture.{IsSound}
+use Rattle.pool_machine.specs.Table.{admitted_at, admit_answer, after_admit}
 use Rattle.r2d2_core.specs.History.{History, Then, now_of, is_closed}
 use Rattle.r2d2_core.specs.Deeds.{idle_of, lent_of, connections_of, admitted_count}
 use Rattle.r2d2_core.proofs.Histories.Kept.{gone_count}
@@ -24,13 +24,13 @@ use Rattle.r2d2_core.specs.Pending.{ordered_of, pending_of, ids_of, is_admitted,
 use Rattle.r2d2_core.specs.Answers.{refusal_of, picture_of}
 use Rattle.r2d2_core.proofs.Histories.Kept.{IsKept, Follows}
 use Rattle.r2d2_core.proofs.Histories.Counts.{more_admitted, none_gone}
-use Rattle.r2d2_core.proofs.Lists.Ids.{copies_of-append3, copies_of-without}
-use Rattle.r2d2_core.proofs.Lists.Filters.{filter-once, filter-both}
+use Rattle.pool_machine.proofs.Lists.Ids.{copies_of-append3, copies_of-without}
+use Rattle.pool_machine.proofs.Lists.Filters.{filter-once, filter-both}
 use Rattle.r2d2_core.proofs.Histories.Comings.{idle_of-admitted, lent_of-admitted}
-use Rattle.r2d2_core.proofs.Facts.Accounted.{found_numbered}
+use Rattle.pool_machine.proofs.Facts.Accounted.{found_numbered}
 use Rattle.r2d2_core.proofs.Histories.Orders.{same_on_order, picture_of-is, in_work_of-same}
 use Rattle.r2d2_core.proofs.Histories.Following.{follows_accepted, follows_refused}
-use Rattle.r2d2_core.proofs.Facts.Sounds.{sound_admit}
+use Rattle.pool_machine.proofs.Facts.Sounds.{sound_admit}
 
 some_step : {X : Type 0} (b rest : Bool) (x : X) (o : Option X) → is_some o ≡ rest → is_some (cond b (Some x) o) ≡ (b || rest)
 some_step true rest x o e = refl

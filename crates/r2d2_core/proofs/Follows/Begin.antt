@@ -4,14 +4,14 @@ use Rattle.std.specs.Prelude.{◌==◌, ◌&&◌, not}
 use Rattle.std.specs.Duration.{as_nanos}
 use Rattle.std.specs.declared.time.Duration.{Duration}
 use Rattle.std.proofs.lemmas.Bool.{ne_eqb}
-use Rattle.r2d2_core.specs.declared.run.Step.TheVariants as step
-use Rattle.r2d2_core.specs.Limits.{later_by, has_reaps}
-use Rattle.r2d2_core.specs.Jobs.{SeenJob, Open, Reap, Wait, Nothing, Closed, first_job}
-use Rattle.r2d2_core.specs.Schedule.{next_by}
-use Rattle.r2d2_core.specs.Seen.{Begun}
-use Rattle.r2d2_core.specs.OnOrder.{begun_by}
-use Rattle.r2d2_core.specs.Picture.{IsSound}
-use Rattle.r2d2_core.specs.Table.{raised_to, with_on_order, begin_answer, after_begin}
+use Rattle.pool_machine.specs.declared.step.Step.TheVariants as step
+use Rattle.pool_machine.specs.Limits.{later_by, has_reaps}
+use Rattle.pool_machine.specs.Jobs.{SeenJob, Open, Reap, Wait, Nothing, Closed, first_job}
+use Rattle.pool_machine.specs.Schedule.{next_by}
+use Rattle.pool_machine.specs.Seen.{Begun}
+use Rattle.pool_machine.specs.OnOrder.{begun_by}
+use Rattle.pool_machine.specs.Picture.{IsSound}
+use Rattle.pool_machine.specs.Table.{raised_to, with_on_order, begin_answer, after_begin}
 use Rattle.r2d2_core.specs.History.{History, Then, limits_of, start_of, is_closed, moment_of}
 use Rattle.r2d2_core.specs.Deeds.{admitted_count}
 use Rattle.r2d2_core.proofs.Histories.Kept.{gone_count}
@@ -20,12 +20,12 @@ use Rattle.r2d2_core.specs.Answers.{picture_of}
 use Rattle.r2d2_core.proofs.Histories.Kept.{IsKept, Follows}
 use Rattle.r2d2_core.proofs.Histories.Counts.{none_admitted, none_gone, connections_of-same}
 use Rattle.r2d2_core.proofs.Histories.Deeds.{idle_of-none, lent_of-none}
-use Rattle.r2d2_core.proofs.Facts.Accounted.{begins_within}
+use Rattle.pool_machine.proofs.Facts.Accounted.{begins_within}
 use Rattle.r2d2_core.proofs.Histories.InWork.{in_work_of-one_more}
 use Rattle.r2d2_core.proofs.Histories.Orders.{IsOrdering, same_on_order, picture_of-is, picture_of-unordered, pending_of-same, in_work_of-same}
 use Rattle.r2d2_core.proofs.Histories.Orders.{next_reap_of-same, kept_ordered}
 use Rattle.r2d2_core.proofs.Histories.Following.{follows_accepted}
-use Rattle.r2d2_core.proofs.Facts.Sounds.{sound_begin}
+use Rattle.pool_machine.proofs.Facts.Sounds.{sound_begin}
 
 -- the next reap is one more length after the making
 next_by-later : (start every n : ℕ) → later_by (later_by start (every * (1 + n))) every ≡ later_by start (every * (1 + (n + 1)))

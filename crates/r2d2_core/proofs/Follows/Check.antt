@@ -2,27 +2,27 @@
 use Rattle.std.proofs.Common.{◌≡◌, ℕ, ◌-◌, max, true, not, length, Option, Some, None, Ok, String, Global, refl, sym, ◌∙◌, ap, subst, arith}
 use Rattle.std.specs.Duration.{as_nanos}
 use Rattle.std.specs.declared.time.Duration.{Duration}
-use Rattle.r2d2_core.specs.declared.run.Step.{Step}
-use Rattle.r2d2_core.specs.declared.run.Step.TheVariants as step
-use Rattle.r2d2_core.specs.declared.machine.answers.Refusal.{Refusal}
-use Rattle.r2d2_core.specs.declared.machine.answers.Refusal.TheVariants as refusal
-use Rattle.r2d2_core.specs.Refusals.{refused_if, ok_unless, unless_refused}
-use Rattle.r2d2_core.specs.Seen.{SeenAnswer, SeenGone, CheckFailed}
-use Rattle.r2d2_core.specs.OnOrder.{top_up_beside}
-use Rattle.r2d2_core.specs.Picture.{Picture, IsSound}
-use Rattle.r2d2_core.specs.Table.{raised_to, ordered, topped_up, lent_refusal, lent_birth, gone_one, with_text, gone_with, check_answer, after_check}
+use Rattle.pool_machine.specs.declared.step.Step.{Step}
+use Rattle.pool_machine.specs.declared.step.Step.TheVariants as step
+use Rattle.pool_machine.specs.declared.machine.answers.Refusal.{Refusal}
+use Rattle.pool_machine.specs.declared.machine.answers.Refusal.TheVariants as refusal
+use Rattle.pool_machine.specs.Refusals.{refused_if, ok_unless, unless_refused}
+use Rattle.pool_machine.specs.Seen.{SeenAnswer, SeenGone, CheckFailed}
+use Rattle.pool_machine.specs.OnOrder.{top_up_beside}
+use Rattle.pool_machine.specs.Picture.{Picture, IsSound}
+use Rattle.pool_machine.specs.Table.{raised_to, ordered, topped_up, lent_refusal, lent_birth, gone_one, with_text, gone_with, check_answer, after_check}
 use Rattle.r2d2_core.specs.History.{History, Then, is_closed, now_of}
 use Rattle.r2d2_core.specs.Deeds.{Gone, birth_of, idle_of, connections_of}
 use Rattle.r2d2_core.specs.Pending.{on_order_of}
 use Rattle.r2d2_core.specs.Answers.{refusal_of, is_lent, orders_of, picture_of}
 use Rattle.r2d2_core.proofs.Histories.Kept.{IsKept, Follows}
 use Rattle.r2d2_core.proofs.Histories.Counts.{more_gone, none_admitted, connections_of-less}
-use Rattle.r2d2_core.proofs.Facts.Accounted.{passes, not_false}
+use Rattle.pool_machine.proofs.Facts.Accounted.{passes, not_false}
 use Rattle.r2d2_core.proofs.Histories.GoingOnes.{apart_in}
 use Rattle.r2d2_core.proofs.Histories.LentOnes.{lent_birth-is, lent_refusal-is, lent_of-back, idle_of-lost, lent_is_connected}
 use Rattle.r2d2_core.proofs.Histories.Orders.{IsOrdering, orders_if_closed, orders_of-top_up, picture_of-ordered, kept_ordered}
 use Rattle.r2d2_core.proofs.Histories.Following.{follows_accepted, follows_refused}
-use Rattle.r2d2_core.proofs.Facts.Sounds.{sound_check}
+use Rattle.pool_machine.proofs.Facts.Sounds.{sound_check}
 
 module _ {T : Type 0} where
   abbrev checking : Duration → ℕ → Option (String Global) → Step T

@@ -3,24 +3,24 @@ use Rattle.std.proofs.Common.{◌≡◌, ℕ, zero, suc, ◌+◌, ◌-◌, true,
 use Rattle.std.specs.Prelude.{filter, replicate, ◌*◌, ◌&&◌, if◌then◌else◌, Some}
 use Rattle.std.specs.List.{range_with_len}
 use Rattle.std.specs.Duration.{as_nanos}
-use Rattle.r2d2_core.specs.declared.run.Step.TheVariants as step
-use Rattle.r2d2_core.specs.Limits.{later_by, has_reaps}
-use Rattle.r2d2_core.specs.Connections.{SeenIdleConnection, SeenLentConnection, id_of_idle, pair_of}
-use Rattle.r2d2_core.specs.OnOrder.{emptied}
-use Rattle.r2d2_core.proofs.Facts.Accounted.{IsEmpty, empty_once_closed}
-use Rattle.r2d2_core.specs.Picture.{Picture, IsSound}
-use Rattle.r2d2_core.specs.Table.{close_answer, after_close}
-use Rattle.r2d2_core.specs.Seen.{SeenAnswer, Close}
+use Rattle.pool_machine.specs.declared.step.Step.TheVariants as step
+use Rattle.pool_machine.specs.Limits.{later_by, has_reaps}
+use Rattle.pool_machine.specs.Connections.{SeenIdleConnection, SeenLentConnection, id_of_idle, pair_of}
+use Rattle.pool_machine.specs.OnOrder.{emptied}
+use Rattle.pool_machine.proofs.Facts.Accounted.{IsEmpty, empty_once_closed}
+use Rattle.pool_machine.specs.Picture.{Picture, IsSound}
+use Rattle.pool_machine.specs.Table.{close_answer, after_close}
+use Rattle.pool_machine.specs.Seen.{SeenAnswer, Close}
 use Rattle.r2d2_core.specs.History.{History, Then, limits_of, start_of, now_of, is_closed, moment_of}
 use Rattle.r2d2_core.specs.Deeds.{deeds_in, idle_of, lent_of, connections_of}
 use Rattle.r2d2_core.specs.Pending.{pending_of, in_work_of, in_work_at, numbered_of, reaps_of, next_reap_of, next_id_of, on_order_of}
 use Rattle.r2d2_core.specs.Answers.{picture_of}
 use Rattle.r2d2_core.proofs.Histories.Kept.{IsKept, Follows}
 use Rattle.r2d2_core.proofs.Histories.Counts.{come_in, gone_in, step_deeds, more_gone, none_admitted, connections_of-less, going_come, going_go}
-use Rattle.r2d2_core.proofs.Lists.Filters.{filter_true}
+use Rattle.pool_machine.proofs.Lists.Filters.{filter_true}
 use Rattle.r2d2_core.proofs.Histories.GoingOnes.{apart_in, pairs_go, going_deeds, idle_of-going, lent_of-going, admitted_are}
 use Rattle.r2d2_core.proofs.Histories.Orders.{same_on_order, same_picture}
-use Rattle.r2d2_core.proofs.Facts.Sounds.{sound_close}
+use Rattle.pool_machine.proofs.Facts.Sounds.{sound_close}
 
 none_pass : {X : Type 0} (xs : List X) → filter (λ x. false) xs ≡ []
 none_pass [] = refl

@@ -2,16 +2,16 @@
 use Rattle.std.proofs.Common.{◌≡◌, ℕ, ◌+◌, max, true, false, not, Option, Some, None, Ok, String, Global, refl, sym, ◌∙◌, ap, subst, arith}
 use Rattle.std.specs.Duration.{as_nanos}
 use Rattle.std.specs.declared.time.Duration.{Duration}
-use Rattle.r2d2_core.specs.declared.run.Step.{Step}
-use Rattle.r2d2_core.specs.declared.run.Step.TheVariants as step
-use Rattle.r2d2_core.specs.declared.machine.answers.Refusal.{Refusal}
-use Rattle.r2d2_core.specs.declared.machine.answers.Refusal.TheVariants as refusal
-use Rattle.r2d2_core.specs.Limits.{later_by, delay_of}
-use Rattle.r2d2_core.specs.Refusals.{refused_if, ok_unless, unless_refused}
-use Rattle.r2d2_core.specs.Seen.{SeenAnswer, Failed}
-use Rattle.r2d2_core.specs.OnOrder.{fail_refusal, failed_one}
-use Rattle.r2d2_core.specs.Picture.{Picture, IsSound}
-use Rattle.r2d2_core.specs.Table.{fail_answer, failed, after_fail}
+use Rattle.pool_machine.specs.declared.step.Step.{Step}
+use Rattle.pool_machine.specs.declared.step.Step.TheVariants as step
+use Rattle.pool_machine.specs.declared.machine.answers.Refusal.{Refusal}
+use Rattle.pool_machine.specs.declared.machine.answers.Refusal.TheVariants as refusal
+use Rattle.pool_machine.specs.Limits.{later_by, delay_of}
+use Rattle.pool_machine.specs.Refusals.{refused_if, ok_unless, unless_refused}
+use Rattle.pool_machine.specs.Seen.{SeenAnswer, Failed}
+use Rattle.pool_machine.specs.OnOrder.{fail_refusal, failed_one}
+use Rattle.pool_machine.specs.Picture.{Picture, IsSound}
+use Rattle.pool_machine.specs.Table.{fail_answer, failed, after_fail}
 use Rattle.r2d2_core.specs.History.{History, Then, is_closed, now_of, limits_of}
 use Rattle.r2d2_core.specs.Deeds.{admitted_count}
 use Rattle.r2d2_core.proofs.Histories.Kept.{gone_count}
@@ -21,10 +21,10 @@ use Rattle.r2d2_core.proofs.Histories.Kept.{IsKept, Follows}
 use Rattle.r2d2_core.proofs.Histories.Counts.{none_admitted, none_gone, connections_of-same}
 use Rattle.r2d2_core.proofs.Histories.Deeds.{idle_of-none, lent_of-none}
 use Rattle.r2d2_core.proofs.Histories.InWork.{in_work_of-one_less, is_in_work-on_order, ended_fits}
-use Rattle.r2d2_core.proofs.Facts.Accounted.{passes, not_false}
+use Rattle.pool_machine.proofs.Facts.Accounted.{passes, not_false}
 use Rattle.r2d2_core.proofs.Histories.Orders.{same_on_order, picture_of-is, pending_of-same}
 use Rattle.r2d2_core.proofs.Histories.Following.{follows_accepted, follows_refused}
-use Rattle.r2d2_core.proofs.Facts.Sounds.{sound_fail}
+use Rattle.pool_machine.proofs.Facts.Sounds.{sound_fail}
 
 module _ {T : Type 0} where
   -- when it is due again

@@ -5,25 +5,25 @@ use Rattle.std.specs.Prelude.{filter, ◌==◌, not}
 use Rattle.std.proofs.lemmas.List.{length_push}
 use Rattle.std.proofs.lemmas.List.Elements.{filter-append}
 use Rattle.std.proofs.lemmas.Bool.{eqb-true}
-use Rattle.r2d2_core.specs.declared.run.Step.TheVariants as step
-use Rattle.r2d2_core.specs.declared.machine.answers.Refusal.{Refusal}
-use Rattle.r2d2_core.specs.declared.machine.answers.Refusal.TheVariants as refusal
-use Rattle.r2d2_core.specs.Refusals.{refused_if, ok_unless, unless_refused}
-use Rattle.r2d2_core.specs.Seen.{Numbered}
-use Rattle.r2d2_core.specs.OnOrder.{number_refusal, numbered_one}
-use Rattle.r2d2_core.specs.Picture.{IsSound}
-use Rattle.r2d2_core.specs.Table.{with_on_order, number_answer, after_number}
+use Rattle.pool_machine.specs.declared.step.Step.TheVariants as step
+use Rattle.pool_machine.specs.declared.machine.answers.Refusal.{Refusal}
+use Rattle.pool_machine.specs.declared.machine.answers.Refusal.TheVariants as refusal
+use Rattle.pool_machine.specs.Refusals.{refused_if, ok_unless, unless_refused}
+use Rattle.pool_machine.specs.Seen.{Numbered}
+use Rattle.pool_machine.specs.OnOrder.{number_refusal, numbered_one}
+use Rattle.pool_machine.specs.Picture.{IsSound}
+use Rattle.pool_machine.specs.Table.{with_on_order, number_answer, after_number}
 use Rattle.r2d2_core.specs.History.{History, Then, is_closed}
 use Rattle.r2d2_core.specs.Pending.{begun_of, ended_of, in_work_at, ids_of, is_admitted, numbered_of, next_id_of, next_reap_of, on_order_of}
 use Rattle.r2d2_core.specs.Answers.{refusal_of, picture_of}
 use Rattle.r2d2_core.proofs.Histories.Kept.{IsKept, Follows}
 use Rattle.r2d2_core.proofs.Histories.Counts.{none_admitted, none_gone, connections_of-same}
 use Rattle.r2d2_core.proofs.Histories.Deeds.{idle_of-none, lent_of-none}
-use Rattle.r2d2_core.proofs.Facts.Accounted.{found_in_work}
+use Rattle.pool_machine.proofs.Facts.Accounted.{found_in_work}
 use Rattle.r2d2_core.proofs.Histories.InWork.{slice_index-in_work_of, in_work_of-one_less, is_in_work-on_order}
 use Rattle.r2d2_core.proofs.Histories.Orders.{same_on_order, picture_of-is, pending_of-same}
 use Rattle.r2d2_core.proofs.Histories.Following.{follows_accepted, follows_refused}
-use Rattle.r2d2_core.proofs.Facts.Sounds.{sound_number}
+use Rattle.pool_machine.proofs.Facts.Sounds.{sound_number}
 
 -- the next id awaits its admission
 numbered_more : (closed admitted : Bool) (xs ys : List ℕ) (i : ℕ) → closed ≡ false → admitted ≡ false

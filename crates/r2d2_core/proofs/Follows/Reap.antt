@@ -3,11 +3,11 @@ use Rattle.std.proofs.Common.{◌≡◌, ℕ, ◌-◌, ◌≤◌, max, true, Lis
 use Rattle.std.specs.Prelude.{filter}
 use Rattle.std.specs.Duration.{as_nanos}
 use Rattle.std.specs.declared.time.Duration.{Duration}
-use Rattle.r2d2_core.specs.declared.run.Step.TheVariants as step
-use Rattle.r2d2_core.specs.Connections.{SeenIdleConnection, id_of_idle, is_expired, is_kept, closed_of}
-use Rattle.r2d2_core.specs.Picture.{IsSound}
-use Rattle.r2d2_core.specs.Table.{raised_to, ordered, swept, reap_closed, reap_orders, after_reap}
-use Rattle.r2d2_core.specs.Seen.{SeenAnswer, Reaped}
+use Rattle.pool_machine.specs.declared.step.Step.TheVariants as step
+use Rattle.pool_machine.specs.Connections.{SeenIdleConnection, id_of_idle, is_expired, is_kept, closed_of}
+use Rattle.pool_machine.specs.Picture.{IsSound}
+use Rattle.pool_machine.specs.Table.{raised_to, ordered, swept, reap_closed, reap_orders, after_reap}
+use Rattle.pool_machine.specs.Seen.{SeenAnswer, Reaped}
 use Rattle.r2d2_core.specs.History.{History, Then, limits_of, now_of, is_closed, moment_of}
 use Rattle.r2d2_core.specs.Deeds.{deeds_in, idle_of, lent_of, admitted_count, connections_of}
 use Rattle.r2d2_core.proofs.Histories.Kept.{gone_count}
@@ -19,7 +19,7 @@ use Rattle.std.proofs.lemmas.List.Filters.{length-filter_both}
 use Rattle.r2d2_core.proofs.Histories.GoingOnes.{apart_in, closings_go, going_deeds, idle_of-going, lent_of-going, admitted_are}
 use Rattle.r2d2_core.proofs.Histories.Orders.{IsOrdering, orders_if_closed, orders_of-top_up, picture_of-ordered, kept_ordered}
 use Rattle.r2d2_core.proofs.Histories.Following.{follows_accepted}
-use Rattle.r2d2_core.proofs.Facts.Sounds.{sound_reap}
+use Rattle.pool_machine.proofs.Facts.Sounds.{sound_reap}
 
 module _ {T : Type 0} where
   -- the moment of a reap, raised to the latest

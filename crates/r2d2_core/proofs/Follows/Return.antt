@@ -2,16 +2,16 @@
 use Rattle.std.proofs.Common.{◌≡◌, ℕ, ◌-◌, ◌≤◌, max, Bool, true, false, not, cond, length, Option, Some, None, Ok, refl, sym, ◌∙◌, ap, subst, arith}
 use Rattle.std.specs.Duration.{as_nanos}
 use Rattle.std.specs.declared.time.Duration.{Duration}
-use Rattle.r2d2_core.specs.declared.run.Step.{Step}
-use Rattle.r2d2_core.specs.declared.run.Step.TheVariants as step
-use Rattle.r2d2_core.specs.declared.machine.answers.Refusal.{Refusal}
-use Rattle.r2d2_core.specs.declared.machine.answers.Refusal.TheVariants as refusal
-use Rattle.r2d2_core.specs.Refusals.{refused_if, ok_or_back, unless_refused}
-use Rattle.r2d2_core.specs.Seen.{SeenAnswer, SeenReturned, Kept, Closed, PutBack}
-use Rattle.r2d2_core.specs.OnOrder.{top_up_beside}
-use Rattle.r2d2_core.specs.Picture.{Picture, IsSound}
-use Rattle.r2d2_core.specs.Table.{raised_to, ordered, lent_refusal, lent_birth, kept_one, gone_one, return_by, returned_by, return_of, returned, return_answer}
-use Rattle.r2d2_core.specs.Table.{after_return}
+use Rattle.pool_machine.specs.declared.step.Step.{Step}
+use Rattle.pool_machine.specs.declared.step.Step.TheVariants as step
+use Rattle.pool_machine.specs.declared.machine.answers.Refusal.{Refusal}
+use Rattle.pool_machine.specs.declared.machine.answers.Refusal.TheVariants as refusal
+use Rattle.pool_machine.specs.Refusals.{refused_if, ok_or_back, unless_refused}
+use Rattle.pool_machine.specs.Seen.{SeenAnswer, SeenReturned, Kept, Closed, PutBack}
+use Rattle.pool_machine.specs.OnOrder.{top_up_beside}
+use Rattle.pool_machine.specs.Picture.{Picture, IsSound}
+use Rattle.pool_machine.specs.Table.{raised_to, ordered, lent_refusal, lent_birth, kept_one, gone_one, return_by, returned_by, return_of, returned, return_answer}
+use Rattle.pool_machine.specs.Table.{after_return}
 use Rattle.r2d2_core.specs.History.{History, Then, is_closed, now_of}
 use Rattle.r2d2_core.specs.Deeds.{Gone, Kept as KeptDeed, birth_of, idle_of, connections_of, admitted_count}
 use Rattle.r2d2_core.proofs.Histories.Kept.{gone_count}
@@ -19,12 +19,12 @@ use Rattle.r2d2_core.specs.Pending.{on_order_of}
 use Rattle.r2d2_core.specs.Answers.{refusal_of, is_lent, closes, orders_of, orders_by, top_up_after, picture_of}
 use Rattle.r2d2_core.proofs.Histories.Kept.{IsKept, Follows}
 use Rattle.r2d2_core.proofs.Histories.Counts.{come_in, step_deeds, more_gone, none_admitted, none_gone, connections_of-same, connections_of-less}
-use Rattle.r2d2_core.proofs.Facts.Accounted.{passes, not_false}
+use Rattle.pool_machine.proofs.Facts.Accounted.{passes, not_false}
 use Rattle.r2d2_core.proofs.Histories.GoingOnes.{apart_in}
 use Rattle.r2d2_core.proofs.Histories.LentOnes.{lent_birth-is, lent_refusal-is, lent_of-back, idle_of-lost, idle_of-kept, lent_is_connected}
 use Rattle.r2d2_core.proofs.Histories.Orders.{IsOrdering, accepted_with, orders_if_closed, orders_of-accepted, orders_of-top_up, picture_of-ordered, picture_of-unordered, kept_ordered}
 use Rattle.r2d2_core.proofs.Histories.Following.{follows_accepted, follows_refused}
-use Rattle.r2d2_core.proofs.Facts.Sounds.{sound_return}
+use Rattle.pool_machine.proofs.Facts.Sounds.{sound_return}
 
 none_ordered : (closed : Bool) → ◌≡◌ {A = ℕ} (cond closed 0 0) 0
 none_ordered true = refl

@@ -2,15 +2,15 @@
 use Rattle.std.proofs.Common.{◌≡◌, ℕ, zero, suc, ◌*◌, ◌/◌, ◌%◌, min, true, false, List, [], ◌∷◌, ◌++◌, length, replicate, Option, Some, None, option_map, Ok}
 use Rattle.std.proofs.Common.{Err, String, string_bytes, Global, refl}
 use Rattle.std.specs.declared.time.Duration.{Duration}
-use Rattle.r2d2_core.specs.declared.run.Step.{Step}
-use Rattle.r2d2_core.specs.declared.run.Step.TheVariants as step
-use Rattle.r2d2_core.specs.declared.machine.answers.Refusal.TheVariants as refusal
-use Rattle.r2d2_core.specs.declared.schedule.limits.LimitSettings.{LimitSettings}
-use Rattle.r2d2_core.specs.Limits.{settings, delay_of}
-use Rattle.r2d2_core.specs.Openings.{opening, is_before}
-use Rattle.r2d2_core.specs.Jobs.{Open, Reap, Wait, Nothing, Closed as JobClosed}
-use Rattle.r2d2_core.specs.Connections.{SeenReleased, lent_connection, is_expired, is_kept, released_at}
-use Rattle.r2d2_core.specs.Seen.{SeenAnswer, Taken, Found, Empty, Begun, Numbered, Admitted, Failed, CheckFailed, PutBack, Kept, Closed, Reaped, TakeError, Close}
+use Rattle.pool_machine.specs.declared.step.Step.{Step}
+use Rattle.pool_machine.specs.declared.step.Step.TheVariants as step
+use Rattle.pool_machine.specs.declared.machine.answers.Refusal.TheVariants as refusal
+use Rattle.pool_machine.specs.declared.schedule.limits.LimitSettings.{LimitSettings}
+use Rattle.pool_machine.specs.Limits.{settings, delay_of}
+use Rattle.pool_machine.specs.Openings.{opening, is_before}
+use Rattle.pool_machine.specs.Jobs.{Open, Reap, Wait, Nothing, Closed as JobClosed}
+use Rattle.pool_machine.specs.Connections.{SeenReleased, lent_connection, is_expired, is_kept, released_at}
+use Rattle.pool_machine.specs.Seen.{SeenAnswer, Taken, Found, Empty, Begun, Numbered, Admitted, Failed, CheckFailed, PutBack, Kept, Closed, Reaped, TakeError, Close}
 use Rattle.r2d2_core.specs.History.{History, Made, now_of}
 use Rattle.r2d2_core.specs.Deeds.{connections_of, idle_of, lent_of}
 use Rattle.r2d2_core.specs.Pending.{pending_of, in_work_of, in_work_at, numbered_of, next_reap_of, next_id_of, on_order_of}

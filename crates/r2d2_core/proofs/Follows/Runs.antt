@@ -2,9 +2,9 @@
 use Rattle.std.proofs.Common.{◌≡◌, List, [], ◌∷◌, ◌++◌, map, refl, sym, ◌∙◌, ap, subst}
 use Rattle.std.specs.Prelude.{Result, Ok, Err, IfOk, OnOk}
 use Rattle.std.proofs.lemmas.List.{map-append}
-use Rattle.r2d2_core.specs.declared.run.Step.{Step}
-use Rattle.r2d2_core.specs.declared.run.Answer.{Answer}
-use Rattle.r2d2_core.specs.Picture.{Picture, IsSound}
+use Rattle.pool_machine.specs.declared.step.Step.{Step}
+use Rattle.pool_machine.specs.declared.step.Answer.{Answer}
+use Rattle.pool_machine.specs.Picture.{Picture, IsSound}
 use Rattle.r2d2_core.specs.Pending.{on_order_of}
 use Rattle.r2d2_core.specs.History.{History}
 use Rattle.r2d2_core.specs.Answers.{answer_of, after, answers_of, after_all, picture_of, HasSums}
@@ -12,7 +12,8 @@ use Rattle.r2d2_core.specs.Book.{SeenBook, seen_book, bare, HasFacts}
 use Rattle.r2d2_core.specs.Reports.{IsReportOf, IsReportAfter}
 use Rattle.r2d2_core.specs.declared.journal.report.Report.{Report}
 use Rattle.r2d2_core.proofs.Histories.Kept.{IsKept}
-use Rattle.r2d2_core.specs.Steps.{seen_answer, step_answer, after_step, noted_step, book_after}
+use Rattle.pool_machine.specs.Steps.{seen_answer, step_answer, after_step}
+use Rattle.r2d2_core.specs.NotedSteps.{noted_step, book_after}
 use Rattle.r2d2_core.proofs.Follows.Step.{follows_step, follows_there}
 use Rattle.r2d2_core.proofs.Recording.Reporting.{report_comes_to}
 

@@ -1,13 +1,13 @@
 -- A step of any kind follows the history.
 use Rattle.std.proofs.Common.{◌≡◌, ◌∙◌, ap}
-use Rattle.r2d2_core.specs.declared.run.Step.{Step}
-use Rattle.r2d2_core.specs.declared.run.Step.TheVariants as step
-use Rattle.r2d2_core.specs.Picture.{Picture}
-use Rattle.r2d2_core.specs.Seen.{SeenAnswer}
+use Rattle.pool_machine.specs.declared.step.Step.{Step}
+use Rattle.pool_machine.specs.declared.step.Step.TheVariants as step
+use Rattle.pool_machine.specs.Picture.{Picture}
+use Rattle.pool_machine.specs.Seen.{SeenAnswer}
 use Rattle.r2d2_core.specs.History.{History}
 use Rattle.r2d2_core.specs.Answers.{picture_of}
 use Rattle.r2d2_core.proofs.Histories.Kept.{IsKept, Follows}
-use Rattle.r2d2_core.specs.Steps.{step_answer, after_step}
+use Rattle.pool_machine.specs.Steps.{step_answer, after_step}
 use Rattle.r2d2_core.proofs.Follows.Take.{follows_take}
 use Rattle.r2d2_core.proofs.Follows.Begin.{follows_begin}
 use Rattle.r2d2_core.proofs.Follows.Number.{follows_number}

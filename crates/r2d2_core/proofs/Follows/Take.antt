@@ -2,13 +2,13 @@
 use Rattle.std.proofs.Common.{◌≡◌, ℕ, Bool, true, cond, length, Option, Some, None, refl, sym, ◌∙◌, ap, subst, arith}
 use Rattle.std.specs.Duration.{as_nanos}
 use Rattle.std.specs.declared.time.Duration.{Duration}
-use Rattle.r2d2_core.specs.declared.run.Step.TheVariants as step
-use Rattle.r2d2_core.specs.Lending.{next_to_lend, still_idle}
-use Rattle.r2d2_core.specs.Connections.{SeenIdleConnection}
-use Rattle.r2d2_core.specs.Seen.{Taken, Found, Empty}
-use Rattle.r2d2_core.specs.Picture.{IsSound}
-use Rattle.r2d2_core.specs.Table.{raised_to, ordered, lent_out, take_orders, taken, take_answer, after_take}
-use Rattle.r2d2_core.specs.Seen.{take_with}
+use Rattle.pool_machine.specs.declared.step.Step.TheVariants as step
+use Rattle.pool_machine.specs.Lending.{next_to_lend, still_idle}
+use Rattle.pool_machine.specs.Connections.{SeenIdleConnection}
+use Rattle.pool_machine.specs.Seen.{Taken, Found, Empty}
+use Rattle.pool_machine.specs.Picture.{IsSound}
+use Rattle.pool_machine.specs.Table.{raised_to, ordered, lent_out, take_orders, taken, take_answer, after_take}
+use Rattle.pool_machine.specs.Seen.{take_with}
 use Rattle.r2d2_core.specs.History.{History, Then, limits_of, is_closed}
 use Rattle.r2d2_core.specs.Deeds.{idle_of, connections_of}
 use Rattle.r2d2_core.proofs.Histories.Kept.{gone_count}
@@ -21,7 +21,7 @@ use Rattle.r2d2_core.proofs.Histories.GoingOnes.{apart_in}
 use Rattle.r2d2_core.proofs.Histories.Comings.{idle_of-found, lent_of-found}
 use Rattle.r2d2_core.proofs.Histories.Orders.{IsOrdering, orders_if_closed, orders_of-top_up, picture_of-ordered, kept_ordered}
 use Rattle.r2d2_core.proofs.Histories.Following.{follows_accepted}
-use Rattle.r2d2_core.proofs.Facts.Sounds.{sound_take}
+use Rattle.pool_machine.proofs.Facts.Sounds.{sound_take}
 
 module _ {T : Type 0} where
   -- none come by a take, and none go

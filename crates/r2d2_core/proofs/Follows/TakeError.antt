@@ -1,9 +1,9 @@
 -- A taking of the last error follows the history.
 use Rattle.std.proofs.Common.{◌≡◌, refl, sym, subst, arith}
-use Rattle.r2d2_core.specs.declared.run.Step.TheVariants as step
-use Rattle.r2d2_core.specs.Seen.{SeenAnswer, TakeError}
-use Rattle.r2d2_core.specs.Picture.{IsSound}
-use Rattle.r2d2_core.specs.Table.{after_take_error}
+use Rattle.pool_machine.specs.declared.step.Step.TheVariants as step
+use Rattle.pool_machine.specs.Seen.{SeenAnswer, TakeError}
+use Rattle.pool_machine.specs.Picture.{IsSound}
+use Rattle.pool_machine.specs.Table.{after_take_error}
 use Rattle.r2d2_core.specs.History.{History, Then}
 use Rattle.r2d2_core.specs.Answers.{last_error_of, picture_of}
 use Rattle.r2d2_core.proofs.Histories.Kept.{IsKept, Follows}
@@ -11,7 +11,7 @@ use Rattle.r2d2_core.proofs.Histories.Counts.{none_admitted, none_gone, connecti
 use Rattle.r2d2_core.proofs.Histories.Deeds.{idle_of-none, lent_of-none}
 use Rattle.r2d2_core.proofs.Histories.Orders.{IsOrdering, picture_of-unordered, kept_ordered}
 use Rattle.r2d2_core.proofs.Histories.Following.{follows_accepted}
-use Rattle.r2d2_core.proofs.Facts.Sounds.{sound_take_error}
+use Rattle.pool_machine.proofs.Facts.Sounds.{sound_take_error}
 
 module _ {T : Type 0} where
   ordering_take_error : (h : History T) → IsOrdering h step.TakeError (TakeError (last_error_of h))

@@ -3,11 +3,11 @@ use Rattle.std.proofs.Common.{◌≡◌, ℕ, List, [], ◌∷◌, Option, Some,
 use Rattle.std.specs.Prelude.{filter_map}
 use Rattle.std.specs.List.{AllByRecursion}
 use Rattle.std.specs.Option.{MatchOption}
-use Rattle.r2d2_core.specs.declared.schedule.limits.LendingOrder.{LendingOrder}
-use Rattle.r2d2_core.specs.declared.schedule.limits.LendingOrder.TheVariants as lending
-use Rattle.r2d2_core.specs.Ids.{latest, last_of}
-use Rattle.r2d2_core.specs.Lending.{next_to_lend}
-use Rattle.r2d2_core.specs.Connections.{SeenIdleConnection}
+use Rattle.pool_machine.specs.declared.schedule.limits.LendingOrder.{LendingOrder}
+use Rattle.pool_machine.specs.declared.schedule.limits.LendingOrder.TheVariants as lending
+use Rattle.pool_machine.specs.Ids.{latest, last_of}
+use Rattle.pool_machine.specs.Lending.{next_to_lend}
+use Rattle.pool_machine.specs.Connections.{SeenIdleConnection}
 use Rattle.r2d2_core.specs.History.{History}
 use Rattle.r2d2_core.specs.Deeds.{Deed, Admitted, Taken, Kept, Gone, deeds_of, id_of_deed, birth_of, as_idle, idle_of}
 

@@ -4,18 +4,18 @@ use Rattle.std.specs.Duration.{as_nanos}
 use Rattle.std.specs.declared.time.Duration.{Duration}
 use Rattle.std.proofs.lemmas.List.{append-nil}
 use Rattle.std.proofs.lemmas.Bool.{eq-eqb}
-use Rattle.r2d2_core.specs.declared.run.Step.{Step}
-use Rattle.r2d2_core.specs.declared.run.Step.TheVariants as step
-use Rattle.r2d2_core.specs.Ids.{copies_of}
-use Rattle.r2d2_core.specs.declared.schedule.limits.LendingOrder.{LendingOrder}
-use Rattle.r2d2_core.specs.Lending.{next_to_lend, still_idle}
-use Rattle.r2d2_core.specs.Connections.{SeenIdleConnection, idle_connection, lent_connection, id_of_idle, id_of_lent}
-use Rattle.r2d2_core.specs.Seen.{SeenAnswer}
+use Rattle.pool_machine.specs.declared.step.Step.{Step}
+use Rattle.pool_machine.specs.declared.step.Step.TheVariants as step
+use Rattle.pool_machine.specs.Ids.{copies_of}
+use Rattle.pool_machine.specs.declared.schedule.limits.LendingOrder.{LendingOrder}
+use Rattle.pool_machine.specs.Lending.{next_to_lend, still_idle}
+use Rattle.pool_machine.specs.Connections.{SeenIdleConnection, idle_connection, lent_connection, id_of_idle, id_of_lent}
+use Rattle.pool_machine.specs.Seen.{SeenAnswer}
 use Rattle.r2d2_core.specs.History.{History, Then, now_of, moment_of}
 use Rattle.r2d2_core.specs.Deeds.{Deed, Admitted, Taken, deeds_in, id_of_deed, birth_of, admits, idle_of, lent_of}
-use Rattle.r2d2_core.proofs.Lists.Filters.{filter-absent}
-use Rattle.r2d2_core.proofs.Lists.Lending.{copies_of-next, filter-next}
-use Rattle.r2d2_core.proofs.Facts.Latest.{one_other}
+use Rattle.pool_machine.proofs.Lists.Filters.{filter-absent}
+use Rattle.pool_machine.proofs.Lists.Lending.{copies_of-next, filter-next}
+use Rattle.pool_machine.proofs.Facts.Latest.{one_other}
 use Rattle.r2d2_core.proofs.Histories.Deeds.{AreApart, idle_of-then, lent_of-then}
 use Rattle.r2d2_core.proofs.Histories.Births.{birth_of-next}
 

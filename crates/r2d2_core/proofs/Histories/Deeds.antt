@@ -5,15 +5,15 @@ use Rattle.std.specs.List.{cons_option}
 use Rattle.std.specs.Option.{MatchOption}
 use Rattle.std.proofs.lemmas.List.{append-nil}
 use Rattle.std.proofs.lemmas.List.Elements.{filter_map-append}
-use Rattle.r2d2_core.specs.declared.run.Step.{Step}
-use Rattle.r2d2_core.specs.Ids.{latest, copies_of}
-use Rattle.r2d2_core.specs.Connections.{id_of_idle, id_of_lent, idle_connection, lent_connection}
+use Rattle.pool_machine.specs.declared.step.Step.{Step}
+use Rattle.pool_machine.specs.Ids.{latest, copies_of}
+use Rattle.pool_machine.specs.Connections.{id_of_idle, id_of_lent, idle_connection, lent_connection}
 use Rattle.r2d2_core.specs.History.{History, Then, moment_of}
 use Rattle.r2d2_core.specs.Deeds.{Deed, Admitted, Taken, Kept, Gone, deeds_of, deeds_in, id_of_deed, birth_of, admits, as_idle, as_lent}
 use Rattle.r2d2_core.specs.Deeds.{idle_of, lent_of}
-use Rattle.r2d2_core.specs.Seen.{SeenAnswer}
-use Rattle.r2d2_core.proofs.Lists.Filters.{filter_true}
-use Rattle.r2d2_core.proofs.Facts.Latest.{is_other, latest-append}
+use Rattle.pool_machine.specs.Seen.{SeenAnswer}
+use Rattle.pool_machine.proofs.Lists.Filters.{filter_true}
+use Rattle.pool_machine.proofs.Facts.Latest.{is_other, latest-append}
 
 -- no id stands twice among the idle and the lent ones
 abbrev pub AreApart : {T : Type 0} → History T → Type 0

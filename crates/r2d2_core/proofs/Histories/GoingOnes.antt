@@ -4,21 +4,21 @@ use Rattle.std.specs.Prelude.{filter, filter_map}
 use Rattle.std.specs.List.{list_any}
 use Rattle.std.proofs.lemmas.List.{append-nil}
 use Rattle.std.proofs.lemmas.List.Elements.{filter_agree}
-use Rattle.r2d2_core.specs.declared.run.Step.{Step}
-use Rattle.r2d2_core.specs.Connections.{SeenIdleConnection, SeenLentConnection, id_of_idle, id_of_lent, pair_of, released_at}
-use Rattle.r2d2_core.specs.Ids.{latest}
-use Rattle.r2d2_core.specs.Seen.{SeenAnswer}
+use Rattle.pool_machine.specs.declared.step.Step.{Step}
+use Rattle.pool_machine.specs.Connections.{SeenIdleConnection, SeenLentConnection, id_of_idle, id_of_lent, pair_of, released_at}
+use Rattle.pool_machine.specs.Ids.{latest}
+use Rattle.pool_machine.specs.Seen.{SeenAnswer}
 use Rattle.r2d2_core.specs.History.{History, Then, moment_of}
 use Rattle.r2d2_core.specs.Deeds.{Deed, Gone, deeds_in, id_of_deed, birth_of, admits, as_idle, as_lent, idle_of, lent_of, connections_of, admitted_count}
 use Rattle.r2d2_core.proofs.Histories.Kept.{gone_count}
-use Rattle.r2d2_core.specs.Picture.{IsSound}
+use Rattle.pool_machine.specs.Picture.{IsSound}
 use Rattle.r2d2_core.specs.Pending.{numbered_of, on_order_of}
 use Rattle.r2d2_core.specs.Answers.{picture_of}
 use Rattle.r2d2_core.proofs.Histories.Kept.{IsKept}
 use Rattle.r2d2_core.proofs.Histories.Deeds.{AreApart, idle_of-then, lent_of-then}
-use Rattle.r2d2_core.proofs.Lists.Filters.{copies_of-filter, filter-outside, filter-apart}
-use Rattle.r2d2_core.proofs.Lists.Ids.{copies_of-append3}
-use Rattle.r2d2_core.proofs.Facts.Latest.{is_other, any_id, none_left}
+use Rattle.pool_machine.proofs.Lists.Filters.{copies_of-filter, filter-outside, filter-apart}
+use Rattle.pool_machine.proofs.Lists.Ids.{copies_of-append3}
+use Rattle.pool_machine.proofs.Facts.Latest.{is_other, any_id, none_left}
 
 -- DEEDS BY WHICH MANY GO
 

@@ -6,7 +6,7 @@ use Rattle.std.specs.List.{range_with_len}
 use Rattle.std.proofs.lemmas.List.{get_or_past}
 use Rattle.std.proofs.lemmas.List.FromFn.{length-map-range_with_len, get_or-map-range_with_len}
 use Rattle.std.proofs.lemmas.Bool.{eq-eqb, ne_eqb, eqb-true, eqb-false, ltb-true, ltb-false}
-use Rattle.r2d2_core.specs.Openings.{one_more, one_less}
+use Rattle.pool_machine.specs.Openings.{one_more, one_less}
 use Rattle.r2d2_core.specs.History.{History, is_closed}
 use Rattle.r2d2_core.specs.Pending.{begun_of, ended_of, in_work_at, in_work_of}
 use Rattle.r2d2_core.specs.Answers.{is_in_work}

@@ -1,8 +1,8 @@
 -- What it is for a core to follow a history: it answers as the definitions say, and shows the history's picture.
 use Rattle.std.specs.Prelude.{◌≡◌, ℕ, ◌≤◌, false, count_by}
-use Rattle.r2d2_core.specs.declared.run.Step.{Step}
-use Rattle.r2d2_core.specs.Picture.{Picture, IsSound}
-use Rattle.r2d2_core.specs.Seen.{SeenAnswer}
+use Rattle.pool_machine.specs.declared.step.Step.{Step}
+use Rattle.pool_machine.specs.Picture.{Picture, IsSound}
+use Rattle.pool_machine.specs.Seen.{SeenAnswer}
 use Rattle.r2d2_core.specs.History.{History, is_closed}
 use Rattle.r2d2_core.specs.Deeds.{is_gone, deeds_of, admitted_count}
 use Rattle.r2d2_core.specs.Pending.{ordered_of, begun_of, ended_of, next_id_of, is_admitted}

@@ -6,14 +6,14 @@ use Rattle.std.specs.List.{list_any, cons_option, AllByRecursion}
 use Rattle.std.specs.Option.{MatchOption}
 use Rattle.std.proofs.lemmas.List.{append-nil}
 use Rattle.std.proofs.lemmas.Bool.{eqb-true}
-use Rattle.r2d2_core.specs.declared.run.Step.{Step}
-use Rattle.r2d2_core.specs.declared.machine.answers.Refusal.TheVariants as refusal
-use Rattle.r2d2_core.specs.Refusals.{refused_if}
-use Rattle.r2d2_core.specs.Ids.{latest, found, without, copies_of}
-use Rattle.r2d2_core.specs.Connections.{SeenLentConnection, idle_connection, id_of_idle, id_of_lent, birth_in}
-use Rattle.r2d2_core.specs.Seen.{SeenAnswer}
-use Rattle.r2d2_core.specs.Picture.{IsSound}
-use Rattle.r2d2_core.specs.Table.{lent_refusal, lent_birth}
+use Rattle.pool_machine.specs.declared.step.Step.{Step}
+use Rattle.pool_machine.specs.declared.machine.answers.Refusal.TheVariants as refusal
+use Rattle.pool_machine.specs.Refusals.{refused_if}
+use Rattle.pool_machine.specs.Ids.{latest, found, without, copies_of}
+use Rattle.pool_machine.specs.Connections.{SeenLentConnection, idle_connection, id_of_idle, id_of_lent, birth_in}
+use Rattle.pool_machine.specs.Seen.{SeenAnswer}
+use Rattle.pool_machine.specs.Picture.{IsSound}
+use Rattle.pool_machine.specs.Table.{lent_refusal, lent_birth}
 use Rattle.r2d2_core.specs.History.{History, Then, moment_of}
 use Rattle.r2d2_core.specs.Deeds.{Deed, Admitted, Taken, Kept, Gone, deeds_of, deeds_in, id_of_deed, birth_of, admits, as_lent, idle_of}
 use Rattle.r2d2_core.specs.Deeds.{lent_of, connections_of, admitted_count}
@@ -21,8 +21,8 @@ use Rattle.r2d2_core.proofs.Histories.Kept.{gone_count}
 use Rattle.r2d2_core.specs.Answers.{is_lent, picture_of}
 use Rattle.r2d2_core.proofs.Histories.Births.{shown_all}
 use Rattle.r2d2_core.proofs.Histories.Deeds.{AreApart, idle_of-then, lent_of-then}
-use Rattle.r2d2_core.proofs.Facts.Latest.{is_other, one_other}
-use Rattle.r2d2_core.proofs.Lists.Filters.{filter-absent, filter-once}
+use Rattle.pool_machine.proofs.Facts.Latest.{is_other, one_other}
+use Rattle.pool_machine.proofs.Lists.Filters.{filter-absent, filter-once}
 
 -- AMONG LENT ONES
 

@@ -1,17 +1,17 @@
 -- A history that was only made.
 use Rattle.std.proofs.Common.{◌≡◌, ℕ, ◌+◌, ◌*◌, ◌≤◌, cond, Some, None, refl, sym, ap, subst, arith}
 use Rattle.std.specs.Duration.{as_nanos}
-use Rattle.r2d2_core.specs.declared.schedule.limits.LimitSettings.{LimitSettings}
-use Rattle.r2d2_core.specs.Limits.{wanted_of, later_by, has_reaps}
-use Rattle.r2d2_core.specs.Picture.{IsSound}
-use Rattle.r2d2_core.specs.Table.{first_picture}
+use Rattle.pool_machine.specs.declared.schedule.limits.LimitSettings.{LimitSettings}
+use Rattle.pool_machine.specs.Limits.{wanted_of, later_by, has_reaps}
+use Rattle.pool_machine.specs.Picture.{IsSound}
+use Rattle.pool_machine.specs.Table.{first_picture}
 use Rattle.r2d2_core.specs.History.{History, Made}
 use Rattle.r2d2_core.specs.Deeds.{idle_of, lent_of, connections_of}
 use Rattle.r2d2_core.specs.Pending.{pending_of, in_work_at, in_work_of, next_id_of, numbered_of, next_reap_of, on_order_of}
 use Rattle.r2d2_core.specs.Answers.{picture_of}
 use Rattle.r2d2_core.proofs.Histories.Kept.{IsKept}
 use Rattle.r2d2_core.proofs.Histories.Orders.{same_on_order, picture_of-is}
-use Rattle.r2d2_core.proofs.Facts.Sounds.{sound_first}
+use Rattle.pool_machine.proofs.Facts.Sounds.{sound_first}
 
 module _ {T : Type 0} where
   pub picture_of-made : (limits : LimitSettings) (moment first : ℕ) → picture_of {T = T} (Made limits moment first) ≡ first_picture limits moment first

@@ -3,14 +3,14 @@ use Rattle.std.proofs.Common.{◌≡◌, ℕ, ◌+◌, ◌-◌, ◌≤◌, min, 
 use Rattle.std.specs.Prelude.{filter, not}
 use Rattle.std.specs.List.{range_with_len}
 use Rattle.std.proofs.Math.Path.{fun_ext}
-use Rattle.r2d2_core.specs.declared.run.Step.{Step}
-use Rattle.r2d2_core.specs.Limits.{wanted_of}
-use Rattle.r2d2_core.specs.Connections.{SeenIdleConnection, SeenLentConnection}
-use Rattle.r2d2_core.specs.Seen.{SeenAnswer}
-use Rattle.r2d2_core.specs.Openings.{opening, with_many}
-use Rattle.r2d2_core.specs.OnOrder.{SeenOnOrder, with_orders, top_up_beside}
-use Rattle.r2d2_core.specs.Picture.{Picture, IsSound}
-use Rattle.r2d2_core.specs.Table.{ordered}
+use Rattle.pool_machine.specs.declared.step.Step.{Step}
+use Rattle.pool_machine.specs.Limits.{wanted_of}
+use Rattle.pool_machine.specs.Connections.{SeenIdleConnection, SeenLentConnection}
+use Rattle.pool_machine.specs.Seen.{SeenAnswer}
+use Rattle.pool_machine.specs.Openings.{opening, with_many}
+use Rattle.pool_machine.specs.OnOrder.{SeenOnOrder, with_orders, top_up_beside}
+use Rattle.pool_machine.specs.Picture.{Picture, IsSound}
+use Rattle.pool_machine.specs.Table.{ordered}
 use Rattle.r2d2_core.specs.History.{History, Then, limits_of, is_closed, now_of, moment_of}
 use Rattle.r2d2_core.specs.Deeds.{idle_of, lent_of, connections_of, admitted_count}
 use Rattle.r2d2_core.proofs.Histories.Kept.{gone_count}

@@ -14,15 +14,15 @@ use Rattle.std.proofs.lemmas.Bool.{eq-eqb, eqb-true, cases_lt}
 use mathlib.Core.Logic.{⊎_elim}
 use Rattle.r2d2_core.specs.declared.journal.record.Record.{Record}
 use Rattle.r2d2_core.specs.declared.journal.record.Record.TheVariants as record_
-use Rattle.r2d2_core.specs.declared.schedule.limits.LimitSettings.{LimitSettings}
-use Rattle.r2d2_core.specs.Ids.{copies_of, without}
-use Rattle.r2d2_core.specs.Connections.{SeenLentConnection, idle_connection, lent_connection, id_of_idle, id_of_lent, since_of, is_kept}
+use Rattle.pool_machine.specs.declared.schedule.limits.LimitSettings.{LimitSettings}
+use Rattle.pool_machine.specs.Ids.{copies_of, without}
+use Rattle.pool_machine.specs.Connections.{SeenLentConnection, idle_connection, lent_connection, id_of_idle, id_of_lent, since_of, is_kept}
 use Rattle.r2d2_core.specs.Records.{seen_record, SeenRecord, Taken, Ordered, Admitted, Kept, Closed, Reaped, ClosedAll}
 use Rattle.r2d2_core.specs.Bases.{SeenBase, BareConnection, ids_in_base, IsLegalBase}
 use Rattle.std.specs.Prelude.{flat_map}
 use Rattle.r2d2_core.specs.Folding.{birth_of_idle, birth_of_lent, folded, replay, may_follow, all_follow, admitted_by, known_in, AreLegalFrom}
 use Rattle.r2d2_core.specs.declared.journal.report.Report.{Report}
-use Rattle.r2d2_core.specs.Limits.{seen_limits}
+use Rattle.pool_machine.specs.Limits.{seen_limits}
 use Rattle.r2d2_core.specs.RunningBase.{SeenRunningBase, running_base, made_idle_by, made_lent_by, made_idle_in, made_lent_in, rooms_for}
 use Rattle.r2d2_core.specs.Reports.{seen_base, seen_records, told_in, DoesReplay}
 use Rattle.r2d2_core.specs.Auditing.{counts_fit, are_in_order, are_born, ShowsCounts}
@@ -32,7 +32,7 @@ use Rattle.r2d2_core.specs.declared.journal.replaying.Wrong.TheVariants as wrong
 use Rattle.r2d2_core.specs.Faults.{IsWrong, IsFirstWrong, AreApartUpTo}
 use Rattle.r2d2_core.specs.Replays.{IsFollowing}
 use Rattle.r2d2_core.proofs.Recording.Folding.{both, split, is_le, legal_folded, known_folded, known_first, replay-push, follow-push}
-use Rattle.r2d2_core.proofs.Lists.Ids.{copies_of-append}
+use Rattle.pool_machine.proofs.Lists.Ids.{copies_of-append}
 use Rattle.r2d2_core.proofs.Recording.Replaying.{le_is}
 
 -- COUNTS

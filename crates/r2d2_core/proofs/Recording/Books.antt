@@ -4,31 +4,31 @@ use Rattle.std.proofs.Common.{sym, ◌∙◌, ap, subst, arith, inl, inr}
 use Rattle.std.specs.Prelude.{nat_lt, is_some, filter}
 use Rattle.std.proofs.lemmas.List.{length-map}
 use Rattle.std.proofs.lemmas.Bool.{cases_eq}
-use Rattle.r2d2_core.specs.declared.machine.answers.Refusal.{Refusal}
-use Rattle.r2d2_core.specs.declared.machine.answers.Refusal.TheVariants as refusal
-use Rattle.r2d2_core.specs.declared.schedule.limits.LimitSettings.{LimitSettings}
-use Rattle.r2d2_core.specs.Limits.{wanted_of}
-use Rattle.r2d2_core.specs.Ids.{copies_of}
-use Rattle.r2d2_core.specs.Lending.{next_to_lend}
-use Rattle.r2d2_core.specs.Connections.{SeenIdleConnection, id_of_idle, id_of_lent, released_at, is_expired, birth_in}
-use Rattle.r2d2_core.specs.Jobs.{SeenJob, Open, Reap, Wait, Nothing, Closed}
-use Rattle.r2d2_core.specs.Refusals.{ok_unless, ok_or_back, unless_refused}
-use Rattle.r2d2_core.specs.OnOrder.{SeenOnOrder, job_at, begun_by, number_refusal, numbered_one, fail_refusal, admit_refusal}
-use Rattle.r2d2_core.specs.Picture.{Picture, IsSound}
-use Rattle.r2d2_core.specs.Table.{raised_to, with_on_order, first_picture, take_orders, take_answer, after_take, after_begin, after_number, failed, after_fail}
-use Rattle.r2d2_core.specs.Table.{admitted_at, admit_answer, after_admit, with_text, gone_one, topped_up, lent_refusal, lent_birth, is_closing, returned}
-use Rattle.r2d2_core.specs.Table.{return_of, return_answer, after_return, gone_with, check_answer, after_check, reap_closed, reap_orders, after_reap}
-use Rattle.r2d2_core.specs.Table.{after_take_error, after_close}
-use Rattle.r2d2_core.specs.Seen.{take_with, or_text}
+use Rattle.pool_machine.specs.declared.machine.answers.Refusal.{Refusal}
+use Rattle.pool_machine.specs.declared.machine.answers.Refusal.TheVariants as refusal
+use Rattle.pool_machine.specs.declared.schedule.limits.LimitSettings.{LimitSettings}
+use Rattle.pool_machine.specs.Limits.{wanted_of}
+use Rattle.pool_machine.specs.Ids.{copies_of}
+use Rattle.pool_machine.specs.Lending.{next_to_lend}
+use Rattle.pool_machine.specs.Connections.{SeenIdleConnection, id_of_idle, id_of_lent, released_at, is_expired, birth_in}
+use Rattle.pool_machine.specs.Jobs.{SeenJob, Open, Reap, Wait, Nothing, Closed}
+use Rattle.pool_machine.specs.Refusals.{ok_unless, ok_or_back, unless_refused}
+use Rattle.pool_machine.specs.OnOrder.{SeenOnOrder, job_at, begun_by, number_refusal, numbered_one, fail_refusal, admit_refusal}
+use Rattle.pool_machine.specs.Picture.{Picture, IsSound}
+use Rattle.pool_machine.specs.Table.{raised_to, with_on_order, first_picture, take_orders, take_answer, after_take, after_begin, after_number, failed, after_fail}
+use Rattle.pool_machine.specs.Table.{admitted_at, admit_answer, after_admit, with_text, gone_one, topped_up, lent_refusal, lent_birth, is_closing, returned}
+use Rattle.pool_machine.specs.Table.{return_of, return_answer, after_return, gone_with, check_answer, after_check, reap_closed, reap_orders, after_reap}
+use Rattle.pool_machine.specs.Table.{after_take_error, after_close}
+use Rattle.pool_machine.specs.Seen.{take_with, or_text}
 use Rattle.r2d2_core.specs.Records.{SeenRecord}
 use Rattle.r2d2_core.specs.Recorded.{record_of_take, record_of_admission, record_of_return, record_of_check, record_of_reap, record_of_close}
 use Rattle.r2d2_core.specs.Bases.{SeenBase, first_base}
 use Rattle.r2d2_core.specs.Journal.{SeenJournal, with_oldest, added, with_noted, next_count, takes_with}
 use Rattle.r2d2_core.specs.Book.{SeenBook, bare}
 use Rattle.r2d2_core.specs.BookParts.{KeepReplaying, IsRecorded}
-use Rattle.r2d2_core.proofs.Facts.Accounted.{passes, not_false, found_numbered}
-use Rattle.r2d2_core.proofs.Facts.Steady.{sound_at, sound_told}
-use Rattle.r2d2_core.proofs.Lists.Ids.{copies_of-append, copies_of-append3, copies_of-one, copies_of-other}
+use Rattle.pool_machine.proofs.Facts.Accounted.{passes, not_false, found_numbered}
+use Rattle.pool_machine.proofs.Facts.Steady.{sound_at, sound_told}
+use Rattle.pool_machine.proofs.Lists.Ids.{copies_of-append, copies_of-append3, copies_of-one, copies_of-other}
 use Rattle.r2d2_core.proofs.Recording.Replaying.{with_none_more, with_oldest_folded}
 use Rattle.r2d2_core.proofs.Recording.Takes.{replaying_at, replaying_taken, replaying_admitted}
 use Rattle.r2d2_core.proofs.Recording.Returns.{replaying_lost, replaying_returned}

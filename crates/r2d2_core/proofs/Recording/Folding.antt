@@ -11,19 +11,19 @@ use Rattle.std.proofs.lemmas.List.Kept.{IsNonDecreasingBy-filter}
 use Rattle.std.proofs.lemmas.List.Sorted.{IsNonDecreasingBy-push}
 use Rattle.std.proofs.lemmas.Bool.{eqb-true}
 use Rattle.std.proofs.lemmas.Bool.Decides.{nat_tests}
-use Rattle.r2d2_core.specs.declared.schedule.limits.LimitSettings.{LimitSettings}
-use Rattle.r2d2_core.specs.Limits.{wanted_of, top_up}
-use Rattle.r2d2_core.specs.Ids.{found, without, copies_of}
-use Rattle.r2d2_core.specs.Lending.{next_to_lend, still_idle}
-use Rattle.r2d2_core.specs.Connections.{SeenLentConnection, idle_connection, lent_connection, birth_in, id_of_idle, id_of_lent, since_of, is_expired, is_kept}
+use Rattle.pool_machine.specs.declared.schedule.limits.LimitSettings.{LimitSettings}
+use Rattle.pool_machine.specs.Limits.{wanted_of, top_up}
+use Rattle.pool_machine.specs.Ids.{found, without, copies_of}
+use Rattle.pool_machine.specs.Lending.{next_to_lend, still_idle}
+use Rattle.pool_machine.specs.Connections.{SeenLentConnection, idle_connection, lent_connection, birth_in, id_of_idle, id_of_lent, since_of, is_expired, is_kept}
 use Rattle.r2d2_core.specs.Records.{SeenRecord, Taken, Ordered, Admitted, Kept, Closed, Reaped, ClosedAll}
 use Rattle.r2d2_core.specs.Bases.{SeenBase, BareConnection, ids_in_base, IsLegalBase}
 use Rattle.r2d2_core.specs.Folding.{birth_of_idle, birth_of_lent, expired_in, up_to, folded, replay, is_next, fits, may_follow, all_follow}
 use Rattle.std.specs.Prelude.{flat_map}
 use Rattle.r2d2_core.specs.Folding.{admitted_by, known_in, AreLegalFrom}
-use Rattle.r2d2_core.proofs.Lists.Filters.{copies_of-filter}
-use Rattle.r2d2_core.proofs.Lists.Ids.{copies_of-append, copies_of-push, copies_of-without, length-without, All-without, All-found, All-push, All-weaker}
-use Rattle.r2d2_core.proofs.Lists.Lending.{found-next, without-next, IsNonDecreasingBy-still_idle}
+use Rattle.pool_machine.proofs.Lists.Filters.{copies_of-filter}
+use Rattle.pool_machine.proofs.Lists.Ids.{copies_of-append, copies_of-push, copies_of-without, length-without, All-without, All-found, All-push, All-weaker}
+use Rattle.pool_machine.proofs.Lists.Lending.{found-next, without-next, IsNonDecreasingBy-still_idle}
 
 -- TESTS
 

@@ -4,7 +4,7 @@ use Rattle.std.proofs.Common.{sym, ◌∙◌, ap, subst, arith}
 use Rattle.std.proofs.lemmas.List.{take_all, take-map, length-map}
 use Rattle.r2d2_core.specs.declared.journal.record.Record.{Record}
 use Rattle.r2d2_core.specs.declared.journal.report.Report.{Report}
-use Rattle.r2d2_core.specs.Limits.{seen_limits}
+use Rattle.pool_machine.specs.Limits.{seen_limits}
 use Rattle.r2d2_core.specs.Records.{SeenRecord, seen_record}
 use Rattle.r2d2_core.specs.Bases.{SeenBase, IsLegalBase}
 use Rattle.r2d2_core.specs.Folding.{folded, replay, may_follow, AreLegalFrom}

@@ -6,15 +6,15 @@ use Rattle.std.proofs.lemmas.List.{length-map, map-append, length_push, length-d
 use Rattle.std.proofs.lemmas.Bool.Decides.{nat_tests}
 use Rattle.circular_buffer.specs.Buffer.{Buffer, buffer, keep_last}
 use Rattle.r2d2_core.specs.declared.journal.record.Record.{Record}
-use Rattle.r2d2_core.specs.declared.schedule.limits.LimitSettings.{LimitSettings}
+use Rattle.pool_machine.specs.declared.schedule.limits.LimitSettings.{LimitSettings}
 use Rattle.r2d2_core.specs.Records.{SeenRecord, Taken, Ordered, Admitted, Kept, Closed, Reaped, ClosedAll, seen_record}
 use Rattle.r2d2_core.specs.Bases.{SeenBase, IsLegalBase}
-use Rattle.r2d2_core.specs.Connections.{SeenLentConnection, birth_in}
+use Rattle.pool_machine.specs.Connections.{SeenLentConnection, birth_in}
 use Rattle.r2d2_core.specs.Folding.{is_next, folded, may_follow, all_follow, AreLegalFrom}
 use Rattle.r2d2_core.specs.RunningBase.{made_idle_by, made_lent_by}
 use Rattle.r2d2_core.specs.Journal.{SeenJournal, next_count, takes_with, with_oldest, with_record}
 use Rattle.r2d2_core.proofs.Recording.Folding.{split, is_lt, next_is}
-use Rattle.r2d2_core.proofs.Lists.Lending.{length-still_idle}
+use Rattle.pool_machine.proofs.Lists.Lending.{length-still_idle}
 
 -- what is lent is one of the lent ones, and what is next one of the idle ones
 away_some : (id : ℕ) (lent : List SeenLentConnection) → is_some (birth_in id lent) ≡ true → 0 < length lent

@@ -4,16 +4,16 @@ use Rattle.std.specs.Duration.{as_nanos}
 use Rattle.std.proofs.lemmas.List.{length_push}
 use Rattle.std.proofs.lemmas.Bool.{eqb-true}
 use Rattle.r2d2_core.specs.declared.journal.load.Load.{Load}
-use Rattle.r2d2_core.specs.declared.schedule.limits.LimitSettings.{LimitSettings}
-use Rattle.r2d2_core.specs.Limits.{wanted_of}
-use Rattle.r2d2_core.specs.Ids.{without}
-use Rattle.r2d2_core.specs.Connections.{lent_connection, id_of_idle, id_of_lent}
+use Rattle.pool_machine.specs.declared.schedule.limits.LimitSettings.{LimitSettings}
+use Rattle.pool_machine.specs.Limits.{wanted_of}
+use Rattle.pool_machine.specs.Ids.{without}
+use Rattle.pool_machine.specs.Connections.{lent_connection, id_of_idle, id_of_lent}
 use Rattle.r2d2_core.specs.Records.{SeenRecord, Taken, Ordered, Admitted, Kept, Closed, Reaped, ClosedAll}
 use Rattle.r2d2_core.specs.Bases.{SeenBase, IsLegalBase}
 use Rattle.r2d2_core.specs.Records.{moment_of_record}
 use Rattle.r2d2_core.specs.Folding.{birth_of_idle, up_to, swept_of, folded, fits, may_follow}
 use Rattle.r2d2_core.specs.Loads.{IsLoadOf, lent_after, pending_after, is_close}
-use Rattle.r2d2_core.proofs.Lists.Ids.{length-without}
+use Rattle.pool_machine.proofs.Lists.Ids.{length-without}
 use Rattle.r2d2_core.proofs.Recording.Folding.{split, is_le, is_lt, is_there}
 use Rattle.r2d2_core.proofs.Recording.Replaying.{at_folded}
 

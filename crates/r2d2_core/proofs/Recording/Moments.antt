@@ -1,12 +1,12 @@
 -- A book notes a step's raised moment: where a step is accepted it is the latest moment after it.
 use Rattle.std.proofs.Common.{◌≡◌, ℕ, max, Bool, true, false, Option, Some, None, String, refl, ap}
-use Rattle.r2d2_core.specs.declared.machine.answers.Refusal.{Refusal}
-use Rattle.r2d2_core.specs.Connections.{SeenIdleConnection}
-use Rattle.r2d2_core.specs.Refusals.{ok_unless, ok_or_back, unless_refused}
-use Rattle.r2d2_core.specs.OnOrder.{admit_refusal}
-use Rattle.r2d2_core.specs.Picture.{Picture}
-use Rattle.r2d2_core.specs.Table.{raised_to, next_of, taken, after_take, admitted_at, admit_answer, after_admit, with_text, gone_one, topped_up, lent_refusal}
-use Rattle.r2d2_core.specs.Table.{lent_birth, is_closing, returned_by, returned, return_of, return_answer, after_return, gone_with, check_answer, after_check}
+use Rattle.pool_machine.specs.declared.machine.answers.Refusal.{Refusal}
+use Rattle.pool_machine.specs.Connections.{SeenIdleConnection}
+use Rattle.pool_machine.specs.Refusals.{ok_unless, ok_or_back, unless_refused}
+use Rattle.pool_machine.specs.OnOrder.{admit_refusal}
+use Rattle.pool_machine.specs.Picture.{Picture}
+use Rattle.pool_machine.specs.Table.{raised_to, next_of, taken, after_take, admitted_at, admit_answer, after_admit, with_text, gone_one, topped_up, lent_refusal}
+use Rattle.pool_machine.specs.Table.{lent_birth, is_closing, returned_by, returned, return_of, return_answer, after_return, gone_with, check_answer, after_check}
 use Rattle.r2d2_core.specs.Recorded.{record_of_admission, record_of_return, record_of_check}
 
 module _ {T : Type 0} where

@@ -4,11 +4,11 @@ use Rattle.std.specs.Prelude.{filter, nat_lt, ◌&&◌}
 use Rattle.std.proofs.lemmas.List.{length-map}
 use Rattle.std.proofs.lemmas.Bool.{eq-eqb, eqb-true}
 use Rattle.std.proofs.lemmas.Bool.Decides.{nat_tests}
-use Rattle.r2d2_core.specs.declared.schedule.limits.LimitSettings.{LimitSettings}
-use Rattle.r2d2_core.specs.Limits.{wanted_of}
-use Rattle.r2d2_core.specs.Connections.{SeenIdleConnection, is_expired, is_kept}
-use Rattle.r2d2_core.specs.Picture.{Picture, IsSound}
-use Rattle.r2d2_core.specs.Table.{top_up_of, topped_up, swept, after_close}
+use Rattle.pool_machine.specs.declared.schedule.limits.LimitSettings.{LimitSettings}
+use Rattle.pool_machine.specs.Limits.{wanted_of}
+use Rattle.pool_machine.specs.Connections.{SeenIdleConnection, is_expired, is_kept}
+use Rattle.pool_machine.specs.Picture.{Picture, IsSound}
+use Rattle.pool_machine.specs.Table.{top_up_of, topped_up, swept, after_close}
 use Rattle.r2d2_core.specs.Records.{SeenRecord, Reaped, ClosedAll}
 use Rattle.r2d2_core.specs.Recorded.{record_of_reap, record_of_close}
 use Rattle.r2d2_core.specs.Bases.{SeenBase, BareConnection}

@@ -2,10 +2,10 @@
 use Rattle.std.proofs.Common.{◌≡◌, ℕ, ◌+◌, ◌≤◌, Bool, true, List, [], ◌∷◌, ◌++◌, map, drop, refl, sym, ◌∙◌, ap, subst, arith}
 use Rattle.std.specs.Prelude.{nat_le, nat_lt}
 use Rattle.std.proofs.lemmas.Bool.Decides.{nat_tests}
-use Rattle.r2d2_core.specs.declared.schedule.limits.LimitSettings.{LimitSettings}
-use Rattle.r2d2_core.specs.Ids.{copies_of}
-use Rattle.r2d2_core.specs.Connections.{SeenIdleConnection, SeenLentConnection, id_of_idle, id_of_lent}
-use Rattle.r2d2_core.specs.Picture.{Picture, IsSound}
+use Rattle.pool_machine.specs.declared.schedule.limits.LimitSettings.{LimitSettings}
+use Rattle.pool_machine.specs.Ids.{copies_of}
+use Rattle.pool_machine.specs.Connections.{SeenIdleConnection, SeenLentConnection, id_of_idle, id_of_lent}
+use Rattle.pool_machine.specs.Picture.{Picture, IsSound}
 use Rattle.r2d2_core.specs.Records.{SeenRecord, Taken, Ordered, Admitted, Kept, Closed, Reaped, ClosedAll}
 use Rattle.r2d2_core.specs.Bases.{SeenBase, BareConnection}
 use Rattle.r2d2_core.specs.Records.{moment_of_record}
@@ -13,7 +13,7 @@ use Rattle.r2d2_core.specs.Folding.{folded, replay, fits, may_follow, all_follow
 use Rattle.r2d2_core.specs.Book.{ComesTo, bare}
 use Rattle.r2d2_core.specs.BookParts.{KeepReplaying, shown_at}
 use Rattle.r2d2_core.specs.Journal.{with_oldest}
-use Rattle.r2d2_core.proofs.Lists.Ids.{copies_of-append3}
+use Rattle.pool_machine.proofs.Lists.Ids.{copies_of-append3}
 use Rattle.r2d2_core.proofs.Recording.Folding.{both, split, folds_first, known_folded, replay-push, follow-push, known-push}
 
 pub le_is : (a b : ℕ) → a ≤ b → nat_le a b ≡ true

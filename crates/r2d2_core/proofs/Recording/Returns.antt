@@ -2,12 +2,12 @@
 use Rattle.std.proofs.Common.{◌≡◌, ℕ, ◌-◌, Bool, true, false, ◌||◌, not, List, [], ◌∷◌, ◌++◌, map, length, Ok, refl, sym, ap, arith}
 use Rattle.std.specs.Prelude.{is_some}
 use Rattle.std.proofs.lemmas.List.{map-append, length-map}
-use Rattle.r2d2_core.specs.declared.schedule.limits.LimitSettings.{LimitSettings}
-use Rattle.r2d2_core.specs.Limits.{wanted_of, has_reached}
-use Rattle.r2d2_core.specs.Connections.{SeenIdleConnection, idle_connection, birth_in}
-use Rattle.r2d2_core.specs.OnOrder.{room_beside}
-use Rattle.r2d2_core.specs.Picture.{Picture, IsSound}
-use Rattle.r2d2_core.specs.Table.{top_up_of, topped_up, lent_birth, is_closing, kept_one, gone_one, return_by, returned_by}
+use Rattle.pool_machine.specs.declared.schedule.limits.LimitSettings.{LimitSettings}
+use Rattle.pool_machine.specs.Limits.{wanted_of, has_reached}
+use Rattle.pool_machine.specs.Connections.{SeenIdleConnection, idle_connection, birth_in}
+use Rattle.pool_machine.specs.OnOrder.{room_beside}
+use Rattle.pool_machine.specs.Picture.{Picture, IsSound}
+use Rattle.pool_machine.specs.Table.{top_up_of, topped_up, lent_birth, is_closing, kept_one, gone_one, return_by, returned_by}
 use Rattle.r2d2_core.specs.Records.{SeenRecord, Kept, Closed}
 use Rattle.r2d2_core.specs.Recorded.{record_of_return}
 use Rattle.r2d2_core.specs.Bases.{SeenBase}

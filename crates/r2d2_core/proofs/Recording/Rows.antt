@@ -1,11 +1,11 @@
 -- Worked rows of records, computed from the definitions alone: what they come to, and which are legal. The oldest stands first.
 use Rattle.std.proofs.Common.{◌≡◌, ℕ, ◌*◌, Bool, true, false, List, [], ◌∷◌, Option, Some, None, refl}
 use Rattle.std.specs.declared.time.Duration.{Duration}
-use Rattle.r2d2_core.specs.declared.schedule.limits.LendingOrder.TheVariants as lending
-use Rattle.r2d2_core.specs.declared.schedule.limits.LimitSettings.{LimitSettings}
-use Rattle.r2d2_core.specs.Limits.{settings, with_order}
-use Rattle.r2d2_core.specs.Ids.{copies_of}
-use Rattle.r2d2_core.specs.Connections.{idle_connection, lent_connection, is_expired, is_kept}
+use Rattle.pool_machine.specs.declared.schedule.limits.LendingOrder.TheVariants as lending
+use Rattle.pool_machine.specs.declared.schedule.limits.LimitSettings.{LimitSettings}
+use Rattle.pool_machine.specs.Limits.{settings, with_order}
+use Rattle.pool_machine.specs.Ids.{copies_of}
+use Rattle.pool_machine.specs.Connections.{idle_connection, lent_connection, is_expired, is_kept}
 use Rattle.r2d2_core.specs.Records.{SeenRecord, Taken, Ordered, Admitted, Kept, Closed, Reaped, ClosedAll}
 use Rattle.r2d2_core.specs.Bases.{SeenBase, first_base}
 use Rattle.r2d2_core.specs.Folding.{folded, all_follow, known_in}

@@ -2,18 +2,18 @@
 use Rattle.std.proofs.Common.{◌≡◌, ℕ, ◌+◌, ◌-◌, ◌≤◌, Bool, List, [], ◌∷◌, ◌++◌, map, length, Some, refl, sym, ◌∙◌, ap, subst, arith}
 use Rattle.std.specs.Prelude.{option_map, unwrap_or, filter}
 use Rattle.std.proofs.lemmas.List.{length_push}
-use Rattle.r2d2_core.specs.declared.schedule.limits.LendingOrder.{LendingOrder}
-use Rattle.r2d2_core.specs.declared.schedule.limits.LimitSettings.{LimitSettings}
+use Rattle.pool_machine.specs.declared.schedule.limits.LendingOrder.{LendingOrder}
+use Rattle.pool_machine.specs.declared.schedule.limits.LimitSettings.{LimitSettings}
 use Rattle.circular_buffer.specs.Buffer.{Buffer, buffer}
-use Rattle.r2d2_core.specs.Ids.{found, without, copies_of}
-use Rattle.r2d2_core.specs.Lending.{next_to_lend, still_idle}
-use Rattle.r2d2_core.specs.Connections.{SeenLentConnection, lent_connection, id_of_idle, is_expired, is_kept}
+use Rattle.pool_machine.specs.Ids.{found, without, copies_of}
+use Rattle.pool_machine.specs.Lending.{next_to_lend, still_idle}
+use Rattle.pool_machine.specs.Connections.{SeenLentConnection, lent_connection, id_of_idle, is_expired, is_kept}
 use Rattle.r2d2_core.specs.Bases.{BareConnection, base_of}
 use Rattle.r2d2_core.specs.Book.{bare}
 use Rattle.r2d2_core.specs.Folding.{birth_of_idle, lent_in, swept_of}
 use Rattle.r2d2_core.specs.declared.journal.running_base.Rooms.{Rooms}
 use Rattle.r2d2_core.specs.RunningBase.{running_base, rooms}
-use Rattle.r2d2_core.proofs.Lists.Lending.{found-next, without-next, length-still_idle}
+use Rattle.pool_machine.proofs.Lists.Lending.{found-next, without-next, length-still_idle}
 
 pub same_base : (at pending : ℕ) (closed : Bool) (i i' : List BareConnection) (l l' : List SeenLentConnection) (n n' : ℕ) → i ≡ i' → l ≡ l' → n ≡ n'
     → base_of at i l n pending closed ≡ base_of at i' l' n' pending closed

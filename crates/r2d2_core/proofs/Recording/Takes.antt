@@ -5,15 +5,15 @@ use Rattle.std.specs.Prelude.{unwrap_or, option_map}
 use Rattle.std.proofs.lemmas.List.{map-append, length-map, map-id}
 use Rattle.std.proofs.lemmas.Bool.{eq-eqb, eqb-true}
 use Rattle.std.proofs.lemmas.Bool.Decides.{nat_tests}
-use Rattle.r2d2_core.specs.declared.schedule.limits.LimitSettings.{LimitSettings}
-use Rattle.r2d2_core.specs.Limits.{wanted_of}
-use Rattle.r2d2_core.specs.Ids.{found, without, same_id, copies_of}
-use Rattle.r2d2_core.specs.Lending.{next_to_lend, still_idle}
-use Rattle.r2d2_core.specs.Connections.{SeenIdleConnection, idle_connection, lent_connection, id_of_idle}
-use Rattle.r2d2_core.specs.OnOrder.{room_beside}
-use Rattle.r2d2_core.specs.Picture.{Picture, IsSound}
-use Rattle.r2d2_core.specs.Table.{raised_to, ordered, top_up_of, topped_up, miss_order_of, lent_out, take_orders, taken, admitted_at}
-use Rattle.r2d2_core.specs.Seen.{take_with}
+use Rattle.pool_machine.specs.declared.schedule.limits.LimitSettings.{LimitSettings}
+use Rattle.pool_machine.specs.Limits.{wanted_of}
+use Rattle.pool_machine.specs.Ids.{found, without, same_id, copies_of}
+use Rattle.pool_machine.specs.Lending.{next_to_lend, still_idle}
+use Rattle.pool_machine.specs.Connections.{SeenIdleConnection, idle_connection, lent_connection, id_of_idle}
+use Rattle.pool_machine.specs.OnOrder.{room_beside}
+use Rattle.pool_machine.specs.Picture.{Picture, IsSound}
+use Rattle.pool_machine.specs.Table.{raised_to, ordered, top_up_of, topped_up, miss_order_of, lent_out, take_orders, taken, admitted_at}
+use Rattle.pool_machine.specs.Seen.{take_with}
 use Rattle.r2d2_core.specs.Records.{SeenRecord, Taken, Ordered, Admitted}
 use Rattle.r2d2_core.specs.Recorded.{record_of_take}
 use Rattle.r2d2_core.specs.Bases.{SeenBase, BareConnection}
@@ -21,8 +21,8 @@ use Rattle.r2d2_core.specs.Folding.{birth_of_idle}
 use Rattle.r2d2_core.specs.Journal.{added}
 use Rattle.r2d2_core.specs.Book.{bare}
 use Rattle.r2d2_core.specs.BookParts.{KeepReplaying}
-use Rattle.r2d2_core.proofs.Lists.Ids.{copies_of-without, length-without}
-use Rattle.r2d2_core.proofs.Lists.Lending.{none_is_next, next-map, still_idle-map, found-next, without-next}
+use Rattle.pool_machine.proofs.Lists.Ids.{copies_of-without, length-without}
+use Rattle.pool_machine.proofs.Lists.Lending.{none_is_next, next-map, still_idle-map, found-next, without-next}
 use Rattle.r2d2_core.proofs.Recording.Folding.{both}
 use Rattle.r2d2_core.proofs.Recording.Replaying.{lt_is, idle_apart, Says, with_one_more, with_none_more}
 

@@ -13,8 +13,8 @@ use Rattle.std.proofs.lemmas.List.Sums.{count_by-le-length, count_by_more_no, su
 use Rattle.std.proofs.lemmas.List.Sorted.{IsNonDecreasingBy-take, IsNonDecreasingBy-drop, IsNonDecreasingBy-push}
 use Rattle.r2d2_core.specs.declared.reuse.Move.{Move}
 use Rattle.r2d2_core.specs.declared.reuse.Move.TheVariants as move
-use Rattle.r2d2_core.specs.declared.schedule.limits.LendingOrder.TheVariants as lending
-use Rattle.r2d2_core.specs.Ids.{front}
+use Rattle.pool_machine.specs.declared.schedule.limits.LendingOrder.TheVariants as lending
+use Rattle.pool_machine.specs.Ids.{front}
 use Rattle.r2d2_core.specs.Reuse.{IsSorted, first_seen, order_left, other_left, Picked, picked, after_pick, moments_of, newest_list, oldest_list, other_list}
 use Rattle.r2d2_core.specs.Reuse.{IsBetween}
 

@@ -3,7 +3,7 @@ use Rattle.std.proofs.Common.{◌≡◌, ℕ, ◌+◌, ◌<◌, max, List, [], �
 use Rattle.std.specs.Prelude.{◌↔◌, IsSomeAnd}
 use Rattle.std.specs.Option.{option_and_then}
 use Rattle.r2d2_core.specs.declared.reuse.Move.{Move}
-use Rattle.r2d2_core.specs.declared.schedule.limits.LendingOrder.{LendingOrder}
+use Rattle.pool_machine.specs.declared.schedule.limits.LendingOrder.{LendingOrder}
 use Rattle.r2d2_core.specs.Reuse.{moment_in, last_seen, order_after, order_left, Picked, picked, other_after, other_left}
 
 -- the next move, and those after it

@@ -6,19 +6,19 @@ ghost use Rattle.r2d2_core.specs.Book.{bare};
 ghost use Rattle.r2d2_core.specs.BookParts.{shown_at};
 ghost use Rattle.r2d2_core.specs.Reports.{seen_base};
 
-use crate::machine::Core;
-use crate::machine::idle::Idle;
-use crate::machine::lent::LentConnection;
-use crate::machine::roster::{HasId, Roster};
+use pool_machine::machine::Core;
+use pool_machine::machine::idle::Idle;
+use pool_machine::machine::lent::LentConnection;
+use pool_machine::machine::roster::{HasId, Roster};
 use std::alloc::{AllocError, Allocator, Global};
 use std::time::Duration;
 
 /// What stood before the oldest record of a report: what all earlier records come to. Before the
-/// first record it is what stood at the making, where what is wanted is pending and all else is
+/// first record it is what stood at the creation, when what is wanted is pending and all else is
 /// empty.
 #[derive(Drop)]
 pub struct Base<A: Allocator = Global> {
-    /// The moment of the newest record that it stands for; where there is none, that of the making.
+    /// The moment of the newest record that it stands for; if there is none, that of the creation.
     pub at: Duration,
     /// The idle connections, in the order in which they came to be idle: the id of each, the moment
     /// of its admission, and the moment since which it is idle.
@@ -35,7 +35,7 @@ pub struct Base<A: Allocator = Global> {
 }
 
 impl<A: Allocator> Base<A> {
-    /// What a machine shows, as a base that tells up to a moment.
+    /// What a machine shows, as a base that says what stood up to a moment.
     pub(crate) fn shown<T, B: Allocator>(
         alloc: A,
         machine: &Core<T, B>,

@@ -1,15 +1,15 @@
 // The newest records, and what stood before them.
 ghost use Rattle.std.specs.Prelude.{◌≡◌, ◌<◌, map, option_map, IfOk};
 ghost use Rattle.std.specs.Duration.{as_nanos};
-ghost use Rattle.r2d2_core.specs.Limits.{seen_limits};
+ghost use Rattle.pool_machine.specs.Limits.{seen_limits};
 ghost use Rattle.r2d2_core.specs.Records.{seen_record};
 ghost use Rattle.r2d2_core.specs.Journal.{first_journal, takes_with, CountsTakes};
 ghost use Rattle.r2d2_core.specs.JournalParts.{IsBefore, MayNote, kept_alone};
 
 use super::record::Record;
 use super::running_base::{Rooms, RunningBase};
-use crate::schedule::Limits;
 use circular_buffer::HeapCircularBuffer;
+use pool_machine::schedule::Limits;
 use std::alloc::{AllocError, Allocator, Global};
 use std::marker::Model;
 use std::time::Duration;
@@ -18,13 +18,13 @@ use std::time::Duration;
 #[derive(Drop)]
 pub(crate) enum Before<A: Allocator = Global> {
     /// Without room for a record: what the machine shows now. The moment is that of the latest
-    /// record, or of the making.
+    /// record, or of the creation.
     Shown(Duration),
     /// What the records come to that were kept once.
     Folded(RunningBase<A>),
 }
 
-/// The moment of the making, as many records as it has room for, what stood before the oldest of
+/// The moment of the creation, as many records as it has room for, what stood before the oldest of
 /// them, how many were folded into that, and how many takes were noted.
 #[derive(Drop)]
 pub(crate) struct Journal<A: Allocator = Global> {
@@ -97,7 +97,7 @@ impl<A: Allocator> Journal<A> {
         self.takes
     }
 
-    /// Notes the record that a step made, if it made one. Where there is no room left the oldest is
+    /// Notes the record that a step made, if it made one. If there is no room left the oldest is
     /// folded into the base; without any room the moment alone is kept.
     #[inline(always)]
     pub(crate) fn note(&mut self, made: Option<Record>)

@@ -1,6 +1,6 @@
 // What is wrong in a report, and what stood before it.
 ghost use Rattle.std.specs.Prelude.{◌≡◌, ◌≤◌, length, take, IfOk, MatchOption};
-ghost use Rattle.r2d2_core.specs.Limits.{seen_limits};
+ghost use Rattle.pool_machine.specs.Limits.{seen_limits};
 ghost use Rattle.r2d2_core.specs.Bases.{IsLegalBase};
 ghost use Rattle.r2d2_core.specs.Folding.{replay, AreLegalFrom};
 ghost use Rattle.r2d2_core.specs.Reports.{seen_base, seen_records, DoesReplay};
@@ -24,10 +24,10 @@ pub enum Fault<A: Allocator = Global> {
 }
 
 impl<A: Allocator> Report<A> {
-    /// What is wrong first in the report, and what stood there. None exactly where it replays.
+    /// What is wrong first in the report, and what stood there. None exactly if it replays.
     ///
-    /// It takes the time and the memory of `replays`, or a few times as much where something is
-    /// wrong. The error comes only where memory is refused.
+    /// It takes the time and the memory of `replays`, or a few times as much if something is wrong.
+    /// The error comes only if memory is refused.
     pub fn first_fault(&self) -> Result<Option<Fault<A>>, AllocError>
     where
         A: Copy,
@@ -37,7 +37,7 @@ impl<A: Allocator> Report<A> {
         self.replayed()?.fault(self)
     }
 
-    /// What so many records come to, where they are legal.
+    /// What so many records come to, if they are legal.
     pub(super) fn after(&self, count: usize) -> Result<Base<A>, AllocError>
     where
         A: Copy,

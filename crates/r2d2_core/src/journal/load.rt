@@ -1,7 +1,7 @@
 // How much of a pool is in use, from record to record.
 ghost use Rattle.std.specs.Prelude.{◌≡◌, true};
 ghost use Rattle.std.specs.Duration.{as_nanos};
-ghost use Rattle.r2d2_core.specs.Limits.{seen_limits};
+ghost use Rattle.pool_machine.specs.Limits.{seen_limits};
 ghost use Rattle.r2d2_core.specs.Records.{seen_record};
 ghost use Rattle.r2d2_core.specs.Bases.{SeenBase, IsLegalBase};
 ghost use Rattle.r2d2_core.specs.Folding.{folded, may_follow};
@@ -11,20 +11,20 @@ ghost use Rattle.r2d2_core.specs.Loads.{lent_after, pending_after, is_close};
 
 use super::base::Base;
 use super::record::Record;
-use crate::machine::later;
-use crate::schedule::Limits;
+use pool_machine::machine::later;
+use pool_machine::schedule::Limits;
 use std::alloc::Allocator;
 use std::time::Duration;
 
 /// How much of a pool is in use: what records come to from a base, but for which connections those
 /// are. It takes no memory.
 ///
-/// Of records that may not follow one another it tells what each does by itself; there a moment
-/// that falls is raised, and no count falls below zero.
+/// Of records that may not follow one another it says what each does by itself; there a moment that
+/// falls is raised, and no count falls below zero.
 #[derive(Clone, Copy, Debug)]
 pub struct Load {
     pub limits: Limits,
-    /// The moment of the newest record; where there is none, that of the base.
+    /// The moment of the newest record; if there is none, that of the base.
     pub at: Duration,
     /// How many connections are lent.
     pub lent: usize,

@@ -2,13 +2,13 @@
 ghost use Rattle.std.specs.Prelude.{◌≡◌, ◌≤◌, ◌∷◌, [], option_map, IfSome, IfNone};
 ghost use Rattle.std.specs.Duration.{as_nanos};
 
-use crate::machine::{Gone, Refusal, Returned, Take};
+use pool_machine::machine::{Gone, Refusal, Returned, Take};
 use std::time::Duration;
 
 /// A step that changed what is idle, lent, connected or pending, or that closed the pool.
 ///
-/// `at` is the moment of the step, or the latest one before it where that is later. `ordered` is
-/// how many openings the step ordered.
+/// `at` is the moment of the step, or the latest one before it if that is later. `ordered` is how
+/// many openings the step ordered.
 #[derive(Clone, Copy, PartialEq, Eq, Debug)]
 pub enum Record {
     /// An idle connection was lent.
@@ -28,7 +28,7 @@ pub enum Record {
 }
 
 impl Record {
-    ghost use Rattle.r2d2_core.specs.Seen.{seen_take, seen_returned, seen_gone, map_ok};
+    ghost use Rattle.pool_machine.specs.Seen.{seen_take, seen_returned, seen_gone, map_ok};
     ghost use Rattle.r2d2_core.specs.Records.{seen_record};
     ghost use Rattle.r2d2_core.specs.Records.{moment_of_record};
     ghost use Rattle.r2d2_core.specs.Folding.{admitted_by};
@@ -37,7 +37,7 @@ impl Record {
     ghost use Rattle.r2d2_core.specs.Recorded.{record_of_return, record_of_check, record_of_reap};
     ghost use Rattle.r2d2_core.specs.Recorded.{record_of_close};
 
-    /// The moment of the record: that of its step, or the latest one before it where that is later.
+    /// The moment of the record: that of its step, or the latest one before it if that is later.
     pub fn at(&self) -> Duration
         ensures { as_nanos result ≡ moment_of_record (seen_record self.now) }
     {

@@ -28,7 +28,7 @@ pub(crate) enum Standing<A: Allocator> {
 }
 
 impl<A: Allocator> Report<A> {
-    /// A replay that stands at the base. The error comes only where memory is refused.
+    /// A replay that stands at the base. The error comes only if memory is refused.
     pub fn replay(&self) -> Result<Replay<A>, AllocError>
     where
         A: Copy,

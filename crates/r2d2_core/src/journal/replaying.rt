@@ -1,9 +1,9 @@
 // Whether a report's records replay to its counts, by the definitions alone.
 ghost use Rattle.std.specs.Prelude.{◌≡◌, ◌≤◌, ◌↔◌, ◌++◌, ℕ, map, length, IsTrue, OnOk, IfOk};
 ghost use Rattle.std.specs.Prelude.{MatchOption};
-ghost use Rattle.r2d2_core.specs.Limits.{seen_limits};
-ghost use Rattle.r2d2_core.specs.Ids.{copies_of};
-ghost use Rattle.r2d2_core.specs.Connections.{id_of_idle, id_of_lent};
+ghost use Rattle.pool_machine.specs.Limits.{seen_limits};
+ghost use Rattle.pool_machine.specs.Ids.{copies_of};
+ghost use Rattle.pool_machine.specs.Connections.{id_of_idle, id_of_lent};
 ghost use Rattle.r2d2_core.specs.Records.{seen_record};
 ghost use Rattle.r2d2_core.specs.Bases.{seen_bare, seen_lent, ids_in_base, IsLegalBase};
 ghost use Rattle.std.specs.Prelude.{flat_map};
@@ -17,7 +17,7 @@ use super::base::Base;
 use super::record::Record;
 use super::report::Report;
 use super::running_base::{Rooms, RunningBase};
-use crate::schedule::Limits;
+use pool_machine::schedule::Limits;
 use std::alloc::{AllocError, Allocator};
 use std::time::Duration;
 
@@ -40,8 +40,8 @@ impl<A: Allocator> Report<A> {
     /// A report that a book made always replays; this finds out whether one is still as it was
     /// made. It takes the time of a sort of the ids, and beyond that in proportion to its length,
     /// with a search among the lent ones for each return; and never more memory at a time than the
-    /// lists of the report take. The error comes only where that is refused. `first_fault` says
-    /// what is wrong.
+    /// lists of the report take. The error comes only if that is refused. `first_fault` says what
+    /// is wrong.
     pub fn replays(&self) -> Result<bool, AllocError>
     where
         A: Copy,
@@ -50,7 +50,7 @@ impl<A: Allocator> Report<A> {
         Ok(self.first_wrong()?.is_none())
     }
 
-    /// What is wrong first in the report; None where it replays.
+    /// What is wrong first in the report; None if it replays.
     pub(crate) fn first_wrong(&self) -> Result<Option<Wrong>, AllocError>
     where
         A: Copy,
@@ -60,7 +60,7 @@ impl<A: Allocator> Report<A> {
         Ok(self.replayed()?.wrong(self))
     }
 
-    /// How many records admit no id that was there before. None where ids of the base are the same.
+    /// How many records admit no id that was there before. None if ids of the base are the same.
     pub(super) fn count_apart(&self) -> Result<Option<usize>, AllocError>
     where
         A: Copy,
@@ -101,7 +101,7 @@ impl<A: Allocator> Report<A> {
         Ok(are_apart(&mut ids))
     }
 
-    /// What stands at the base, with room for what the records bring. None where the base is not
+    /// What stands at the base, with room for what the records bring. None if the base is not
     /// legal.
     pub(crate) fn start(&self, records: &[Record]) -> Result<Option<RunningBase<A>>, AllocError>
     where

@@ -1,15 +1,15 @@
 // What a book says of itself.
 ghost use Rattle.std.specs.Prelude.{◌≡◌, map, IfOk};
-ghost use Rattle.r2d2_core.specs.Connections.{id_of_idle};
+ghost use Rattle.pool_machine.specs.Connections.{id_of_idle};
 
 use super::base::Base;
 use super::record::Record;
-use crate::machine::Core;
-use crate::schedule::Limits;
+use pool_machine::machine::Core;
+use pool_machine::schedule::Limits;
 use std::alloc::{AllocError, Allocator, Global};
 
-/// What a book shows at one moment, the newest records of what led to it, and what stood before
-/// them.
+/// What a book shows at one point in time, the newest records of what led to it, and what stood
+/// before them.
 ///
 /// From the base the records replay to the ids and counts that stand beside them, however long the
 /// book was in use.
@@ -24,8 +24,8 @@ pub struct Report<A: Allocator = Global> {
     /// How many records were folded into the base, since there was no room for them; it stops at
     /// `u64::MAX`.
     pub lost: u64,
-    /// How many takes found a connection since the making; it stops at `u64::MAX`. Where `lost` is
-    /// 0 it is the number of `Taken` records.
+    /// How many takes found a connection since the creation; it stops at `u64::MAX`. If `lost` is 0
+    /// it is the number of `Taken` records.
     pub takes: u64,
     /// The ids of the idle connections, in the order in which they came to be idle.
     pub idle: Vec<u64, A>,

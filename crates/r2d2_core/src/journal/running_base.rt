@@ -3,10 +3,10 @@ ghost use Rattle.std.specs.Prelude.{◌≡◌, ℕ, ◌+◌, ◌-◌, ◌^◌, �
 ghost use Rattle.std.specs.Prelude.{is_some, length, map, IsTrue, IfOk};
 ghost use Rattle.std.specs.Duration.{as_nanos};
 ghost use Rattle.std.specs.List.Sorted.{IsNonDecreasingBy};
-ghost use Rattle.r2d2_core.specs.Limits.{seen_limits, has_reached};
-ghost use Rattle.r2d2_core.specs.Ids.{copies_of};
-ghost use Rattle.r2d2_core.specs.Connections.{idle_connection, birth_in, id_of_idle, id_of_lent};
-ghost use Rattle.r2d2_core.specs.Connections.{since_of};
+ghost use Rattle.pool_machine.specs.Limits.{seen_limits, has_reached};
+ghost use Rattle.pool_machine.specs.Ids.{copies_of};
+ghost use Rattle.pool_machine.specs.Connections.{idle_connection, birth_in, id_of_idle, id_of_lent};
+ghost use Rattle.pool_machine.specs.Connections.{since_of};
 ghost use Rattle.r2d2_core.specs.Records.{seen_record};
 ghost use Rattle.r2d2_core.specs.Bases.{seen_bare, seen_lent, IsLegalBase};
 ghost use Rattle.r2d2_core.specs.Folding.{birth_of_lent, is_next, expired_in, may_follow, folded};
@@ -18,11 +18,11 @@ ghost use Rattle.r2d2_core.specs.RunningBase.{empty_base, with_one_idle};
 
 use super::base::{Base, copied_idle, copied_lent};
 use super::record::Record;
-use crate::machine::idle::{Idle, IdleConnection};
-use crate::machine::is_before;
-use crate::machine::lent::LentConnection;
-use crate::machine::roster::{HasId, Roster};
-use crate::schedule::Limits;
+use pool_machine::machine::idle::{Idle, IdleConnection};
+use pool_machine::machine::is_before;
+use pool_machine::machine::lent::LentConnection;
+use pool_machine::machine::roster::{HasId, Roster};
+use pool_machine::schedule::Limits;
 use std::alloc::{AllocError, Allocator, Global};
 use std::marker::Model;
 use std::time::Duration;
@@ -70,7 +70,7 @@ impl<A: Allocator> Model for RunningBase<A> {
 }
 
 impl<A: Allocator> RunningBase<A> {
-    /// What stands where nothing is idle or lent, with room for so many.
+    /// What stands when nothing is idle or lent, with room for so many.
     pub(crate) fn new(
         alloc: A,
         at: Duration,
@@ -93,8 +93,8 @@ impl<A: Allocator> RunningBase<A> {
         })
     }
 
-    /// Whether the record may follow what stands; then it is folded in. Where it may not, what
-    /// stands is of no use any more.
+    /// Whether the record may follow what stands; then it is folded in. If it may not, what stands
+    /// is of no use any more.
     pub(crate) fn follow(&mut self, limits: &Limits, made: &Record) -> bool
         requires legal { IsLegalBase (seen_limits limits.now) self.old.base }
         requires idle_room { length self.old.base.idle + made_idle_by (seen_record made.now)

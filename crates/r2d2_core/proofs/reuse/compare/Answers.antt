@@ -3,7 +3,7 @@ use Rattle.std.proofs.lemmas.Grind.{common_steps}
 use Rattle.std.proofs.lemmas.Bool.{OnTrue_at, OnFalse_at}
 use Rattle.std.proofs.lemmas.List.{drop_all}
 use Rattle.std.specs.Duration.{as_nanos}
-use Rattle.r2d2_core.specs.declared.schedule.limits.LendingOrder.TheVariants as lending
+use Rattle.pool_machine.specs.declared.schedule.limits.LendingOrder.TheVariants as lending
 use Rattle.r2d2_core.specs.Reuse.{first_seen, moments_of, last_seen, newest_list, oldest_list, Picked, other_list, raised_now, expired}
 use Rattle.r2d2_core.proofs.Reusing.Choices.{at_least_left, at_most_left, expired_is_for_old, between}
 use Rattle.r2d2_core.proofs.Reusing.Moves.{order_started, other_started, seen_moved, order_moved, other_moved, other_stopped, seen_ended, order_ended, other_ended, is_some_and, never_none}

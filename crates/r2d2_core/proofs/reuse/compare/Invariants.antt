@@ -1,5 +1,5 @@
 use Rattle.std.proofs.Common.{◌≡◌, drop}
-use Rattle.r2d2_core.specs.declared.schedule.limits.LendingOrder.TheVariants as lending
+use Rattle.pool_machine.specs.declared.schedule.limits.LendingOrder.TheVariants as lending
 use Rattle.r2d2_core.specs.Reuse.{first_seen, moments_of, last_seen, order_left, newest_list, oldest_list, other_left, other_list}
 use Rattle.r2d2_core.proofs.reuse.compare.Given as goal
 

@@ -4,7 +4,7 @@ use Rattle.std.proofs.lemmas.Iterator.Consumers.{YieldsList-end}
 use Rattle.std.proofs.lemmas.Iterator.Adapters.{YieldsList-from_vec}
 use Rattle.r2d2_core.specs.History.{Made}
 use Rattle.r2d2_core.specs.Answers.{answers_of, after_all, picture_of}
-use Rattle.r2d2_core.specs.Steps.{seen_answer}
+use Rattle.pool_machine.specs.Steps.{seen_answer}
 use Rattle.r2d2_core.proofs.Histories.Made.{kept_made, picture_of-made}
 use Rattle.r2d2_core.proofs.Follows.Runs.{run_more}
 use Rattle.r2d2_core.proofs.run.answer_all.Goals as goal

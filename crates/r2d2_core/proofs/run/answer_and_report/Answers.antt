@@ -4,7 +4,8 @@ use Rattle.std.proofs.lemmas.Iterator.Consumers.{YieldsList-end}
 use Rattle.std.proofs.lemmas.Iterator.Adapters.{YieldsList-from_vec}
 use Rattle.r2d2_core.specs.History.{Made}
 use Rattle.r2d2_core.specs.Answers.{answers_of}
-use Rattle.r2d2_core.specs.Steps.{seen_answer, book_after}
+use Rattle.pool_machine.specs.Steps.{seen_answer}
+use Rattle.r2d2_core.specs.NotedSteps.{book_after}
 use Rattle.r2d2_core.specs.Book.{HasFacts}
 use Rattle.r2d2_core.specs.Reports.{IsReportOf}
 use Rattle.r2d2_core.proofs.Histories.Made.{kept_made, picture_of-made}

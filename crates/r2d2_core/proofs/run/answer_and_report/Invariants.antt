@@ -1,9 +1,9 @@
 use Rattle.std.specs.Prelude.{◌≡◌, ◌≤◌, ℕ}
-use Rattle.r2d2_core.specs.declared.schedule.limits.LimitSettings.{LimitSettings}
-use Rattle.r2d2_core.specs.Limits.{wanted_of}
+use Rattle.pool_machine.specs.declared.schedule.limits.LimitSettings.{LimitSettings}
+use Rattle.pool_machine.specs.Limits.{wanted_of}
 use Rattle.r2d2_core.specs.History.{Made}
-use Rattle.r2d2_core.specs.Table.{first_picture}
-use Rattle.r2d2_core.specs.Steps.{book_after}
+use Rattle.pool_machine.specs.Table.{first_picture}
+use Rattle.r2d2_core.specs.NotedSteps.{book_after}
 use Rattle.r2d2_core.proofs.Follows.Runs.{IsRun}
 use Rattle.r2d2_core.proofs.run.answer_and_report.Given as goal
 

@@ -1,10 +1,10 @@
 use Rattle.std.proofs.Common.{sym, subst}
 use Rattle.std.specs.Duration.{as_nanos}
-use Rattle.r2d2_core.specs.Limits.{seen_limits}
-use Rattle.r2d2_core.specs.Picture.{IsSound}
+use Rattle.pool_machine.specs.Limits.{seen_limits}
+use Rattle.pool_machine.specs.Picture.{IsSound}
 use Rattle.r2d2_core.specs.History.{Made}
 use Rattle.r2d2_core.specs.Answers.{after_all}
-use Rattle.r2d2_core.proofs.Facts.Legal.{legal}
+use Rattle.pool_machine.proofs.Facts.Legal.{legal}
 use Rattle.r2d2_core.proofs.Histories.Made.{kept_made}
 use Rattle.r2d2_core.proofs.Follows.Runs.{kept_after_all, has_sums}
 use Rattle.r2d2_core.proofs.run.run.Goals as goal

@@ -1,11 +1,11 @@
 use Rattle.std.proofs.Common.{sym, ◌∙◌, ap, subst}
 use Rattle.std.specs.Duration.{as_nanos}
-use Rattle.r2d2_core.specs.Limits.{seen_limits}
+use Rattle.pool_machine.specs.Limits.{seen_limits}
 use Rattle.r2d2_core.specs.History.{Made}
 use Rattle.r2d2_core.specs.Answers.{after_all}
-use Rattle.r2d2_core.specs.Steps.{book_after}
+use Rattle.r2d2_core.specs.NotedSteps.{book_after}
 use Rattle.r2d2_core.specs.Reports.{IsReportOf}
-use Rattle.r2d2_core.proofs.Facts.Legal.{legal}
+use Rattle.pool_machine.proofs.Facts.Legal.{legal}
 use Rattle.r2d2_core.proofs.Histories.Made.{kept_made, picture_of-made}
 use Rattle.r2d2_core.proofs.Follows.Runs.{book_shows, told_after, if_ok}
 use Rattle.r2d2_core.proofs.run.run_and_report.Goals as goal

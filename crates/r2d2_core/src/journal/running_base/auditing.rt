@@ -3,9 +3,9 @@
 ghost use Rattle.std.specs.Prelude.{◌≡◌, ◌↔◌, ◌+◌, ◌<◌, ◌≤◌, ◌&&◌, nat_le, ℕ, [], true, false, map};
 ghost use Rattle.std.specs.Prelude.{length, take, IsTrue, IfOk, MatchOption};
 ghost use Rattle.std.specs.Duration.{as_nanos};
-ghost use Rattle.r2d2_core.specs.Limits.{seen_limits};
-ghost use Rattle.r2d2_core.specs.Ids.{copies_of};
-ghost use Rattle.r2d2_core.specs.Connections.{id_of_idle, id_of_lent};
+ghost use Rattle.pool_machine.specs.Limits.{seen_limits};
+ghost use Rattle.pool_machine.specs.Ids.{copies_of};
+ghost use Rattle.pool_machine.specs.Connections.{id_of_idle, id_of_lent};
 ghost use Rattle.r2d2_core.specs.Records.{seen_record};
 ghost use Rattle.r2d2_core.specs.Bases.{seen_bare, seen_lent, IsLegalBase};
 ghost use Rattle.r2d2_core.specs.Folding.{replay, all_follow, known_in};
@@ -17,10 +17,10 @@ ghost use Rattle.r2d2_core.specs.Auditing.{are_in_order, are_born};
 use super::{Rooms, RunningBase};
 use crate::journal::base::Base;
 use crate::journal::record::Record;
-use crate::machine::idle::{Idle, IdleConnection};
-use crate::machine::lent::LentConnection;
-use crate::machine::roster::Roster;
-use crate::schedule::Limits;
+use pool_machine::machine::idle::{Idle, IdleConnection};
+use pool_machine::machine::lent::LentConnection;
+use pool_machine::machine::roster::Roster;
+use pool_machine::schedule::Limits;
 use std::alloc::{AllocError, Allocator};
 use std::time::Duration;
 
@@ -36,7 +36,7 @@ fn are_in_a_row(birth: Duration, last: Duration, since: Duration, at: Duration) 
 }
 
 impl<A: Allocator> RunningBase<A> {
-    /// What a base says, with room for so many. None where the moments of its connections are in no
+    /// What a base says, with room for so many. None if the moments of its connections are in no
     /// order.
     pub(crate) fn of(
         alloc: A,
@@ -129,7 +129,7 @@ impl<A: Allocator> RunningBase<A> {
         true
     }
 
-    /// How many records follow one another from what stands; where that is all of them, they are
+    /// How many records follow one another from what stands; if that is all of them, they are
     /// folded in.
     pub(crate) fn follow_all(&mut self, limits: &Limits, records: &[Record]) -> usize
         requires legal { IsLegalBase (seen_limits limits.now) self.old.base }

@@ -1,11 +1,11 @@
 use Rattle.std.proofs.Common.{◌≡◌, ◌∙◌, ap, sym, subst, max}
 use Rattle.std.specs.Prelude.{option_map}
 use Rattle.std.specs.Duration.{as_nanos}
-use Rattle.r2d2_core.specs.Table.{admit_answer}
+use Rattle.pool_machine.specs.Table.{admit_answer}
 use Rattle.r2d2_core.specs.Records.{seen_record}
 use Rattle.r2d2_core.specs.Recorded.{record_of_admission}
 use Rattle.r2d2_core.specs.Journal.{with_noted}
-use Rattle.r2d2_core.specs.CoreSteps.{IsAdmission}
+use Rattle.pool_machine.specs.CoreSteps.{IsAdmission}
 use Rattle.r2d2_core.specs.Book.{SeenBook}
 use Rattle.r2d2_core.specs.BookParts.{beside, book_in}
 use Rattle.r2d2_core.specs.Noted.{noted_admission}

@@ -1,8 +1,8 @@
 use Rattle.std.proofs.Common.{length, sym, ◌∙◌, ap}
 use Rattle.std.proofs.lemmas.List.{length-map}
 use Rattle.std.specs.Duration.{as_nanos}
-use Rattle.r2d2_core.specs.Seen.{Reaped, seen_released}
-use Rattle.r2d2_core.specs.Table.{reap_closed}
+use Rattle.pool_machine.specs.Seen.{Reaped, seen_released}
+use Rattle.pool_machine.specs.Table.{reap_closed}
 use Rattle.r2d2_core.specs.Noted.{noted_reap}
 use Rattle.r2d2_core.proofs.journal.Book.answer_reap.Goals as goal
 

@@ -1,6 +1,6 @@
 use Rattle.std.proofs.Common.{ap, sym, subst, arith}
 use Rattle.r2d2_core.specs.declared.journal.bounded.Before.{Before}
-use Rattle.r2d2_core.specs.declared.schedule.limits.LimitSettings.{LimitSettings}
+use Rattle.pool_machine.specs.declared.schedule.limits.LimitSettings.{LimitSettings}
 use Rattle.r2d2_core.specs.Bases.{SeenBase, IsLegalBase}
 use Rattle.r2d2_core.specs.JournalParts.{IsBefore}
 use Rattle.r2d2_core.proofs.Recording.Beside.{before_folded}

@@ -1,6 +1,6 @@
 use Rattle.std.proofs.Common.{◌≡◌, None, refl, subst}
 use Rattle.std.specs.Duration.{as_nanos}
-use Rattle.r2d2_core.specs.CoreSteps.{IsFailedOpening}
+use Rattle.pool_machine.specs.CoreSteps.{IsFailedOpening}
 use Rattle.r2d2_core.specs.Book.{SeenBook}
 use Rattle.r2d2_core.specs.BookParts.{beside, book_in}
 use Rattle.r2d2_core.proofs.Recording.Beside.{keeps_as, none_alone, noted_beside, faithful}

@@ -1,12 +1,12 @@
 use Rattle.std.proofs.Common.{◌≡◌, ◌∙◌, ap, sym, subst, max}
 use Rattle.std.specs.Prelude.{option_map}
 use Rattle.std.specs.Duration.{as_nanos}
-use Rattle.r2d2_core.specs.Seen.{seen_returned, map_ok}
-use Rattle.r2d2_core.specs.Table.{return_answer}
+use Rattle.pool_machine.specs.Seen.{seen_returned, map_ok}
+use Rattle.pool_machine.specs.Table.{return_answer}
 use Rattle.r2d2_core.specs.Records.{seen_record}
 use Rattle.r2d2_core.specs.Recorded.{record_of_return}
 use Rattle.r2d2_core.specs.Journal.{with_noted}
-use Rattle.r2d2_core.specs.CoreSteps.{IsReturn}
+use Rattle.pool_machine.specs.CoreSteps.{IsReturn}
 use Rattle.r2d2_core.specs.Book.{SeenBook}
 use Rattle.r2d2_core.specs.BookParts.{beside, book_in}
 use Rattle.r2d2_core.specs.Noted.{noted_return}

@@ -2,12 +2,12 @@ use Rattle.std.proofs.Common.{◌≡◌, ◌∙◌, ap, sym, subst, max, length}
 use Rattle.std.specs.Prelude.{option_map}
 use Rattle.std.specs.Duration.{as_nanos}
 use Rattle.std.proofs.lemmas.List.{length-map}
-use Rattle.r2d2_core.specs.Seen.{seen_released}
-use Rattle.r2d2_core.specs.Table.{reap_closed, reap_orders}
+use Rattle.pool_machine.specs.Seen.{seen_released}
+use Rattle.pool_machine.specs.Table.{reap_closed, reap_orders}
 use Rattle.r2d2_core.specs.Records.{seen_record}
 use Rattle.r2d2_core.specs.Recorded.{record_of_reap}
 use Rattle.r2d2_core.specs.Journal.{with_noted}
-use Rattle.r2d2_core.specs.CoreSteps.{IsReap}
+use Rattle.pool_machine.specs.CoreSteps.{IsReap}
 use Rattle.r2d2_core.specs.Book.{SeenBook}
 use Rattle.r2d2_core.specs.BookParts.{beside, book_in}
 use Rattle.r2d2_core.specs.Noted.{noted_reap}

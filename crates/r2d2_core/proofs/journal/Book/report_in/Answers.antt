@@ -3,7 +3,7 @@ use Rattle.r2d2_core.specs.Journal.{CountsTakes, BeginsAtTheMaking}
 use Rattle.r2d2_core.specs.Book.{SeenBook, IsReplayed}
 use Rattle.r2d2_core.specs.BookParts.{IsRecorded, book_in}
 use Rattle.r2d2_core.specs.Reports.{IsReportOf}
-use Rattle.r2d2_core.specs.Picture.{IsSound}
+use Rattle.pool_machine.specs.Picture.{IsSound}
 use Rattle.r2d2_core.proofs.Recording.Reporting.{is_replayed, facts_of, report_replays, report_sound, report_counts, report_since, report_whole}
 use Rattle.r2d2_core.proofs.journal.Book.report_in.Goals as goal
 

@@ -1,5 +1,5 @@
 use Rattle.std.proofs.Common.{◌≡◌, None, refl, subst}
-use Rattle.r2d2_core.specs.CoreSteps.{IsTelling}
+use Rattle.pool_machine.specs.CoreSteps.{IsTelling}
 use Rattle.r2d2_core.specs.Book.{SeenBook}
 use Rattle.r2d2_core.specs.BookParts.{beside, book_in}
 use Rattle.r2d2_core.proofs.Recording.Beside.{keeps_as, none_alone, noted_beside, faithful}

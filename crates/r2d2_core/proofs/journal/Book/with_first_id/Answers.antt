@@ -1,14 +1,14 @@
 use Rattle.std.proofs.Common.{◌∙◌, ap, sym, subst}
 use Rattle.std.specs.Duration.{as_nanos}
-use Rattle.r2d2_core.specs.Limits.{seen_limits}
-use Rattle.r2d2_core.specs.Picture.{Picture}
-use Rattle.r2d2_core.specs.Table.{first_picture}
+use Rattle.pool_machine.specs.Limits.{seen_limits}
+use Rattle.pool_machine.specs.Picture.{Picture}
+use Rattle.pool_machine.specs.Table.{first_picture}
 use Rattle.r2d2_core.specs.Journal.{SeenJournal}
 use Rattle.r2d2_core.specs.Book.{seen_book}
 use Rattle.r2d2_core.specs.BookParts.{book_in, IsFaithful}
-use Rattle.r2d2_core.proofs.Facts.Sounds.{sound_first}
+use Rattle.pool_machine.proofs.Facts.Sounds.{sound_first}
 use Rattle.r2d2_core.proofs.Recording.Beside.{beside_first, faithful_first}
-use Rattle.r2d2_core.proofs.Facts.Legal.{legal}
+use Rattle.pool_machine.proofs.Facts.Legal.{legal}
 use Rattle.r2d2_core.proofs.journal.Book.with_first_id.Goals as goal
 
 pub invariant_of-result : goal.invariant_of-result

@@ -1,6 +1,6 @@
 use Rattle.std.proofs.Common.{◌≡◌, ◌+◌, ◌++◌, length, map, vec_capacity}
 use Rattle.r2d2_core.specs.Bases.{seen_lent}
-use Rattle.r2d2_core.specs.Slots.{held}
+use Rattle.pool_machine.specs.Slots.{held}
 use Rattle.r2d2_core.proofs.journal.base.copied_lent.Given as goal
 
 abbrev pub invariant-loop-loan : goal.invariant-loop-loan

@@ -1,5 +1,5 @@
 use Rattle.std.proofs.Common.{◌≡◌, ◌++◌, map, take}
-use Rattle.r2d2_core.specs.Connections.{id_of_idle}
+use Rattle.pool_machine.specs.Connections.{id_of_idle}
 use Rattle.r2d2_core.specs.Bases.{seen_bare}
 use Rattle.r2d2_core.proofs.journal.replaying.add_idle.Given as goal
 

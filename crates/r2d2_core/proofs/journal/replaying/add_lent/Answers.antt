@@ -1,6 +1,6 @@
 use Rattle.std.proofs.Common.{ℕ, map, take, arith}
 use Rattle.std.specs.declared.time.Duration.{Duration}
-use Rattle.r2d2_core.specs.Connections.{id_of_lent}
+use Rattle.pool_machine.specs.Connections.{id_of_lent}
 use Rattle.r2d2_core.specs.Bases.{seen_lent}
 use Rattle.r2d2_core.proofs.Recording.Auditing.{taken_next, added_more}
 use Rattle.r2d2_core.proofs.journal.replaying.add_lent.Goals as goal

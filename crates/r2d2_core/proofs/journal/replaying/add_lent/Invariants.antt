@@ -1,5 +1,5 @@
 use Rattle.std.proofs.Common.{◌≡◌, ◌++◌, map, take}
-use Rattle.r2d2_core.specs.Connections.{id_of_lent}
+use Rattle.pool_machine.specs.Connections.{id_of_lent}
 use Rattle.r2d2_core.specs.Bases.{seen_lent}
 use Rattle.r2d2_core.proofs.journal.replaying.add_lent.Given as goal
 

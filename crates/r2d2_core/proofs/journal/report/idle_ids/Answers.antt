@@ -1,6 +1,6 @@
 use Rattle.std.proofs.Common.{◌<◌, length, sym, ◌∙◌, arith}
 use Rattle.std.proofs.lemmas.List.{length_push}
-use Rattle.r2d2_core.specs.Connections.{id_of_idle}
+use Rattle.pool_machine.specs.Connections.{id_of_idle}
 use Rattle.r2d2_core.proofs.Recording.Listing.{listed_more, there_is_one}
 use Rattle.r2d2_core.proofs.journal.report.idle_ids.Goals as goal
 use Rattle.r2d2_core.proofs.journal.report.idle_ids.Goals.{in-Some, in_default}

@@ -1,5 +1,5 @@
 use Rattle.std.proofs.Common.{◌≡◌, length, vec_capacity}
-use Rattle.r2d2_core.specs.Connections.{id_of_idle}
+use Rattle.pool_machine.specs.Connections.{id_of_idle}
 use Rattle.r2d2_core.proofs.Recording.Listing.{IsListed}
 use Rattle.r2d2_core.proofs.journal.report.idle_ids.Given as goal
 

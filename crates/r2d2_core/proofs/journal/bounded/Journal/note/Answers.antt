@@ -2,7 +2,7 @@ use Rattle.std.proofs.Common.{◌<◌, map, sym, ◌∙◌, ap, subst, arith, �
 use Rattle.std.specs.Prelude.{option_map}
 use Rattle.std.specs.Duration.{as_nanos}
 use Rattle.r2d2_core.specs.declared.journal.bounded.Before.{Before}
-use Rattle.r2d2_core.specs.Limits.{seen_limits}
+use Rattle.pool_machine.specs.Limits.{seen_limits}
 use Rattle.r2d2_core.specs.Records.{seen_record}
 use Rattle.r2d2_core.specs.Bases.{IsLegalBase}
 use Rattle.r2d2_core.specs.Folding.{AreLegalFrom}

@@ -1,6 +1,6 @@
 use Rattle.std.proofs.Common.{ap, arith, ◌||◌}
 use Rattle.r2d2_core.specs.declared.journal.load.Load.{Load}
-use Rattle.r2d2_core.specs.Limits.{seen_limits}
+use Rattle.pool_machine.specs.Limits.{seen_limits}
 use Rattle.r2d2_core.specs.Records.{seen_record}
 use Rattle.r2d2_core.proofs.Recording.Loads.{load_follows}
 use Rattle.r2d2_core.proofs.journal.load.Load.follow.Goals as goal

@@ -1,7 +1,7 @@
 use Rattle.std.proofs.Common.{◌≡◌, ◌≤◌, true, ℕ, List, map, take, sym, ◌∙◌, ap, subst, arith}
 use Rattle.std.proofs.lemmas.List.{take-map, length-map}
-use Rattle.r2d2_core.specs.Limits.{seen_limits}
-use Rattle.r2d2_core.specs.Ids.{copies_of}
+use Rattle.pool_machine.specs.Limits.{seen_limits}
+use Rattle.pool_machine.specs.Ids.{copies_of}
 use Rattle.r2d2_core.specs.declared.journal.record.Record.{Record}
 use Rattle.r2d2_core.specs.Records.{seen_record, SeenRecord}
 use Rattle.r2d2_core.specs.Bases.{SeenBase}

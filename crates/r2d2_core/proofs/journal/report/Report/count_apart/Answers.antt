@@ -1,6 +1,6 @@
 use Rattle.std.proofs.Common.{◌≡◌, ◌≤◌, ◌-◌, ◌+◌, ◌/◌, ℕ, List, [], length, map, take, sym, ◌∙◌, ap, arith}
 use Rattle.std.proofs.lemmas.List.{take_all, take-map, length-map}
-use Rattle.r2d2_core.specs.Ids.{copies_of}
+use Rattle.pool_machine.specs.Ids.{copies_of}
 use Rattle.r2d2_core.specs.declared.journal.record.Record.{Record}
 use Rattle.r2d2_core.specs.Records.{seen_record}
 use Rattle.r2d2_core.specs.Folding.{known_in}

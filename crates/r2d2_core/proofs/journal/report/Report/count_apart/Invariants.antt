@@ -1,5 +1,5 @@
 use Rattle.std.proofs.Common.{◌≤◌, ◌<◌, ◌-◌, ℕ, length, map, take}
-use Rattle.r2d2_core.specs.Ids.{copies_of}
+use Rattle.pool_machine.specs.Ids.{copies_of}
 use Rattle.r2d2_core.specs.Records.{seen_record}
 use Rattle.r2d2_core.specs.Folding.{known_in}
 use Rattle.r2d2_core.specs.Reports.{seen_base}

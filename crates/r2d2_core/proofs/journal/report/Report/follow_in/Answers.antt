@@ -1,5 +1,5 @@
 use Rattle.std.proofs.Common.{◌≡◌, ◌∙◌, sym, ap, arith, List, get_or}
-use Rattle.r2d2_core.specs.Limits.{seen_limits}
+use Rattle.pool_machine.specs.Limits.{seen_limits}
 use Rattle.r2d2_core.specs.declared.journal.record.Record.{Record}
 use Rattle.r2d2_core.specs.Records.{seen_record}
 use Rattle.r2d2_core.specs.Folding.{folded, may_follow}

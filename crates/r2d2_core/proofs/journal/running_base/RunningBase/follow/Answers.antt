@@ -1,5 +1,5 @@
 use Rattle.std.proofs.Common.{sym, subst}
-use Rattle.r2d2_core.specs.Limits.{seen_limits}
+use Rattle.pool_machine.specs.Limits.{seen_limits}
 use Rattle.r2d2_core.specs.Bases.{IsLegalBase}
 use Rattle.r2d2_core.specs.RunningBase.{SeenRunningBase, base_in}
 use Rattle.r2d2_core.proofs.Recording.Folding.{idle_apart, lent_apart}

@@ -1,5 +1,5 @@
 use Rattle.std.proofs.Common.{◌≡◌, map}
-use Rattle.r2d2_core.specs.Limits.{seen_limits}
+use Rattle.pool_machine.specs.Limits.{seen_limits}
 use Rattle.r2d2_core.specs.Records.{seen_record}
 use Rattle.r2d2_core.specs.Replays.{IsFollowing}
 use Rattle.r2d2_core.proofs.journal.running_base.RunningBase.follow_all.Given as goal

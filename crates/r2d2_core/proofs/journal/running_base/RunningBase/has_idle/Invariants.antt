@@ -1,5 +1,5 @@
 use Rattle.std.proofs.Common.{◌≡◌, map, take, length}
-use Rattle.r2d2_core.specs.Connections.{id_of_idle}
+use Rattle.pool_machine.specs.Connections.{id_of_idle}
 use Rattle.r2d2_core.proofs.journal.running_base.RunningBase.has_idle.Given as goal
 
 abbrev pub invariant-loop-place : goal.invariant-loop-place

@@ -1,10 +1,10 @@
 use Rattle.std.proofs.Common.{◌≡◌, ◌≤◌, ℕ, sym, Some, subst, map, arith}
 use Rattle.std.specs.Duration.{as_nanos}
-use Rattle.r2d2_core.specs.Ids.{copies_of}
-use Rattle.r2d2_core.specs.Lending.{next_to_lend}
-use Rattle.r2d2_core.specs.Connections.{id_of_idle}
+use Rattle.pool_machine.specs.Ids.{copies_of}
+use Rattle.pool_machine.specs.Lending.{next_to_lend}
+use Rattle.pool_machine.specs.Connections.{id_of_idle}
 use Rattle.r2d2_core.specs.RunningBase.{SeenRunningBase, rooms}
-use Rattle.r2d2_core.proofs.Lists.Lending.{length-still_idle}
+use Rattle.pool_machine.proofs.Lists.Lending.{length-still_idle}
 use Rattle.r2d2_core.proofs.Recording.RunningBase.{lends, birth_of}
 use Rattle.r2d2_core.proofs.journal.running_base.RunningBase.lend.Goals as goal
 

@@ -3,7 +3,7 @@ use Rattle.std.specs.Prelude.{nat_le}
 use Rattle.std.specs.Duration.{as_nanos}
 use Rattle.std.specs.declared.time.Duration.{Duration}
 use Rattle.std.proofs.lemmas.Bool.Decides.{nat_tests}
-use Rattle.r2d2_core.specs.Connections.{SeenLentConnection}
+use Rattle.pool_machine.specs.Connections.{SeenLentConnection}
 use Rattle.r2d2_core.specs.Bases.{seen_lent}
 use Rattle.r2d2_core.specs.Auditing.{are_born}
 use Rattle.circular_buffer.specs.Buffer.{Buffer}

@@ -1,6 +1,6 @@
 use Rattle.std.proofs.Common.{arith}
 use Rattle.std.specs.Duration.{as_nanos}
-use Rattle.r2d2_core.specs.Limits.{seen_limits}
+use Rattle.pool_machine.specs.Limits.{seen_limits}
 use Rattle.r2d2_core.proofs.Recording.RunningBase.{sweeps}
 use Rattle.r2d2_core.proofs.journal.running_base.RunningBase.sweep.Goals as goal
 

@@ -1,4 +1,0 @@
-use Rattle.r2d2_core.proofs.machine.Core.reap_uncounted.Given as goal
-
-abbrev pub ghosts-reap_from : goal.ghosts-reap_from
-ghosts-reap_from g a = record { name = a.blank.name; parts = a.blank.parts }

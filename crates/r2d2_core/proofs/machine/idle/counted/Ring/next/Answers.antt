@@ -1,9 +1,0 @@
-use Rattle.std.proofs.Common.{◌∙◌, ap}
-use Rattle.circular_buffer.specs.Buffer.{Buffer}
-use Rattle.r2d2_core.specs.Ids.{last_of}
-use Rattle.r2d2_core.proofs.Lists.Ids.{last_item-last_of}
-use Rattle.r2d2_core.proofs.machine.idle.counted.Ring.next.Goals as goal
-
-pub returns-in-NewestFirst : goal.returns-in-NewestFirst
-returns-in-NewestFirst g c = rw c.in-NewestFirst.is (c.back.ensures
-    ∙ (last_item-last_of c.self.inside.held.items ∙ ap (λ (b : Buffer _). last_of b.items) c.self.view_is))

@@ -1,9 +1,0 @@
-use Rattle.std.proofs.Common.{◌∙◌, ap}
-use Rattle.circular_buffer.specs.Buffer.{Buffer}
-use Rattle.r2d2_core.specs.Ids.{last_of}
-use Rattle.r2d2_core.proofs.Lists.Ids.{last_item-last_of}
-use Rattle.r2d2_core.proofs.machine.idle.counted.Ring.pop_next.Goals as goal
-
-pub returns-in-NewestFirst-clause-next : goal.returns-in-NewestFirst-clause-next
-returns-in-NewestFirst-clause-next g c = rw c.in-NewestFirst.is (c.pop_back.ensures.value
-    ∙ (last_item-last_of c.self.inside.held.items ∙ ap (λ (b : Buffer _). last_of b.items) c.self.view_is))
