@@ -10,8 +10,8 @@
    - where more wait than `max_waiting` allows;
    - in line, where a caller takes while one that began to wait before it has no idle connection of its own, or where one
      whose turn it is was not told.
-   It also finds that three wakes are not needed, the two of a reap and an eviction's of the callers: they are kept for
-   one common rule.
+   It also finds that three wakes are not needed, the two of a reap and an eviction's of the callers, if it counts none:
+   they are kept for one common rule.
 
    A step under the lock is one atomic block, and the wakes that follow it are blocks of their own, since the lock is
    free by then. Callers make any number of calls, openings fail any number of times, connections come back sound or
@@ -109,6 +109,11 @@
 #ifndef NO_WORKERS_AFTER
 #define NO_WORKERS_AFTER 0
 #endif
+/* The same, where a wake of callers is counted as sent. */
+#ifndef UNSENT_AFTER
+#define UNSENT_AFTER 0
+#endif
+#define SENDS(step) (step != NO_CALLER_AFTER && step != UNSENT_AFTER)
 
 /* The book: what the core counts. */
 byte idle, lent;
@@ -174,27 +179,27 @@ inline wake_workers(step) {
 /* Shared::wake, of a caller: `notify_one`, which wakes any one of those who wait at the callers' variable. */
 inline wake_any(step) {
   if
-  :: step != NO_CALLER_AFTER && waits_at_it(0) -> waiting[0] = false
+  :: SENDS(step) && waits_at_it(0) -> waiting[0] = false
 #if WAITERS > 1
-  :: step != NO_CALLER_AFTER && waits_at_it(1) -> waiting[1] = false
+  :: SENDS(step) && waits_at_it(1) -> waiting[1] = false
 #endif
 #if WAITERS > 2
-  :: step != NO_CALLER_AFTER && waits_at_it(2) -> waiting[2] = false
+  :: SENDS(step) && waits_at_it(2) -> waiting[2] = false
 #endif
 #if WAITERS > 3
-  :: step != NO_CALLER_AFTER && waits_at_it(3) -> waiting[3] = false
+  :: SENDS(step) && waits_at_it(3) -> waiting[3] = false
 #endif
   :: else
   fi
 }
 
-/* Shared::wake_all, of all callers: `notify_all`. */
+/* Shared::wake, of all callers, at their variable and in line: `notify_all`. */
 inline wake_callers(step) {
 #ifdef CLOSE_WAKES_ONE
   wake_any(step)
 #else
   if
-  :: step != NO_CALLER_AFTER ->
+  :: SENDS(step) ->
      for (k : 0 .. WAITERS - 1) { waiting[k] = false }
   :: else
   fi

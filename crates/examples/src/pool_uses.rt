@@ -2,7 +2,7 @@
 ghost use Rattle.std.specs.Prelude.{◌≡◌, ◌+◌, ◌^◌, ◌<◌, ◌≤◌, ◌↔◌, IsTrue, IsSome, IfOk, IfSome};
 ghost use Rattle.std.specs.Option.{ForSome};
 ghost use Rattle.std.specs.Duration.{as_nanos};
-ghost use Rattle.r2d2_core.specs.Limits.{seen_limits};
+ghost use Rattle.pool_machine.specs.Limits.{seen_limits};
 ghost use Rattle.r2d2_core.specs.Bases.{first_base};
 ghost use Rattle.r2d2_core.specs.Reports.{seen_base, DoesReplay};
 
@@ -155,7 +155,7 @@ pub fn replace<
 }
 
 /// Lends twice from a pool that counts, and audits it with the share that has all parts of its
-/// ledger: whatever other threads did before, the report tells of two takes more than all shares
+/// ledger: whatever other threads did before, the report counts two takes more than all shares
 /// had counted.
 pub fn lend_twice_and_audit<M: ManageConnection, R: PoolRuntime, L: Ledger + Send + Sync + 'static>(
     pool: &PlainCountedPool<M, R, L>,

@@ -3,20 +3,20 @@ use Rattle.std.proofs.Common.{◌≡◌, ℕ, ◌+◌, ◌-◌, ◌*◌, ◌<◌
 use Rattle.std.proofs.Common.{Result, Ok, Err, refl, sym, ◌∙◌, ap, subst, arith}
 use Rattle.std.specs.Prelude.{option_map, unwrap_or, is_some, reverse}
 use Rattle.std.proofs.lemmas.List.{reverse-append, append-nil, length_push}
-use Rattle.r2d2_core.specs.declared.schedule.limits.LendingOrder.{LendingOrder}
-use Rattle.r2d2_core.specs.declared.schedule.limits.LendingOrder.TheVariants as lending
-use Rattle.r2d2_core.specs.declared.machine.answers.Refusal.{Refusal}
-use Rattle.r2d2_core.specs.declared.machine.answers.Refusal.TheVariants as refusal
-use Rattle.r2d2_core.specs.Ids.{copies_of, last_of, front, without}
-use Rattle.r2d2_core.specs.Lending.{next_to_lend, still_idle}
-use Rattle.r2d2_core.specs.Refusals.{refused_if, ok_or_back, unless_refused}
-use Rattle.r2d2_core.specs.Connections.{SeenIdleConnection, SeenLentConnection, SeenReleased, lent_connection, id_of_idle, id_of_lent, birth_in, released_at}
-use Rattle.r2d2_core.specs.Picture.{Picture, IsSound}
-use Rattle.r2d2_core.specs.Seen.{SeenTake, SeenReturned, Found, Empty, Closed, take_with}
-use Rattle.r2d2_core.specs.Table.{raised_to, top_up_of, next_of, take_orders, taken, after_take, take_answer, gone_one, return_of}
-use Rattle.r2d2_core.specs.Table.{returned, return_answer, after_return}
-use Rattle.r2d2_core.proofs.Lists.Ids.{copies_of-append3, last_of-push, front-push, last_is}
-use Rattle.r2d2_core.proofs.Lists.Lending.{none_is_next, length-still_idle, found-next, without-next}
+use Rattle.pool_machine.specs.declared.schedule.limits.LendingOrder.{LendingOrder}
+use Rattle.pool_machine.specs.declared.schedule.limits.LendingOrder.TheVariants as lending
+use Rattle.pool_machine.specs.declared.machine.answers.Refusal.{Refusal}
+use Rattle.pool_machine.specs.declared.machine.answers.Refusal.TheVariants as refusal
+use Rattle.pool_machine.specs.Ids.{copies_of, last_of, front, without}
+use Rattle.pool_machine.specs.Lending.{next_to_lend, still_idle}
+use Rattle.pool_machine.specs.Refusals.{refused_if, ok_or_back, unless_refused}
+use Rattle.pool_machine.specs.Connections.{SeenIdleConnection, SeenLentConnection, SeenReleased, lent_connection, id_of_idle, id_of_lent, birth_in, released_at}
+use Rattle.pool_machine.specs.Picture.{Picture, IsSound}
+use Rattle.pool_machine.specs.Seen.{SeenTake, SeenReturned, Found, Empty, Closed, take_with}
+use Rattle.pool_machine.specs.Table.{raised_to, top_up_of, next_of, take_orders, taken, after_take, take_answer, gone_one, return_of}
+use Rattle.pool_machine.specs.Table.{returned, return_answer, after_return}
+use Rattle.pool_machine.proofs.Lists.Ids.{copies_of-append3, last_of-push, front-push, last_is}
+use Rattle.pool_machine.proofs.Lists.Lending.{none_is_next, length-still_idle, found-next, without-next}
 use Rattle.r2d2_core.specs.Book.{SeenBook, seen_book}
 use Rattle.r2d2_core.specs.Noted.{noted_take, noted_return}
 use Rattle.pool_state.specs.Evicted.{in_lending_order, evicted_of, book_taken, book_broken, one_evicted, each_evicted, IsEvicted}

@@ -2,12 +2,12 @@
 use Rattle.std.proofs.Common.{◌≡◌, ℕ, ◌+◌, ◌-◌, ◌≤◌, Bool, true, false, cond, List, ◌∷◌, [], ◌++◌, length, sym, ap, ◌∙◌, subst, arith}
 use Rattle.std.specs.Prelude.{min, ◌^◌}
 use Rattle.std.specs.declared.time.Duration.{Duration}
-use Rattle.r2d2_core.specs.declared.machine.answers.Take.{Take}
-use Rattle.r2d2_core.specs.declared.schedule.limits.LimitSettings.{LimitSettings}
+use Rattle.pool_machine.specs.declared.machine.answers.Take.{Take}
+use Rattle.pool_machine.specs.declared.schedule.limits.LimitSettings.{LimitSettings}
 use Rattle.r2d2_core.specs.Book.{SeenBook}
 use Rattle.r2d2_core.specs.BookSteps.{IsTake}
-use Rattle.r2d2_core.specs.Picture.{Picture}
-use Rattle.r2d2_core.specs.Seen.{seen_take}
+use Rattle.pool_machine.specs.Picture.{Picture}
+use Rattle.pool_machine.specs.Seen.{seen_take}
 use Rattle.pool_state.specs.declared.engine.Wakes.{Wakes}
 use Rattle.pool_state.specs.declared.line.queue.Line.{Line}
 use Rattle.pool_state.specs.declared.line.place.Place.{Place}

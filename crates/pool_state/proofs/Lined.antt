@@ -4,20 +4,20 @@ use Rattle.std.specs.declared.time.Duration.{Duration}
 use Rattle.std.specs.Duration.{as_nanos}
 use Rattle.std.proofs.lemmas.List.{length_push}
 use Rattle.std.specs.Prelude.{String}
-use Rattle.r2d2_core.specs.declared.schedule.Job.{Job}
-use Rattle.r2d2_core.specs.declared.machine.answers.Refusal.{Refusal}
-use Rattle.r2d2_core.specs.declared.machine.answers.Returned.{Returned}
-use Rattle.r2d2_core.specs.declared.machine.answers.Released.{Released}
-use Rattle.r2d2_core.specs.declared.machine.answers.Take.{Take}
-use Rattle.r2d2_core.specs.declared.machine.answers.Take.TheVariants as take
-use Rattle.r2d2_core.specs.Connections.{SeenIdleConnection, is_kept, idle_connection, lent_connection}
-use Rattle.r2d2_core.specs.Refusals.{ok_or_back, unless_refused}
-use Rattle.r2d2_core.specs.OnOrder.{admit_refusal, fail_refusal}
-use Rattle.r2d2_core.specs.Picture.{Picture}
-use Rattle.r2d2_core.specs.Seen.{take_with, seen_take, seen_returned, map_ok}
-use Rattle.r2d2_core.specs.Table as table
-use Rattle.r2d2_core.specs.CoreSteps as core
-use Rattle.r2d2_core.proofs.Lists.Lending.{none_is_next, length-still_idle}
+use Rattle.pool_machine.specs.declared.schedule.Job.{Job}
+use Rattle.pool_machine.specs.declared.machine.answers.Refusal.{Refusal}
+use Rattle.pool_machine.specs.declared.machine.answers.Returned.{Returned}
+use Rattle.pool_machine.specs.declared.machine.answers.Released.{Released}
+use Rattle.pool_machine.specs.declared.machine.answers.Take.{Take}
+use Rattle.pool_machine.specs.declared.machine.answers.Take.TheVariants as take
+use Rattle.pool_machine.specs.Connections.{SeenIdleConnection, is_kept, idle_connection, lent_connection}
+use Rattle.pool_machine.specs.Refusals.{ok_or_back, unless_refused}
+use Rattle.pool_machine.specs.OnOrder.{admit_refusal, fail_refusal}
+use Rattle.pool_machine.specs.Picture.{Picture}
+use Rattle.pool_machine.specs.Seen.{take_with, seen_take, seen_returned, map_ok}
+use Rattle.pool_machine.specs.Table as table
+use Rattle.pool_machine.specs.CoreSteps as core
+use Rattle.pool_machine.proofs.Lists.Lending.{none_is_next, length-still_idle}
 use Rattle.pool_state.specs.declared.engine.Wakes.{Wakes}
 use Rattle.pool_state.specs.declared.engine.Outcome.{Outcome}
 use Rattle.pool_state.specs.declared.engine.Outcome.TheVariants as outcome

@@ -5,7 +5,7 @@ use Rattle.std.specs.Prelude.{◌==◌, IfSome, IfNone}
 use Rattle.std.specs.List.{AllByRecursion}
 use Rattle.std.proofs.lemmas.Bool.Decides.{nat_tests}
 use Rattle.std.proofs.lemmas.Grind.{common_steps}
-use Rattle.r2d2_core.specs.Picture.{Picture}
+use Rattle.pool_machine.specs.Picture.{Picture}
 use Rattle.pool_state.specs.declared.line.place.Place.{Place}
 use Rattle.pool_state.specs.declared.line.place.Standing.{Standing}
 use Rattle.pool_state.specs.declared.line.place.Standing.TheVariants.{Quiet, Told, Aside}

@@ -4,24 +4,23 @@ use Rattle.std.specs.Prelude.{String, min, max, ◌==◌}
 use Rattle.std.specs.declared.time.Duration.{Duration}
 use Rattle.std.specs.Duration.{as_nanos}
 use Rattle.std.proofs.lemmas.List.{length_push}
-use Rattle.r2d2_core.specs.declared.machine.answers.Refusal.{Refusal}
-use Rattle.r2d2_core.specs.declared.machine.answers.Returned.{Returned}
-use Rattle.r2d2_core.specs.declared.machine.answers.Released.{Released}
-use Rattle.r2d2_core.specs.declared.machine.answers.Take.{Take}
-use Rattle.r2d2_core.specs.declared.schedule.Job.{Job}
-use Rattle.r2d2_core.specs.Connections.{SeenIdleConnection, SeenLentConnection, id_of_lent, lent_connection}
-use Rattle.r2d2_core.specs.Ids.{without}
-use Rattle.r2d2_core.specs.Refusals.{ok_or_back, ok_unless, unless_refused}
-use Rattle.r2d2_core.specs.OnOrder.{SeenOnOrder, admit_refusal, fail_refusal, miss_order, room_beside, begun_by, job_at, number_refusal, numbered_one}
-use Rattle.r2d2_core.specs.Jobs.{SeenJob, Open, Reap, Wait, Nothing, Closed}
-use Rattle.r2d2_core.specs.Limits.{wanted_of}
-use Rattle.r2d2_core.specs.Picture.{Picture, IsSound}
-use Rattle.r2d2_core.specs.Seen.{SeenTake, Found, Empty, take_with, seen_take, seen_returned, map_ok}
+use Rattle.pool_machine.specs.declared.machine.answers.Refusal.{Refusal}
+use Rattle.pool_machine.specs.declared.machine.answers.Returned.{Returned}
+use Rattle.pool_machine.specs.declared.machine.answers.Released.{Released}
+use Rattle.pool_machine.specs.declared.machine.answers.Take.{Take}
+use Rattle.pool_machine.specs.declared.schedule.Job.{Job}
+use Rattle.pool_machine.specs.Connections.{SeenIdleConnection, SeenLentConnection, id_of_lent, lent_connection}
+use Rattle.pool_machine.specs.Ids.{without}
+use Rattle.pool_machine.specs.Refusals.{ok_or_back, ok_unless, unless_refused}
+use Rattle.pool_machine.specs.OnOrder.{SeenOnOrder, admit_refusal, fail_refusal, miss_order, room_beside, begun_by, job_at, number_refusal, numbered_one}
+use Rattle.pool_machine.specs.Jobs.{SeenJob, Open, Reap, Wait, Nothing, Closed}
+use Rattle.pool_machine.specs.Limits.{wanted_of}
+use Rattle.pool_machine.specs.Picture.{Picture, IsSound}
+use Rattle.pool_machine.specs.Seen.{SeenTake, Found, Empty, take_with, seen_take, seen_returned, map_ok}
 use Rattle.r2d2_core.specs.Book.{SeenBook}
-use Rattle.r2d2_core.specs.Table as table
-use Rattle.r2d2_core.specs.CoreSteps as core
-use Rattle.r2d2_core.specs.BookSteps as book
-use Rattle.r2d2_core.proofs.Lists.Lending.{none_is_next, length-still_idle}
+use Rattle.pool_machine.specs.Table as table
+use Rattle.pool_machine.specs.CoreSteps as core
+use Rattle.pool_machine.proofs.Lists.Lending.{none_is_next, length-still_idle}
 use Rattle.pool_state.specs.declared.engine.Wakes.{Wakes}
 use Rattle.pool_state.specs.declared.engine.Outcome.{Outcome}
 use Rattle.pool_state.specs.declared.engine.Outcome.TheVariants as outcome
@@ -30,10 +29,13 @@ use Rattle.pool_state.specs.declared.state.looking.Turn.{Turn}
 use Rattle.pool_state.specs.declared.state.looking.Turn.TheVariants as turn
 use Rattle.pool_state.specs.declared.waiters.Wake.{Wake}
 use Rattle.pool_state.specs.declared.waiters.Waiters.{Waiters}
+use Rattle.pool_state.specs.declared.waiters.ToWake.{ToWake}
+use Rattle.pool_state.specs.declared.line.place.Place.{Place}
+use Rattle.pool_state.specs.Counted.{found_by}
 use Rattle.pool_state.specs.Wakes.{wakes_of_return}
 use Rattle.pool_state.specs.Settled.{seen_settled, settle_answer, after_settle, wakes_of_settled, settled_admission, settled_failure, settled_check}
 use Rattle.pool_state.specs.Lined.{book_asked}
-use Rattle.pool_state.specs.Waits.{NoneIsLost, OthersSleep, IsSent, SleepOnlyUndue, WaitAsBefore, woken_by, waits_after, turn_after, waits_in, one_if, after_wait, waiting_if, IsTokenOf}
+use Rattle.pool_state.specs.Waits.{NoneIsLost, OthersSleep, IsSent, SleepOnlyUndue, WaitAsBefore, woken_by, waits_after, turn_after, waits_in, one_if, after_wait, waiting_if, IsTokenOf, found_in_turn, AreWoken, AllAreWoken, NobodyWaits}
 
 -- WHAT A STEP DOES: at most so many less are lent, and at most so many less are pending
 pub record Moves {T : Type 0} (lent_less pending_less : ℕ) (old new : Picture T) : Type 0 where
@@ -479,6 +481,15 @@ module _ {T : Type 0} where
   noted_token (turn.Waits token) since w is = is
   noted_token turn.Closed since w is = tt
 
+  -- a look found where its take did
+  pub turn_found : (a : SeenTake T) (closed : Bool) (t : Turn T) → turn_after a closed t → found_in_turn t ≡ found_by a
+  turn_found (Found id birth value ordered) closed (turn.Found i v) is = refl
+  turn_found (Found id birth value ordered) closed (turn.Waits w) is = absurd is
+  turn_found (Found id birth value ordered) closed turn.Closed is = absurd is
+  turn_found (Empty ordered) closed (turn.Found i v) is = absurd is
+  turn_found (Empty ordered) closed (turn.Waits w) is = refl
+  turn_found (Empty ordered) closed turn.Closed is = refl
+
   -- GIVING UP, which wakes another
   pub unchanged : (caller : Bool) (p : Picture T) → Goes caller p p
   unchanged caller p = quiet caller p p (same_moves p) (same_stays p)
@@ -500,3 +511,24 @@ module _ {T : Type 0} where
     making = λ e. not_both true refl (on.maker e).0;
     draining = λ e. not_both true refl (on.drain e).0;
   }
+
+-- NOBODY WAITS there, after each step where nobody did
+still_awake : (is was : Bool) → (is ≡ true → was ≡ true) → was ≡ false → is ≡ false
+still_awake true was slept awake = sym (slept refl) ∙ awake
+still_awake false was slept awake = refl
+
+pub nobody_woken : (due : Wakes) (to_wake : ToWake) (v w : Waiters) (ps qs : List Place) → AreWoken due to_wake v w ps qs → NobodyWaits v → NobodyWaits w
+nobody_woken due to_wake v w ps qs woken none = record {
+  callers = woken.waits.callers ∙ none.callers;
+  maker = still_awake w.maker_sleeps v.maker_sleeps (λ e. (woken.sleepers.maker e).1) none.maker;
+  drain = still_awake w.drain_sleeps v.drain_sleeps (λ e. (woken.sleepers.drain e).1) none.drain;
+}
+
+pub nobody_of_all : (v w : Waiters) → AllAreWoken v w → NobodyWaits v → NobodyWaits w
+nobody_of_all v w all none = record { callers = all.waits.callers ∙ none.callers; maker = all.maker; drain = all.drain }
+
+pub nobody_as_before : (v w : Waiters) → w ≡ v → NobodyWaits v → NobodyWaits w
+nobody_as_before v w same none = subst NobodyWaits (sym same) none
+
+pub nobody_since : (v w : Waiters) → w.callers ≡ v.callers → w.maker_sleeps ≡ v.maker_sleeps → w.drain_sleeps ≡ v.drain_sleeps → NobodyWaits v → NobodyWaits w
+nobody_since v w callers maker drain none = record { callers = callers ∙ none.callers; maker = maker ∙ none.maker; drain = drain ∙ none.drain }

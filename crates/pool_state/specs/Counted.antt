@@ -1,6 +1,6 @@
 -- What contracts see of a book whose takes a ledger counts.
 use Rattle.std.specs.Prelude.{◌≡◌, ℕ, ◌-◌, ◌^◌, min, Option, Some, None}
-use Rattle.r2d2_core.specs.Seen.{SeenTake, Found, Empty}
+use Rattle.pool_machine.specs.Seen.{SeenTake, Found, Empty}
 use Rattle.r2d2_core.specs.Book.{SeenBook}
 
 -- the book, and what counts its takes: of a ledger, its total

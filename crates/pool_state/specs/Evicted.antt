@@ -1,10 +1,10 @@
 -- What an eviction does. A moment is raised to the latest so far.
 use Rattle.std.specs.Prelude.{◌≡◌, ◌≤◌, ℕ, nat_lt, max, Bool, true, false, ◌||◌, List, [], ◌∷◌, map, reverse, Option, Some, None, is_some}
-use Rattle.r2d2_core.specs.declared.schedule.limits.LendingOrder.{LendingOrder}
-use Rattle.r2d2_core.specs.declared.schedule.limits.LendingOrder.TheVariants as lending
-use Rattle.r2d2_core.specs.Connections.{SeenIdleConnection, SeenReleased, released_at}
-use Rattle.r2d2_core.specs.Picture.{Picture}
-use Rattle.r2d2_core.specs.Table.{take_answer, after_take, return_answer, after_return}
+use Rattle.pool_machine.specs.declared.schedule.limits.LendingOrder.{LendingOrder}
+use Rattle.pool_machine.specs.declared.schedule.limits.LendingOrder.TheVariants as lending
+use Rattle.pool_machine.specs.Connections.{SeenIdleConnection, SeenReleased, released_at}
+use Rattle.pool_machine.specs.Picture.{Picture}
+use Rattle.pool_machine.specs.Table.{take_answer, after_take, return_answer, after_return}
 use Rattle.r2d2_core.specs.Book.{SeenBook, seen_book}
 use Rattle.r2d2_core.specs.Noted.{noted_take, noted_return}
 use Rattle.pool_state.specs.declared.reason.ReleaseReason.{ReleaseReason}

@@ -2,7 +2,7 @@
 use Rattle.std.specs.Prelude.{◌≡◌, ◌≤◌, ℕ, ◌+◌, ◌-◌, min, false, List, length}
 use Rattle.std.specs.declared.time.Duration.{Duration}
 use Rattle.r2d2_core.specs.Book.{SeenBook}
-use Rattle.r2d2_core.specs.Picture.{Picture}
+use Rattle.pool_machine.specs.Picture.{Picture}
 use Rattle.pool_state.specs.declared.failures.Failures.{Failures}
 use Rattle.pool_state.specs.declared.line.place.Place.{Place}
 use Rattle.pool_state.specs.declared.waiters.Waiters.{Waiters}

@@ -5,7 +5,7 @@ pub mod Room
 pub mod Failed
 pub mod Wakes
 pub mod Settled
-pub use Rattle.r2d2_core.specs.Limits
+pub use Rattle.pool_machine.specs.Limits
 pub mod Counted
 pub mod Evicted
 pub mod Status

@@ -1,7 +1,7 @@
 -- What a pool promises of each status that it shows.
 use Rattle.std.specs.Prelude.{◌≡◌, ◌↔◌, ◌<◌, ℕ, ◌+◌, ◌-◌, ◌^◌, min, List, length, not, ◌&&◌, Bool, false, nat_eq, nat_lt, Option, Some, None, IsSome}
-use Rattle.r2d2_core.specs.Sums.{FitsIn, IsReplenished}
-use Rattle.r2d2_core.specs.Picture.{Picture}
+use Rattle.pool_machine.specs.Sums.{FitsIn, IsReplenished}
+use Rattle.pool_machine.specs.Picture.{Picture}
 use Rattle.pool_state.specs.declared.status.Status.{Status}
 use Rattle.pool_state.specs.declared.line.place.Place.{Place}
 use Rattle.pool_state.specs.Waiting.{waiting_in}

@@ -1,8 +1,8 @@
 -- Who waits at the callers' variable of a pool, and who of them was woken.
-use Rattle.std.specs.Prelude.{◌≡◌, ◌≤◌, ◌<◌, ℕ, ◌+◌, ◌-◌, ◌^◌, min, Bool, true, false, if◌then◌else◌, length, List}
-use Rattle.r2d2_core.specs.Limits.{wanted_of}
-use Rattle.r2d2_core.specs.Picture.{Picture}
-use Rattle.r2d2_core.specs.Seen.{SeenTake, Found, Empty, seen_take}
+use Rattle.std.specs.Prelude.{◌≡◌, ◌≤◌, ◌<◌, ℕ, ◌+◌, ◌-◌, ◌^◌, min, Bool, true, false, if◌then◌else◌, length, List, None}
+use Rattle.pool_machine.specs.Limits.{wanted_of}
+use Rattle.pool_machine.specs.Picture.{Picture}
+use Rattle.pool_machine.specs.Seen.{SeenTake, Found, Empty, seen_take}
 use Rattle.pool_state.specs.declared.line.place.Place.{Place}
 use Rattle.pool_state.specs.declared.engine.Wakes.{Wakes}
 use Rattle.pool_state.specs.declared.waiters.Wake.{Wake}
@@ -12,7 +12,7 @@ use Rattle.pool_state.specs.declared.waiters.ToWake.{ToWake}
 use Rattle.pool_state.specs.declared.state.looking.Turn.{Turn}
 use Rattle.pool_state.specs.declared.state.looking.Turn.TheVariants as turn
 use Rattle.std.specs.declared.time.Duration.{Duration}
-use Rattle.r2d2_core.specs.declared.machine.answers.Take.{Take}
+use Rattle.pool_machine.specs.declared.machine.answers.Take.{Take}
 use Rattle.r2d2_core.specs.Book.{SeenBook}
 use Rattle.r2d2_core.specs.BookSteps.{IsTake}
 use Rattle.pool_state.specs.Failed.{one_more}
@@ -33,6 +33,12 @@ pub record NoneIsLost {T : Type 0} (p : Picture T) (callers woken : ℕ) : Type 
 pub record OthersSleep {T : Type 0} (p : Picture T) (maker drain : Bool) : Type 0 where
   pub making : maker ≡ true → p.connections < wanted_of p.on_order.limits
   pub draining : drain ≡ true → 0 < length p.lent
+
+-- Nobody waits at the callers' variable: no caller, no maker of a pool, no drain that sleeps there.
+pub record NobodyWaits (w : Waiters) : Type 0 where
+  pub callers : w.callers ≡ 0
+  pub maker : w.maker_sleeps ≡ false
+  pub drain : w.drain_sleeps ≡ false
 
 -- WHAT A STEP SENDS
 
@@ -66,8 +72,10 @@ pub record AreWoken (due : Wakes) (to_wake : ToWake) (old new : Waiters) (before
   pub callers : IsSent due.caller to_wake.callers old new
   pub workers : to_wake.workers ≡ due.workers
   pub told : to_wake.told ≡ slot_if due.caller before
+  pub nobody_else : to_wake.all_in_line ≡ false
   pub line : after ≡ told_if due.caller before
   pub waits : WaitAsBefore old new
+  pub sleepers : SleepOnlyUndue due.caller old new
 
 -- HOW MANY WAIT
 
@@ -100,6 +108,13 @@ pub record AllAreWoken (old new : Waiters) : Type 0 where
   pub maker : new.maker_sleeps ≡ false
   pub drain : new.drain_sleeps ≡ false
   pub waits : WaitAsBefore old new
+
+-- all are to be woken: at the callers' variable, in line, and the workers
+pub record IsForAll (to_wake : ToWake) : Type 0 where
+  pub callers : to_wake.callers ≡ wake.All
+  pub workers : to_wake.workers ≡ true
+  pub in_line : to_wake.all_in_line ≡ true
+  pub nobody_told : to_wake.told ≡ None
 
 -- one gave up: it waits no more, and the wake that it may have had is another's
 pub record IsPassedOn (wake : Wake) (old new : Waiters) : Type 0 where

@@ -1,8 +1,8 @@
 -- Whom the pool wakes after a step, read off the step's answer: one waiting caller where a connection came in, or there is room to order
 -- one; all waiting workers where something is due.
 use Rattle.std.specs.Prelude.{ℕ, nat_lt, Bool, true, false, Result, Ok, Err}
-use Rattle.r2d2_core.specs.declared.machine.answers.Refusal.{Refusal}
-use Rattle.r2d2_core.specs.Seen.{SeenTake, Found, Empty, SeenReturned, Kept, Closed}
+use Rattle.pool_machine.specs.declared.machine.answers.Refusal.{Refusal}
+use Rattle.pool_machine.specs.Seen.{SeenTake, Found, Empty, SeenReturned, Kept, Closed}
 use Rattle.pool_state.specs.declared.engine.Wakes.{Wakes}
 
 abbrev pub wakes : Bool → Bool → Wakes

@@ -2,7 +2,7 @@
 //! whom to wake when the lock is free again.
 ghost use Rattle.std.specs.Prelude.{◌≡◌, ◌≤◌, length, vec_len, vec_capacity};
 ghost use Rattle.std.specs.Duration.{as_nanos};
-ghost use Rattle.r2d2_core.specs.Seen.{seen_take, seen_returned, seen_gone, map_ok};
+ghost use Rattle.pool_machine.specs.Seen.{seen_take, seen_returned, seen_gone, map_ok};
 ghost use Rattle.r2d2_core.specs.BookSteps.{IsTake, IsReturn, IsReap};
 ghost use Rattle.pool_state.specs.Wakes.{wakes_of_take, wakes_of_return, wakes_of_reap};
 ghost use Rattle.pool_state.specs.Settled.{seen_settled, wakes_of_settled, IsSettling};
@@ -64,8 +64,8 @@ impl Wakes {
 pub enum Outcome<T> {
     /// A connection was opened, and has this id.
     Opened { id: u64, value: T },
-    /// An opening failed, after `tries` failures before it. The text is the error's, where memory
-    /// for it was there.
+    /// An opening failed, after `tries` failures before it. The text is the error's, if there was
+    /// memory for it.
     Failed { tries: u32, text: Option<String> },
     /// The check of a lent connection failed.
     Unsound { id: u64, text: Option<String> },
@@ -170,7 +170,7 @@ pub fn give_back<T, A: Allocator>(
     (returned, wakes)
 }
 
-/// Tells the book what became of an opening or a check: `Opened` is admitted, `Failed` and
+/// Reports to the book what became of an opening or a check: `Opened` is admitted, `Failed` and
 /// `Unsound` are as `Book::fail` and `Book::fail_check`.
 pub fn settle<T, A: Allocator>(
     book: &mut Book<T, A>,

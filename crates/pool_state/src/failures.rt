@@ -1,4 +1,4 @@
-// What failed in a pool so far, and whom it told so.
+// What failed in a pool so far, and how many callers were refused or gave up.
 ghost use Rattle.std.specs.Prelude.{◌≡◌, ◌<◌, ◌↔◌, IsTrue};
 ghost use Rattle.std.specs.Duration.{as_nanos};
 ghost use Rattle.pool_state.specs.Failed.{HaveNone, IsOneOpeningMore, IsOneCheckMore};
@@ -7,7 +7,7 @@ ghost use Rattle.pool_state.specs.Failed.{IsOneRefusalMore, IsOneTimeoutMore, Is
 use std::time::Duration;
 
 /// How many openings and checks failed, how many callers were refused or gave up, and which
-/// connections the failed checks tell of.
+/// connections the failed checks apply to.
 #[derive(Clone, Copy)]
 pub struct Failures {
     /// Up to the greatest number.
@@ -70,7 +70,7 @@ impl Failures {
         self.timeouts = self.timeouts.saturating_add(1);
     }
 
-    // Something failed at this moment. A clock that went back tells nothing.
+    // Something failed at this moment. A clock that went back says nothing.
     fn note(&mut self, now: Duration)
         ensures latest { IsLatest now self.old.latest self.new.latest }
         ensures rest { self.new ≡ record self.old { latest = self.new.latest } }
@@ -81,7 +81,7 @@ impl Failures {
         });
     }
 
-    /// Whether a failed check tells of a connection that is idle since this moment.
+    /// Whether a failed check applies to a connection that is idle since this moment.
     pub fn tell_of(&self, idle_since: Duration) -> bool
         ensures { IsTrue result ↔ (as_nanos idle_since < as_nanos self.now.distrusted_before) }
     {

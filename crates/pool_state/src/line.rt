@@ -1,5 +1,5 @@
-// Who waits for a connection, in order, and who was told to look. Nothing here waits: it is what
-// the pool's lock guards.
+// Who waits for a connection, in order, and who was notified. Nothing here waits: it is what the
+// pool's lock guards.
 
 mod links;
 pub mod place;

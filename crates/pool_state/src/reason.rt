@@ -1,7 +1,7 @@
 // Why a connection leaves its pool.
 ghost use Rattle.std.specs.Prelude.{◌≡◌};
 ghost use Rattle.std.specs.Duration.{as_nanos};
-ghost use Rattle.r2d2_core.specs.Limits.{seen_limits, has_reached};
+ghost use Rattle.pool_machine.specs.Limits.{seen_limits, has_reached};
 ghost use Rattle.pool_state.specs.Reasons.{reason_of_reap};
 
 use r2d2_core::Limits;

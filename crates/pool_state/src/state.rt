@@ -23,15 +23,15 @@ pub mod serving;
 mod sleeping;
 mod steps;
 
-/// How many nanoseconds a caller looks again at most. Where others want the processor, to let them
-/// run takes many times as long as a sleep and a wake.
+/// How many nanoseconds a caller looks again at most. If others want the processor, to let them run
+/// takes many times as long as a sleep and a wake.
 const PATIENCE: u128 = 200_000;
 
 /// As many who wait before a caller are counted for it when it gives up.
 pub const MOST_AHEAD: usize = 1_000;
 
 /// What the lock guards: the book, who stands in line for what it lends, who waits elsewhere, which
-/// connections stay, and what failed. Where a pool has no line, nobody ever stands in it.
+/// connections stay, and what failed. If a pool has no line, nobody ever stands in it.
 #[derive(Drop)]
 pub struct PoolState<P, C: TakeTotal> {
     // Beside the lock, and the book after them: each step reads them.
@@ -49,8 +49,8 @@ pub struct PoolState<P, C: TakeTotal> {
     failures: Failures,
 }
 
-// That those in line were told of what is idle, and that no wake is lost, is part of the type: each
-// step keeps it, so a step that owes a wake and answers none is refused.
+// That those in line were notified of what is idle, and that no wake is lost, is part of the type:
+// each step keeps it, so a step that owes a wake and answers none is refused.
 impl<P, C: TakeTotal> Model for PoolState<P, C> {
     ghost use Rattle.pool_state.specs.Guarded.{SeenState, seen_state, IsKeptFor};
     ghost use Rattle.pool_state.specs.Ring.{places_in};
@@ -66,11 +66,12 @@ impl<P, C: TakeTotal> Model for PoolState<P, C> {
 
 impl<P, C: TakeTotal> PoolState<P, C> {
     ghost use Rattle.std.specs.Prelude.{IsFalse};
-    ghost use Rattle.r2d2_core.specs.Limits.{wanted_of};
+    ghost use Rattle.pool_machine.specs.Limits.{wanted_of};
     ghost use Rattle.pool_state.specs.Failed.{HaveNone, IsOneRefusalMore, IsOneTimeoutMore};
     ghost use Rattle.pool_state.specs.Order.{IsHistoryOf};
     ghost use Rattle.pool_state.specs.Since.{since_with, since_if};
     ghost use Rattle.pool_state.specs.Status.{IsStatus, all_who_wait, is_all_lent, is_full};
+    ghost use Rattle.pool_state.specs.Waits.{NobodyWaits};
 
     /// A book for which nobody waits yet, and of which nothing was evicted.
     pub fn new(book: CountingBook<P, C>, line: Line) -> PoolState<P, C>
@@ -80,7 +81,7 @@ impl<P, C: TakeTotal> PoolState<P, C> {
         ensures line { result.places ≡ [] }
         ensures history { IsHistoryOf [] result.places }
         ensures owed { result.owed ≡ 0 }
-        ensures callers { result.waiting.callers ≡ 0 }
+        ensures nobody { NobodyWaits result.waiting }
         ensures drains { result.waiting.drains ≡ 0 }
         ensures evicted { result.evicted_below ≡ 0 }
         ensures hurried { as_nanos result.hurried_until ≡ 0 }
@@ -146,7 +147,7 @@ impl<P, C: TakeTotal> PoolState<P, C> {
     }
 
     /// Since when somebody waits, once a caller does whose call began at this moment: since then,
-    /// where nobody waits yet; else since the earlier of that moment and the one before.
+    /// if nobody waits yet; else since the earlier of that moment and the one before.
     pub fn since_with(&self, start: Duration) -> Duration
         ensures { as_nanos result
             ≡ since_with (all_who_wait (count_of self.now.waiting) self.now.places)
@@ -158,7 +159,7 @@ impl<P, C: TakeTotal> PoolState<P, C> {
         self.waiting.since.min(start)
     }
 
-    /// Whether a failed check tells of a connection that is idle since this moment.
+    /// Whether a failed check applies to a connection that is idle since this moment.
     pub fn is_distrusted(&self, idle_since: Duration) -> bool
         ensures { IsTrue result
             ↔ (as_nanos idle_since < as_nanos self.now.failures.distrusted_before) }
@@ -237,7 +238,7 @@ impl<P, C: TakeTotal> PoolState<P, C> {
         book.idle() == 0 && book.connections() > 0 && !book.is_closed()
     }
 
-    /// Whether a caller would have to wait, where as many wait as may: then it counts as refused.
+    /// Whether a caller would have to wait, if as many wait as may: then it counts as refused.
     pub fn is_refused(&mut self, max_waiting: Option<u32>) -> bool
         ensures value { result ≡ is_full max_waiting self.old.waiting.callers
             self.old.book.picture }
@@ -252,7 +253,7 @@ impl<P, C: TakeTotal> PoolState<P, C> {
         is_full
     }
 
-    /// Whether a caller would have to wait, where as many wait as may.
+    /// Whether a caller would have to wait, if as many wait as may.
     pub fn is_full(&self, max_waiting: Option<u32>) -> bool
         ensures { result ≡ is_full max_waiting self.now.waiting.callers self.now.book.picture }
     {

@@ -1,13 +1,13 @@
 // The counts of a pool.
 ghost use Rattle.std.specs.Prelude.{◌≡◌, ◌≤◌, None, length};
-ghost use Rattle.r2d2_core.specs.Limits.{wanted_of};
+ghost use Rattle.pool_machine.specs.Limits.{wanted_of};
 
 use crate::failures::Failures;
 use r2d2_core::Book;
 use std::fmt;
 use std::time::Duration;
 
-/// The counts of a pool at one moment. Only a pool makes one.
+/// The counts of a pool at one point in time. Only a pool makes one.
 #[derive(Clone, Copy)]
 pub struct State {
     /// How many connections there are, idle and lent ones together. Those that are being opened are
@@ -33,9 +33,9 @@ impl State {
     }
 }
 
-/// What a pool is doing at one moment. `lent` and `idle` together are `connections`; `connections`
-/// and `opening` together are at most `max_size`; and unless the pool is closed, `idle` and
-/// `opening` together reach `wanted`, or there is no room for more.
+/// What a pool is doing at one point in time. `lent` and `idle` together are `connections`;
+/// `connections` and `opening` together are at most `max_size`; and unless the pool is closed,
+/// `idle` and `opening` together reach `wanted`, or there is no room for more.
 #[derive(Clone, Copy, PartialEq, Eq, Debug)]
 pub struct Status {
     /// How many connections there are at most.
@@ -54,17 +54,17 @@ pub struct Status {
     pub workers: Option<u32>,
     /// How many callers wait, for a connection or in a `drain`.
     pub waiting: u64,
-    /// Since this moment there has been a caller waiting, without a break; None where nobody waits.
+    /// Since this moment there has been a caller waiting, without a break; None if nobody waits.
     /// Each waits since its call began, by the first reading of the clock that it needed.
     pub waiting_since: Option<Duration>,
     /// How many openings failed so far, those among them whose connection the customizer refused.
     pub failed_openings: u64,
     /// How many checks failed so far.
     pub failed_checks: u64,
-    /// How many callers were refused so far, since as many waited as may: those that were told
+    /// How many callers were refused so far, since as many waited as may: those that got
     /// `ErrorKind::QueueFull`.
     pub refused: u64,
-    /// How many callers gave up so far, since their time was over: those that were told
+    /// How many callers gave up so far, since their time was over: those that got
     /// `ErrorKind::Timeout` by a get.
     pub timeouts: u64,
     /// The moment of the latest opening or check that failed; None before the first.

@@ -4,7 +4,7 @@ ghost use Rattle.std.specs.Prelude.{◌≡◌, IfSome, string_bytes};
 use std::alloc::Allocator;
 use std::fmt;
 
-/// The text of a manager's or a customizer's error; None where memory for it is refused.
+/// The text of a manager's or a customizer's error; None if memory for it is refused.
 pub fn text_of<E: fmt::Display, A: Allocator>(alloc: A, error: &E) -> Option<String<A>>
     ensures { IfSome result
         (λ text. IfSome (E.output error.now) (λ bytes. string_bytes text ≡ bytes)) }

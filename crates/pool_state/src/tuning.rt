@@ -24,7 +24,7 @@ pub struct Tuning {
     pub lifetime_jitter: Option<Duration>,
     /// How many callers wait at most; None for as many as come.
     pub max_waiting: Option<u32>,
-    /// Whether they wait in line, where `max_waiting` is set, and are served in order.
+    /// Whether they wait in line, if `max_waiting` is set, and are served in order.
     pub in_line: bool,
 }
 
@@ -48,7 +48,7 @@ impl Tuning {
         }
     }
 
-    /// How many callers the line has room for; none where callers do not wait in line.
+    /// How many callers the line has room for; none if callers do not wait in line.
     pub fn room_in_line(&self) -> u32
         ensures { result ≡ room_in_line self.now.max_waiting self.now.in_line }
     {
@@ -81,8 +81,16 @@ impl Tuning {
         self.evict_idle_on_failed_check || self.test_if_idle_for.is_some()
     }
 
+    /// Whether what a caller takes may be closed for a check, of it or of another, given whether
+    /// connections are checked.
+    pub fn may_fail_check(&self, checks: bool) -> bool
+        ensures { result ≡ (checks || self.now.evict_idle_on_failed_check) }
+    {
+        checks || self.evict_idle_on_failed_check
+    }
+
     /// Since before which moment a connection has to be idle to be distrusted for a failed check
-    /// that began at this one: before the check's beginning, or, where that is off, before all.
+    /// that began at this one: before the check's beginning, or, if that is off, before all.
     pub fn distrusts_before(&self, began: Duration) -> Duration
         ensures { as_nanos result
             ≡ (if self.now.evict_idle_on_failed_check then as_nanos began else 0) }
@@ -95,7 +103,7 @@ impl Tuning {
     }
 
     /// Whether what is idle since this moment is idle for long enough to be checked. A clock that
-    /// went back tells nothing: then it is.
+    /// went back says nothing: then it is.
     pub fn is_check_due(&self, idle_since: Option<Duration>, now: Duration) -> bool
         ensures { result ≡ is_check_due self.now.test_if_idle_for (option_map as_nanos idle_since)
             (as_nanos now) }
@@ -116,7 +124,7 @@ impl Tuning {
         self.lifetime_jitter.is_some()
     }
 
-    /// Whether a connection has outlived its own lifetime, where lifetimes differ.
+    /// Whether a connection has outlived its own lifetime, if lifetimes differ.
     pub fn is_outlived(
         &self,
         longest: Option<Duration>,

@@ -23,8 +23,10 @@ pub struct ToWake {
     pub callers: Wake,
     /// All workers who rest.
     pub workers: bool,
-    /// The slot of the caller in line that was told to look.
+    /// The slot of the caller in line that was notified.
     pub told: Option<u32>,
+    /// All who stand in line.
+    pub all_in_line: bool,
 }
 
 impl ToWake {
@@ -33,42 +35,48 @@ impl ToWake {
         ensures callers { result.callers ≡ Wake.Nobody }
         ensures workers { result.workers ≡ false }
         ensures told { result.told ≡ None }
+        ensures in_line { result.all_in_line ≡ false }
     {
         ToWake::workers_if(false)
     }
 
-    /// The one in line at this slot, which was told to look.
+    /// The one in line at this slot, which was notified.
     pub fn told(told: Option<u32>) -> ToWake
         ensures callers { result.callers ≡ Wake.Nobody }
         ensures workers { result.workers ≡ false }
         ensures told { result.told ≡ told }
+        ensures in_line { result.all_in_line ≡ false }
     {
         ToWake {
             callers: Wake::Nobody,
             workers: false,
             told,
+            all_in_line: false,
         }
     }
 
-    /// The workers, where something was ordered.
+    /// The workers, if something was ordered.
     pub fn workers_if(ordered: bool) -> ToWake
         ensures callers { result.callers ≡ Wake.Nobody }
         ensures workers { result.workers ≡ ordered }
         ensures told { result.told ≡ None }
+        ensures in_line { result.all_in_line ≡ false }
     {
         ToWake {
             callers: Wake::Nobody,
             workers: ordered,
             told: None,
+            all_in_line: false,
         }
     }
 }
 
-/// A caller who waits at the callers' variable, and is counted there. It can't be let go: its next
-/// look, or its giving up, uses it up.
+/// A caller who waits at the callers' variable, and is counted there. Only a look makes one. It can't
+/// be let go: its next look, or its giving up, uses it up.
 pub struct Waiting {
     /// Since when somebody waited as it began to: if it waits again, that moment stays.
     pub since: Duration,
+    pub(crate) of_a_look: (),
 }
 
 /// How many wait at the callers' variable, how many of them were woken, and since when somebody
@@ -84,7 +92,7 @@ pub struct Waiters {
     /// The same of those who drain; and how many do.
     pub drain_sleeps: bool,
     pub drains: u64,
-    /// Since this moment there has been a caller waiting, without a break. It tells nothing where
+    /// Since this moment there has been a caller waiting, without a break. It means nothing if
     /// nobody waits.
     pub since: Duration,
     /// Whether one who was woken is to come first: callers that come now give way for a while.
@@ -145,8 +153,8 @@ impl Waiters {
         self.woken = self.woken.saturating_sub(1);
     }
 
-    /// Where a step left something for a caller at this moment, counts the wake that is to be sent,
-    /// and gives a turn. All are woken where somebody sleeps who does not wait for a connection, and
+    /// If a step left something for a caller at this moment, counts the wake that is to be sent,
+    /// and gives a turn. All are woken if somebody sleeps who does not wait for a connection, and
     /// might have that wake.
     pub fn wake_if(&mut self, due: bool, now: Duration) -> Wake
         requires { self.old.woken ≤ self.old.callers }
@@ -160,8 +168,7 @@ impl Waiters {
         }
         self.give_turn(now);
         if self.maker_sleeps || self.drain_sleeps {
-            self.wake_all();
-            return Wake::All;
+            return self.wake_all();
         }
         if self.woken < self.callers {
             self.woken += 1;
@@ -170,13 +177,15 @@ impl Waiters {
         Wake::Nobody
     }
 
-    /// All are woken.
-    pub fn wake_all(&mut self)
-        ensures { AllAreWoken self.old self.new }
+    /// Counts all as woken, which are to be woken then.
+    pub fn wake_all(&mut self) -> Wake
+        ensures counted { AllAreWoken self.old self.new }
+        ensures sent { result ≡ Wake.All }
     {
         self.woken = self.callers;
         self.maker_sleeps = false;
         self.drain_sleeps = false;
+        Wake::All
     }
 
     // Where somebody waits, one that is woken at this moment is to come first, if none was for a

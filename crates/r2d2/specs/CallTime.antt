@@ -1,6 +1,6 @@
 -- What a call that wants a connection saw of the clock, with moments in nanoseconds.
 use Rattle.std.specs.Prelude.{ℕ, ◌-◌, ◌^◌, min, max, Option, Some, None, unwrap_or}
-use Rattle.r2d2_core.specs.Limits.{later_by}
+use Rattle.pool_machine.specs.Limits.{later_by}
 
 pub record SeenCallTime : Type 0 where
   -- the first reading

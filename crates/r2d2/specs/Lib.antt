@@ -2,7 +2,7 @@ pub mod Entries
 pub mod Events
 pub mod Failures
 pub mod Settings
-pub use Rattle.r2d2_core.specs.Limits
+pub use Rattle.pool_machine.specs.Limits
 pub use Rattle.pool_state.specs.Wakes
 pub use Rattle.pool_state.specs.Settled
 pub use Rattle.pool_state.specs.Counted

@@ -3,12 +3,12 @@ use Rattle.std.specs.Prelude.{◌≡◌, ℕ, ◌*◌, ◌<◌, true, false, Som
 use Rattle.std.specs.Option.{ForSome}
 use Rattle.std.specs.Duration.{as_nanos, max_nanos}
 use Rattle.std.specs.declared.time.Duration.{Duration}
-use Rattle.r2d2_core.specs.declared.schedule.limits.LendingOrder.TheVariants.{NewestFirst}
-use Rattle.r2d2_core.specs.declared.schedule.limits.LimitSettings.{LimitSettings}
-use Rattle.r2d2_core.specs.Limits.{settings, with_order}
+use Rattle.pool_machine.specs.declared.schedule.limits.LendingOrder.TheVariants.{NewestFirst}
+use Rattle.pool_machine.specs.declared.schedule.limits.LimitSettings.{LimitSettings}
+use Rattle.pool_machine.specs.Limits.{settings, with_order}
 use Rattle.r2d2_core.specs.Book.{SeenBook, seen_book}
 use Rattle.r2d2_core.specs.Journal.{first_journal}
-use Rattle.r2d2_core.specs.Table.{first_picture}
+use Rattle.pool_machine.specs.Table.{first_picture}
 use Rattle.pool_state.specs.Tuning.{IsOff}
 use Rattle.r2d2.specs.declared.config.Config.{Config}
 use Rattle.r2d2.specs.declared.config.Settings.{Settings}

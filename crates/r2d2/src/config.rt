@@ -2,7 +2,7 @@
 ghost use Rattle.std.specs.Prelude.{◌≡◌, ◌<◌, ◌≤◌, ◌↔◌, IsSome, IfSome, IfOk};
 ghost use Rattle.std.specs.Option.{ForSome};
 ghost use Rattle.std.specs.Duration.{as_nanos};
-ghost use Rattle.r2d2_core.specs.Limits.{seen_limits};
+ghost use Rattle.pool_machine.specs.Limits.{seen_limits};
 
 use crate::event::NopEventHandler;
 use crate::{NopConnectionCustomizer, NopErrorHandler};
@@ -38,9 +38,9 @@ pub struct Config<H, V, Z> {
     pub reaper_rate: Duration,
     /// Which of the idle connections is lent next.
     pub lending_order: LendingOrder,
-    /// What is told of errors.
+    /// The handler of errors.
     pub error_handler: H,
-    /// What is told of events.
+    /// The handler of events.
     pub event_handler: V,
     /// What changes connections as they come and go.
     pub connection_customizer: Z,
@@ -50,24 +50,17 @@ impl<H, V, Z> Config<H, V, Z> {
     ghost use Rattle.r2d2.specs.Settings.{with_handlers, with_error_handler, with_event_handler};
     ghost use Rattle.r2d2.specs.Settings.{with_customizer};
 
-    // The same settings with other handlers, and those that they had.
+    // The same settings with other handlers.
     fn with_handlers<G, W, Y>(
-        self,
+        &self,
         error_handler: G,
         event_handler: W,
         connection_customizer: Y,
-    ) -> (Config<G, W, Y>, (H, V, Z))
-        ensures settings { result.0
-            ≡ with_handlers error_handler event_handler connection_customizer self }
-        ensures handlers { result.1
-            ≡ (self.error_handler, self.event_handler, self.connection_customizer) }
+    ) -> Config<G, W, Y>
+        ensures { result
+            ≡ with_handlers error_handler event_handler connection_customizer self.now }
     {
-        let handlers = (
-            self.error_handler,
-            self.event_handler,
-            self.connection_customizer,
-        );
-        let config = Config {
+        Config {
             max_size: self.max_size,
             min_idle: self.min_idle,
             thread_pool: self.thread_pool,
@@ -81,8 +74,7 @@ impl<H, V, Z> Config<H, V, Z> {
             error_handler,
             event_handler,
             connection_customizer,
-        };
-        (config, handlers)
+        }
     }
 
     /// The same settings, and another handler of errors.
@@ -91,9 +83,12 @@ impl<H, V, Z> Config<H, V, Z> {
         H: Drop,
         ensures { result ≡ with_error_handler error_handler self }
     {
-        let (bare, (_, event_handler, customizer)) = self.with_handlers((), (), ());
-        bare.with_handlers(error_handler, event_handler, customizer)
-            .0
+        let bare = self.with_handlers((), (), ());
+        bare.with_handlers(
+            error_handler,
+            self.event_handler,
+            self.connection_customizer,
+        )
     }
 
     /// The same settings, and another handler of events.
@@ -102,9 +97,12 @@ impl<H, V, Z> Config<H, V, Z> {
         V: Drop,
         ensures { result ≡ with_event_handler event_handler self }
     {
-        let (bare, (error_handler, _, customizer)) = self.with_handlers((), (), ());
-        bare.with_handlers(error_handler, event_handler, customizer)
-            .0
+        let bare = self.with_handlers((), (), ());
+        bare.with_handlers(
+            self.error_handler,
+            event_handler,
+            self.connection_customizer,
+        )
     }
 
     /// The same settings, and another customizer.
@@ -113,9 +111,8 @@ impl<H, V, Z> Config<H, V, Z> {
         Z: Drop,
         ensures { result ≡ with_customizer customizer self }
     {
-        let (bare, (error_handler, event_handler, _)) = self.with_handlers((), (), ());
-        bare.with_handlers(error_handler, event_handler, customizer)
-            .0
+        let bare = self.with_handlers((), (), ());
+        bare.with_handlers(self.error_handler, self.event_handler, customizer)
     }
 }
 
@@ -166,23 +163,16 @@ pub struct Settings<H, V, Z> {
 impl<H, V, Z> Settings<H, V, Z> {
     ghost use Rattle.r2d2.specs.Settings.{without_handlers};
 
-    /// The same settings without handlers, and the handlers.
-    pub fn without_handlers(self) -> (Settings<(), (), ()>, (H, V, Z))
-        ensures settings { result.0 ≡ without_handlers self }
-        ensures handlers { result.1 ≡ (
-          self.config.error_handler,
-          self.config.event_handler,
-          self.config.connection_customizer,
-        ) }
+    /// The same settings without handlers: for what does not know the handlers' types.
+    pub fn without_handlers(&self) -> Settings<(), (), ()>
+        ensures { result ≡ without_handlers self.now }
     {
-        let (config, handlers) = self.config.with_handlers((), (), ());
-        let settings = Settings {
-            config,
+        Settings {
+            config: self.config.with_handlers((), (), ()),
             tuning: self.tuning,
             first_id: self.first_id,
             listens: self.listens,
-        };
-        (settings, handlers)
+        }
     }
 }
 
@@ -307,7 +297,7 @@ impl<M, H, V, Z> Builder<M, H, V, Z> {
     }
 
     /// Whether a connection is checked by `ManageConnection::is_valid` each time before it is lent;
-    /// by `check`, where it is lent to a task. The default is true. `try_get` of a pool for tasks,
+    /// by `check`, if it is lent to a task. The default is true. `try_get` of a pool for tasks,
     /// which waits for nothing, checks none.
     pub fn test_on_check_out(mut self, test_on_check_out: bool) -> Self
         ensures { result ≡ record self { config = record self.config { test_on_check_out = test_on_check_out } } }
@@ -353,7 +343,7 @@ impl<M, H, V, Z> Builder<M, H, V, Z> {
         self
     }
 
-    /// How long `get` waits for a connection before it answers a timeout. The default is 30
+    /// How long `get` waits for a connection before it returns a timeout. The default is 30
     /// seconds.
     ///
     /// It bounds two more things: `build` waits as long at most for the first connections, and an
@@ -372,7 +362,7 @@ impl<M, H, V, Z> Builder<M, H, V, Z> {
 
     /// How many records of what happened the pool keeps for `Pool::journal`, the latest ones. The
     /// default is 0: none. The memory is taken when the pool is built, 40 bytes for each record,
-    /// and building is refused where there is not as much.
+    /// and building is refused if there is not as much.
     pub fn journal_room(mut self, records: usize) -> Self
         ensures { result ≡ record self { config = record self.config { journal_room = records } } }
     {
@@ -425,11 +415,11 @@ impl<M, H, V, Z> Builder<M, H, V, Z> {
         self
     }
 
-    /// Whether a failed check tells of others: those that have been idle since before that check
-    /// began are then closed too, each as a caller comes to it, and not checked. So where a server
+    /// Whether a failed check applies to others: those that have been idle since before that check
+    /// began are then closed too, each as a caller comes to it, and not checked. So if a server
     /// went away, a caller waits for one check, and not for one for each idle connection, whichever
-    /// is lent first. A task's check has failed too where it was given up with the caller's time;
-    /// one whose `Get` was dropped tells nothing. The default is false, as r2d2.
+    /// is lent first. A task's check has failed too if it was given up with the caller's time; one
+    /// whose `Get` was dropped applies to no others. The default is false, as r2d2.
     pub fn evict_idle_on_failed_check(mut self, evicts: bool) -> Self
         ensures { result ≡ record self { tuning = record self.tuning { evict_idle_on_failed_check = evicts } } }
     {
@@ -473,7 +463,7 @@ impl<M, H, V, Z> Builder<M, H, V, Z> {
 
     /// How many callers wait for a connection at most; None for as many as come. One that finds
     /// none idle while so many wait gets `ErrorKind::QueueFull` at once: it orders none, and no
-    /// event tells of it. So does one whose connection failed its check. The default is None, as
+    /// event reports it. So does one whose connection failed its check. The default is None, as
     /// r2d2. In a pool for tasks None stands for 1,000, who stand in line.
     ///
     /// After `fair_queue` it changes how many the line has room for; with None there is no line.
@@ -498,10 +488,10 @@ impl<M, H, V, Z> Builder<M, H, V, Z> {
     ///
     /// With None callers do not wait in line, and as many wait as come: who comes first to an idle
     /// connection has it. That is the default, as r2d2. A pool for tasks always has a line, with
-    /// room for 1,000 where this is None.
+    /// room for 1,000 if this is None.
     ///
-    /// The memory for the line is taken when the pool is built. It costs time where connections are
-    /// held for a few microseconds only, and spares some callers very long waits where many wait.
+    /// The memory for the line is taken when the pool is built. It costs time if connections are
+    /// held for a few microseconds only, and spares some callers very long waits if many wait.
     ///
     /// It may not be 0. The test for a number from outside: None, or `most > 0`.
     pub fn fair_queue(mut self, callers: Option<u32>) -> Self
@@ -516,8 +506,8 @@ impl<M, H, V, Z> Builder<M, H, V, Z> {
         self
     }
 
-    /// What is told of each error of the manager and of the customizer. The default,
-    /// `NopErrorHandler`, drops each in silence, so that only a caller's timeout tells why no
+    /// What handles each error of the manager and of the customizer. The default,
+    /// `NopErrorHandler`, drops each in silence, so that only a caller's timeout says why no
     /// connection opens. `LoggingErrorHandler` writes each to a log.
     pub fn error_handler<G>(self, handler: G) -> Builder<M, G, V, Z>
     where
@@ -533,8 +523,8 @@ impl<M, H, V, Z> Builder<M, H, V, Z> {
         })
     }
 
-    /// What is told of each event. The default, `NopEventHandler`, ignores them. A pool where none
-    /// was set reads the clock less often, since nobody sees when a call began or ended.
+    /// What handles each event. The default, `NopEventHandler`, ignores them. A pool where none was
+    /// set reads the clock less often, since nobody sees when a call began or ended.
     pub fn event_handler<W>(self, handler: W) -> Builder<M, H, W, Z>
     where
         V: Drop,
@@ -566,10 +556,10 @@ impl<M, H, V, Z> Builder<M, H, V, Z> {
         })
     }
 
-    /// The limits that building would use, with the lending order; None exactly where `min_idle` is
+    /// The limits that building would use, with the lending order; None exactly if `min_idle` is
     /// above `max_size`. It is the last test to make before a pool is built from settings that come
-    /// from outside. Where `max_retry_delay` is set they have `connection_timeout` all the same,
-    /// and the pool's own have twice that length in its place.
+    /// from outside. If `max_retry_delay` is set they have `connection_timeout` all the same, and
+    /// the pool's own have twice that length in its place.
     pub fn limits(&self) -> Option<Limits>
         ensures legal { IsSome result ↔ ForSome self.now.config.min_idle
             (λ n. n ≤ self.now.config.max_size) }

@@ -26,15 +26,15 @@ pub enum ErrorKind {
     QueueFull,
 }
 
-/// Why a call failed, and for a timeout the latest error of an opening or a check, where one is
-/// known, or else that no worker of a pool for tasks is running, where none is. It displays as
+/// Why a call failed, and for a timeout the latest error of an opening or a check, if one is
+/// known, or else that no worker of a pool for tasks is running, if none is. It displays as
 /// `timed out waiting for connection`, then `: ` and that text; as `out of memory`; as `a worker
 /// could not be started`; as `the pool is closed`; or as `too many callers are waiting`.
 #[derive(Drop)]
 pub struct Error {
     kind: ErrorKind,
     message: Option<String>,
-    /// On the heap, since each `get` moves what it answers.
+    /// On the heap, since each `get` moves what it returns.
     gave_up: Option<Box<GaveUp>>,
 }
 
@@ -45,7 +45,7 @@ struct GaveUp {
     status: Status,
     /// How long the call had lasted.
     waited: Duration,
-    /// How many waited before it, where it stood in line.
+    /// How many waited before it, if it stood in line.
     ahead: Option<usize>,
 }
 
@@ -69,7 +69,7 @@ impl Model for Error {
 impl Error {
     /// No connection came in time; the text is the latest error's, if one is known, or says why
     /// none is opened. The call gave up after so long, while the pool showed this, and so many
-    /// waited before it, if it stood in line; all three are left out where memory is refused.
+    /// waited before it, if it stood in line; all three are left out if memory is refused.
     pub fn timeout(
         alloc: Global,
         message: Option<String>,
@@ -146,8 +146,8 @@ impl Error {
         self.kind
     }
 
-    /// The text of the latest error of an opening or a check, where one is known; or else that no
-    /// worker of a pool for tasks is running, where none is. Only a timeout has one.
+    /// The text of the latest error of an opening or a check, if one is known; or else that no
+    /// worker of a pool for tasks is running, if none is. Only a timeout has one.
     pub fn message(&self) -> Option<&str>
         ensures text { option_map (λ text. text.now) result ≡ self.now.message }
         ensures only_timeouts { IsSome result → self.now.kind ≡ ErrorKind.Timeout }
@@ -159,7 +159,7 @@ impl Error {
     }
 
     /// What the pool showed as the call gave up, with those who waited beside it. Only a timeout
-    /// has it, and none where memory for it was refused.
+    /// has it, and none if memory for it was refused.
     pub fn status(&self) -> Option<Status>
         ensures status { result ≡ self.now.status }
         ensures sums { IfSome result IsStatus }
@@ -170,7 +170,7 @@ impl Error {
         }
     }
 
-    /// How long the call lasted until it gave up: where there is a status.
+    /// How long the call lasted until it gave up; None if there is no status.
     pub fn waited(&self) -> Option<Duration>
         ensures waited { result ≡ self.now.waited }
         ensures with_status { IsSome result ↔ IsSome self.now.status }
@@ -182,8 +182,8 @@ impl Error {
     }
 
     /// How many callers waited before the call as its time ran out in line; 1,000 stands for so
-    /// many or more, as they are counted under the pool's lock. None where callers do not wait in
-    /// line, where a check took the rest of its time, and where there is no status.
+    /// many or more, as they are counted under the pool's lock. None if callers do not wait in
+    /// line, if a check took the rest of its time, or if there is no status.
     pub fn ahead(&self) -> Option<usize>
         ensures ahead { result ≡ self.now.ahead }
         ensures with_status { IsSome result → IsSome self.now.status }

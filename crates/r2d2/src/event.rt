@@ -1,4 +1,4 @@
-//! What a pool tells of its connections.
+//! What a pool reports of its connections.
 ghost use Rattle.std.specs.Prelude.{◌≡◌, ◌-◌};
 ghost use Rattle.std.specs.Duration.{as_nanos};
 
@@ -7,7 +7,7 @@ use std::fmt;
 use std::marker::Model;
 use std::time::Duration;
 
-/// Is told of each event, on the thread where it happened, while no lock of the pool is held. Each
+/// Handles each event, on the thread where it happened, while no lock of the pool is held. Each
 /// method does nothing unless you write it. A handler that has a parameter, as the runtime, has to
 /// have all five.
 pub trait HandleEvent: fmt::Debug + Sync + Send + Drop {
@@ -20,7 +20,7 @@ pub trait HandleEvent: fmt::Debug + Sync + Send + Drop {
     /// A connection was lent.
     fn handle_checkout(&self, _event: CheckoutEvent) {}
 
-    /// A caller waited for a connection in vain.
+    /// A caller who waited for a connection timed out.
     fn handle_timeout(&self, _event: TimeoutEvent) {}
 
     /// A lent connection came back.
@@ -154,7 +154,7 @@ impl CheckoutEvent {
     }
 }
 
-/// A caller waited in vain.
+/// A caller timed out.
 #[derive(Debug, Drop)]
 pub struct TimeoutEvent {
     pub(crate) timeout: Duration,

@@ -11,7 +11,7 @@ use std::marker::Model;
 use std::mem;
 
 /// A value that names the kind under which it is kept. Mostly it is an enum, with a case for each
-/// kind; it is `()` where nothing is kept.
+/// kind; it is `()` if nothing is kept.
 pub trait Extension {
     /// The kinds. There is at most one value for each.
     type Kind: Eq + Drop + 'static;
@@ -67,7 +67,7 @@ impl<X: Extension> Extensions<X> {
         }
     }
 
-    /// Puts the value under the kind that it names, and answers the value that was there. If memory
+    /// Puts the value under the kind that it names, and returns the value that was there. If memory
     /// is refused, nothing changes and the value comes back; that can happen only for a kind that
     /// had none.
     #[tactic(auto, using(crate::proofs::Places::distinct_set))]
@@ -148,8 +148,8 @@ fn position_of<K: Eq, X>(entries: &[(K, X)], kind: &K) -> Option<usize>
     entries.iter().position(|entry| *kind == entry.0)
 }
 
-// The same place, told in the words of maps. Where it lies, and that there is nothing to remove, is
-// told by itself, since callers are proved faster by it.
+// The same place, said in the words of maps. Where it lies, and that there is nothing to remove, is
+// said by itself, since callers are proved faster by it.
 fn place_of<K: Eq, X>(entries: &[(K, X)], kind: &K) -> Option<usize>
     ensures none { IfNone result (lookup (K.eq kind.now) entries.now ≡ None) }
     ensures nothing_to_remove { IfNone result (remove_entry (K.eq kind.now) entries.now

@@ -1,5 +1,5 @@
-//! What pools tell their handlers, and ask their customizer: for a crate that builds pools of a kind
-//! of its own, as `r2d2_async` does.
+//! What pools report to their handlers, and ask their customizer: for a crate that builds pools of
+//! a kind of its own, as `r2d2_async` does.
 ghost use Rattle.std.specs.Prelude.{◌≡◌};
 
 use crate::config::Config;
@@ -23,7 +23,7 @@ pub struct Closed<C> {
     pub connection: C,
 }
 
-/// What a handler of events is told.
+/// What a handler of events gets.
 pub enum Event {
     /// A connection was opened and has its id.
     Acquire(AcquireEvent),
@@ -37,7 +37,7 @@ pub enum Event {
     Checkin(CheckinEvent),
 }
 
-/// A handler of events that is told any of them.
+/// A handler of events that gets any of them.
 pub trait Hear: HandleEvent {
     /// Calls the method for this event.
     fn hear(&self, event: Event) {
@@ -65,7 +65,7 @@ pub trait Hooks<C: Drop, E>: Drop {
     /// The customizer is given a connection that was closed.
     fn let_go(&self, connection: C);
 
-    /// The handler of events is told of one.
+    /// The handler of events gets one.
     fn tell(&self, event: Event);
 
     /// A connection was opened and has its id.
@@ -78,7 +78,7 @@ pub trait Hooks<C: Drop, E>: Drop {
         self.tell(Event::Checkout(CheckoutEvent::of(id, start, lent_at)));
     }
 
-    /// A caller waited in vain for so long.
+    /// A caller timed out after so long.
     fn timeout(&self, timeout: Duration) {
         self.tell(Event::Timeout(TimeoutEvent { timeout }));
     }

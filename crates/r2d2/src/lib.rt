@@ -19,7 +19,7 @@
 //!
 //! `rt` is the runtime that `main` is given. Each thread gets a pool of its own over the same
 //! connections by `try_clone`. [`Builder`] has the settings, [`Pool`] the calls, [`event`] what a
-//! handler is told. What a pool decides is in `r2d2_core`; here it is carried out, in threads.
+//! handler gets. What a pool decides is in `r2d2_core`; here it is carried out, in threads.
 #![tactic(auto)]
 
 ghost use Rattle.std.specs.Prelude.{◌≡◌};
@@ -28,6 +28,7 @@ use log::{Log, error as log_error};
 use std::fmt;
 use std::marker::Model;
 
+pub mod birth;
 mod config;
 pub mod engine;
 mod error;
@@ -48,17 +49,17 @@ pub use pool::{
 };
 pub use r2d2_core::{LendingOrder, journal, machine, reuse, run, schedule, steps};
 
-/// Opens connections and checks them. Nothing is asked of what it answers, nor of how long it
+/// Opens connections and checks them. Nothing is asked of what it returns, nor of how long it
 /// takes: no lock of the pool is held while it is called.
 pub trait ManageConnection: Send + Sync + Drop + 'static {
     /// What is opened, lent and closed.
     type Connection: Send + Drop + 'static;
 
-    /// Why opening or checking failed. A pool shows its text to a caller who waited in vain.
+    /// Why opening or checking failed. A pool shows its text to a caller who timed out.
     type Error: fmt::Display + Send + Drop + 'static;
 
-    /// What a connection's `Extensions` hold, and `()` where nothing is to be kept. They travel
-    /// with it from thread to thread.
+    /// What a connection's `Extensions` hold, and `()` if nothing is to be kept. They travel with
+    /// it from thread to thread.
     type Extension: Extension<Kind: Send> + Send + Drop + 'static;
 
     /// Opens a connection.
@@ -71,12 +72,12 @@ pub trait ManageConnection: Send + Sync + Drop + 'static {
 
     /// Whether the connection is known to be useless; if so it is closed. It is asked at each
     /// return, on the thread that returns the connection, so it should not wait for the other side.
-    /// If that takes waiting to find out, answer false.
+    /// If that takes waiting to find out, return false.
     fn has_broken(&self, connection: &mut Self::Connection) -> bool;
 }
 
-/// Is told of each error of a manager or a customizer, on the thread where it happened, while no
-/// lock of the pool is held.
+/// Handles each error of a manager or a customizer, on the thread where it happened, while no lock
+/// of the pool is held.
 pub trait HandleError<E>: fmt::Debug + Send + Sync + Drop + 'static {
     /// Takes the error.
     fn handle_error(&self, error: E);

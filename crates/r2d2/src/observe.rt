@@ -15,7 +15,7 @@ pub trait Observe {
     // How long a `get` of it waits.
     ghost timeout_of: { Self → Duration };
 
-    /// What the pool is doing at this moment, in one look at it.
+    /// What the pool is doing now, in one look at it.
     fn status(&self) -> Status
         ensures { IsStatus result };
 
@@ -28,7 +28,7 @@ pub trait Observe {
     /// The time since the pool was made: the moment of a step that is made now.
     fn uptime(&self) -> Duration;
 
-    /// What the wall clock showed when the pool was made; None where it could not be read.
+    /// What the wall clock showed when the pool was made; None if it could not be read.
     fn created_at(&self) -> Option<SystemTime>;
 
     /// How long `get` waits for a connection.

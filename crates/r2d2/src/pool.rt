@@ -102,14 +102,14 @@ impl<C: TakeTotal, M: ManageConnection, K: PoolHooks<M>, R: PoolRuntime> AnyPool
         &self.closer.shared
     }
 
-    /// How many connections there are at this moment, and how many of them are idle.
+    /// How many connections there are now, and how many of them are idle.
     pub fn state(&self) -> State
         ensures { result.idle_connections ≤ result.connections }
     {
         self.shared().state()
     }
 
-    /// What the pool is doing at this moment, in one look at it.
+    /// What the pool is doing now, in one look at it.
     pub fn status(&self) -> Status
         ensures sums { IsStatus result }
         ensures workers { result.workers ≡ None }
@@ -117,20 +117,20 @@ impl<C: TakeTotal, M: ManageConnection, K: PoolHooks<M>, R: PoolRuntime> AnyPool
         self.shared().status()
     }
 
-    /// What the wall clock showed when the pool was made, from which its moments count; None where
-    /// it could not be read.
+    /// What the wall clock showed when the pool was made, from which its moments count; None if it
+    /// could not be read.
     pub fn created_at(&self) -> Option<SystemTime> {
-        self.shared().created_at
+        self.shared().birth.created_at()
     }
 
     /// The time since the pool was made: the moment of a step that is made now, as a journal's
-    /// records have it. Zero where the clock can't be read.
+    /// records have it. Zero if the clock can't be read.
     pub fn uptime(&self) -> Duration {
         self.shared().moment()
     }
 
     /// What happened last, as far back as the setting `journal_room` reaches, what stood before
-    /// that, and what there is now. Where its `lost` is 0, that is all since the pool was made. The
+    /// that, and what there is now. If its `lost` is 0, that is all since the pool was made. The
     /// error is lack of memory; then nothing has changed.
     pub fn journal(&self) -> Result<Report, Error>
         ensures sound { IfOk result IsSoundReport }
@@ -267,9 +267,9 @@ impl<
     /// no other check.
     ///
     /// The error is a timeout, with the text of the latest error of an opening or a check if there
-    /// was one; or `ErrorKind::Closed`, at once, where the pool was closed; or
-    /// `ErrorKind::QueueFull`, at once, where it would have to wait and as many wait as
-    /// `max_waiting` allows; or lack of memory for a shared pointer, and then nothing has changed.
+    /// was one; or `ErrorKind::Closed`, at once, if the pool was closed; or `ErrorKind::QueueFull`,
+    /// at once, if it would have to wait and as many wait as `max_waiting` allows; or lack of
+    /// memory for a shared pointer, and then nothing has changed.
     pub fn get_timeout(&self, timeout: Duration) -> Result<PooledConnection<M, H, V, Z, R>, Error>
         ensures settings { IfOk result (λ lent. lent.settings ≡ self.now) }
         ensures refused { IfErr result IsOfAGet }
@@ -295,12 +295,12 @@ impl<
         self.lend_within(None, &mut ())
     }
 
-    /// Closes each connection that is idle now, and each that is lent now when it comes back, as
-    /// where a database has moved. What is opened from now on stays, and at least as many are
-    /// ordered as are wanted. One that is being opened stays too, unless it has its id by now: then
-    /// it is closed when it first comes back.
+    /// Closes each connection that is idle now, and each that is lent now when it comes back, for
+    /// example after a database has moved. What is opened from now on stays, and at least as many
+    /// are ordered as are wanted. One that is being opened stays too, unless it has its id by now:
+    /// then it is closed when it first comes back.
     ///
-    /// It answers how many were idle: each is told by its release event and to the customizer
+    /// It returns how many were idle: each is reported by its release event and to the customizer
     /// before the call returns. The journal notes a take and a return for each. The error is lack
     /// of memory for a list of `max_size` connections; then nothing has changed.
     pub fn evict(&self) -> Result<usize, Error>

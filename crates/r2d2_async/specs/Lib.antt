@@ -1,5 +1,2 @@
-pub mod Wakers
-pub mod Looks
 pub mod Sources
 pub mod Messages
-pub mod InTime

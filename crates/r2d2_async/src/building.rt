@@ -4,23 +4,23 @@ ghost use Rattle.std.specs.Option.{ForSome};
 ghost use Rattle.std.specs.Arc.{arc_value};
 ghost use Rattle.r2d2.specs.Settings.{without_handlers};
 ghost use Rattle.r2d2.specs.Failures.{IsOfMemory};
-ghost use Rattle.r2d2_async.specs.InTime.{IsInOrder};
+ghost use Rattle.pool_tasks.specs.InTime.{IsInOrder};
 
 use crate::hooks::Handlers;
 use crate::pool::Pool;
 use crate::shared::{Closer, Shared};
-use crate::task_book::TaskBook;
 use crate::{AsyncRuntime, ManageConnection, Timer};
 use futures::task::Source;
 use pool_state::Tuning;
+use pool_tasks::TaskBook;
+use r2d2::birth::Birth;
 use r2d2::event::HandleEvent;
 use r2d2::{Builder, CustomizeConnection, Error, HandleError, Settings};
 use r2d2_core::Book;
 use std::alloc::{AllocError, Global};
 use std::sync::{Arc, Mutex};
-use std::time::{Instant, SystemTime};
 
-/// How many callers stand in line at most, where `max_waiting` is not set.
+/// How many callers stand in line at most, if `max_waiting` is not set.
 const PLACES: u32 = 1000;
 
 impl<
@@ -50,14 +50,8 @@ impl<
         ensures refused { IfErr result IsOfMemory }
     {
         let (settings, book) = first_book(builder, rt.alloc())?;
-        let (settings, (error_handler, event_handler, connection_customizer)) =
-            settings.without_handlers();
-        let hooks = Handlers {
-            error_handler,
-            event_handler,
-            connection_customizer,
-        };
-        let made = shared_state(rt, book, settings, hooks, manager, timer);
+        let bare = settings.without_handlers();
+        let made = shared_state(rt, book, bare, settings.config, manager, timer);
         let closer = made.map_err(|_| Error::memory())?;
         Ok(Pool { closer })
     }
@@ -92,8 +86,7 @@ fn shared_state<P: Drop, M: Drop, T: Drop, K: Drop, R: AsyncRuntime>(
     ensures { IfOk result
         (λ closer. (arc_value (arc_value closer).shared).settings ≡ settings) }
 {
-    let made = Instant::now(&rt).ok();
-    let created_at = SystemTime::now(&rt).ok();
+    let birth = Birth::now(&rt);
     let tasks = TaskBook::new(rt.alloc(), book, places(&settings.tuning))?;
     let shared = Shared {
         told: Source::new(),
@@ -104,8 +97,7 @@ fn shared_state<P: Drop, M: Drop, T: Drop, K: Drop, R: AsyncRuntime>(
         timer,
         hooks,
         settings,
-        made,
-        created_at,
+        birth,
         rt,
     };
     let shared = Arc::new(rt.alloc(), shared)?;

@@ -115,13 +115,10 @@ impl<M: ManageConnection, T: Timer, K: Hooks<M>, R: AsyncRuntime> Drop for Drain
             ticket,
             sleep: _,
             start: _,
-            mut is_counted,
+            is_counted,
         } = self;
         match lock_or_give_up(&shared.tasks) {
-            Ok(mut tasks) => {
-                tasks.uncount_drain(&mut is_counted);
-                tasks.remove_drain(ticket)
-            }
+            Ok(mut tasks) => tasks.drop_drain(is_counted, ticket),
             Err(gave_up) => ticket.abandon(gave_up),
         }
     }

@@ -12,16 +12,17 @@ use crate::hooks::Hooks;
 use crate::lent::PooledConnection;
 use crate::message::message_of;
 use crate::shared::{CloserOf, PayloadOf, SharedOf, Taken, take_idle};
-use crate::task_book::{CallSpan, Looked, TaskBook};
 use crate::{AsyncRuntime, ManageConnection, Timer};
 use futures::spin::lock;
 use futures::task::{Context, Poll};
 use futures::{Future, ready};
 use pool_state::text_of;
+use pool_tasks::{CallSpan, GaveUp, Looked, TaskBook};
 use r2d2::engine::Payload;
 use r2d2::event::ReleaseReason;
 use r2d2::hooks::Closed;
-use r2d2::{Error, Extension, Extensions};
+use r2d2::{Error, Extension, Extensions, Settings};
+use r2d2_core::Gone;
 use std::sync::Arc;
 use std::time::Duration;
 
@@ -50,10 +51,10 @@ type Output<M, T, K, R> = Result<PooledConnection<M, T, K, R>, Error>;
 
 /// The future of `Pool::get`: the connection, or why there is none.
 ///
-/// It may be dropped at any time, and nothing is lost: it leaves the line, and where it was told to
-/// look the next caller is; a connection under check is closed, and told as one whose check failed.
-/// One that is neither polled nor dropped keeps its place in line, and what it was told of, until its
-/// timeout has passed; and a connection under check for as long as it is kept.
+/// It may be dropped at any time, and nothing is lost: it leaves the line, and if it was notified
+/// the next caller is; a connection under check is closed, and reported as one whose check failed.
+/// One that is neither polled nor dropped keeps its place in line, and what it was notified of,
+/// until its timeout has passed; and a connection under check for as long as it is kept.
 pub struct Get<M: ManageConnection, T: Timer, K: Hooks<M>, R: AsyncRuntime> {
     // Moves to what is lent; None once it was ready.
     closer: Option<Arc<CloserOf<M, T, K, R>>>,
@@ -107,12 +108,9 @@ impl<M: ManageConnection, T: Timer, K: Hooks<M>, R: AsyncRuntime> Get<M, T, K, R
         let checking = self.checking.take();
         let closer = self.closer.take().unwrap();
         let shared = &closer.shared;
-        let ahead = match &checking {
-            Some(_) => None,
-            None => shared.ahead_of(self.place),
-        };
-        abandon::<M, T, K, R>(shared, &mut self.place, checking, true);
-        Poll::Ready(Err(give_up::<M, T, K, R>(shared, self.timeout, self.start, ahead)))
+        let (timeout, start) = (self.timeout, self.start);
+        let place = &mut self.place;
+        Poll::Ready(Err(give_up::<M, T, K, R>(shared, timeout, start, place, checking)))
     }
 
     // The sleep for the rest of its time, which begins where it first has to wait; None where no
@@ -374,7 +372,8 @@ fn poll_place<M: ManageConnection, T: Timer, K: Hooks<M>, R: AsyncRuntime>(
     ensures heard { OnPending result (IsArmed cx.new × Hears cx.new shared.now.told.id) }
     ensures kept { Keeps cx.old cx.new }
 {
-    let keeps_place = shared.may_fail_check();
+    let Settings { config, tuning, .. } = &shared.settings;
+    let keeps_place = tuning.may_fail_check(config.test_on_check_out);
     match ready!(tasks.poll_look(now, call, cx, &shared.told, place, keeps_place)) {
         Looked::Closed => Poll::Ready(Err(Error::closed())),
         Looked::Full => Poll::Ready(Err(Error::full())),
@@ -391,51 +390,71 @@ fn poll_place<M: ManageConnection, T: Timer, K: Hooks<M>, R: AsyncRuntime>(
     }
 }
 
-// Leaves the line, and gives up a check: its connection goes with it. If its caller's time is over,
-// it tells of others as a failed one does.
+// Leaves the line, and gives up a check: its connection goes with it.
 #[cold]
 fn abandon<M: ManageConnection, T: Timer, K: Hooks<M>, R: AsyncRuntime>(
     shared: &SharedOf<M, T, K, R>,
-    place: &mut Option<u32>,
+    mut place: Option<u32>,
     checking: Option<CheckingOf<M>>,
-    is_over: bool,
 ) {
-    if let Some(checking) = checking {
-        let Checking {
-            id,
-            began,
-            check,
-            ..
-        } = checking;
-        drop(check);
-        let distrusted_before = if is_over {
-            shared.settings.tuning.distrusts_before(began)
-        } else {
-            Duration::ZERO
-        };
-        if let Some(gone) = shared.fail_check(id, None, distrusted_before) {
-            shared.hooks.gone(id, gone.age, ReleaseReason::CheckFailed);
-        }
-    }
-    shared.leave_line(place);
+    let checked = cut_off::<M>(checking).map(|(id, _began)| id);
+    let gone = shared.abandon(&mut place, checked);
+    tell_gone::<M, T, K, R>(shared, checked, gone);
 }
 
-// Tells of a call whose time ran out, before which so many waited in line, and answers its error.
+// Gives up, since its time is over: so a check applies to others as a failed one does. It reports
+// the timeout, and returns the error.
 fn give_up<M: ManageConnection, T: Timer, K: Hooks<M>, R: AsyncRuntime>(
     shared: &SharedOf<M, T, K, R>,
     timeout: Duration,
     start: Option<Duration>,
-    ahead: Option<usize>,
+    place: &mut Option<u32>,
+    checking: Option<CheckingOf<M>>,
 ) -> Error
     ensures { IsOfAGet result }
 {
-    let now = shared.moment();
-    let waited = now.saturating_sub(start.unwrap_or(now));
-    let status = shared.give_up();
+    let check = cut_off::<M>(checking);
+    let checked = check.map(|(id, _began)| id);
+    let distrusted_before = match check {
+        Some((_, began)) => shared.settings.tuning.distrusts_before(began),
+        None => Duration::ZERO,
+    };
+    let GaveUp {
+        at,
+        gone,
+        ahead,
+        status,
+        error,
+    } = shared.give_up(place, checked, distrusted_before);
+    tell_gone::<M, T, K, R>(shared, checked, gone);
+    let waited = at.saturating_sub(start.unwrap_or(at));
     let alloc = shared.rt.alloc();
-    let message = message_of(alloc, shared.take_error(), &status);
+    let message = message_of(alloc, error, &status);
     shared.hooks.timeout(timeout);
     Error::timeout(alloc, message, status, waited, ahead)
+}
+
+// Drops a check before its end. It answers the connection's id, and when the check began.
+fn cut_off<M: ManageConnection>(checking: Option<CheckingOf<M>>) -> Option<(u64, Duration)> {
+    let Checking {
+        id,
+        began,
+        check,
+        ..
+    } = checking?;
+    drop(check);
+    Some((id, began))
+}
+
+// Reports a connection that went with its check.
+fn tell_gone<M: ManageConnection, T: Timer, K: Hooks<M>, R: AsyncRuntime>(
+    shared: &SharedOf<M, T, K, R>,
+    id: Option<u64>,
+    gone: Option<Gone>,
+) {
+    if let (Some(id), Some(gone)) = (id, gone) {
+        shared.hooks.gone(id, gone.age, ReleaseReason::CheckFailed);
+    }
 }
 
 // Closes a connection whose check failed, which began at this moment.
@@ -466,8 +485,8 @@ impl<M: ManageConnection, T: Timer, K: Hooks<M>, R: AsyncRuntime> Future for Get
     ghost can_poll = { λ g. IsSome g.closer × (IfSome g.sleep T.Sleep.can_poll
         × IfSome g.checking (λ c. M.Check.can_poll c.check)) };
 
-    // In line, that it is told to look; else what its check waits for; and its time, for which it
-    // may not wait without a sleep: that would need whatever there is.
+    // In line, that it is notified; else what its check waits for; and its time, for which it may
+    // not wait without a sleep: that would need whatever there is.
     ghost needs = { λ g s. ((g.checking ≡ None)
         × IsSomeAnd g.closer (λ closer. s ≡ told_of closer))
         ⊎ (IsSomeAnd g.checking (λ c. M.Check.needs c.check s)
@@ -493,14 +512,16 @@ impl<M: ManageConnection, T: Timer, K: Hooks<M>, R: AsyncRuntime> Drop for Get<M
     fn drop(self) {
         let Get {
             closer,
-            mut place,
+            place,
             checking,
             sleep: _,
             timeout: _,
             start: _,
         } = self;
         if let Some(closer) = closer {
-            abandon::<M, T, K, R>(&closer.shared, &mut place, checking, false);
+            if place.is_some() || checking.is_some() {
+                abandon::<M, T, K, R>(&closer.shared, place, checking);
+            }
         }
     }
 }

@@ -64,8 +64,8 @@ impl<M: ManageConnection, T: Timer, K: Hooks<M>, R: AsyncRuntime> PooledConnecti
 
     /// Takes the connection out of the pool for good: it is the caller's from now on, and what was
     /// kept beside it is dropped. The pool orders another one by the same rules as after a broken
-    /// return. The checkin event is sent, then the release event; the customizer is not told, since
-    /// the connection is not closed.
+    /// return. The checkin event is sent, then the release event; the customizer is not called,
+    /// since the connection is not closed.
     pub fn detach(this: Self) -> M::Connection
         ensures { result ≡ this.connection }
     {

@@ -21,8 +21,6 @@ mod lent;
 mod message;
 mod pool;
 mod shared;
-mod task_book;
-mod wakers;
 mod worker;
 
 pub use drain::Drain;
@@ -40,23 +38,23 @@ use std::rt::Clock;
 use std::time::Duration;
 pub use worker::Worker;
 
-/// Handlers and a customizer that do nothing: those of a `Builder` where none of them is set.
+/// Handlers and a customizer that do nothing: those of a `Builder` if none of them is set.
 pub type NoHandlers = Handlers<NopErrorHandler, NopEventHandler, NopConnectionCustomizer>;
 
 /// A pool with such handlers. What it gives has `NoHandlers` as well: its `get` is a
 /// `Get<M, T, NoHandlers, R>`.
 pub type PlainPool<M, T, R> = Pool<M, T, NoHandlers, R>;
 
-/// Opens connections and checks them, by futures. Nothing is asked of what they answer, nor of how
+/// Opens connections and checks them, by futures. Nothing is asked of what they return, nor of how
 /// long they take: no lock of the pool is held while they are polled or dropped.
 pub trait ManageConnection: Drop {
     /// What is opened, lent and closed.
     type Connection: Drop;
 
-    /// Why opening or checking failed. A pool shows its text to a caller who waited in vain.
+    /// Why opening or checking failed. A pool shows its text to a caller who timed out.
     type Error: fmt::Display + Drop;
 
-    /// What a connection's `Extensions` hold, and `()` where nothing is to be kept.
+    /// What a connection's `Extensions` hold, and `()` if nothing is to be kept.
     type Extension: Extension + Drop;
 
     /// Opens a connection. Dropped before its end, it gives up.
@@ -77,7 +75,7 @@ pub trait ManageConnection: Drop {
         ensures { Self.Check.can_poll result };
 
     /// Whether the connection is known to be useless; if so it is closed. It is asked at each
-    /// return, in the drop, so it may not wait. If it takes waiting to find out, answer false.
+    /// return, in the drop, so it may not wait. If it takes waiting to find out, return false.
     fn has_broken(&self, connection: &mut Self::Connection) -> bool;
 }
 

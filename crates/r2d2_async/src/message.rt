@@ -1,4 +1,4 @@
-// What a timeout tells beside that no connection came in time.
+// What a timeout says beside that no connection came in time.
 ghost use Rattle.std.specs.Prelude.{◌≡◌, None, IsSome, IfSome, string_bytes};
 ghost use Rattle.r2d2_async.specs.Messages.{LacksWorkers, no_worker};
 
@@ -7,8 +7,8 @@ use std::alloc::Global;
 
 const NO_WORKER: &str = "no worker is running: spawn what Pool::worker returns";
 
-/// The latest error, where there is one; else, where nobody opens connections of an open pool, that
-/// no worker is running. None where there is nothing to tell, or no memory for it.
+/// The latest error, if there is one; else, if nobody opens connections of an open pool, that no
+/// worker is running. None if there is nothing to say, or no memory for it.
 pub fn message_of(alloc: Global, latest: Option<String>, status: &Status) -> Option<String>
     ensures latest { IsSome latest → result ≡ latest }
     ensures lack { latest ≡ None → IsSome result → LacksWorkers status.now }

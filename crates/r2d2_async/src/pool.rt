@@ -23,10 +23,10 @@ use std::time::{Duration, SystemTime};
 /// A pool of connections for tasks. `build` makes one; a task of its own gets a pool over the same
 /// connections by `try_clone`.
 ///
-/// `M` opens connections, `T` wakes tasks when time has passed, `K` is told of errors and events
-/// and changes connections as they come and go (a `Handlers`), and `R` is the runtime. The pool
-/// closes when the last `Pool` over its state, the last pending `Get` and the last lent connection
-/// are dropped.
+/// `M` opens connections, `T` wakes tasks when time has passed, `K` handles errors and events and
+/// changes connections as they come and go (a `Handlers`), and `R` is the runtime. The pool closes
+/// when the last `Pool` over its state, the last pending `Get` and the last lent connection are
+/// dropped.
 #[derive(Drop)]
 pub struct Pool<M: ManageConnection, T: Timer, K: Hooks<M>, R: AsyncRuntime> {
     pub(crate) closer: Arc<CloserOf<M, T, K, R>>,
@@ -65,17 +65,17 @@ impl<M: ManageConnection, T: Timer, K: Hooks<M>, R: AsyncRuntime> Pool<M, T, K, 
 
     /// Lends an idle connection, the newest unless the setting `lending_order` says the oldest; the
     /// future waits in line for one, and gives up once `timeout` has passed since its first poll.
-    /// It asks the timer for a sleep only where it has to wait.
+    /// It asks the timer for a sleep only if it has to wait.
     ///
     /// If the setting `test_on_check_out` is on, the connection is checked first; one that fails is
     /// closed, and the caller looks for another from the same place in line. A check that outlasts
     /// the timeout is given up, and its connection closed.
     ///
     /// The future's error is a timeout, with the text of the latest error of an opening or a check
-    /// if there was one, or else, where no worker is at work, with a text that says so; or
-    /// `ErrorKind::Closed`, where the pool is closed; or `ErrorKind::QueueFull`, at once, where as
-    /// many stand in line as `max_waiting` allows. The error of this call is lack of memory for a
-    /// shared pointer: but for that text, nothing later takes any.
+    /// if there was one, or else, if no worker is at work, with a text that says so; or
+    /// `ErrorKind::Closed`, if the pool is closed; or `ErrorKind::QueueFull`, at once, if as many
+    /// stand in line as `max_waiting` allows. The error of this call is lack of memory for a shared
+    /// pointer: but for that text, nothing later takes any.
     pub fn get_timeout(&self, timeout: Duration) -> Result<Get<M, T, K, R>, Error>
         ensures settings { IfOk result (λ get. settings_of get.closer ≡ Some self.now) }
         ensures fresh { IfOk result (λ get. get.checking ≡ None) }
@@ -131,14 +131,14 @@ impl<M: ManageConnection, T: Timer, K: Hooks<M>, R: AsyncRuntime> Pool<M, T, K, 
         Worker::new(shared)
     }
 
-    /// How many connections there are at this moment, and how many of them are idle.
+    /// How many connections there are now, and how many of them are idle.
     pub fn state(&self) -> State
         ensures { result.idle_connections ≤ result.connections }
     {
         self.status().state()
     }
 
-    /// What the pool is doing at this moment, in one look at it.
+    /// What the pool is doing now, in one look at it.
     pub fn status(&self) -> Status
         ensures sums { IsStatus result }
         ensures workers { IsSome result.workers }
@@ -146,14 +146,14 @@ impl<M: ManageConnection, T: Timer, K: Hooks<M>, R: AsyncRuntime> Pool<M, T, K, 
         self.shared().status()
     }
 
-    /// What the wall clock showed when the pool was made, from which its moments count; None where
-    /// it could not be read.
+    /// What the wall clock showed when the pool was made, from which its moments count; None if it
+    /// could not be read.
     pub fn created_at(&self) -> Option<SystemTime> {
-        self.shared().created_at
+        self.shared().birth.created_at()
     }
 
     /// The time since the pool was made: the moment of a step that is made now, as a journal's
-    /// records have it. Zero where the clock can't be read.
+    /// records have it. Zero if the clock can't be read.
     pub fn uptime(&self) -> Duration {
         self.shared().moment()
     }
@@ -177,10 +177,10 @@ impl<M: ManageConnection, T: Timer, K: Hooks<M>, R: AsyncRuntime> Pool<M, T, K, 
         }
     }
 
-    /// Closes each connection that is idle now, and each that is lent now when it comes back, as
-    /// where a database has moved. What is opened from now on stays.
+    /// Closes each connection that is idle now, and each that is lent now when it comes back, for
+    /// example after a database has moved. What is opened from now on stays.
     ///
-    /// It answers how many were idle: each is told by its release event and to the customizer
+    /// It returns how many were idle: each is reported by its release event and to the customizer
     /// before the call returns. The error is lack of memory for a list of `max_size` connections;
     /// then nothing has changed.
     pub fn evict(&self) -> Result<usize, Error>

@@ -1,12 +1,13 @@
 // What pools, workers, gets and lent connections share.
-ghost use Rattle.std.specs.Prelude.{◌≡◌, ◌||◌, Some, IsSome, IfSome};
+ghost use Rattle.std.specs.Prelude.{◌≡◌, Some, IsSome, IfSome};
 ghost use Rattle.pool_state.specs.Status.{IsStatus};
 
 use crate::hooks::Hooks;
-use crate::task_book::TaskBook;
 use crate::{AsyncRuntime, ManageConnection};
 use futures::spin::lock;
 use futures::task::Source;
+use pool_tasks::{GaveUp, TaskBook};
+use r2d2::birth::Birth;
 use r2d2::engine::{Outcome, Payload, Settled};
 use r2d2::event::ReleaseReason;
 use r2d2::hooks::Closed;
@@ -15,7 +16,7 @@ use r2d2_core::machine::Leftover;
 use r2d2_core::{Gone, Refusal, Released, Returned};
 use std::rt::Clock;
 use std::sync::{Arc, Mutex};
-use std::time::{Duration, Instant, SystemTime};
+use std::time::Duration;
 
 /// What a pool of this manager keeps.
 pub type PayloadOf<M> = Payload<
@@ -27,7 +28,7 @@ pub type PayloadOf<M> = Payload<
 /// while a report of it is copied.
 #[derive(Drop)]
 pub struct Shared<P, M, T, K, R> {
-    /// Fires for a caller in line once it is told to look, or the pool is closed.
+    /// Fires for a caller in line once it is notified, or the pool is closed.
     pub(crate) told: Source,
     /// Fires for a worker once an opening is ordered, or the pool is closed.
     pub(crate) ordered: Source,
@@ -38,10 +39,8 @@ pub struct Shared<P, M, T, K, R> {
     pub(crate) timer: T,
     pub(crate) hooks: K,
     pub(crate) settings: Settings<(), (), ()>,
-    /// When the pool was made; None where the clock could not be read.
-    pub(crate) made: Option<Instant>,
-    /// What the wall clock showed then, where it could be read.
-    pub(crate) created_at: Option<SystemTime>,
+    /// When the pool was made.
+    pub(crate) birth: Birth,
     pub(crate) rt: R,
 }
 
@@ -60,24 +59,9 @@ pub struct Taken<P> {
 
 // `lock` gives up after 2^64 tries, which no run makes: what stands at its `None` is never run.
 impl<P: Drop, M, T, K, R: Clock> Shared<P, M, T, K, R> {
-    /// The time since the pool was made; zero where the clock can't be read.
+    /// The time since the pool was made.
     pub(crate) fn moment(&self) -> Duration {
-        let Some(made) = &self.made else {
-            return Duration::ZERO;
-        };
-        // (What `elapsed` does; where that is not inlined, it answers through memory.)
-        match Instant::now(&self.rt) {
-            Ok(now) => now.duration_since(*made),
-            Err(_) => Duration::ZERO,
-        }
-    }
-
-    /// Whether what a caller takes may be found unsound before it is lent.
-    pub(crate) fn may_fail_check(&self) -> bool
-        ensures { result ≡ (self.now.settings.config.test_on_check_out
-            || self.now.settings.tuning.evict_idle_on_failed_check) }
-    {
-        self.settings.config.test_on_check_out || self.settings.tuning.evict_idle_on_failed_check
+        self.birth.moment(&self.rt)
     }
 
     /// The counts.
@@ -91,20 +75,33 @@ impl<P: Drop, M, T, K, R: Clock> Shared<P, M, T, K, R> {
         }
     }
 
-    /// Another caller gives up, since its time is over: the counts, with it among them.
-    pub(crate) fn give_up(&self) -> Status
-        ensures sums { IsStatus result }
-        ensures workers { IsSome result.workers }
-    {
-        match lock(&self.tasks) {
-            Some(mut tasks) => tasks.give_up(),
-            None => no_status(self.settings.config.max_size),
-        }
+    /// A caller goes that was lent nothing, and the connection under its check with it: how that one
+    /// went.
+    pub(crate) fn abandon(&self, place: &mut Option<u32>, checked: Option<u64>) -> Option<Gone> {
+        let mut tasks = lock(&self.tasks)?;
+        tasks.abandon(self.moment(), place, checked, Duration::ZERO)
     }
 
-    /// The latest error, which is then none.
-    pub(crate) fn take_error(&self) -> Option<String> {
-        lock(&self.tasks)?.take_error()
+    /// The same of a caller whose time is over, with what it gets.
+    pub(crate) fn give_up(
+        &self,
+        place: &mut Option<u32>,
+        checked: Option<u64>,
+        distrusted_before: Duration,
+    ) -> GaveUp
+        ensures sums { IsStatus result.status }
+        ensures workers { IsSome result.status.workers }
+    {
+        match lock(&self.tasks) {
+            Some(mut tasks) => tasks.give_up(self.moment(), place, checked, distrusted_before),
+            None => GaveUp {
+                at: self.moment(),
+                gone: None,
+                ahead: None,
+                status: no_status(self.settings.config.max_size),
+                error: None,
+            },
+        }
     }
 
     /// Admits an opened connection under its id, or lets a lent one go for good.
@@ -118,15 +115,15 @@ impl<P: Drop, M, T, K, R: Clock> Shared<P, M, T, K, R> {
         Some(lock(&self.tasks)?.number(tries))
     }
 
-    /// Tells the book of an opening that failed.
+    /// Reports a failed opening to the book.
     pub(crate) fn fail(&self, tries: u32, text: Option<String>) {
         if let Some(mut tasks) = lock(&self.tasks) {
             tasks.fail(self.moment(), tries, text);
         }
     }
 
-    /// Tells the book of a check that failed. What was idle before this moment is distrusted from
-    /// now on.
+    /// Reports a failed check to the book. What was idle before this moment is distrusted from now
+    /// on.
     pub(crate) fn fail_check(
         &self,
         id: u64,
@@ -140,7 +137,7 @@ impl<P: Drop, M, T, K, R: Clock> Shared<P, M, T, K, R> {
         }
     }
 
-    /// A caller leaves the line, where it stands in it. If it was told to look, the next one is.
+    /// A caller leaves the line, if it stands in it. If it was notified, the next one is.
     #[inline(always)]
     pub(crate) fn leave_line(&self, place: &mut Option<u32>) {
         if place.is_none() {
@@ -151,11 +148,6 @@ impl<P: Drop, M, T, K, R: Clock> Shared<P, M, T, K, R> {
         }
     }
 
-    /// How many wait before this caller.
-    pub(crate) fn ahead_of(&self, place: Option<u32>) -> Option<usize> {
-        Some(lock(&self.tasks)?.ahead_of(place))
-    }
-
     /// Whether a check failed that began after this moment, since when a connection is idle.
     pub(crate) fn is_distrusted(&self, idle_since: Option<Duration>) -> bool {
         match (idle_since, lock(&self.tasks)) {
@@ -164,7 +156,7 @@ impl<P: Drop, M, T, K, R: Clock> Shared<P, M, T, K, R> {
         }
     }
 
-    /// Takes an idle connection for a caller who does not wait, where one is not kept for those in
+    /// Takes an idle connection for a caller who does not wait, if one is not kept for those in
     /// line.
     pub(crate) fn take_now(&self) -> Option<Taken<P>> {
         let mut tasks = lock(&self.tasks)?;
@@ -181,7 +173,7 @@ impl<P: Drop, M, T, K, R: Clock> Shared<P, M, T, K, R> {
 
 impl<X: Drop, E: Extension + Drop, M, T, K, R: Clock> Shared<Payload<X, E>, M, T, K, R> {
     /// Puts a lent connection back. One that is unfit for some reason, too old, or evicted is
-    /// closed, and so is each where the pool is closed: it answers that one.
+    /// closed, and so is each if the pool is closed: it returns that one.
     #[inline(always)]
     pub(crate) fn give_back(
         &self,
@@ -194,7 +186,7 @@ impl<X: Drop, E: Extension + Drop, M, T, K, R: Clock> Shared<Payload<X, E>, M, T
         let mut tasks = lock(&self.tasks)?;
         let now = self.moment();
         let reason = tasks.reason_of_return(id, unfit);
-        let outlived = tasks.is_outlived(&self.settings.tuning, self.created_at, id, now);
+        let outlived = tasks.is_outlived(&self.settings.tuning, self.birth.created_at(), id, now);
         let returned = tasks.give_back(now, id, payload, unfit, outlived);
         // What is kept beside the connection is dropped once the lock is free.
         drop(tasks);
@@ -211,7 +203,7 @@ impl<X: Drop, E: Extension + Drop, M, T, K, R: Clock> Shared<Payload<X, E>, M, T
     }
 }
 
-/// Takes the connection that is lent next, where it is not kept for those in line.
+/// Takes the connection that is lent next, if it is not kept for those in line.
 #[inline(always)]
 pub(crate) fn take_idle<P: Drop>(tasks: &mut TaskBook<P>, at: Duration) -> Option<Taken<P>> {
     let idle_since = tasks.book().next_idle_since();
@@ -266,7 +258,7 @@ impl<M: ManageConnection, T, K: Hooks<M>, R: AsyncRuntime> SharedOf<M, T, K, R> 
         None
     }
 
-    /// Puts a lent connection back, and releases it where it is closed.
+    /// Puts a lent connection back, and releases it if it is closed.
     #[inline(always)]
     pub(crate) fn put_back(&self, id: u64, payload: PayloadOf<M>, unfit: Option<ReleaseReason>) {
         if let Some(closed) = self.give_back(id, payload, unfit) {
@@ -287,7 +279,7 @@ impl<M: ManageConnection, T, K: Hooks<M>, R: AsyncRuntime> SharedOf<M, T, K, R> 
     }
 }
 
-/// What pools, gets and lent connections hold: where the last of them goes, the pool is closed.
+/// What pools, gets and lent connections hold: when the last of them goes, the pool is closed.
 pub struct Closer<P: Drop, M: Drop, T: Drop, K: Drop, R: Clock + Drop> {
     pub(crate) shared: Arc<Shared<P, M, T, K, R>>,
 }

@@ -15,7 +15,7 @@ use futures::util::wait_list::Ticket;
 use pool_state::{has_room, reason_of_reap, text_of};
 use r2d2::Error;
 use r2d2::engine::{Outcome, Payload};
-use r2d2_core::{Job, Refusal, Released};
+use r2d2_core::{Job, Limits, Refusal, Released};
 use std::sync::Arc;
 use std::time::Duration;
 
@@ -41,7 +41,8 @@ enum Next {
     Sleep { due: Duration, length: Duration },
     Idle,
     Open(u32),
-    Reap,
+    /// What was closed is released, by what these limits say of it.
+    Reap(Limits),
     End,
 }
 
@@ -91,7 +92,7 @@ impl<M: ManageConnection, T: Timer, K: Hooks<M>, R: AsyncRuntime> Worker<M, T, K
     }
 
     // Asks the book, and lies down under the same lock where there is nothing to do now. It is at
-    // work from its first question on, until it is told to end.
+    // work from its first question on, until it is to end.
     fn ask(&mut self, cx: &mut Context<'_>) -> Next
         requires opening { self.old.opening ≡ None }
         ensures shared { self.new.shared ≡ self.old.shared }
@@ -119,7 +120,7 @@ impl<M: ManageConnection, T: Timer, K: Hooks<M>, R: AsyncRuntime> Worker<M, T, K
                 if has_room(tasks.book(), &self.expired) {
                     tasks.sweep(now, &mut self.expired);
                 }
-                Next::Reap
+                Next::Reap(tasks.book().limits())
             }
             Job::Wait(due) => Next::Sleep {
                 due,
@@ -153,7 +154,7 @@ impl<M: ManageConnection, T: Timer, K: Hooks<M>, R: AsyncRuntime> Worker<M, T, K
         }
     }
 
-    // Gives an opened connection its id, tells of it, and admits it.
+    // Gives an opened connection its id, reports it, and admits it.
     fn admit(&self, tries: u32, connection: M::Connection) {
         let shared = &self.shared;
         match shared.number(tries) {
@@ -173,16 +174,12 @@ impl<M: ManageConnection, T: Timer, K: Hooks<M>, R: AsyncRuntime> Worker<M, T, K
     }
 
     // Releases what a reap closed.
-    fn release_expired(&mut self)
+    fn release_expired(&mut self, limits: Limits)
         ensures shared { self.new.shared ≡ self.old.shared }
         ensures opening { self.new.opening ≡ self.old.opening }
         ensures sleep { self.new.sleep ≡ self.old.sleep }
     {
         let shared = &self.shared;
-        let limits = match lock(&shared.tasks) {
-            Some(tasks) => tasks.book().limits(),
-            None => return,
-        };
         for released in self.expired.drain(..) {
             let reason = reason_of_reap(&limits, released.age);
             shared.release(released, reason);
@@ -271,8 +268,8 @@ impl<M: ManageConnection, T: Timer, K: Hooks<M>, R: AsyncRuntime> Future for Wor
                 self.opening = Some(Opening { tries, connect });
                 cx.yield_now()
             }
-            Next::Reap => {
-                self.release_expired();
+            Next::Reap(limits) => {
+                self.release_expired(limits);
                 cx.yield_now()
             }
             Next::End => Poll::Ready(()),
@@ -290,17 +287,17 @@ impl<M: ManageConnection, T: Timer, K: Hooks<M>, R: AsyncRuntime> Drop for Worke
             sleep: _,
             seen: _,
             expired: _,
-            mut is_at_work,
+            is_at_work,
         } = self;
-        if let Some(Opening { tries, connect }) = opening {
-            drop(connect);
-            shared.fail(tries, None);
-        }
-        match lock_or_give_up(&shared.tasks) {
-            Ok(mut tasks) => {
-                tasks.end_work(&mut is_at_work);
-                tasks.remove_worker(ticket)
+        let tries = match opening {
+            Some(Opening { tries, connect }) => {
+                drop(connect);
+                Some(tries)
             }
+            None => None,
+        };
+        match lock_or_give_up(&shared.tasks) {
+            Ok(mut tasks) => tasks.drop_worker(shared.moment(), tries, is_at_work, ticket),
             Err(gave_up) => ticket.abandon(gave_up),
         }
     }

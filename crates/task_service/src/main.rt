@@ -90,13 +90,13 @@ impl<R: PoolRuntime> Future for Request<R> {
             }
         }
         match self.work.take() {
-            Some((lent, mut nap)) => {
-                let polled = nap.poll(cx);
-                if polled.is_pending() {
+            Some((lent, mut nap)) => match nap.poll(cx) {
+                Poll::Pending => {
                     self.work = Some((lent, nap));
+                    Poll::Pending
                 }
-                polled
-            }
+                Poll::Ready(()) => Poll::Ready(()),
+            },
             None => Poll::Ready(()),
         }
     }

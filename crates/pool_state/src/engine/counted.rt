@@ -2,7 +2,7 @@
 ghost use Rattle.std.specs.Prelude.{ℕ, ⊤, ◌≡◌, ◌+◌, ◌*◌, ◌<◌, ◌≤◌, length, vec_len, vec_capacity};
 ghost use Rattle.std.specs.Prelude.{IfOk};
 ghost use Rattle.std.specs.Duration.{as_nanos};
-ghost use Rattle.r2d2_core.specs.Seen.{seen_take, seen_returned, map_ok};
+ghost use Rattle.pool_machine.specs.Seen.{seen_take, seen_returned, map_ok};
 ghost use Rattle.r2d2_core.specs.BookSteps.{IsTake, IsBegin, IsNumbering, IsReturn, IsReap};
 ghost use Rattle.r2d2_core.specs.BookSteps.{IsTelling, IsClose};
 ghost use Rattle.r2d2_core.specs.Journal.{next_count};
@@ -29,7 +29,7 @@ pub trait TakeTotal: Drop {
     ghost stands_at: { Self → ℕ → Type 0 };
 }
 
-/// A counter that is told of each take that found, with a tally.
+/// A counter that is called for each take that found, with a tally.
 pub trait TakeCounter: TakeTotal {
     /// What a take is counted with.
     type Tally;
@@ -163,7 +163,7 @@ impl<T, L: Ledger> Counted<T, L> {
         }
     }
 
-    /// The book's report, where `all` has all parts of the ledger: so its `takes` is what they
+    /// The book's report, if `all` has all parts of the ledger: so its `takes` is what they
     /// counted. Nothing changes.
     pub fn audit(&mut self, all: &mut Share<L>) -> Result<Report, AllocError>
         requires { all.old.parts ≡ L.parts }
@@ -291,11 +291,11 @@ impl<T, C: TakeCounter> CountingBook<T, C> {
 
 impl<T: Drop, C: TakeCounter> CountingBook<T, C> {
     ghost use Rattle.std.specs.Prelude.{max, map, option_map, false};
-    ghost use Rattle.r2d2_core.specs.Connections.{released_at};
-    ghost use Rattle.r2d2_core.specs.Lending.{still_idle};
-    ghost use Rattle.r2d2_core.specs.Picture.{IsSound};
-    ghost use Rattle.r2d2_core.specs.Seen.{seen_released};
-    ghost use Rattle.r2d2_core.specs.Table.{next_of};
+    ghost use Rattle.pool_machine.specs.Connections.{released_at};
+    ghost use Rattle.pool_machine.specs.Lending.{still_idle};
+    ghost use Rattle.pool_machine.specs.Picture.{IsSound};
+    ghost use Rattle.pool_machine.specs.Seen.{seen_released};
+    ghost use Rattle.pool_machine.specs.Table.{next_of};
     ghost use Rattle.pool_state.specs.Counted.{number_of};
     ghost use Rattle.pool_state.specs.Evicted.{evicted_of, one_evicted, after_eviction, IsEvicted};
 

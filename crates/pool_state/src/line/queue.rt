@@ -1,6 +1,6 @@
 // A line of at most so many, whose memory is taken at its making. To join, to leave and to be
-// marked takes no longer where more stand in line. Who looks for the first that was told nothing
-// goes by those before it, who were told and did not look yet, or have a connection.
+// marked takes no longer where more stand in line. Who looks for the first that was not notified
+// goes by those before it, who were notified and did not look yet, or have a connection.
 ghost use Rattle.std.specs.Prelude.{◌≡◌, ◌≢◌, ℕ, ◌+◌, ◌^◌, ◌<◌, ◌≤◌, ◌++◌, ◌∷◌, ◌↔◌, [], length, IfOk, IfSome};
 ghost use Rattle.std.specs.Prelude.{IfNone, IsSome, vec_capacity, min, slice_get};
 ghost use Rattle.std.specs.Prelude.{List, Some};
@@ -79,8 +79,8 @@ impl Line {
         self.waiting
     }
 
-    /// How many wait before the one with this slot, or all who wait where nobody has it; but at
-    /// most so many. It goes through no more than so many who wait.
+    /// How many wait before the one with this slot, or all who wait if nobody has it; but at most
+    /// so many. It goes through no more than so many who wait.
     pub fn ahead(&self, slot: u32, most: usize) -> usize
         ensures { result ≡ min (ahead slot (places_in self.now.ring)) most }
     {
@@ -99,8 +99,8 @@ impl Line {
         count
     }
 
-    /// One more waits, at the end. The answer is its slot, which nobody else has; None where all
-    /// slots are taken, and then nothing changes.
+    /// One more waits, at the end. Returns its slot, which nobody else has; None if all slots are
+    /// taken, and then nothing changes.
     pub fn join(&mut self) -> Option<u32>
         ensures joined { IfSome result
             (λ s. places_in self.new.ring ≡ places_in self.old.ring ++ place s Quiet ∷ []) }
@@ -119,8 +119,8 @@ impl Line {
         Some(slot)
     }
 
-    /// The one with this slot leaves; the others keep their order. The answer is whether it was
-    /// told to look, and so has to pass that on.
+    /// The one with this slot leaves; the others keep their order. Returns whether it was notified,
+    /// and so has to pass that on.
     pub fn leave(&mut self, slot: u32) -> bool
         ensures places { places_in self.new.ring ≡ without slot (places_in self.old.ring) }
         ensures told { result ≡ told_at slot (places_in self.old.ring) }
@@ -152,8 +152,8 @@ impl Line {
         self.mark(slot, Standing::Aside);
     }
 
-    /// The one with this slot, which was told to look, is passed: it waits no more, and keeps its
-    /// place until it looks or leaves.
+    /// The one with this slot, which was notified, is passed: it waits no more, and keeps its place
+    /// until it looks or leaves.
     pub fn pass(&mut self, slot: u32)
         ensures places { places_in self.new.ring
             ≡ with_standing slot Aside (places_in self.old.ring) }
@@ -176,8 +176,8 @@ impl Line {
         }
     }
 
-    /// The first one that was told to look and whose time is over, before all that were told
-    /// nothing: there the search stops. Each one's end stands at its slot.
+    /// The first one that was notified and whose time is over, before all that were not notified:
+    /// there the search stops. Each one's end stands at its slot.
     pub fn first_late(&self, search: &mut Search, now: Duration, ends: &[Duration]) -> Option<u32>
         requires { IsLateSearch (as_nanos now) ends.now search.old (places_in self.now.ring) }
         ensures late { result ≡ first_late (as_nanos now) ends.now (places_in self.now.ring) }
@@ -202,7 +202,7 @@ impl Line {
         found
     }
 
-    /// The one with this slot waits on, and waits to be told.
+    /// The one with this slot waits on, and waits to be notified.
     pub fn wait_on(&mut self, slot: u32)
         ensures places { places_in self.new.ring
             ≡ with_standing slot Quiet (places_in self.old.ring) }
@@ -213,7 +213,7 @@ impl Line {
         self.mark(slot, Standing::Quiet);
     }
 
-    /// Tells the first who was told nothing to look, where the search stops. It answers its slot.
+    /// Notifies the first who was not notified yet, where the search stops. It returns its slot.
     #[cold]
     pub fn tell_next(&mut self, search: &mut Search) -> Option<u32>
         requires { IsSearch search.old (places_in self.old.ring) }
@@ -234,7 +234,7 @@ impl Line {
         Some(slot)
     }
 
-    /// The same, where a caller is to be woken.
+    /// The same, if a caller is to be woken.
     #[inline(always)]
     pub fn tell_if(&mut self, is_to_wake: bool) -> Option<u32>
         ensures places { places_in self.new.ring ≡ told_if is_to_wake (places_in self.old.ring) }
@@ -250,8 +250,8 @@ impl Line {
         }
     }
 
-    // The slot of the first who was told nothing. Those who stand before it were told, or have a
-    // connection.
+    // The slot of the first who was not notified. Those who stand before it were notified, or have
+    // a connection.
     fn first_quiet(&self, search: &mut Search) -> Option<u32>
         requires { IsSearch search.old (places_in self.now.ring) }
         ensures quiet { result ≡ first_quiet (places_in self.now.ring) }
@@ -398,7 +398,7 @@ fn weight(standing: Standing) -> usize
     }
 }
 
-// Whether it waits and was told nothing.
+// Whether it waits and was not notified.
 fn is_quiet(standing: Standing) -> bool
     ensures { result ≡ is_quiet_of standing }
 {
@@ -408,7 +408,7 @@ fn is_quiet(standing: Standing) -> bool
     }
 }
 
-// Whether it waits and was told to look.
+// Whether it waits and was notified.
 fn was_told(standing: Standing) -> bool
     ensures { result ≡ is_told standing }
 {
@@ -418,7 +418,7 @@ fn was_told(standing: Standing) -> bool
     }
 }
 
-// Whether one was told to look, and its time is over.
+// Whether one was notified, and its time is over.
 fn is_late(place: Place, now: Duration, ends: &[Duration]) -> bool
     ensures { result ≡ is_late (as_nanos now) ends.now place }
 {

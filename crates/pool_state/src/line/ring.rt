@@ -9,7 +9,7 @@ use super::place::Standing;
 pub struct Ring {
     /// By slot, and last the end: who stands behind it, and who before it.
     pub links: Vec<Link>,
-    /// By slot: how the one who stands there does; None where nobody does.
+    /// By slot: how the one who stands there does; None if nobody does.
     pub standings: Vec<Option<Standing>>,
     /// The end, which is the number of slots.
     pub end: u32,

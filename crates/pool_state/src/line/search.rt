@@ -9,7 +9,7 @@ pub struct Search {
     pub gone: u32,
 }
 
-/// How far those in line were looked through: for who is late, and for who is told instead.
+/// How far those in line were looked through: for who is late, and for who is notified instead.
 #[derive(Clone, Copy, Debug)]
 pub struct LateSearch {
     pub late: Search,

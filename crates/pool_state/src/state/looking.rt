@@ -2,7 +2,7 @@
 ghost use Rattle.std.specs.Prelude.{◌≡◌, ◌+◌, ◌*◌, ◌<◌, length, IsTrue, false, List, ◌∷◌};
 ghost use Rattle.std.specs.Duration.{as_nanos};
 ghost use Rattle.r2d2_core.specs.BookSteps.{IsTake};
-ghost use Rattle.r2d2_core.specs.Seen.{seen_take, Empty};
+ghost use Rattle.pool_machine.specs.Seen.{seen_take, Empty};
 ghost use Rattle.pool_state.specs.Order.{Event, TookAtOnce, IsHistoryOf};
 ghost use Rattle.pool_state.specs.Waits.{count_of};
 
@@ -15,7 +15,7 @@ use std::time::Duration;
 /// What a caller comes to who may wait at the callers' variable.
 pub enum Turn<P> {
     Found { id: u64, value: P },
-    /// It ordered one, where there is room, and is counted among those who wait.
+    /// It ordered one, if there is room, and is counted among those who wait.
     Waits(Waiting),
     Closed,
 }
@@ -34,7 +34,10 @@ impl<P> Turn<P> {
                 if closed {
                     Turn::Closed
                 } else {
-                    Turn::Waits(Waiting { since })
+                    Turn::Waits(Waiting {
+                        since,
+                        of_a_look: (),
+                    })
                 }
             }
         }
@@ -101,6 +104,11 @@ impl<P, C: TakeCounter> PoolState<P, C> {
             ≡ since_with (all_who_wait (count_of self.old.waiting) self.old.places)
             (as_nanos start) (as_nanos self.old.waiting.since) }
         ensures token { IsTokenOf result.0 self.new.waiting.since }
+        // (where not all that is idle is kept for those in line, as where nobody stands there)
+        ensures history { (h : List Event) → IsHistoryOf h self.old.places
+            → is_kept self.old.book.picture self.old.places ≡ false
+            → 0 < found_in_turn result.0
+            → IsHistoryOf (TookAtOnce (length self.old.book.picture.idle) ∷ h) self.new.places }
         ensures same { self.new ≡ record self.old {
           book = self.new.book;
           total = self.new.total;
@@ -115,7 +123,7 @@ impl<P, C: TakeCounter> PoolState<P, C> {
         (turn, wakes.workers)
     }
 
-    /// The same of a caller that waited and has the lock again, where it was woken: it takes that
+    /// The same of a caller that waited and has the lock again, if it was woken: it takes that
     /// wake.
     pub fn look_again(
         &mut self,
@@ -131,13 +139,21 @@ impl<P, C: TakeCounter> PoolState<P, C> {
         ensures waits { self.new.waiting
             ≡ waiting_if (waits_in result.0) waiting.since (after_wait self.old.waiting) }
         ensures token { IsTokenOf result.0 waiting.since }
+        // (where not all that is idle is kept for those in line, as where nobody stands there)
+        ensures history { (h : List Event) → IsHistoryOf h self.old.places
+            → is_kept self.old.book.picture self.old.places ≡ false
+            → 0 < found_in_turn result.0
+            → IsHistoryOf (TookAtOnce (length self.old.book.picture.idle) ∷ h) self.new.places }
         ensures same { self.new ≡ record self.old {
           book = self.new.book;
           total = self.new.total;
           waiting = self.new.waiting;
         } }
     {
-        let Waiting { since } = waiting;
+        let Waiting {
+            since,
+            of_a_look: (),
+        } = waiting;
         let closed = self.book.book().is_closed();
         let (taken, wakes) = self.book.lend(now, true, tally);
         let turn = Turn::of(taken, closed, since);

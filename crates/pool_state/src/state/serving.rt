@@ -4,7 +4,7 @@ ghost use Rattle.std.specs.Prelude.{◌≡◌, ◌≤◌, ◌<◌, ◌+◌, ◌*
 ghost use Rattle.std.specs.Prelude.{IfSome, IsTrue, None, true, false, List, option_map, is_some};
 ghost use Rattle.std.specs.Duration.{as_nanos};
 ghost use Rattle.r2d2_core.specs.BookSteps.{IsTake};
-ghost use Rattle.r2d2_core.specs.Seen.{seen_take};
+ghost use Rattle.pool_machine.specs.Seen.{seen_take};
 ghost use Rattle.pool_state.specs.Order.{Event, IsHistoryOf, IsPlaceIn, with_told, with_take};
 ghost use Rattle.pool_state.specs.Order.{with_wait, with_leave, with_pass, with_look};
 ghost use Rattle.pool_state.specs.Search.{StopsAt, AreSearches};
@@ -41,7 +41,7 @@ impl<P, C: TakeTotal> PoolState<P, C> {
     }
 
     /// How many wait before this caller, or all who wait, if it does not stand in line; but at most
-    /// `MOST_AHEAD`, so that who gives up holds the lock no longer where more wait.
+    /// `MOST_AHEAD`, so that who gives up holds the lock no longer if more wait.
     pub fn ahead_of(&self, place: Option<u32>) -> usize
         ensures { result ≡ min (before place self.now.places) 1000 }
     {
@@ -121,9 +121,9 @@ impl<P, C: TakeTotal> PoolState<P, C> {
         }
     }
 
-    /// Passes the first in line that was told to look and whose time is over: it waits no more, and
-    /// the first that was told nothing is told. It keeps its place until it looks or leaves. Each
-    /// one's end stands at its slot. None where nobody is late. The next call with the same search,
+    /// Passes the first in line that was notified and whose time is over: it waits no more, and the
+    /// first that was not notified is notified. It keeps its place until it looks or leaves. Each
+    /// one's end stands at its slot. None if nobody is late. The next call with the same search,
     /// moment and ends goes on from there.
     pub fn pass_late(
         &mut self,
@@ -143,7 +143,8 @@ impl<P, C: TakeTotal> PoolState<P, C> {
         ensures told { IfSome result (λ to_wake. to_wake.told
             ≡ told_instead (first_late (as_nanos now) ends.now self.old.places) self.old.places) }
         ensures nobody_else { IfSome result
-            (λ to_wake. (to_wake.callers ≡ Wake.Nobody) × (to_wake.workers ≡ false)) }
+            (λ to_wake. (to_wake.callers ≡ Wake.Nobody) × (to_wake.workers ≡ false)
+            × (to_wake.all_in_line ≡ false)) }
         ensures history { (h : List Event) → IsHistoryOf h self.old.places
             → IsHistoryOf (with_told
             (told_instead (first_late (as_nanos now) ends.now self.old.places) self.old.places)
@@ -159,11 +160,12 @@ impl<P, C: TakeTotal> PoolState<P, C> {
         Some(ToWake::told(told))
     }
 
-    /// The caller leaves the line. Where it was told to look, the next one is.
+    /// The caller leaves the line. If it was notified, the next one is.
     pub fn leave(&mut self, place: &mut Option<u32>) -> ToWake
         ensures line { self.new.places ≡ left_by place.old self.old.places }
         ensures told { result.told ≡ told_by place.old self.old.places }
-        ensures nobody_else { (result.callers ≡ Wake.Nobody) × (result.workers ≡ false) }
+        ensures nobody_else { (result.callers ≡ Wake.Nobody) × (result.workers ≡ false)
+            × (result.all_in_line ≡ false) }
         ensures history { (h : List Event) → IsHistoryOf h self.old.places
             → IsHistoryOf (with_told result.told (with_leave place.old h)) self.new.places }
         ensures gone { place.new ≡ None }
@@ -211,16 +213,16 @@ impl<P, C: TakeCounter> PoolState<P, C> {
 }
 
 impl<P: Drop, C: TakeCounter> PoolState<P, C> {
-    ghost use Rattle.r2d2_core.specs.Connections.{pair_of};
-    ghost use Rattle.r2d2_core.specs.Table.{next_of};
+    ghost use Rattle.pool_machine.specs.Connections.{pair_of};
+    ghost use Rattle.pool_machine.specs.Table.{next_of};
     ghost use Rattle.pool_state.specs.Evicted.{book_taken};
     ghost use Rattle.pool_state.specs.Lined.{is_found, found_in, pair_found, looked_by, told_looked};
     ghost use Rattle.pool_state.specs.Lined.{book_looked, owed_looked, book_paid, still_owed};
     ghost use Rattle.pool_state.specs.Lined.{has_ordered};
     ghost use Rattle.pool_state.specs.Standing.{StandsUntold};
 
-    /// A caller that may wait looks: it takes where it has its turn, and keeps its place then where
-    /// it asks for that. Else it stands in line and orders one, unless there is no room.
+    /// A caller that may wait looks: it takes if it has its turn, and keeps its place then if it
+    /// asks for that. Else it stands in line and orders one, unless there is no room.
     pub fn look_in_line(
         &mut self,
         now: Duration,
@@ -241,7 +243,8 @@ impl<P: Drop, C: TakeCounter> PoolState<P, C> {
         ensures owed { self.new.owed
             ≡ owed_looked (as_nanos now) result.0 self.old.owed self.old.book }
         ensures workers { result.1.workers ≡ has_ordered self.old.book self.new.book }
-        ensures callers { result.1.callers ≡ Wake.Nobody }
+        ensures nobody_else { (result.1.callers ≡ Wake.Nobody)
+            × (result.1.all_in_line ≡ false) }
         ensures told { result.1.told
             ≡ told_looked (is_found result.0) keeps_place place.old self.old.places }
         ensures line { self.new.places ≡ looked_by (is_found result.0) keeps_place place.old

@@ -10,7 +10,7 @@ use std::time::Duration;
 
 impl<P, C: TakeTotal> PoolState<P, C> {
     ghost use Rattle.std.specs.Prelude.{IsFalse};
-    ghost use Rattle.r2d2_core.specs.Limits.{wanted_of};
+    ghost use Rattle.pool_machine.specs.Limits.{wanted_of};
     ghost use Rattle.pool_state.specs.Failed.{IsOneTimeoutMore, one_more};
     ghost use Rattle.pool_state.specs.Since.{since_with};
     ghost use Rattle.pool_state.specs.Status.{all_who_wait};
@@ -20,11 +20,15 @@ impl<P, C: TakeTotal> PoolState<P, C> {
     pub fn give_up_wait(&mut self, waiting: Waiting, now: Duration) -> ToWake
         ensures failures { IsOneTimeoutMore self.old.failures self.new.failures }
         ensures passed_on { IsPassedOn result.callers self.old.waiting self.new.waiting }
-        ensures nobody_else { (result.told ≡ None) × (result.workers ≡ false) }
+        ensures nobody_else { (result.told ≡ None) × (result.workers ≡ false)
+            × (result.all_in_line ≡ false) }
         ensures same { self.new
             ≡ record self.old { waiting = self.new.waiting; failures = self.new.failures } }
     {
-        let Waiting { since: _since } = waiting;
+        let Waiting {
+            since: _since,
+            of_a_look: (),
+        } = waiting;
         self.failures.add_timeout();
         self.waiting.end();
         let mut to_wake = ToWake::nobody();
@@ -38,7 +42,8 @@ impl<P, C: TakeTotal> PoolState<P, C> {
         ensures failures { IsOneTimeoutMore self.old.failures self.new.failures }
         ensures sent { IsSent true result.callers self.old.waiting self.new.waiting }
         ensures waits { WaitAsBefore self.old.waiting self.new.waiting }
-        ensures nobody_else { (result.told ≡ None) × (result.workers ≡ false) }
+        ensures nobody_else { (result.told ≡ None) × (result.workers ≡ false)
+            × (result.all_in_line ≡ false) }
         ensures same { self.new
             ≡ record self.old { waiting = self.new.waiting; failures = self.new.failures } }
     {

@@ -4,10 +4,10 @@ ghost use Rattle.std.specs.Prelude.{vec_len, vec_capacity, IfSome, IsTrue, List}
 ghost use Rattle.std.specs.Duration.{as_nanos};
 ghost use Rattle.r2d2_core.specs.BookSteps.{IsBegin, IsNumbering, IsReturn, IsReap};
 ghost use Rattle.r2d2_core.specs.BookSteps.{IsTelling, IsClose};
-ghost use Rattle.r2d2_core.specs.Seen.{seen_returned, map_ok};
+ghost use Rattle.pool_machine.specs.Seen.{seen_returned, map_ok};
 ghost use Rattle.pool_state.specs.Order.{Event, IsHistoryOf, with_told};
 ghost use Rattle.pool_state.specs.Ring.{places_in};
-ghost use Rattle.pool_state.specs.Waits.{AreWoken, SleepOnlyUndue, AllAreWoken};
+ghost use Rattle.pool_state.specs.Waits.{AreWoken, AllAreWoken, IsForAll};
 
 use super::PoolState;
 use crate::engine::{Outcome, Settled, TakeCounter, TakeTotal, Wakes};
@@ -19,15 +19,14 @@ use r2d2_core::machine::Leftover;
 use r2d2_core::{Job, Refusal, Released, Returned};
 use std::time::{Duration, SystemTime};
 
-// Where a step left something for these, tells the first in line that was told nothing, and counts
-// the wake of one who waits elsewhere.
+// Where a step left something for these, notifies the first in line that was not notified, and
+// counts the wake of one who waits elsewhere.
 #[inline(always)]
 fn due(wakes: Wakes, line: &mut Line, waiting: &mut Waiters, now: Duration) -> ToWake
     requires { waiting.old.woken ≤ waiting.old.callers }
     ensures woken { AreWoken wakes result waiting.old waiting.new (places_in line.old.ring)
         (places_in line.new.ring) }
     ensures within { waiting.new.woken ≤ waiting.old.callers }
-    ensures sleepers { SleepOnlyUndue wakes.caller waiting.old waiting.new }
     ensures history { (h : List Event) → IsHistoryOf h (places_in line.old.ring)
         → IsHistoryOf (with_told result.told h) (places_in line.new.ring) }
 {
@@ -36,6 +35,20 @@ fn due(wakes: Wakes, line: &mut Line, waiting: &mut Waiters, now: Duration) -> T
         callers: waiting.wake_if(wakes.caller, now),
         workers: wakes.workers,
         told,
+        all_in_line: false,
+    }
+}
+
+// Counts all as woken who wait, in line or elsewhere, and has them woken.
+fn due_to_all(waiting: &mut Waiters) -> ToWake
+    ensures counted { AllAreWoken waiting.old waiting.new }
+    ensures sent { IsForAll result }
+{
+    ToWake {
+        callers: waiting.wake_all(),
+        workers: true,
+        told: None,
+        all_in_line: true,
     }
 }
 
@@ -70,7 +83,7 @@ impl<P, C: TakeTotal> PoolState<P, C> {
 impl<P, C: TakeTotal> PoolState<P, C> {
     ghost use Rattle.std.specs.Prelude.{IsFalse, IsSome};
     ghost use Rattle.std.specs.Option.{IsNone};
-    ghost use Rattle.r2d2_core.specs.Connections.{birth_in};
+    ghost use Rattle.pool_machine.specs.Connections.{birth_in};
     ghost use Rattle.pool_state.specs.declared.engine.Outcome.TheVariants as outcome;
     ghost use Rattle.pool_state.specs.Evicted.{is_evicted, is_to_close};
     ghost use Rattle.pool_state.specs.Failed.{IsOneOpeningMore, IsOneCheckMore};
@@ -99,8 +112,7 @@ impl<P, C: TakeTotal> PoolState<P, C> {
         }
     }
 
-    /// Whether the lent connection with this id has outlived its own lifetime, where lifetimes
-    /// differ.
+    /// Whether the lent connection with this id has outlived its own lifetime, if lifetimes differ.
     pub fn is_outlived(
         &self,
         tuning: &Tuning,
@@ -164,7 +176,7 @@ impl<P, C: TakeTotal> PoolState<P, C> {
         (returned, to_wake)
     }
 
-    /// Tells the book of an outcome.
+    /// Reports an outcome to the book.
     pub fn settle(&mut self, now: Duration, outcome: Outcome<P>) -> (Settled<P>, ToWake)
         ensures step { IsSettling now outcome result.0 self.old.book self.new.book }
         ensures wakes { AreWoken (wakes_of_settled (seen_settled result.0)) result.1
@@ -182,7 +194,7 @@ impl<P, C: TakeTotal> PoolState<P, C> {
         (settled, to_wake)
     }
 
-    /// Tells the book of an opening that failed.
+    /// Reports a failed opening to the book.
     pub fn fail(&mut self, now: Duration, tries: u32, text: Option<String>) -> (Settled<P>, ToWake)
         ensures step { IsSettling now (outcome.Failed tries text) result.0 self.old.book
             self.new.book }
@@ -202,8 +214,8 @@ impl<P, C: TakeTotal> PoolState<P, C> {
         self.settle(now, Outcome::Failed { tries, text })
     }
 
-    /// Tells the book of a check that failed. What was idle before this moment is distrusted from
-    /// now on.
+    /// Reports a failed check to the book. What was idle before this moment is distrusted from now
+    /// on.
     pub fn fail_check(
         &mut self,
         now: Duration,
@@ -251,24 +263,30 @@ impl<P, C: TakeTotal> PoolState<P, C> {
     }
 
     /// Closes the book, and has all woken who wait.
-    pub fn close(&mut self) -> Leftover<P>
-        ensures step { IsClose result self.old.book self.new.book }
+    pub fn close(&mut self) -> (Leftover<P>, ToWake)
+        ensures step { IsClose result.0 self.old.book self.new.book }
+        ensures wakes { IsForAll result.1 }
         ensures waiting { AllAreWoken self.old.waiting self.new.waiting }
         ensures same { self.new
             ≡ record self.old { book = self.new.book; waiting = self.new.waiting } }
     {
-        self.waiting.wake_all();
-        self.book.close()
+        let to_wake = due_to_all(&mut self.waiting);
+        (self.book.close(), to_wake)
     }
 }
 
 impl<P: Drop, C: TakeCounter> PoolState<P, C> {
-    ghost use Rattle.r2d2_core.specs.Seen.{seen_released};
+    ghost use Rattle.pool_machine.specs.Seen.{seen_released};
     ghost use Rattle.pool_state.specs.Evicted.{evicted_of, after_eviction, IsEvicted};
 
     /// As `CountingBook::evict`, and has what is lent closed as it comes back. What is opened from
     /// now on stays. All who wait are woken.
-    pub fn evict(&mut self, now: Duration, tally: &mut C::Tally, evicted: &mut Vec<Released<P>>)
+    pub fn evict(
+        &mut self,
+        now: Duration,
+        tally: &mut C::Tally,
+        evicted: &mut Vec<Released<P>>,
+    ) -> ToWake
         requires parts { 0 < C.parts tally.old }
         requires empty { vec_len evicted.old ≡ 0 }
         requires room { self.old.book.picture.on_order.limits.max_size ≤ vec_capacity evicted.old }
@@ -277,6 +295,7 @@ impl<P: Drop, C: TakeCounter> PoolState<P, C> {
         ensures after { self.new.book ≡ after_eviction (as_nanos now) self.old.book }
         ensures comes_to { IsEvicted (as_nanos now) self.old.book.picture self.new.book.picture }
         ensures kept { self.new.evicted_below ≡ self.old.book.picture.on_order.next_id }
+        ensures wakes { IsForAll result }
         ensures waiting { AllAreWoken self.old.waiting self.new.waiting }
         ensures parts { C.parts tally.new ≡ C.parts tally.old }
         ensures amount { C.amount tally.new
@@ -288,8 +307,9 @@ impl<P: Drop, C: TakeCounter> PoolState<P, C> {
           evicted_below = self.new.evicted_below;
         } }
     {
-        self.waiting.wake_all();
+        let to_wake = due_to_all(&mut self.waiting);
         self.book.evict(now, tally, evicted);
         self.evicted_below = self.book.book().next_id();
+        to_wake
     }
 }

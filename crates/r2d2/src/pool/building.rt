@@ -9,6 +9,7 @@ ghost use Rattle.r2d2.specs.Failures.{IsOfMemory, IsOfMemoryOrThreads, IsOfABuil
 use super::closing::Closer;
 use super::locking::{Shared, SharedOf};
 use super::{AnyPool, CountedPool, Pool, PoolRuntime};
+use crate::birth::Birth;
 use crate::config::{Builder, Config, Settings};
 use crate::event::HandleEvent;
 use crate::hooks::PoolHooks;
@@ -21,7 +22,7 @@ use std::alloc::{AllocError, Global};
 use std::sync::ledger::Ledger;
 use std::sync::{Arc, Condvar, Mutex, ledger};
 use std::thread;
-use std::time::{Duration, Instant, SystemTime};
+use std::time::Duration;
 
 impl<
     M: ManageConnection,
@@ -195,8 +196,7 @@ fn shared_state<P: Drop, C: TakeTotal, M: Drop, H: Drop, V: Drop, Z: Drop, R: Po
         listens,
         ..
     } = settings;
-    let made = Instant::now(&rt).ok();
-    let created_at = SystemTime::now(&rt).ok();
+    let birth = Birth::now(&rt);
     let room = tuning.room_in_line();
     let line = Line::new(rt.alloc(), room)?;
     let slots = slots(rt.alloc(), room)?;
@@ -210,8 +210,7 @@ fn shared_state<P: Drop, C: TakeTotal, M: Drop, H: Drop, V: Drop, Z: Drop, R: Po
         hooks: config,
         listens,
         tuning,
-        made,
-        created_at,
+        birth,
         rt,
     };
     let shared = Arc::new(rt.alloc(), shared)?;

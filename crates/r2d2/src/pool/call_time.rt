@@ -17,7 +17,7 @@ pub struct CallTime {
     seen: Duration,
     /// How many more it may take, of a call that does not wait.
     left: u32,
-    /// Since when it was idle what the call took last, where a setting asks for it.
+    /// Since when it was idle what the call took last, if a setting asks for it.
     idle_since: Option<Duration>,
 }
 
@@ -94,7 +94,7 @@ impl CallTime {
         self.idle_since = idle_since;
     }
 
-    /// Since when it was idle what the call took last, where it asked.
+    /// Since when it was idle what the call took last, if it asked.
     pub(super) fn idle_since(&self) -> Option<Duration>
         ensures { option_map as_nanos result ≡ self.now.idle_since }
     {

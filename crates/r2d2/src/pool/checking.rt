@@ -1,5 +1,5 @@
-// What is lent is checked first, and what a failed check tells of the others.
-ghost use Rattle.std.specs.Prelude.{◌≡◌, ◌&&◌, ◌||◌, Some, false, IfSome, IsTrue, IsFalse};
+// What is lent is checked first, and what a failed check says of the others.
+ghost use Rattle.std.specs.Prelude.{◌≡◌, ◌&&◌, Some, false, IfSome, IsTrue, IsFalse};
 ghost use Rattle.std.specs.Option.{IsNone};
 ghost use Rattle.pool_state.specs.Checks.{is_check_due};
 
@@ -26,17 +26,7 @@ impl<C: TakeTotal, M: ManageConnection, K: PoolHooks<M>, R: PoolRuntime> SharedO
         self.checks && time.has_check_due(&self.tuning)
     }
 
-    /// Whether what a call takes may be closed for a check, of it or of another.
-    #[inline(always)]
-    pub(super) fn may_fail_check(&self) -> bool
-        ensures { result ≡ (self.now.checks
-            || self.now.tuning.evict_idle_on_failed_check) }
-    {
-        self.checks || self.tuning.evict_idle_on_failed_check
-    }
-
-    /// The connection, where it need not be checked, or its check finds it sound. Else it is
-    /// closed.
+    /// The connection, if it need not be checked, or its check finds it sound. Else it is closed.
     #[inline(always)]
     pub(super) fn if_sound(
         &self,

@@ -6,7 +6,7 @@ use pool_state::engine::TakeTotal;
 use std::rt::Clock;
 use std::sync::{Arc, Wait};
 
-/// What pools and lent connections hold: where the last of them goes, the pool is closed.
+/// What pools and lent connections hold: when the last of them goes, the pool is closed.
 pub struct Closer<P: Drop, C: TakeTotal, M: Drop, K: Drop, R: Clock + Wait + Drop> {
     pub(super) shared: Arc<Shared<PoolState<P, C>, M, K, R>>,
 }

@@ -26,9 +26,9 @@ impl<
 > CountedPool<M, H, V, Z, R, L> {
     ghost use Rattle.r2d2.specs.Failures.{IsOfMemory, IsOfAGet};
 
-    /// As `Pool::get`. Each take adds one to the share, which has a part at least: one where a
-    /// connection is lent, and one for each that was found before it and failed its check, also
-    /// where the call ends in an error.
+    /// As `Pool::get`. Each take adds one to the share, which has a part at least: one if a
+    /// connection is lent, and one for each that was found before it and failed its check, also if
+    /// the call ends in an error.
     pub fn get(&self, share: &mut Share<L>) -> Result<CountedConnection<M, H, V, Z, R, L>, Error>
         requires { 0 < share.old.parts }
         ensures settings { IfOk result (λ lent. lent.settings ≡ self.now) }
@@ -89,7 +89,7 @@ impl<
         self.evict_with(share)
     }
 
-    /// What happened, as `journal` says it, at a moment when `all` has all parts of the ledger: so
+    /// What happened, as `journal` says it, at a time when `all` has all parts of the ledger: so
     /// the report's `takes` is what all shares counted, up to `u64::MAX`, whatever threads made the
     /// calls. The share is unchanged. The error is lack of memory; then nothing has changed.
     pub fn audit(&self, all: &mut Share<L>) -> Result<Report, Error>

@@ -9,12 +9,12 @@ use crate::event::ReleaseReason;
 use crate::hooks::{Closed, PoolHooks};
 use crate::payload::{Payload, PayloadOf};
 use pool_state::engine::{TakeCounter, TakeTotal};
-use pool_state::has_room;
+use pool_state::{ToWake, has_room};
 use r2d2_core::{Book, Released};
 use std::alloc::AllocError;
 
 impl<C: TakeCounter, M: ManageConnection, K: PoolHooks<M>, R: PoolRuntime> SharedOf<C, M, K, R> {
-    /// Closes what is idle now, and has what is lent now closed as it comes back. It answers how
+    /// Closes what is idle now, and has what is lent now closed as it comes back. It returns how
     /// many were idle. The error is lack of memory for the list of those; then nothing has changed.
     pub(super) fn evict(&self, tally: &mut C::Tally) -> Result<usize, AllocError>
         requires { 0 < C.parts tally.old }
@@ -28,11 +28,13 @@ impl<C: TakeCounter, M: ManageConnection, K: PoolHooks<M>, R: PoolRuntime> Share
         let mut evicted = Vec::with_capacity(self.rt.alloc(), max_size)?;
         let mut guarded = self.guarded.lock(&self.rt);
         let now = self.moment();
-        if has_room(guarded.book(), &evicted) {
-            guarded.evict(now, tally, &mut evicted);
-        }
+        let to_wake = if has_room(guarded.book(), &evicted) {
+            guarded.evict(now, tally, &mut evicted)
+        } else {
+            ToWake::nobody()
+        };
         drop(guarded);
-        self.wake_all();
+        self.wake(to_wake);
         let count = evicted.len();
         for released in evicted.drain(..) {
             self.release(released, ReleaseReason::Evicted);

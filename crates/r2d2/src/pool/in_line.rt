@@ -25,8 +25,8 @@ impl<P: Drop, C: TakeCounter, M, K, R: Clock + Wait + AllocGlobal> Shared<
     R,
 > {
     /// As `lend_until`, for a call that stands in line at this place, or nowhere yet, and waits
-    /// there until it has its turn. One that is lent a connection keeps the place where it asks for
-    /// that, so that it is the first again where the check fails; an error leaves none.
+    /// there until it has its turn. One that is lent a connection keeps the place if it asks for
+    /// that, so that it is the first again if the check fails; an error leaves none.
     pub(super) fn take_in_line(
         &self,
         timeout: Duration,
@@ -103,7 +103,7 @@ impl<P: Drop, C: TakeTotal, M, K, R: Clock + Wait + AllocGlobal> Shared<PoolStat
         error
     }
 
-    // Gives up, as one that does not stand in line: who was told to look passes it on.
+    // Gives up, as one that does not stand in line: who was notified passes it on.
     fn give_up_in_line(
         &self,
         mut guarded: MutexGuard<'_, PoolState<P, C>>,
@@ -126,7 +126,7 @@ impl<P: Drop, C: TakeTotal, M, K, R: Clock + Wait + AllocGlobal> Shared<PoolStat
         Error::timeout(self.rt.alloc(), error, status, time.waited(), Some(ahead))
     }
 
-    /// A call whose check is over leaves the line, where it stands in it.
+    /// A call whose check is over leaves the line, if it stands in it.
     pub(super) fn leave_line(&self, place: &mut Option<u32>)
         ensures gone { place.new ≡ None }
     {

@@ -18,7 +18,7 @@ impl<C: TakeCounter, M: ManageConnection, K: PoolHooks<M>, R: PoolRuntime> AnyPo
     ghost use Rattle.r2d2.specs.Failures.{IsOfMemory, IsOfAGet};
 
     /// Lends a connection that passed its check, and waits for one at most so long. With no timeout
-    /// it does not wait, and orders none: it answers None where none is idle.
+    /// it does not wait, and orders none: it returns None if none is idle.
     #[inline(always)]
     pub(super) fn lend_within(
         &self,
@@ -66,7 +66,7 @@ impl<C: TakeCounter, M: ManageConnection, K: PoolHooks<M>, R: PoolRuntime> AnyPo
         !self.shared().slots.is_empty()
     }
 
-    /// As `lend_within`, where callers wait in line. Who takes keeps its place until its check went
+    /// As `lend_within`, if callers wait in line. Who takes keeps its place until its check went
     /// well, so that it is the first again if it does not.
     #[cold]
     pub(super) fn lend_in_line(
@@ -85,7 +85,7 @@ impl<C: TakeCounter, M: ManageConnection, K: PoolHooks<M>, R: PoolRuntime> AnyPo
         let shared = self.shared();
         let mut time = CallTime::new(shared.start_of_call());
         let closer = Arc::try_clone(&self.closer).map_err(|_| Error::memory())?;
-        let keeps_place = shared.may_fail_check();
+        let keeps_place = shared.tuning.may_fail_check(shared.checks);
         let mut place = None;
         for _ in shared.rt.forever() {
             let found = match shared.take_in_line(
@@ -128,7 +128,7 @@ impl<C: TakeTotal, M: ManageConnection, K: PoolHooks<M>, R: PoolRuntime> SharedO
         Some(self.moment())
     }
 
-    // Tells that a connection is lent, and answers when. Where nobody listens and it was not
+    // Reports that a connection is lent, and returns when. Where nobody listens and it was not
     // checked since, that is when it was taken.
     #[inline(always)]
     fn check_out(&self, id: u64, is_checked: bool, time: &CallTime) -> Duration
@@ -145,7 +145,7 @@ impl<C: TakeTotal, M: ManageConnection, K: PoolHooks<M>, R: PoolRuntime> SharedO
         lent_at
     }
 
-    // Tells of a call whose time ran out, and answers its error.
+    // Reports a call whose time ran out, and returns its error.
     fn tell_in_vain(&self, error: Error, timeout: Option<Duration>) -> Error
         ensures { result ≡ error }
     {

@@ -63,8 +63,8 @@ impl<C: TakeTotal, M: ManageConnection, K: PoolHooks<M>, R: PoolRuntime> AnyConn
     }
 
     /// When it was lent, as a time since the pool was made: the moment that the checkout event
-    /// tells. Where no handler of events was set it is that of the take, or, where the connection
-    /// was checked, the moment after the check.
+    /// reports. If no handler of events was set it is that of the take, or, if the connection was
+    /// checked, the moment after the check.
     pub fn lent_at(this: &Self) -> Duration
         ensures { result ≡ this.now.lent_at }
     {
@@ -73,8 +73,8 @@ impl<C: TakeTotal, M: ManageConnection, K: PoolHooks<M>, R: PoolRuntime> AnyConn
 
     /// Takes the connection out of the pool for good: it is the caller's from now on, and what was
     /// kept beside it is dropped. The pool orders another one by the same rules as after a broken
-    /// return. The checkin event is sent, then the release event; the customizer is not told, since
-    /// the connection is not closed.
+    /// return. The checkin event is sent, then the release event; the customizer is not called,
+    /// since the connection is not closed.
     pub fn detach(this: Self) -> M::Connection
         ensures { result ≡ this.connection }
     {

@@ -1,8 +1,8 @@
 // The lock of a pool, how it is taken, and who is woken once it is free.
 ghost use Rattle.std.specs.Prelude.{◌≡◌, ◌≤◌, ◌-◌, None, IfOk, IsTrue, ◌↔◌};
-ghost use Rattle.std.specs.Duration.{as_nanos};
 ghost use Rattle.r2d2_core.specs.Reports.{IsSoundReport};
 
+use crate::birth::Birth;
 use crate::payload::PayloadOf;
 use pool_state::engine::{Outcome, Settled, TakeTotal};
 use pool_state::{PoolState, State, Status, ToWake, Tuning, Wake};
@@ -13,7 +13,7 @@ use std::hint::spin_loop;
 use std::rt::Clock;
 use std::sync::{Condvar, Mutex, MutexGuard, Wait};
 use std::thread::yield_now;
-use std::time::{Duration, Instant, SystemTime};
+use std::time::Duration;
 
 /// How often a thread that finds the lock taken lets others run, before it sleeps for it.
 const TURNS: u32 = 10;
@@ -40,10 +40,8 @@ pub struct Shared<B, M, K, R> {
     pub(super) checks: bool,
     /// The settings that r2d2 has not.
     pub(super) tuning: Tuning,
-    /// When the pool was made; None where the clock could not be read.
-    pub(super) made: Option<Instant>,
-    /// What the wall clock showed then, where it could be read.
-    pub(super) created_at: Option<SystemTime>,
+    /// When the pool was made.
+    pub(super) birth: Birth,
     pub(super) rt: R,
 }
 
@@ -51,22 +49,12 @@ pub struct Shared<B, M, K, R> {
 pub type SharedOf<C, M, K, R> = Shared<PoolState<PayloadOf<M>, C>, M, K, R>;
 
 impl<B, M, K, R> Shared<B, M, K, R> {
-    ghost use Rattle.std.specs.Option.{IsNone};
-
-    /// The time since the pool was made; zero where the clock can't be read.
+    /// The time since the pool was made.
     pub(super) fn moment(&self) -> Duration
     where
         R: Clock,
-        ensures { IsNone self.now.made → as_nanos result ≡ 0 }
     {
-        let Some(made) = &self.made else {
-            return Duration::ZERO;
-        };
-        // (What `elapsed` does; where that is not inlined, it answers through memory.)
-        match Instant::now(&self.rt) {
-            Ok(now) => now.duration_since(*made),
-            Err(_) => Duration::ZERO,
-        }
+        self.birth.moment(&self.rt)
     }
 
     /// Wakes those for whom a step left something.
@@ -77,6 +65,7 @@ impl<B, M, K, R> Shared<B, M, K, R> {
             callers,
             workers,
             told,
+            all_in_line,
         } = to_wake;
         match callers {
             Wake::Nobody => {}
@@ -89,6 +78,9 @@ impl<B, M, K, R> Shared<B, M, K, R> {
         if let Some(slot) = told {
             self.wake_in_line(slot);
         }
+        if all_in_line {
+            self.wake_all_in_line();
+        }
     }
 
     // Wakes the one in line at this slot.
@@ -97,20 +89,18 @@ impl<B, M, K, R> Shared<B, M, K, R> {
         self.variable_of(slot).notify_one();
     }
 
+    // Wakes all who stand in line.
+    #[cold]
+    fn wake_all_in_line(&self) {
+        for own in &self.slots {
+            own.notify_all();
+        }
+    }
+
     /// Where the caller in line with this slot waits.
     pub(super) fn variable_of(&self, slot: u32) -> &Condvar {
         // Each slot has one.
         self.slots.get(slot as usize).unwrap_or(&self.callers)
-    }
-
-    /// Wakes all callers and all workers.
-    pub(super) fn wake_all(&self) {
-        // Modelled in model/waiting.pml: keep both alike.
-        self.callers.notify_all();
-        self.workers.notify_all();
-        for own in &self.slots {
-            own.notify_all();
-        }
     }
 
     /// Takes the lock.
@@ -196,7 +186,7 @@ impl<P: Drop, C: TakeTotal, M, K, R: Clock + Wait> Shared<PoolState<P, C>, M, K,
         self.step(|state, _now| (state.number(tries), ToWake::nobody()))
     }
 
-    /// Tells the book of an outcome.
+    /// Reports an outcome to the book.
     pub(super) fn settle(&self, outcome: Outcome<P>) -> Settled<P>
         ensures { (now : _) × (old : SeenState P C) × (new : SeenState P C)
             × IsSettling now outcome result old.book new.book
@@ -205,24 +195,22 @@ impl<P: Drop, C: TakeTotal, M, K, R: Clock + Wait> Shared<PoolState<P, C>, M, K,
         self.step(|state, now| state.settle(now, outcome))
     }
 
-    /// Tells the book of an opening that failed.
+    /// Reports a failed opening to the book.
     pub(super) fn fail(&self, tries: u32, text: Option<String>) {
         self.step(|state, now| state.fail(now, tries, text));
     }
 
-    /// Closes the book, tells all who wait, and hands over what was idle.
+    /// Closes the book, wakes all who wait, and hands over what was idle.
     pub(super) fn close(&self) -> Leftover<P>
         ensures { (old : SeenState P C) × (new : SeenState P C)
             × IsClose result old.book new.book × (new.places ≡ old.places) }
     {
-        let left = self.step(|state, _now| (state.close(), ToWake::nobody()));
-        self.wake_all();
-        left
+        self.step(|state, _now| state.close())
     }
 }
 
-/// Lets other threads run, and lets the lock alone for a moment: each try at a lock takes its cache
-/// line from who holds it.
+/// Lets other threads run, and lets the lock alone for a short time: each try at a lock takes its
+/// cache line from who holds it.
 pub(super) fn pause() {
     yield_now();
     for _ in 0..PAUSES {

@@ -34,7 +34,7 @@ impl<
     }
 
     fn created_at(&self) -> Option<SystemTime> {
-        self.closer.shared.created_at
+        self.closer.shared.birth.created_at()
     }
 
     fn connection_timeout(&self) -> Duration {

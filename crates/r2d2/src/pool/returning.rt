@@ -20,7 +20,7 @@ impl<X: Drop, E: Extension + Drop, C: TakeTotal, M, K, R: Clock + Wait> Shared<
     R,
 > {
     /// Puts a lent connection back. One that is unfit for some reason, too old, or evicted is
-    /// closed, and so is each where the pool is closed: it answers that one.
+    /// closed, and so is each if the pool is closed: it returns that one.
     #[inline(always)]
     pub(super) fn give_back(
         &self,
@@ -34,7 +34,7 @@ impl<X: Drop, E: Extension + Drop, C: TakeTotal, M, K, R: Clock + Wait> Shared<
         let returned = self.step(|guarded, now| {
             reason = guarded.reason_of_return(id, unfit);
             let outlived = self.tuning.has_jitter()
-                && guarded.is_outlived(&self.tuning, self.created_at, id, now);
+                && guarded.is_outlived(&self.tuning, self.birth.created_at(), id, now);
             guarded.give_back(now, id, payload, unfit, outlived)
         });
         let Ok(Returned::Closed { value, age, .. }) = returned else {

@@ -89,8 +89,8 @@ impl<P: Drop, C: TakeCounter, M, K, R: Clock + Wait + AllocGlobal> Shared<
         }
     }
 
-    /// Takes the idle connection that is lent next. Where there is none it orders one and waits,
-    /// until the call's timeout has passed, or until the pool is closed: each is an error.
+    /// Takes the idle connection that is lent next. If there is none it orders one and waits, until
+    /// the call's timeout has passed, or until the pool is closed: each is an error.
     #[inline(always)]
     pub(super) fn lend_until(
         &self,
@@ -313,8 +313,7 @@ impl<P: Drop, C: TakeTotal, M, K, R: Clock + Wait + AllocGlobal> Shared<PoolStat
         Error::timeout(self.rt.alloc(), error, status, waited, None)
     }
 
-    /// Gives up for a call whose time is over; None where some is left, or where it brought no
-    /// timeout.
+    /// Gives up for a call whose time is over; None if some is left, or if it brought no timeout.
     #[inline(always)]
     pub(super) fn give_up_if_late(
         &self,
@@ -362,7 +361,7 @@ impl<P: Drop, C: TakeTotal, M, K, R: Clock + Wait + AllocGlobal> Shared<PoolStat
         Ok(())
     }
 
-    /// Waits until nothing is lent, and as long as this at most. Past that it answers what there
+    /// Waits until nothing is lent, and as long as this at most. Past that it returns what there
     /// is.
     pub(super) fn wait_for_returns(&self, timeout: Duration) -> Result<(), Status>
         ensures { IfErr result (λ status. IsStatus status × (0 < status.lent)) }

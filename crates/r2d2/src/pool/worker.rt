@@ -14,7 +14,7 @@ use std::sync::MutexGuard;
 use std::time::Duration;
 
 impl<C: TakeTotal, M: ManageConnection, K: PoolHooks<M>, R: PoolRuntime> SharedOf<C, M, K, R> {
-    /// Does what is due, and waits where nothing is, until the pool is closed. The list is for the
+    /// Does what is due, and waits if nothing is, until the pool is closed. The list is for the
     /// connections that a reap closes.
     pub(super) fn work(&self, mut expired: Vec<Released<PayloadOf<M>>>) {
         // Modelled in model/waiting.pml: keep both alike.
@@ -60,7 +60,7 @@ impl<C: TakeTotal, M: ManageConnection, K: PoolHooks<M>, R: PoolRuntime> SharedO
         }
     }
 
-    // Gives an opened connection its id, tells of it, and admits it.
+    // Gives an opened connection its id, reports it, and admits it.
     fn admit(&self, tries: u32, connection: M::Connection) {
         // Modelled in model/waiting.pml: keep both alike.
         match self.number(tries) {

@@ -8,5 +8,5 @@ invariant_of-self g c =
     let state = c.self.inside in
     let p = state.book.book.picture in
     let q = c.evict.new.self.book.picture in
-    kept_woken p q (places_in state.line.ring) state.owed state.waiting c.wake_all.new.self c.self.invariant (omega (arith, ap length c.evict.ensures.comes_to.none_idle))
-    (none_lost-evicted _ p q (places_in state.line.ring) state.owed c.evict.ensures.comes_to c.self.invariant.in_line) c.wake_all.ensures
+    kept_woken p q (places_in state.line.ring) state.owed state.waiting c.due_to_all-to_wake.new.waiting c.self.invariant (omega (arith, ap length c.evict.ensures.comes_to.none_idle))
+    (none_lost-evicted _ p q (places_in state.line.ring) state.owed c.evict.ensures.comes_to c.self.invariant.in_line) c.due_to_all-to_wake.ensures.counted

@@ -1,8 +1,14 @@
-use Rattle.std.proofs.Common.{true, length, arith, refl, sym, ap, ◌∙◌, subst}
+use Rattle.std.proofs.Common.{◌≡◌, ◌<◌, List, ◌∷◌, true, false, length, arith, refl, sym, ap, ◌∙◌, subst}
 use Rattle.r2d2_core.specs.Book.{SeenBook}
+use Rattle.pool_machine.specs.Seen.{seen_take}
+use Rattle.pool_state.specs.Order.{Event, TookAtOnce, IsHistoryOf}
+use Rattle.pool_state.specs.Waiting.{is_kept}
+use Rattle.pool_state.specs.Waits.{found_in_turn}
+use Rattle.pool_state.proofs.Order.{took_at_once, more_than_wait}
+use Rattle.pool_state.proofs.Waits.{turn_found}
 use Rattle.pool_state.specs.declared.waiters.Waiters.{Waiters}
 use Rattle.pool_state.specs.Waits.{IsTokenOf, waiting_if, one_if, IsLook}
-use Rattle.r2d2_core.specs.Picture.{IsSound}
+use Rattle.pool_machine.specs.Picture.{IsSound}
 use Rattle.pool_state.specs.Ring.{places_in}
 use Rattle.pool_state.proofs.Guarded.{turned, looked_by, in_line}
 use Rattle.pool_state.proofs.Lined.{still_told, one_taken}
@@ -48,3 +54,16 @@ returns-clause-step g c =
     subst (λ v. IsLook c.args.now turn step.result.1.workers v.book step.new.self.book) c.self.view_is
     (looked_by c.args.now step.result.0 turn c.is_closed-closed.result step.result.1 old.book.book step.new.self.book step.ensures.step c.of-turn.ensures.turn
     (c.is_closed-closed.ensures.value ∙ ap (λ (b : SeenBook _). b.picture.on_order.closed) c.book.ensures.value) step.ensures.wakes)
+
+pub returns-clause-history : goal.returns-clause-history
+returns-clause-history g c =
+    let ps = places_in c.self.inside.line.ring in
+    let p = c.self.inside.book.book.picture in
+    let step = c.lend-taken in
+    let turn = c.of-turn.result in
+    let less = one_taken c.args.now true step.result.0 p step.new.self.book.picture step.ensures.step.of_core in
+    let found = turn_found (seen_take step.result.0) c.is_closed-closed.result turn c.of-turn.ensures.turn in
+    let at_once : (h : List Event) → IsHistoryOf h ps → is_kept p ps ≡ false → 0 < found_in_turn turn → IsHistoryOf (TookAtOnce (length p.idle) ∷ h) ps =
+    λ h is free some. took_at_once h (length p.idle) ps (more_than_wait p ps free (omega (arith, less, found, some))) is in
+    subst (λ v. (h : List Event) → IsHistoryOf h v.places → is_kept v.book.picture v.places ≡ false → 0 < found_in_turn turn
+    → IsHistoryOf (TookAtOnce (length v.book.picture.idle) ∷ h) ps) c.self.view_is at_once

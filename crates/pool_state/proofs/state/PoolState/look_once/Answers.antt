@@ -1,5 +1,5 @@
 use Rattle.std.proofs.Common.{◌≡◌, ◌<◌, List, ◌∷◌, length, false, sym, ◌∙◌, subst, arith}
-use Rattle.r2d2_core.specs.Seen.{seen_take}
+use Rattle.pool_machine.specs.Seen.{seen_take}
 use Rattle.pool_state.specs.Counted.{found_by}
 use Rattle.pool_state.specs.Order.{Event, TookAtOnce, IsHistoryOf}
 use Rattle.pool_state.specs.Ring.{places_in}

@@ -2,7 +2,7 @@ use Rattle.std.proofs.Common.{◌≡◌, length, sym, ap, subst, arith}
 use Rattle.std.specs.Prelude.{min}
 use Rattle.std.specs.Duration.{as_nanos}
 use Rattle.r2d2_core.specs.Book.{SeenBook}
-use Rattle.r2d2_core.specs.Picture.{IsSound}
+use Rattle.pool_machine.specs.Picture.{IsSound}
 use Rattle.pool_state.specs.Guarded.{SeenState, NoneInLineIsLost}
 use Rattle.pool_state.specs.Lined.{book_asked}
 use Rattle.pool_state.specs.Ring.{places_in}

@@ -20,7 +20,7 @@ invariant_of-self g c =
     let woken = sent.ensures.woken in
     kept_due caller sent.result.callers p q (places_in state.line.ring) (places_in sent.new.line.ring) state.owed state.waiting sent.new.waiting c.self.invariant
     (none_more_reaped c.args.now step.new.out.items step.result.0 p q caller step.ensures.step.of_core) (goes_reap c.args.now step.new.out.items step.result.0 caller p q step.ensures.step.of_core)
-    woken.line woken.callers sent.ensures.within woken.waits sent.ensures.sleepers
+    woken.line woken.callers sent.ensures.within woken.waits woken.sleepers
 
 pub returns-clause-history : goal.returns-clause-history
 returns-clause-history g c =

@@ -20,7 +20,7 @@ invariant_of-self g c =
     let woken = sent.ensures.woken in
     kept_due caller sent.result.callers p q (places_in state.line.ring) (places_in sent.new.line.ring) state.owed state.waiting sent.new.waiting c.self.invariant
     (one_settled c.args.now c.args.outcome step.result.0 p q step.result.1 step.ensures.step.answer step.ensures.step.after step.ensures.wakes) (goes_settled c.args.now c.args.outcome step.result.0 p q step.result.1 step.ensures.step.answer step.ensures.step.after step.ensures.wakes)
-    woken.line woken.callers sent.ensures.within woken.waits sent.ensures.sleepers
+    woken.line woken.callers sent.ensures.within woken.waits woken.sleepers
 
 pub returns-clause-history : goal.returns-clause-history
 returns-clause-history g c =

@@ -10,7 +10,7 @@ use Rattle.std.specs.contracts.vec.Vec as vec
 use Rattle.r2d2.specs.contracts.pool.locking.Shared as shared
 use Rattle.pool_state.specs.contracts.state.PoolState as state
 use Rattle.r2d2.specs.contracts.payload.Payload as payload
-use Rattle.r2d2_core.specs.contracts.machine.answers.Released as released
+use Rattle.pool_machine.specs.contracts.machine.answers.Released as released
 
 -- What goes to the thread outlives all: the goal is too large for one `simp`, so it is shown of the shared state and of the list apart.
 pub spawn-requires-static-F : goal.spawn-requires-static-F

@@ -1,8 +1,8 @@
 use Rattle.std.proofs.Common.{◌≡◌, [], ◌∷◌, map, max, refl, ◌∙◌, ap, subst, arith}
 use Rattle.std.specs.Duration.{as_nanos}
 use Rattle.std.proofs.lemmas.List.{nil_from_length, map-append, length-map, length_push}
-use Rattle.r2d2_core.specs.Seen.{seen_released}
-use Rattle.r2d2_core.specs.Picture.{IsSound}
+use Rattle.pool_machine.specs.Seen.{seen_released}
+use Rattle.pool_machine.specs.Picture.{IsSound}
 use Rattle.pool_state.proofs.Evicting.{EvictsNext, evicting, goes_on, has_more, fewer, none_left, all_handed, evicted, rest_after, rest_of_none, one_more_counted}
 use Rattle.pool_state.proofs.engine.counted.CountingBook.evict.Goals as goal
 

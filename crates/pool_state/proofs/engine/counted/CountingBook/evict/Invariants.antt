@@ -1,8 +1,8 @@
 use Rattle.std.proofs.Common.{◌≡◌, ◌+◌, ◌*◌, map, length}
 use Rattle.std.specs.Prelude.{vec_capacity}
 use Rattle.std.specs.Duration.{as_nanos}
-use Rattle.r2d2_core.specs.Seen.{seen_released}
-use Rattle.r2d2_core.specs.Picture.{IsSound}
+use Rattle.pool_machine.specs.Seen.{seen_released}
+use Rattle.pool_machine.specs.Picture.{IsSound}
 use Rattle.pool_state.specs.Evicted.{in_lending_order, each_evicted, after_eviction}
 use Rattle.pool_state.proofs.Evicting.{Evicting}
 use Rattle.pool_state.proofs.engine.counted.CountingBook.evict.Given as goal

@@ -1,6 +1,6 @@
 use Rattle.std.proofs.Common.{◌-◌, max, false, Ok, sym, ◌∙◌, ap}
 use Rattle.std.specs.Duration.{as_nanos}
-use Rattle.r2d2_core.specs.Seen.{seen_take, seen_returned, map_ok}
+use Rattle.pool_machine.specs.Seen.{seen_take, seen_returned, map_ok}
 use Rattle.pool_state.proofs.Evicting.{next, idle_of_none, lent_after, closing, lent_then, released_next, never_refused, same_age, same_value, latest_after, taken_is, broken_is, one_went, none_went}
 use Rattle.pool_state.proofs.Waits.{more_pending_taken, more_pending}
 use Rattle.pool_state.proofs.engine.counted.CountingBook.evict_next.Goals as goal

@@ -1,0 +1,5 @@
+pub mod Wakers
+pub mod Looks
+pub mod InTime
+pub mod History
+pub mod Leaving
