@@ -338,11 +338,11 @@ fn answers_what_a_report_that_replays_is_asked(rt: HostRuntime) -> Result<(), Fa
     let none = (zero, "since':null,'opening_since':null,'pending':0");
     let pending = ("'pending':1", "'pending':0");
     let (lost, takes) = (("'lost':0", "'lost':9"), ("'takes':0", "'takes':5"));
-    let making = "the base: lost is 0, so it is that of the making, but pending is 0 where 1 are \
+    let making = "the base: lost is 0, so it is that of a new pool, but pending is 0, and 1 are \
         wanted";
     let empty = "the counts: wanted are 1, and there is room, but idle has 0, and pending is 0";
     let (_, summary) = SUMMARY.split_once("'unknown',").ok_or("a state")?;
-    let five = "the counts: takes is 5, but the records tell of 0";
+    let five = "the counts: takes is 5, but the records have 0";
     for (parts, why) in [
         (&[pending, none][..], making),
         (&[takes], five),

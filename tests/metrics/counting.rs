@@ -88,7 +88,7 @@ fn each_length_is_counted_between_bounds_of_its_scale(rt: HostRuntime) -> Result
         let _manager = Timed::new((), &metrics)?;
         let seen = metrics.snapshot();
         assert!(rt; has_bounds(seen.waits, scales.waits));
-        assert!(rt; has_bounds(seen.vain_waits, scales.waits));
+        assert!(rt; has_bounds(seen.timed_out_waits, scales.waits));
         assert!(rt; has_bounds(seen.uses, scales.uses));
         assert!(rt; has_bounds(seen.openings.ok_or("openings")?, scales.openings));
         assert!(rt; has_bounds(seen.ages, scales.ages));

@@ -29,7 +29,7 @@ const TOLD: &str = "o count idle=0 used=1, o pending_openings 2, o longest_loan_
     o failed_openings_total 2, o failed_checks_total 2, o errors_total 4, \
     o latest_error_timestamp_seconds 1700000004.5, o opened_total 3, o timeouts_total 0, \
     o closed_total check_failed=2, o closed_total broken=0, o closed_total detached=0, \
-    o vain_wait_time_seconds count=0, o age_seconds count=2";
+    o timed_out_wait_time_seconds count=0, o age_seconds count=2";
 
 #[test]
 fn an_outage_is_told(rt: HostRuntime) -> Result<(), Fail> {

@@ -54,9 +54,9 @@ pub(crate) fn measured<R: Host>(
     Ok((Pool::of(rt, world, settings.checked())?, metrics))
 }
 
-/// How many waits, waits in vain, uses and ages were counted, and how many milliseconds together.
+/// How many waits, waits that timed out, uses and ages were counted, and how many milliseconds together.
 pub(crate) fn lengths(seen: &Snapshot) -> [(u64, u64); 4] {
-    [seen.waits, seen.vain_waits, seen.uses, seen.ages]
+    [seen.waits, seen.timed_out_waits, seen.uses, seen.ages]
         .map(|lengths| (lengths.count(), milliseconds(lengths.sum())))
 }
 

@@ -36,7 +36,7 @@ pub(crate) fn reading(pool: &str, snapshot: Snapshot) -> Reading<'_> {
 fn snapshot() -> Snapshot {
     let waits = [6, 0, 1, 0, 0, 0, 0, 0, 0, 0, 0, 0, 0, 2];
     let ages = [0, 0, 0, 0, 0, 0, 9, 0, 0, 0, 0, 0, 0, 0];
-    let in_vain = [0, 0, 0, 0, 0, 0, 0, 0, 5, 0, 0, 0, 3, 0];
+    let timed_out = [0, 0, 0, 0, 0, 0, 0, 0, 5, 0, 0, 0, 3, 0];
     Snapshot {
         opened: 12,
         // For each reason another count.
@@ -55,7 +55,7 @@ fn snapshot() -> Snapshot {
         latest_error: None,
         latest_error_at: None,
         longest_loan: Duration::from_millis(90_500),
-        vain_waits: Distribution::of(Scale::Short, in_vain, 95_000_000_000),
+        timed_out_waits: Distribution::of(Scale::Short, timed_out, 95_000_000_000),
         waits: Distribution::of(Scale::Short, waits, 61_000_000_001),
         uses: Distribution::of(Scale::Short, [0; 14], 0),
         ages: Distribution::of(Scale::Long, ages, 9_900_000_000_000),
@@ -97,7 +97,7 @@ const WHOLE: &str = "
     histogram wait_time_seconds 0.001=6 0.005=6 0.01=7 0.025=7 0.05=7 0.1=7 0.25=7 0.5=7 1=7 \
         2.5=7 5=7 10=7 30=7 +Inf=9 sum=61.000000001 count=9: \
         How long callers waited for the connections that they got.
-    histogram vain_wait_time_seconds 0.001=0 0.005=0 0.01=0 0.025=0 0.05=0 0.1=0 0.25=0 0.5=0 \
+    histogram timed_out_wait_time_seconds 0.001=0 0.005=0 0.01=0 0.025=0 0.05=0 0.1=0 0.25=0 0.5=0 \
         1=5 2.5=5 5=5 10=5 30=8 +Inf=8 sum=95 count=8: \
         How long callers waited that got no connection: the timeouts of their calls.
     histogram use_time_seconds 0.001=0 0.005=0 0.01=0 0.025=0 0.05=0 0.1=0 0.25=0 0.5=0 1=0 \

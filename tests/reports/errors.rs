@@ -82,9 +82,9 @@ fn the_wall_clock_shows_a_moment_from_1970_on(rt: HostRuntime) -> Result<(), Fai
         'at':3 => 'at':'3s' => not whole nanoseconds @ '3s'
         'at':3 => 'at':'000000000000000000000000000003' => \
             not whole nanoseconds @ '000000000000000000000000000003'
-        'lost':2 => 'lost':2,'created_at':'noon' => not a moment of the wall clock @ 'noon'
+        'lost':2 => 'lost':2,'created_at':'noon' => not a time of the wall clock @ 'noon'
         'lost':2 => 'lost':2,'created_at':'1969-12-31T23:59:59Z' => \
-            not a moment of the wall clock @ '1969-12-31T23:59:59Z'
+            not a time of the wall clock @ '1969-12-31T23:59:59Z'
         'at':3 => 'at':18446744073709551616 => invalid value @ 18446744073709551616
         'at':3 => 'at':[3] => invalid type @ [3
         'at':3 => 'at':-3 => invalid value @ -3

@@ -86,9 +86,9 @@ fn what_is_wrong_with_a_base(rt: HostRuntime) -> Result<(), Fail> {
         [2,1,5],[2,1,6] [4,1] 3 0 => connection 2 stands twice
         [2,1,7],[7,1,6] [4,1] 3 0 => \
             connection 7 was idle earlier than the one that stands before it
-        [2,1,5],[7,1,11] [4,1] 3 0 => connection 7 is idle since after the moment of the base
+        [2,1,5],[7,1,11] [4,1] 3 0 => connection 7 is idle since after the time of the base
         [2,6,5],[7,1,6] [4,1] 3 0 => connection 2 was admitted after it came to be idle
-        [2,1,5],[7,1,6] [4,11] 3 0 => connection 4 was admitted after the moment of the base
+        [2,1,5],[7,1,6] [4,11] 3 0 => connection 4 was admitted after the time of the base
         [2,1,5] [4,1] 3 0 => connections is 3, but 2 are listed
         [2,1,5],[7,1,6] [4,1] 3 1 => connections and pending are 4 together, but max_size is 3
         [2,1,5],[7,1,6] [4,1] 3 0 closed => it is closed, but idle has 2
@@ -99,8 +99,8 @@ fn what_is_wrong_with_a_base(rt: HostRuntime) -> Result<(), Fail> {
 #[test]
 fn what_is_wrong_with_a_record(rt: HostRuntime) -> Result<(), Fail> {
     let table = "
-        taken 9 7 0 => record 0: its moment is before that of the base
-        taken 12 7 0; kept 11 4 => record 1: its moment is before that of the record before it
+        taken 9 7 0 => record 0: its time is before that of the base
+        taken 12 7 0; kept 11 4 => record 1: its time is before that of the record before it
         taken 10 2 0 => record 0: connection 2 is taken, but connection 7 is lent next
         taken 10 7 1 => record 0: 1 was ordered where 0 were due
         kept 10 2 => record 0: connection 2 is kept, but it is not lent
@@ -148,11 +148,11 @@ fn what_is_wrong_with_the_counts(rt: HostRuntime) -> Result<(), Fail> {
 // A base without records, with so many lost, and counts that say the same.
 #[test]
 fn a_base_that_no_pool_begins_with(rt: HostRuntime) -> Result<(), Fail> {
-    let making = "the base: lost is 0, so it is that of the making, but ";
+    let making = "the base: lost is 0, so it is that of a new pool, but ";
     let begun = "
         - [0,0],[1,0],[2,0],[3,0] 4 0 | - 0,1,2,3 4 0 => lent has 4
         [3,0,0] - 1 1 | 3 - 1 1 => idle has 1
-        - - 0 2 | - - 0 2 => pending is 2 where 1 are wanted
+        - - 0 2 | - - 0 2 => pending is 2, and 1 are wanted
         - - 0 0 closed | - - 0 0 closed => it is closed";
     each_is_said(&rt, "newest 4 1 0 0 | @ | - | @", making, begun)?;
     // The last one wants more and opens none.
@@ -179,8 +179,8 @@ fn what_a_report_that_replays_may_still_lack(rt: HostRuntime) -> Result<(), Fail
     let report = format!(in rt.alloc(); "newest 3 1 @ | - - 0 1 | {records} | 0 - 1 1")?;
     let table = "
         0 1 => sound
-        0 0 => the counts: takes is 0, but the records tell of 1
-        0 2 => the counts: takes is 2, but the records tell of 1
+        0 0 => the counts: takes is 0, but the records have 1
+        0 2 => the counts: takes is 2, but the records have 1
         1 2 => sound
         7 1 => sound";
     each_is_said(&rt, report.as_str(), "", table)

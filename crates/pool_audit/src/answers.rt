@@ -9,8 +9,8 @@ use std::time::Duration;
 const MOST_NAMED: usize = 20;
 
 impl Time<'_> {
-    /// Adds the answers, a line each, indented by two spaces. With the moment of the making they
-    /// tell the wall clock too.
+    /// Adds the answers, a line each, indented by two spaces. With the time of the creation they
+    /// say the wall clock too.
     pub(crate) fn add_answers(&self, text: &mut String) -> Result<(), AllocError> {
         let summary = self.summary;
         let (covers, from) = (Seconds(summary.covers()), self.moment(summary.from));
@@ -43,7 +43,7 @@ impl Time<'_> {
         text.push('\n')
     }
 
-    // What callers met, since the making, where that is known.
+    // What callers met, since the creation, if that is known.
     fn add_callers(&self, text: &mut String) -> Result<(), AllocError> {
         let Some(status) = self.summary.status else {
             return Ok(());

@@ -91,7 +91,7 @@ impl Time<'_> {
         let (since, error) = (self.since(alloc)?, self.latest_error(alloc)?);
         let says = format!(in alloc;
             "{failed} openings failed {since}, and {opened} succeeded{error} \
-            (a concern where 1 in 10 fails)"
+            (a concern if 1 in 10 fails)"
         )?;
         let next = "see the server's log, and how many connections it allows";
         Ok(Told::of("openings_fail", says, next))
@@ -204,7 +204,7 @@ impl Time<'_> {
             Some(calls) if !calls.since.is_zero() => {
                 format!(in alloc; "since {}", self.moment(calls.since))
             }
-            _ => String::from_str(alloc, "since the pool was made"),
+            _ => String::from_str(alloc, "since the pool was created"),
         }
     }
 

@@ -37,7 +37,7 @@ pub(crate) struct Reports<'t> {
     line: &'t str,
     // Where the rest of the line begins.
     from: usize,
-    // Where the rest of the line begins of which nothing was told.
+    // Where the rest of the line begins of which nothing was said.
     told: usize,
     // How many bytes may still be passed.
     left: usize,
@@ -99,7 +99,7 @@ impl<'t> Reports<'t> {
         Some(why)
     }
 
-    // Whether the rest of the line has parts of a report, which is told once.
+    // Whether the rest of the line has parts of a report, which is reported once.
     fn cut_off(&mut self) -> Option<Damage> {
         let rest = self.line.get(self.told..)?;
         self.told = self.line.len();

@@ -22,7 +22,7 @@ use std::str;
 /// In the end it says if there was no report, and of a log how many lines hold none. What a page
 /// draws is written in the end.
 ///
-/// It stops at the first fault, but for what is damaged in a log, which is told there and counted
+/// It stops at the first fault, but for what is damaged in a log, which is named there and counted
 /// in the end. What it found on the lines before was written by then: where that failed, the fault
 /// is the failed write.
 pub fn serve<R: Read + Drop, W: Write + Drop>(
@@ -46,7 +46,7 @@ struct Task<'a, W: Write + Drop> {
     output: BufWriter<W>,
     outcome: Outcome,
     tally: Tally,
-    // The pools of reports that were left out, as they are told, each once.
+    // The pools of reports that were left out, as they are named, each once.
     others: Vec<String>,
     pools: Pools,
 }

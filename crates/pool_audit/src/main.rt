@@ -28,7 +28,7 @@ fn main(rt: HostRuntime) -> ExitCode {
     match run(rt) {
         Ok(outcome) => ExitCode::from(outcome.status()),
         Err(fault) => {
-            // Standard error may be closed; the status still tells.
+            // Standard error may be closed; the status still says it.
             let _ = eprintln!(rt; "{fault}");
             ExitCode::from(fault.status())
         }

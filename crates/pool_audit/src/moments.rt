@@ -1,11 +1,11 @@
-// Moments and lengths of time, as the answers tell them.
+// Times and durations, as the answers say them.
 
 use jiff::Timestamp;
 use pool_reports::{Origin, Summary};
 use std::fmt;
 use std::time::{Duration, SystemTime};
 
-/// A length of time in seconds, down to the thousandth.
+/// A duration in seconds, down to the thousandth.
 #[derive(Clone, Copy)]
 pub(crate) struct Seconds(pub(crate) Duration);
 
@@ -15,8 +15,8 @@ impl fmt::Display for Seconds {
     }
 }
 
-/// A moment of a pool: what the wall clock showed then, or, where that is not known, how long after
-/// the making it was. With `#` it tells that in both cases, in seconds.
+/// A time of a pool: what the wall clock showed then, or, if that is not known, how long after
+/// the creation it was. With `#` it says that in both cases, in seconds.
 #[derive(Clone, Copy)]
 pub(crate) struct Moment {
     at: Duration,
@@ -38,7 +38,7 @@ impl Time<'_> {
     }
 }
 
-// What the wall clock shows so long after a moment, down to the thousandth.
+// What the wall clock shows so long after a time, down to the thousandth.
 fn clock_at(created_at: SystemTime, length: Duration) -> Option<Timestamp> {
     let moment = Timestamp::try_from(created_at.checked_add(length)?).ok()?;
     Timestamp::from_millisecond(moment.as_millisecond()).ok()
@@ -56,7 +56,7 @@ impl fmt::Display for Moment {
     }
 }
 
-/// A length of time by its two largest units, as `16 min 41 s`. What is smaller is left out.
+/// A duration by its two largest units, as `16 min 41 s`. What is smaller is left out.
 #[derive(Clone, Copy)]
 pub(crate) struct Length(pub(crate) Duration);
 

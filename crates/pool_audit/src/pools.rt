@@ -13,7 +13,7 @@ pub(crate) struct Pool {
     name: Option<String>,
     // When it was made, as its latest report says that replays.
     created_at: Option<SystemTime>,
-    // What its callers had met up to its reports, since the making, the oldest first: as far back
+    // What its callers had met up to its reports, since the creation, the oldest first: as far back
     // as later ones may ask.
     calls: Vec<Calls>,
     // What was found on each report, as objects of JSON with commas between, if a page is asked for.
@@ -60,7 +60,7 @@ impl Pool {
     }
 
     // What callers had met up to the latest report that ends where this one begins, or before,
-    // since the making. Later reports begin no earlier.
+    // since the creation. Later reports begin no earlier.
     fn earlier(&mut self, written: &Written) -> Option<Calls> {
         if !self.goes_on_in(written) {
             self.calls.clear();
@@ -72,7 +72,7 @@ impl Pool {
     }
 
     // Whether a report is a later one of the pool that was made when this one was. Of a pool
-    // without a name and without that moment nobody knows.
+    // without a name and without that time nobody knows.
     fn goes_on_in(&self, written: &Written) -> bool {
         let is_known = self.name.is_some() || self.created_at.is_some();
         is_known && self.created_at == written.created_at

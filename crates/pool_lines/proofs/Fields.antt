@@ -9,9 +9,9 @@ use Rattle.std.proofs.lemmas.Str.{IsUtf8-from_is_utf8, is_utf8-from_IsUtf8}
 use Rattle.std.proofs.lemmas.Str.Parse.{IsNumeralModel, numerals_by_value, tells_all_ascii_digits}
 use Rattle.std.proofs.lemmas.Grind.{common_steps}
 use Rattle.std.specs.Option.{ok_or}
-use Rattle.r2d2_core.specs.declared.schedule.limits.LimitSettings.{LimitSettings}
-use Rattle.r2d2_core.specs.Limits.{AreLegal}
-use Rattle.r2d2_core.specs.declared.schedule.limits.Limits.{Limits}
+use Rattle.pool_machine.specs.declared.schedule.limits.LimitSettings.{LimitSettings}
+use Rattle.pool_machine.specs.Limits.{AreLegal}
+use Rattle.pool_machine.specs.declared.schedule.limits.Limits.{Limits}
 use Rattle.pool_lines.specs.declared.program.Fault.{Fault}
 use Rattle.pool_lines.specs.declared.program.Fault.TheVariants.{LimitsRefused}
 use Rattle.pool_lines.specs.Number.{IsNumber, number_of}

@@ -1,13 +1,13 @@
 -- A step of the core, and what a line says: the text of a failure is a string there, and bytes here.
 use Rattle.std.proofs.Common.{◌≡◌, ℕ, Option, Some, None, String, option_map, string_bytes, refl}
-use Rattle.r2d2_core.specs.declared.run.Step.{Step}
-use Rattle.r2d2_core.specs.declared.run.Step.TheVariants as step
-use Rattle.r2d2_core.specs.declared.machine.answers.Refusal.{Refusal}
-use Rattle.r2d2_core.specs.OnOrder.{fail_refusal}
-use Rattle.r2d2_core.specs.Picture.{Picture}
-use Rattle.r2d2_core.specs.Refusals.{unless_refused}
-use Rattle.r2d2_core.specs.Table.{after_fail, failed, after_check, lent_refusal, topped_up, gone_one, with_text, raised_to}
-use Rattle.r2d2_core.specs.Steps.{step_answer, after_step}
+use Rattle.pool_machine.specs.declared.step.Step.{Step}
+use Rattle.pool_machine.specs.declared.step.Step.TheVariants as step
+use Rattle.pool_machine.specs.declared.machine.answers.Refusal.{Refusal}
+use Rattle.pool_machine.specs.OnOrder.{fail_refusal}
+use Rattle.pool_machine.specs.Picture.{Picture}
+use Rattle.pool_machine.specs.Refusals.{unless_refused}
+use Rattle.pool_machine.specs.Table.{after_fail, failed, after_check, lent_refusal, topped_up, gone_one, with_text, raised_to}
+use Rattle.pool_machine.specs.Steps.{step_answer, after_step}
 use Rattle.std.specs.Duration.{as_nanos}
 use Rattle.pool_lines.specs.Lines.{Fail, FailCheck, seen_step}
 use Rattle.pool_lines.specs.Steps.{answer_text, after_said, with_error, id_in, reply_text}

@@ -5,11 +5,11 @@ use Rattle.std.specs.List.{position_or_len, before_first, after_first}
 use Rattle.std.specs.Str.{is_utf8, all_ascii_digits}
 use Rattle.std.specs.Str.Parse.{digits_value}
 use Rattle.std.specs.Duration.{as_nanos}
-use Rattle.r2d2_core.specs.declared.run.Step.{Step}
-use Rattle.r2d2_core.specs.declared.run.Step.TheVariants as step
-use Rattle.r2d2_core.specs.declared.schedule.limits.LendingOrder.{LendingOrder}
-use Rattle.r2d2_core.specs.declared.schedule.limits.LendingOrder.TheVariants as lending
-use Rattle.r2d2_core.specs.declared.schedule.limits.LimitSettings.{LimitSettings}
+use Rattle.pool_machine.specs.declared.step.Step.{Step}
+use Rattle.pool_machine.specs.declared.step.Step.TheVariants as step
+use Rattle.pool_machine.specs.declared.schedule.limits.LendingOrder.{LendingOrder}
+use Rattle.pool_machine.specs.declared.schedule.limits.LendingOrder.TheVariants as lending
+use Rattle.pool_machine.specs.declared.schedule.limits.LimitSettings.{LimitSettings}
 use Rattle.pool_lines.specs.declared.program.line.Line.{Line}
 use Rattle.pool_lines.specs.declared.program.line.Line.TheVariants as line
 

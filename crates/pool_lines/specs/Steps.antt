@@ -1,15 +1,15 @@
 -- What the core does at a line, and what the program writes then, in the core's own words.
 use Rattle.std.specs.Prelude.{ℕ, List, length, Option, Some, None}
-use Rattle.r2d2_core.specs.declared.run.Step.{Step}
-use Rattle.r2d2_core.specs.declared.run.Step.TheVariants as step
-use Rattle.r2d2_core.specs.OnOrder.{fail_refusal}
-use Rattle.r2d2_core.specs.Refusals.{unless_refused}
-use Rattle.r2d2_core.specs.Picture.{Picture}
-use Rattle.r2d2_core.specs.Seen.{SeenAnswer, Taken, Begun, Numbered, Admitted, Failed, CheckFailed, PutBack, Reaped, TakeError, Close}
-use Rattle.r2d2_core.specs.Table.{take_answer, begin_answer, number_answer, admit_answer, fail_answer, return_answer, check_answer, reap_closed, reap_orders}
-use Rattle.r2d2_core.specs.Table.{close_answer}
-use Rattle.r2d2_core.specs.Table.{after_take, after_begin, after_number, after_admit, after_fail, after_return, lent_refusal, after_check, after_reap}
-use Rattle.r2d2_core.specs.Table.{after_take_error, after_close}
+use Rattle.pool_machine.specs.declared.step.Step.{Step}
+use Rattle.pool_machine.specs.declared.step.Step.TheVariants as step
+use Rattle.pool_machine.specs.OnOrder.{fail_refusal}
+use Rattle.pool_machine.specs.Refusals.{unless_refused}
+use Rattle.pool_machine.specs.Picture.{Picture}
+use Rattle.pool_machine.specs.Seen.{SeenAnswer, Taken, Begun, Numbered, Admitted, Failed, CheckFailed, PutBack, Reaped, TakeError, Close}
+use Rattle.pool_machine.specs.Table.{take_answer, begin_answer, number_answer, admit_answer, fail_answer, return_answer, check_answer, reap_closed, reap_orders}
+use Rattle.pool_machine.specs.Table.{close_answer}
+use Rattle.pool_machine.specs.Table.{after_take, after_begin, after_number, after_admit, after_fail, after_return, lent_refusal, after_check, after_reap}
+use Rattle.pool_machine.specs.Table.{after_take_error, after_close}
 use Rattle.pool_lines.specs.Lines.{SeenLine, Take, Begin, Number, Admit, Fail, FailCheck, PutBack, Reap, TakeError, Close, State}
 use Rattle.pool_lines.specs.Texts.{take_text, task_text, number_text, admission_text, failure_text, check_text, return_text, reap_text, error_text, close_text}
 use Rattle.pool_lines.specs.Texts.{state_text}

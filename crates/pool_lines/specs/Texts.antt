@@ -2,12 +2,12 @@
 use Rattle.std.specs.Prelude.{ℕ, ◌-◌, ◌/◌, ◌%◌, ◌==◌, ◌^◌, if◌then◌else◌, false, List, [], ◌∷◌, ◌++◌, flat_map, codes, decimal, Option, Some, None, Result, Ok}
 use Rattle.std.specs.Prelude.{Err}
 use Rattle.std.specs.Fmt.{padded_integral, format_spec}
-use Rattle.r2d2_core.specs.declared.machine.answers.Refusal.{Refusal}
-use Rattle.r2d2_core.specs.declared.machine.answers.Refusal.TheVariants.{Closed, NotLent, NoOpening, IdsUsedUp, NotNumbered}
-use Rattle.r2d2_core.specs.Connections.{SeenReleased}
-use Rattle.r2d2_core.specs.Jobs.{SeenJob, Open, Reap, Wait, Nothing, Closed as JobClosed}
-use Rattle.r2d2_core.specs.Seen.{SeenTake, Found, Empty, SeenReturned, Kept, SeenGone}
-use Rattle.r2d2_core.specs.Seen as reply
+use Rattle.pool_machine.specs.declared.machine.answers.Refusal.{Refusal}
+use Rattle.pool_machine.specs.declared.machine.answers.Refusal.TheVariants.{Closed, NotLent, NoOpening, IdsUsedUp, NotNumbered}
+use Rattle.pool_machine.specs.Connections.{SeenReleased}
+use Rattle.pool_machine.specs.Jobs.{SeenJob, Open, Reap, Wait, Nothing, Closed as JobClosed}
+use Rattle.pool_machine.specs.Seen.{SeenTake, Found, Empty, SeenReturned, Kept, SeenGone}
+use Rattle.pool_machine.specs.Seen as reply
 
 -- what `{:06}` writes
 abbrev pub six_digits : ℕ → List ℕ

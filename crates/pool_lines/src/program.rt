@@ -72,9 +72,9 @@ impl From<AllocError> for Fault {
     }
 }
 
-/// Answers each line of the input on the output, up to the first fault. The answers of all lines
-/// before it were written by then: where that failed, the fault is the failed write. What stands
-/// written after a fault of memory, of a read or of a write is left open.
+/// Writes the answer to each line of the input to the output, up to the first fault. The answers of
+/// all lines before it were written by then: if that failed, the fault is the failed write. What
+/// stands written after a fault of memory, of a read or of a write is left open.
 pub fn serve<R: Read + Drop, W: Write + Drop>(
     alloc: Global,
     input: R,

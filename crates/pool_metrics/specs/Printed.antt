@@ -38,7 +38,7 @@ figure_of number.Opened status snapshot = Some (Count snapshot.opened)
 
 abbrev pub timing_of : Timing → Snapshot → Option Distribution
 timing_of timing.Wait snapshot = Some snapshot.waits
-timing_of timing.VainWait snapshot = Some snapshot.vain_waits
+timing_of timing.TimedOutWait snapshot = Some snapshot.timed_out_waits
 timing_of timing.Use snapshot = Some snapshot.uses
 timing_of timing.Create snapshot = snapshot.openings
 timing_of timing.Age snapshot = Some snapshot.ages

@@ -4,7 +4,7 @@ use Rattle.pool_metrics.specs.declared.buckets.Scales.{Scales}
 use Rattle.pool_metrics.specs.declared.recording.Records.{Records}
 use Rattle.pool_metrics.specs.declared.recording.Snapshot.{Snapshot}
 
--- which bounds they have; those of waits in vain are those of waits
+-- which bounds they have; those of waits that timed out are those of waits
 abbrev pub scales_of : {R : Type 0} → Records R → Scales
 scales_of records = record {
   waits = records.waits.scale;
@@ -16,7 +16,7 @@ scales_of records = record {
 -- what was read of them has these bounds
 pub record HasBounds (scales : Scales) (snapshot : Snapshot) : Type 0 where
   pub waits : snapshot.waits.scale ≡ scales.waits
-  pub vain_waits : snapshot.vain_waits.scale ≡ scales.waits
+  pub timed_out_waits : snapshot.timed_out_waits.scale ≡ scales.waits
   pub uses : snapshot.uses.scale ≡ scales.uses
   pub ages : snapshot.ages.scale ≡ scales.ages
   pub openings : IfSome snapshot.openings (λ openings. openings.scale ≡ scales.openings)

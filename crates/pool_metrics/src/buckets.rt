@@ -112,7 +112,7 @@ fn rise(bounds: &[u64; BOUNDS]) -> bool
 /// ages.
 #[derive(Clone, Copy, PartialEq, Eq, Debug)]
 pub struct Scales {
-    /// For waits: those in vain have the same, so that both can be added up.
+    /// For waits: those that timed out have the same, so that both can be added up.
     pub waits: Scale,
     /// For how long connections are lent.
     pub uses: Scale,

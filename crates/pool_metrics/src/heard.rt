@@ -12,13 +12,13 @@ const LONGEST: usize = 1000;
 /// The latest error of the manager or of the customizer.
 #[derive(Debug, Drop)]
 pub struct LatestError {
-    /// What it said: the first 1,000 bytes, or fewer so that no character is cut. None where memory
+    /// What it said: the first 1,000 bytes, or fewer so that no character is cut. None if memory
     /// for them was refused as it came, or its `Display` failed: the text of an earlier error is
-    /// never told in its place.
+    /// never given in its place.
     pub text: Option<String>,
     /// When it came, since the metrics were made.
     pub at: Duration,
-    /// The same by the wall clock as it was then; None where that could not be read.
+    /// The same by the wall clock as it was then; None if that could not be read.
     pub time: Option<SystemTime>,
 }
 
@@ -40,7 +40,7 @@ pub(crate) struct Beginning {
 impl Beginning {
     ghost use Rattle.pool_metrics.specs.Heard.{IsBeginning, IsShort};
 
-    /// Of this error; None where memory is refused, or its `Display` fails.
+    /// Of this error; None if memory is refused, or its `Display` fails.
     pub(crate) fn of<E: fmt::Display>(alloc: Global, error: &E) -> Option<Beginning>
         ensures { IfSome result (λ kept. IfSome (E.output error.now)
             (λ whole. IsBeginning whole (string_bytes kept.text))) }
@@ -122,7 +122,7 @@ impl Heard {
         }
     }
 
-    /// One came now, and said this; None where its text is not known. What was kept of the one
+    /// One came now, and said this; None if its text is not known. What was kept of the one
     /// before it is the caller's to drop.
     pub(crate) fn add(&mut self, text: Option<Beginning>, now: Moment) -> Option<Latest>
         ensures count { self.new.count ≡ min (self.old.count + 1) (2 ^ 64 - 1) }

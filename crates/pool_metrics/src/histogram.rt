@@ -43,7 +43,7 @@ impl Histogram {
         self.counts[bucket].fetch_add(1, Ordering::SeqCst);
     }
 
-    /// What was counted so far. Each count is read once; all that is told of them comes from that
+    /// What was counted so far. Each count is read once; all that is said of them comes from that
     /// one reading.
     pub(crate) fn read(&self) -> Distribution
         ensures { result.scale ≡ self.now.scale }

@@ -1,6 +1,6 @@
 //! The metrics of a pool: what it did, counted and timed as it happens, and printed as Prometheus
 //! reads it, under the names that OpenTelemetry gives to the metrics of connection pools. It stands
-//! over `r2d2`, and uses what a pool tells every event handler.
+//! over `r2d2`, and uses what a pool gives every event handler.
 //!
 //! ```rust
 //! let metrics = Metrics::new(rt, max_size)?;
@@ -20,7 +20,7 @@
 //! ```
 //!
 //! [`Metrics`] is the handler of events, and what is read of it; its `around` makes a handler of
-//! errors, of which its `latest_error` tells the latest, and its `lent_longer_than` lists the
+//! errors, of which its `latest_error` gives the latest, and its `lent_longer_than` lists the
 //! connections that somebody forgot to give back.
 //! [`Timed`] round a manager times its openings too.
 #![tactic(auto)]

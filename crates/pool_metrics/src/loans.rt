@@ -24,7 +24,7 @@ impl LongLoan {
         Duration::from_nanos(self.nanos)
     }
 
-    /// Since when it is lent, where it is for that long at this moment.
+    /// Since when it is lent, where it is for that long at this time.
     pub fn since(&self, moment: Duration) -> Duration
         ensures { as_nanos result ≡ as_nanos moment - self.now.nanos }
     {
@@ -32,7 +32,7 @@ impl LongLoan {
     }
 }
 
-/// A connection that is lent. Moments are nanoseconds.
+/// A connection that is lent. Times are nanoseconds.
 #[derive(Clone, Copy, PartialEq, Eq, Debug)]
 pub(crate) struct Loan {
     id: u64,

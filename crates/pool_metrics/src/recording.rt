@@ -22,14 +22,14 @@ use std::sync::atomic::{AtomicBool, AtomicU64, Ordering};
 use std::sync::{Arc, Mutex, Wait};
 use std::time::{Duration, Instant, SystemTime};
 
-/// Counts and times what a pool tells. It is the pool's event handler, and what the service reads:
+/// Counts and times a pool's events. It is the pool's event handler, and what the service reads:
 /// `try_clone` makes another one over the same counts. An event costs some atomic additions; a
 /// checkout and a checkin also take a lock of the metrics' own, for as long as it takes to look
 /// through what is lent, and so do a snapshot, `loans` and `lent_longer_than`. An error takes
 /// another one, and so do a snapshot and `latest_error`.
 ///
-/// Counted is what is told: a connection that is dropped idle as the pool closes is told of by no
-/// event, and not counted as closed. Errors are counted by the handler that `around` makes.
+/// Counted are events: for a connection that is dropped idle as the pool closes there is
+/// none, and it is not counted as closed. Errors are counted by the handler that `around` makes.
 #[derive(Drop)]
 pub struct Metrics<R> {
     records: Arc<Records<R>>,
@@ -46,7 +46,7 @@ impl<R> Model for Metrics<R> {
 
     ghost view = { λ m. scales_of (arc_value m.records) };
 
-    ghost invariant = { λ m. (arc_value m.records).vain_waits.scale
+    ghost invariant = { λ m. (arc_value m.records).timed_out_waits.scale
         ≡ (arc_value m.records).waits.scale };
 }
 
@@ -55,32 +55,32 @@ struct Records<R> {
     opened: AtomicU64,
     closed: Leaving,
     waits: Histogram,
-    vain_waits: Histogram,
+    timed_out_waits: Histogram,
     uses: Histogram,
     ages: Histogram,
     openings: Histogram,
-    /// Whether a manager tells how long its openings take.
+    /// Whether a manager reports how long its openings take.
     is_timed: AtomicBool,
-    /// Whether a handler of errors tells of each.
+    /// Whether a handler of errors reports each.
     hears_errors: AtomicBool,
     heard: Mutex<Heard>,
     lent: Mutex<Loans>,
-    /// When the metrics were made; None where the clock could not be read.
+    /// When the metrics were made; None if the clock could not be read.
     made: Option<Instant>,
     rt: R,
 }
 
-/// What was counted up to a moment. Each count is read once, while others may go on counting.
+/// What was counted up to a time. Each count is read once, while others may go on counting.
 #[derive(Clone, Copy, Debug)]
 pub struct Snapshot {
     /// How many connections were opened.
     pub opened: u64,
     /// How many connections left the pool for each reason.
     pub closed: Closings,
-    /// How many callers waited in vain.
+    /// How many callers timed out.
     pub timeouts: u64,
     /// How many errors the manager and the customizer had; None unless a handler of errors that
-    /// `Metrics::around` made has told of them.
+    /// `Metrics::around` made has reported them.
     pub errors: Option<u64>,
     /// How long ago the latest of these errors came; None before the first one.
     pub latest_error: Option<Duration>,
@@ -94,7 +94,7 @@ pub struct Snapshot {
     pub waits: Distribution,
     /// How long callers waited that got nothing: of each the timeout of its call, which is what is
     /// known.
-    pub vain_waits: Distribution,
+    pub timed_out_waits: Distribution,
     /// How long connections were lent; its count is how many came back.
     pub uses: Distribution,
     /// How old connections were when they left the pool; its count is how many left.
@@ -110,8 +110,8 @@ impl Snapshot {
     ghost use Rattle.pool_metrics.specs.Bounds.{bounds_of};
 
     /// How many callers waited for longer than the least bound of the histogram of waits that is
-    /// not below `least`, or than the last bound where all are below it. Callers that waited in
-    /// vain are not among them.
+    /// not below `least`, or than the last bound if all are below it. Callers that timed out
+    /// are not among them.
     pub fn waits_above(&self, least: Duration) -> Waits
         ensures place { let waits = self.now.waits in let bounds = bounds_of waits.scale in
             (place : ℕ) × IsPlaceFor (min (as_nanos least) (2 ^ 64 - 1)) bounds place
@@ -149,7 +149,7 @@ impl<R> Metrics<R> {
             opened: AtomicU64::new(0),
             closed: Leaving::new(),
             waits: Histogram::new(scales.waits),
-            vain_waits: Histogram::new(scales.waits),
+            timed_out_waits: Histogram::new(scales.waits),
             uses: Histogram::new(scales.uses),
             ages: Histogram::new(scales.ages),
             openings: Histogram::new(scales.openings),
@@ -176,7 +176,7 @@ impl<R> Metrics<R> {
     }
 
     /// A handler of errors, for the builder of the pool: it counts each error, and then passes it
-    /// to this one, which may log it. From now on a snapshot tells how many there were. The error
+    /// to this one, which may log it. From now on a snapshot says how many there were. The error
     /// is lack of memory.
     pub fn around<H: Drop>(&self, handler: H) -> Result<CountingErrorHandler<H, R>, AllocError>
         ensures { IfOk result (λ counting. counting ≡ handler) }
@@ -191,7 +191,7 @@ impl<R> Metrics<R> {
     where
         R: Clock + Wait,
         ensures bounds { HasBounds self.now result }
-        ensures timeouts { result.timeouts ≡ slice_index result.vain_waits.up_to 13 }
+        ensures timeouts { result.timeouts ≡ slice_index result.timed_out_waits.up_to 13 }
         ensures latest { IsSome result.latest_error ↔ (0 < unwrap_or result.errors 0) }
         ensures at { IsNone result.latest_error → IsNone result.latest_error_at }
     {
@@ -203,7 +203,7 @@ impl<R> Metrics<R> {
             records.uses.read(),
         );
         let is_timed = records.is_timed.load(Ordering::SeqCst);
-        let (vain_waits, errors) = (records.vain_waits.read(), records.errors());
+        let (timed_out_waits, errors) = (records.timed_out_waits.read(), records.errors());
         let latest = errors.and_then(|it| it.latest);
         Snapshot {
             closed,
@@ -212,8 +212,8 @@ impl<R> Metrics<R> {
             waits: records.waits.read(),
             openings: is_timed.then(|| records.openings.read()),
             opened: records.opened.load(Ordering::SeqCst),
-            timeouts: vain_waits.count(),
-            vain_waits,
+            timeouts: timed_out_waits.count(),
+            timed_out_waits,
             errors: errors.map(|it| it.count),
             latest_error: records.since(latest),
             latest_error_at: latest.and_then(|it| it.time),
@@ -223,8 +223,8 @@ impl<R> Metrics<R> {
 
     /// The connections that are lent for longer than `length` now, those first that are lent for
     /// longest: what somebody forgot to give back. A connection is lent from its checkout event to
-    /// its checkin event; the moment is read while the first is told, so it is never said to be
-    /// lent for longer than it is. Where the clock can't be read, the latest moment that could be
+    /// its checkin event; the time is read while the first is handled, so it is never said to be
+    /// lent for longer than it is. Where the clock can't be read, the latest time that could be
     /// read counts as now. The error is lack of memory for the list.
     pub fn lent_longer_than(&self, length: Duration) -> Result<Vec<LongLoan>, AllocError>
     where
@@ -249,7 +249,7 @@ impl<R> Metrics<R> {
         lent.all(records.rt.alloc(), records.moment())
     }
 
-    /// The latest error that a handler told of which `around` made, with its text; None before the
+    /// The latest error that a handler made by `around` reported, with its text; None before the
     /// first one. The error is lack of memory for a copy of the text.
     pub fn latest_error(&self) -> Result<Option<LatestError>, AllocError>
     where
@@ -288,7 +288,7 @@ impl<R> Metrics<R> {
         self.records.is_timed.store(true, Ordering::SeqCst);
     }
 
-    /// The moment at which an opening begins; None where the clock can't be read.
+    /// The time at which an opening begins; None if the clock can't be read.
     pub(crate) fn begin_opening(&self) -> Option<Instant>
     where
         R: Clock,
@@ -321,7 +321,7 @@ impl<R> Records<R> {
         }
     }
 
-    // How long ago that moment was.
+    // How long ago that time was.
     fn since(&self, moment: Option<Moment>) -> Option<Duration>
     where
         R: Clock,
@@ -339,7 +339,7 @@ impl<R: Clock + Wait> Records<R> {
         Duration::from_nanos(lent.longest(self.moment()))
     }
 
-    // How many errors came, and when the latest one did; None where no handler tells of them.
+    // How many errors came, and when the latest one did; None if no handler reports them.
     fn errors(&self) -> Option<Tally> {
         if self.hears_errors.load(Ordering::SeqCst) {
             Some(self.heard.lock(&self.rt).tally())
@@ -351,7 +351,7 @@ impl<R: Clock + Wait> Records<R> {
     // An error came now, and said this. What was kept of the one before it is handed out.
     fn hear(&self, text: Option<Beginning>) -> Option<Latest> {
         let mut heard = self.heard.lock(&self.rt);
-        // The wall clock is read at each error, and not once at the making: since then it may have
+        // The wall clock is read at each error, not once at the creation: since then it may have
         // been set right, or have gone on while the machine slept and the other clock stood.
         let time = SystemTime::now(&self.rt).ok();
         let nanos = self.moment();
@@ -360,8 +360,8 @@ impl<R: Clock + Wait> Records<R> {
 
     fn lend(&self, id: u64, waited: Duration) {
         self.waits.observe(waited);
-        // The moment is read under the lock, so that those in the list are in the order of their
-        // moments.
+        // The time is read under the lock, so that those in the list are in the order of their
+        // times.
         let mut lent = self.lent.lock(&self.rt);
         lent.add(id, self.moment());
     }
@@ -387,7 +387,7 @@ impl<R: PoolRuntime> HandleEvent for Metrics<R> {
     }
 
     fn handle_timeout(&self, event: TimeoutEvent) {
-        self.records.vain_waits.observe(event.timeout());
+        self.records.timed_out_waits.observe(event.timeout());
     }
 
     fn handle_checkin(&self, event: CheckinEvent) {

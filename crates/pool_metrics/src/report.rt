@@ -15,8 +15,8 @@ use std::time::Duration;
 /// text that `to_json_of_pool` of `pool_reports` writes, in one call. `name` is what the pool is
 /// called, and `metrics` are those of this pool alone, made just before it.
 ///
-/// The line tells no less than what happened up to its moment; of what happens while it is made, it
-/// may tell some. The error is lack of memory.
+/// The line has no less than what happened up to its time; of what happens while it is made, it
+/// may have some. The error is lack of memory.
 ///
 /// A service without metrics writes the `Origin` itself: `Origin::at(pool.created_at(),
 /// pool.uptime())`, with the status of [`status_of`], whose `waits` are then None.
@@ -26,7 +26,7 @@ pub fn report_of<P: Observe, R: Clock + Wait + AllocGlobal>(
     pool: &P,
     metrics: &Metrics<R>,
 ) -> Result<String, AllocError> {
-    // The journal comes before the moment, so that no record is later than that; all else comes
+    // The journal comes before the time, so that no record is later than that; all else comes
     // after it, the counts last, so that each call counts that failed before it. So a loan may seem
     // to have begun earlier, and a count be higher, by what these readings take.
     let report = pool.journal().map_err(|_| AllocError)?;
@@ -46,8 +46,8 @@ pub fn report_of<P: Observe, R: Clock + Wait + AllocGlobal>(
     to_json_of_pool(alloc, &report, origin)
 }
 
-/// What callers met, as a report tells it: of a pool whose `get` waits for `connection_timeout` at
-/// most, and of whose callers `waits` tells how many waited for long.
+/// What callers met, as a report says it: of a pool whose `get` waits for `connection_timeout` at
+/// most, and of whose callers `waits` says how many waited for long.
 pub fn status_of(connection_timeout: Duration, status: &Status, waits: Option<Waits>) -> PoolStatus
     ensures { result ≡ record {
       connection_timeout = connection_timeout;
@@ -74,12 +74,12 @@ pub fn status_of(connection_timeout: Duration, status: &Status, waits: Option<Wa
     }
 }
 
-// What the error said, where that is known.
+// What the error said, if that is known.
 fn text_of(error: &LatestError) -> Option<&str> {
     error.text.as_deref()
 }
 
-// Since when each of these is lent, at this moment.
+// Since when each of these is lent, at this time.
 fn begun(
     alloc: Global,
     loans: &[LongLoan],

@@ -268,11 +268,11 @@ fn since_1970(time: SystemTime) -> u64
     nanos_of(length.unwrap_or(Duration::ZERO))
 }
 
-/// What a metric tells.
+/// What a metric means.
 #[derive(Clone, Copy, PartialEq, Eq, Debug)]
 pub(crate) enum Figure {
     Count(u64),
-    /// In nanoseconds, a moment's since 1970; in seconds where it is printed.
+    /// In nanoseconds, a time's since 1970; in seconds where it is printed.
     Length(u64),
 }
 
@@ -285,11 +285,11 @@ impl fmt::Display for Figure {
     }
 }
 
-/// A metric that is a histogram of lengths of time.
+/// A metric that is a histogram of durations.
 #[derive(Clone, Copy, PartialEq, Eq, Debug)]
 pub(crate) enum Timing {
     Wait,
-    VainWait,
+    TimedOutWait,
     Use,
     Create,
     Age,
@@ -297,7 +297,7 @@ pub(crate) enum Timing {
 
 const TIMINGS: [Timing; 5] = [
     Timing::Wait,
-    Timing::VainWait,
+    Timing::TimedOutWait,
     Timing::Use,
     Timing::Create,
     Timing::Age,
@@ -310,8 +310,8 @@ impl Timing {
                 "db_client_connection_wait_time_seconds",
                 "How long callers waited for the connections that they got.",
             ),
-            Timing::VainWait => (
-                "db_client_connection_vain_wait_time_seconds",
+            Timing::TimedOutWait => (
+                "db_client_connection_timed_out_wait_time_seconds",
                 "How long callers waited that got no connection: the timeouts of their calls.",
             ),
             Timing::Use => (
@@ -340,7 +340,7 @@ impl Timing {
     {
         match self {
             Timing::Wait => Some(snapshot.waits),
-            Timing::VainWait => Some(snapshot.vain_waits),
+            Timing::TimedOutWait => Some(snapshot.timed_out_waits),
             Timing::Use => Some(snapshot.uses),
             Timing::Create => snapshot.openings,
             Timing::Age => Some(snapshot.ages),

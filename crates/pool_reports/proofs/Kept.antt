@@ -3,13 +3,13 @@ use Rattle.std.proofs.Common.{◌≡◌, ℕ, ◌+◌, ◌≤◌, List, [], ◌�
 use Rattle.std.specs.Prelude.{◌↔◌}
 use Rattle.std.proofs.lemmas.List.{length-map}
 use Rattle.r2d2_core.specs.declared.journal.report.Report.{Report}
-use Rattle.r2d2_core.specs.declared.schedule.limits.LimitSettings.{LimitSettings}
-use Rattle.r2d2_core.specs.Limits.{seen_limits, wanted_of}
-use Rattle.r2d2_core.specs.Connections.{id_of_idle, id_of_lent}
+use Rattle.pool_machine.specs.declared.schedule.limits.LimitSettings.{LimitSettings}
+use Rattle.pool_machine.specs.Limits.{seen_limits, wanted_of}
+use Rattle.pool_machine.specs.Connections.{id_of_idle, id_of_lent}
 use Rattle.r2d2_core.specs.Records.{SeenRecord}
 use Rattle.r2d2_core.specs.Bases.{SeenBase, IsLegalBase}
 use Rattle.r2d2_core.specs.Folding.{replay, folded, AreLegalFrom}
-use Rattle.r2d2_core.specs.Sums.{IsReplenished}
+use Rattle.pool_machine.specs.Sums.{IsReplenished}
 use Rattle.r2d2_core.specs.Reports.{seen_base, seen_records, told_in, DoesReplay, HasSoundCounts}
 use Rattle.r2d2_core.specs.Reports.{IsSoundReport}
 use Rattle.r2d2_core.proofs.Recording.Folding.{folds_first}

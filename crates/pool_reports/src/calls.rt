@@ -8,14 +8,14 @@ use crate::status::{PoolStatus, Waits};
 use serde::Serialize;
 use std::time::Duration;
 
-/// How it went for those who called, over a time: since the making of the pool, or since an earlier
+/// How it went for those who called: since the creation of the pool, or since an earlier
 /// report of it.
 #[derive(Clone, Copy, Debug, PartialEq, Eq, Serialize)]
 pub struct Calls {
-    /// The moment from which on it counts, since the making: zero, or that of the earlier report.
+    /// The time from which on it counts, since the creation: zero, or that of the earlier report.
     #[serde(serialize_with = "nanoseconds::serialize")]
     pub since: Duration,
-    /// The moment up to which it counts.
+    /// The time up to which it counts.
     #[serde(skip)]
     pub until: Duration,
     /// How many takes found a connection.
@@ -32,7 +32,7 @@ pub struct Calls {
 }
 
 impl Calls {
-    /// Since the making up to a moment, as a report with so many takes and this status counts.
+    /// Since the creation up to a time, as a report with so many takes and this status counts.
     pub fn of(takes: u64, status: &PoolStatus, until: Duration) -> Calls
         ensures since { as_nanos result.since ≡ 0 }
         ensures until { result.until ≡ until }
@@ -78,7 +78,7 @@ impl Calls {
         self.timeouts > 0 || self.refused > 0
     }
 
-    /// What came since an earlier report, both counted since the making. Where a count is smaller
+    /// What came since an earlier report, both counted since the creation. Where a count is smaller
     /// than it was, the pool was made anew in between: then all of this came since.
     pub fn after(&self, earlier: &Calls) -> Calls
         ensures grown { IsGrownFrom earlier.now self.now → IsGrowthFrom earlier.now self.now result }

@@ -5,7 +5,7 @@ ghost use Rattle.pool_reports.specs.Summaries.{is_admission, is_closing, opened_
 
 use r2d2_core::Record;
 
-/// How many takes the records tell of.
+/// How many takes the records have.
 pub(crate) fn takes(records: &[Record]) -> u64
     ensures { result ≡ takes_in (map seen_record records.now) }
 {

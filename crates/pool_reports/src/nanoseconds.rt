@@ -1,4 +1,4 @@
-// Moments and lengths of time as whole nanoseconds.
+// Times and durations as whole nanoseconds.
 ghost use Rattle.std.specs.Prelude.{◌≡◌, ◌≤◌, ◌↔◌, IsSome, IfSome};
 ghost use Rattle.std.specs.Duration.{as_nanos, max_nanos};
 
@@ -8,13 +8,13 @@ use serde::{
 use std::alloc::Global;
 use std::time::Duration;
 
-/// The nanoseconds of the greatest length of time.
+/// The nanoseconds of the greatest duration.
 pub(crate) const MOST: u128 = 18_446_744_073_709_551_615_999_999_999;
 
 // In digits they are no longer than this.
 const MOST_DIGITS: usize = 29;
 
-/// The length of time of so many nanoseconds, if there is one so long.
+/// The duration of so many nanoseconds, if there is one so long.
 pub(crate) fn of_number(nanoseconds: u128) -> Option<Duration>
     ensures there { IsSome result ↔ (nanoseconds ≤ max_nanos) }
     ensures value { IfSome result (λ length. as_nanos length ≡ nanoseconds) }
@@ -25,7 +25,7 @@ pub(crate) fn of_number(nanoseconds: u128) -> Option<Duration>
     Some(Duration::from_nanos_u128(nanoseconds))
 }
 
-/// The length of time of the nanoseconds that a text says in digits and nothing else.
+/// The duration of the nanoseconds that a text says in digits and nothing else.
 pub(crate) fn of_digits(text: &str) -> Option<Duration> {
     let are_digits = text.bytes().all(|byte| byte.is_ascii_digit());
     if !are_digits || text.len() > MOST_DIGITS {
@@ -34,7 +34,7 @@ pub(crate) fn of_digits(text: &str) -> Option<Duration> {
     of_number(text.parse::<u128>().ok()?)
 }
 
-/// A moment or a length of time as it is written: as a number if it is below 2^64 nanoseconds,
+/// A time or a duration as it is written: as a number if it is below 2^64 nanoseconds,
 /// which is more than 584 years, and else as a text of digits, since a JSON number above that is
 /// read as a float.
 #[derive(Clone, Copy)]

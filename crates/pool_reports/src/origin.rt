@@ -1,19 +1,19 @@
-// What a service tells of a report besides what it says.
+// What a service knows of a report besides what it says.
 ghost use Rattle.std.specs.Prelude.{◌≡◌, [], None, Some};
 
 use crate::status::PoolStatus;
 use r2d2_core::Report;
 use std::time::{Duration, SystemTime};
 
-/// What a service tells of a report of its pool, so that whoever reads it later knows which pool it
+/// What a service adds to a report of its pool, so that whoever reads it later knows which pool it
 /// was, and when. Each of it may be unknown.
 #[derive(Clone, Copy, Debug, PartialEq, Eq)]
 pub struct Origin<'a> {
     /// What the pool is called, where a log has the reports of several.
     pub name: Option<&'a str>,
-    /// What the wall clock showed when the pool was made, from which its moments count.
+    /// What the wall clock showed when the pool was made, from which its times count.
     pub created_at: Option<SystemTime>,
-    /// The moment of the report, since the pool was made. Without it a report ends with its last
+    /// The time of the report, since the pool was made. Without it a report ends with its last
     /// record, however long ago that was.
     pub reported_at: Option<Duration>,
     /// What callers met. Without it nobody who reads the report knows whether callers failed.
@@ -21,7 +21,7 @@ pub struct Origin<'a> {
     /// The text of the latest error of an opening or a check.
     pub latest_error: Option<&'a str>,
     /// Since when connections are lent that are lent now: the id of each of which that is known,
-    /// and the moment since the pool was made. A journal of little room has forgotten the takes of
+    /// and the time since the pool was made. A journal of little room has forgotten the takes of
     /// those that are lent for long.
     pub loans: &'a [(u64, Duration)],
 }
@@ -42,7 +42,7 @@ impl<'a> Origin<'a> {
         }
     }
 
-    /// A report at this moment since the making, as `Pool::uptime` tells it, of a pool that was
+    /// A report at this time since the creation, as `Pool::uptime` gives it, of a pool that was
     /// made when the wall clock showed `created_at`.
     pub fn at(created_at: Option<SystemTime>, moment: Duration) -> Origin<'static>
         ensures name { result.name ≡ None }
@@ -83,13 +83,13 @@ impl<'a> Origin<'a> {
         }
     }
 
-    /// The same, with the moments since which connections are lent.
+    /// The same, with the times since which connections are lent.
     pub fn with_loans(self, loans: &'a [(u64, Duration)]) -> Origin<'a> {
         Origin { loans, ..self }
     }
 }
 
-/// A report that was read, and what its service told of it.
+/// A report that was read, and what its service added to it.
 #[derive(Drop)]
 pub struct Written {
     pub report: Report,
@@ -97,7 +97,7 @@ pub struct Written {
     pub name: Option<String>,
     /// What the wall clock showed when the pool was made.
     pub created_at: Option<SystemTime>,
-    /// The moment of the report, since the pool was made.
+    /// The time of the report, since the pool was made.
     pub reported_at: Option<Duration>,
     /// What callers met.
     pub status: Option<PoolStatus>,
@@ -108,7 +108,7 @@ pub struct Written {
 }
 
 impl Written {
-    /// What its service told of it.
+    /// What its service added to it.
     pub fn origin(&self) -> Origin<'_> {
         Origin {
             name: self.name.as_deref(),

@@ -19,7 +19,7 @@ use std::time::{Duration, SystemTime};
 ///
 /// It takes memory in proportion to the text, and that of the report. The error says what is wrong,
 /// and where: ``missing field `id` at column 407``. Whether the report is one of a pool is not
-/// asked here: `audit` tells.
+/// asked here: `audit` says.
 pub fn from_json(alloc: Global, text: &str) -> Result<Report, FromJsonError> {
     Ok(from_json_of_pool(alloc, text)?.report)
 }

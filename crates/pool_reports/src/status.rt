@@ -5,8 +5,8 @@ use crate::text::needed;
 use serde::{Deserialize, Serialize};
 use std::time::Duration;
 
-/// What the callers of a pool met up to the moment of a report. All counts begin with the making of
-/// the pool, and go up to the greatest number; moments count from the making.
+/// What the callers of a pool met up to the time of a report. All counts begin with the creation of
+/// the pool, and go up to the greatest number; times count from the creation.
 #[derive(Clone, Copy, Debug, PartialEq, Eq, Serialize, Deserialize)]
 #[serde(deny_unknown_fields)]
 pub struct PoolStatus {
@@ -15,7 +15,7 @@ pub struct PoolStatus {
     pub connection_timeout: Duration,
     /// How many callers wait now.
     pub waiting: u64,
-    /// Since this moment there has been a caller waiting, without a break; None where nobody waits,
+    /// Since this time there has been a caller waiting, without a break; None if nobody waits,
     /// or it is not known.
     #[serde(with = "nanoseconds::optional")]
     pub waiting_since: Option<Duration>,
@@ -25,7 +25,7 @@ pub struct PoolStatus {
     pub refused: u64,
     pub failed_openings: u64,
     pub failed_checks: u64,
-    /// The moment of the latest opening or check that failed.
+    /// The time of the latest opening or check that failed.
     #[serde(with = "nanoseconds::optional")]
     pub latest_failure: Option<Duration>,
     /// How many callers waited for long, if that is known.

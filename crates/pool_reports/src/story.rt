@@ -31,8 +31,8 @@ pub enum Use {
     Lent,
 }
 
-/// A while in which a connection was the same. Its moments, like all of a story's, are counted from
-/// the making of the pool.
+/// A while in which a connection was the same. Its times, like all of a story's, are counted from
+/// the creation of the pool.
 #[derive(Clone, Copy, PartialEq, Eq, Debug)]
 pub struct Stretch {
     pub what: Use,
@@ -68,11 +68,11 @@ pub struct Life {
     /// What it was, one while after the other. The first of a connection that was idle in the base
     /// begins when it came to be idle.
     pub stretches: Vec<Stretch>,
-    /// None where it is there at the end.
+    /// None if it is there at the end.
     pub ending: Option<Ending>,
 }
 
-/// How many connections there were from a moment on.
+/// How many connections there were from a time on.
 #[derive(Clone, Copy, PartialEq, Eq, Debug)]
 pub struct Counts {
     pub at: Duration,
@@ -101,14 +101,14 @@ impl Counts {
     }
 }
 
-/// What a report tells, from the moment of its base to its own.
+/// What a report says, from the time of its base to its own.
 #[derive(Drop)]
 pub struct Story {
     pub limits: Limits,
-    /// The moment of the base.
+    /// The time of the base.
     pub from: Duration,
-    /// The moment of the report. Where that is not known, or before the newest record, it is that
-    /// of the newest record; where there is none, that of the base.
+    /// The time of the report. If that is not known, or before the newest record, it is that
+    /// of the newest record; if there is none, that of the base.
     pub to: Duration,
     /// The connections: those that were idle in the base, those that were lent in it, and then the
     /// others as they were admitted.
@@ -121,12 +121,12 @@ pub struct Story {
     pub lost: u64,
     /// Whether the pool is closed at the end.
     pub closed: bool,
-    /// The moment at which a record closed it.
+    /// The time at which a record closed it.
     pub closing: Option<Duration>,
 }
 
 impl Life {
-    // A connection that came at a moment, of which no end is known yet.
+    // A connection that came at a time, of which no end is known yet.
     fn begun(
         alloc: Global,
         one: &Connection,
@@ -180,12 +180,12 @@ impl Life {
 }
 
 impl Story {
-    ghost use Rattle.r2d2_core.specs.Limits.{seen_limits};
+    ghost use Rattle.pool_machine.specs.Limits.{seen_limits};
     ghost use Rattle.r2d2_core.specs.Reports.{seen_base};
 
-    /// What the report tells up to its moment, where that is known. A report that does not replay
-    /// is told as far as it goes: a record of a connection that is not there is left out, and a
-    /// moment that falls is raised. The error comes only where memory is refused.
+    /// What the report says up to its time, if that is known. A report that does not replay
+    /// is read as far as it goes: a record of a connection that is not there is left out, and a
+    /// time that falls is raised. The error comes only if memory is refused.
     pub fn of<A: Allocator>(
         alloc: Global,
         report: &Report<A>,

@@ -23,15 +23,15 @@ use std::time::Duration;
 mod concern;
 mod figures;
 
-/// What a report says of the time that it covers. Moments count from the making of the pool. It is
-/// written as an object with a field for each that is not skipped, moments and lengths of time as
+/// What a report says of the time that it covers. Times count from the creation of the pool. It is
+/// written as an object with a field for each that is not skipped, times and durations as
 /// in a report.
 #[derive(Debug, Drop, Serialize)]
 pub struct Summary {
-    /// The moment of the base, from which on the report tells.
+    /// The time of the base, where the report begins.
     #[serde(serialize_with = "nanoseconds::serialize")]
     pub from: Duration,
-    /// The moment of the report, up to which it tells. Where that is not known, or before the last
+    /// The time of the report, up to which it goes. If that is not known, or before the last
     /// record, it is that of the last record; if there is none, that of the base.
     #[serde(serialize_with = "nanoseconds::serialize")]
     pub until: Duration,
@@ -70,9 +70,9 @@ pub struct Summary {
     pub reaped: u64,
     /// What is lent at the end, in the order of the takes.
     pub lent: Vec<Loan>,
-    /// What callers met since an earlier report, or since the making, where that is known.
+    /// What callers met since an earlier report, or since the creation, if that is known.
     pub calls: Option<Calls>,
-    /// What the pool showed of its callers at the end, where that is known.
+    /// What the pool showed of its callers at the end, if that is known.
     #[serde(skip)]
     pub status: Option<PoolStatus>,
 }
@@ -81,8 +81,8 @@ pub struct Summary {
 #[derive(Clone, Copy, Debug, PartialEq, Eq, Serialize)]
 pub struct Loan {
     pub id: u64,
-    /// The moment of its take; None where that was folded into the base, and the service told
-    /// nothing of it.
+    /// The time of its take; None if that was folded into the base, and the service did not
+    /// add it.
     #[serde(serialize_with = "nanoseconds::optional::serialize")]
     pub since: Option<Duration>,
 }
@@ -184,10 +184,10 @@ impl Reading {
     }
 }
 
-/// What a report says of the time that it covers: up to the moment of the report, where that is
+/// What a report says of the time that it covers: up to the time of the report, where that is
 /// known, since what was so at the last record is so until then. Of a report that does not replay
-/// it says as much as its records do. `origin` is what the service told besides; `earlier` is what
-/// callers had met up to an earlier report of the pool, since the making, so that this one tells
+/// it says as much as its records do. `origin` is what the service added; `earlier` is what
+/// callers had met up to an earlier report of the pool, since the creation, so that this one counts
 /// what came since.
 ///
 /// It takes time in proportion to the records, and memory in proportion to the connections in them.
@@ -237,8 +237,8 @@ fn calls(
     })
 }
 
-// The lent ones, in the order of their takes, each with the moment of its take: that of a record,
-// or else that which the service told.
+// The lent ones, in the order of their takes, each with the time of its take: that of a record,
+// or else that which the service added.
 fn loans(
     alloc: Global,
     ids: &[u64],

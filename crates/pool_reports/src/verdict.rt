@@ -34,7 +34,7 @@ pub enum Verdict {
     Counts(CountsReason),
     /// It replays, but from a base that is not that of a pool just made, though `lost` is 0.
     Making(MakingReason),
-    /// It replays, and `lost` is 0, but it shows other takes than its records tell of.
+    /// It replays, and `lost` is 0, but it shows other takes than its records have.
     Takes { shown: u64, due: u64 },
     /// It replays, but what is wanted is neither idle nor on its way.
     Starved(StarvedReason),
@@ -51,7 +51,7 @@ impl fmt::Display for Verdict {
             Verdict::Takes { shown, due } => {
                 write!(
                     f,
-                    "the counts: takes is {shown}, but the records tell of {due}"
+                    "the counts: takes is {shown}, but the records have {due}"
                 )
             }
             Verdict::Starved(reason) => write!(f, "the counts: {reason}"),
@@ -73,7 +73,7 @@ impl Reader for Nobody {
 /// not, what is wrong first.
 ///
 /// It takes about the time and the memory of `Report::first_fault` and of a summary. The error
-/// comes only where memory is refused.
+/// comes only if memory is refused.
 pub fn audit(alloc: Global, report: &Report) -> Result<Verdict, AllocError>
     ensures on { IfOk result (λ verdict. IsVerdictOn verdict report.now) }
     ensures sound { IfOk result (λ verdict. (verdict ≡ Sound) ↔ IsSoundReport report.now) }

@@ -23,9 +23,9 @@ pub(crate) struct Connection {
     /// How many came before it: those idle in the base come first, and then those lent in it.
     pub(crate) place: usize,
     pub(crate) birth: Duration,
-    /// None where it is gone.
+    /// None if it is gone.
     pub(crate) what: Option<Use>,
-    /// Since when it is that; None where it was lent in the base.
+    /// Since when it is that; None if it was lent in the base.
     pub(crate) since: Option<Duration>,
 }
 
@@ -49,7 +49,7 @@ pub(crate) struct Walk {
 
 impl Walk {
     /// Goes from the base through all records, so that the reader reads where each has led, and
-    /// tells what stands at the end. It takes memory in proportion to the connections that are
+    /// says what stands at the end. It takes memory in proportion to the connections that are
     /// there; the error comes only where that, or what the reader takes, is refused.
     pub(crate) fn through<A: Allocator, R: Reader>(
         alloc: Global,
@@ -208,7 +208,7 @@ impl Walk {
         if one.is_idle() { None } else { one.since }
     }
 
-    /// Up to when the report tells, which was made at a moment, if that is known.
+    /// Up to when the report goes, which was made at this time, if that is known.
     pub(crate) fn until(&self, reported_at: Option<Duration>) -> Duration
         ensures known { IfSome reported_at
             (λ moment. as_nanos result ≡ max (as_nanos self.now.load.at) (as_nanos moment)) }
@@ -231,7 +231,7 @@ impl Connection {
     }
 }
 
-/// Whether a reap at the moment closes a connection that is idle since then.
+/// Whether a reap at the time closes a connection that is idle since then.
 pub(crate) fn is_expired(limits: &Limits, at: Duration, birth: Duration, since: Duration) -> bool {
     limits.is_idle_too_long(at.saturating_sub(since)) || limits.is_too_old(at.saturating_sub(birth))
 }

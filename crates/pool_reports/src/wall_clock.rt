@@ -1,4 +1,4 @@
-// Moments of the wall clock in fields of JSON, as in RFC 3339: `#[serde(with = "wall_clock")]`.
+// Times of the wall clock in fields of JSON, as in RFC 3339: `#[serde(with = "wall_clock")]`.
 
 use jiff::Timestamp;
 use serde::{Deserializer, Format, Serializer};
@@ -23,6 +23,6 @@ pub(crate) fn deserialize<F: Format>(
     let text = from.string(alloc)?;
     match text.as_str().parse::<Timestamp>() {
         Ok(moment) if SystemTime::try_from(moment).is_ok() => Ok(Some(moment)),
-        _ => Err(from.custom("not a moment of the wall clock")),
+        _ => Err(from.custom("not a time of the wall clock")),
     }
 }

@@ -13,16 +13,16 @@ use std::time::{Duration, SystemTime};
 /// The report as one object of JSON, on one line without a line feed. `docs/JOURNAL.md` lists
 /// its fields.
 ///
-/// Moments and lengths of time are whole nanoseconds: numbers where they are below 2^64, and
+/// Times and durations are whole nanoseconds: numbers where they are below 2^64, and
 /// strings of digits above. What [`from_json`](crate::from_json) makes of the line is this report.
-/// The error comes only where memory is refused.
+/// The error comes only if memory is refused.
 pub fn to_json<A: Allocator>(alloc: Global, report: &Report<A>) -> Result<String, AllocError> {
     to_json_of_pool(alloc, report, Origin::unknown())
 }
 
 /// The same, with what is known of its origin: a field `name`, what the pool is called;
-/// `created_at`, what the wall clock showed when it was made, from which its moments count;
-/// `reported_at`, the moment of the report, up to which an audit then reckons; `status`, what
+/// `created_at`, what the wall clock showed when it was made, from which its times count;
+/// `reported_at`, the time of the report, up to which an audit then reckons; `status`, what
 /// callers met; `latest_error`; and `loans`, since when connections are lent. What is not known is
 /// left out, and so is a wall clock past the year 9999.
 pub fn to_json_of_pool<A: Allocator>(

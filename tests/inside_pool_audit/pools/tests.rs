@@ -61,11 +61,11 @@ fn tells_what_callers_met_in_the_time_of_a_report(rt: HostRuntime) -> Result<(),
     for line in said.as_str().lines().filter(|line| line.contains("calls timed out")) {
         writeln!(told, "{line}")?;
     }
-    let wanted = "  ! 4 of 15 calls timed out since the pool was made (a concern from 1 on)
-  ! 3 of 14 calls timed out since the pool was made (a concern from 1 on)
+    let wanted = "  ! 4 of 15 calls timed out since the pool was created (a concern from 1 on)
+  ! 3 of 14 calls timed out since the pool was created (a concern from 1 on)
   ! 5 of 10 calls timed out since 10 s after the creation (a concern from 1 on)
   ! 5 of 11 calls timed out since 10 s after the creation (a concern from 1 on)
-  ! 8 of 26 calls timed out since the pool was made (a concern from 1 on)
+  ! 8 of 26 calls timed out since the pool was created (a concern from 1 on)
 ";
     assert_eq!(rt; told.as_str(), wanted);
     Ok(())

@@ -2,9 +2,9 @@
 ghost use Rattle.std.specs.Prelude.{◌≡◌, ◌⊎◌, Some, IfErr, OnOk, map, option_map, string_bytes};
 ghost use Rattle.std.specs.Duration.{as_nanos};
 ghost use Rattle.std.specs.Io.KnownBytes.{Appends};
-ghost use Rattle.r2d2_core.specs.Seen.{seen_take, seen_returned, seen_gone, seen_released, map_ok};
-ghost use Rattle.r2d2_core.specs.Jobs.{seen_job};
-ghost use Rattle.r2d2_core.specs.Steps.{seen_answer};
+ghost use Rattle.pool_machine.specs.Seen.{seen_take, seen_returned, seen_gone, seen_released, map_ok};
+ghost use Rattle.pool_machine.specs.Jobs.{seen_job};
+ghost use Rattle.pool_machine.specs.Steps.{seen_answer};
 ghost use Rattle.pool_lines.specs.Lines.{seen_line};
 ghost use Rattle.pool_lines.specs.Steps.{answer_text, after_said, id_in, reply_text};
 ghost use Rattle.pool_lines.specs.Texts.{milliseconds, word_of, refusal_text, take_text, task_text};

@@ -2,8 +2,8 @@
 ghost use Rattle.std.specs.Prelude.{◌≡◌, ◌*◌, ◌↔◌, ◌⊎◌, None, Some, IsSome, IfSome, IfOk, IfErr};
 ghost use Rattle.std.specs.Prelude.{option_map, option_copied, string_bytes};
 ghost use Rattle.std.specs.Duration.{as_nanos};
-ghost use Rattle.r2d2_core.specs.declared.schedule.limits.LimitSettings.{LimitSettings as Bounds};
-ghost use Rattle.r2d2_core.specs.Limits.{seen_limits, AreLegal};
+ghost use Rattle.pool_machine.specs.declared.schedule.limits.LimitSettings.{LimitSettings as Bounds};
+ghost use Rattle.pool_machine.specs.Limits.{seen_limits, AreLegal};
 ghost use Rattle.pool_lines.specs.declared.program.Fault.TheVariants.{NotAStep, LimitsRefused};
 ghost use Rattle.pool_lines.specs.Number.{IsNumber, number_of};
 ghost use Rattle.pool_lines.specs.Lines.{number_in, time_in, optional_in, text_in, connection_in};
@@ -86,8 +86,8 @@ pub enum Line {
 }
 
 impl Line {
-    /// What the line says; none where it is not a step. The text of a failure takes memory, and the
-    /// error comes only where that is refused.
+    /// What the line says; none if it is not a step. The text of a failure takes memory, and the
+    /// error comes only if that is refused.
     #[tactic(auto, unfolding(crate::specs::Lines::step_in))]
     pub fn read(alloc: Global, line: &[u8]) -> Result<Option<Line>, AllocError>
         ensures { IfOk result (λ said. option_map seen_line said ≡ step_in line.now) }

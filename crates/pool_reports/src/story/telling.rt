@@ -1,4 +1,4 @@
-// How a story is told: what became of each connection, record by record.
+// How a story is made: what became of each connection, record by record.
 ghost use Rattle.std.specs.Prelude.{◌≡◌, ◌≤◌, IfSome};
 ghost use Rattle.std.specs.Duration.{as_nanos};
 
@@ -38,7 +38,7 @@ impl Reader for Teller {
 }
 
 impl Teller {
-    /// Nothing is told.
+    /// Nothing was read yet.
     pub(super) fn new(alloc: Global) -> Teller {
         Teller {
             alloc,
@@ -48,7 +48,7 @@ impl Teller {
         }
     }
 
-    // What a record, or the base, made of a connection at a moment.
+    // What a record, or the base, made of a connection at a time.
     fn tell(
         &mut self,
         one: &Connection,
@@ -68,7 +68,7 @@ impl Teller {
         }
     }
 
-    /// The whole story of the report, up to its moment where that is known.
+    /// The whole story of the report, up to its time if that is known.
     pub(super) fn into_story<A: Allocator>(
         mut self,
         report: &Report<A>,

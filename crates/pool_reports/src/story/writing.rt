@@ -12,7 +12,7 @@ use std::time::Duration;
 const MOST_LANES: usize = 1000;
 
 /// The story of a report as an object of JSON: `limits`; `wanted`; `steps`, a list for the base and
-/// one for each record, each with the moment, how many are lent, idle and opening from then on,
+/// one for each record, each with the time, how many are lent, idle and opening from then on,
 /// whether the pool is exhausted then, as 0 or 1, the kind, and the id and what was ordered, where
 /// the record says that; `lanes`, what became of each connection; and `left_out`, how many have no
 /// lane. The error is lack of memory.
@@ -66,7 +66,7 @@ impl Serialize for StepTexts<'_> {
     }
 }
 
-// The moment; the lent, idle and opening ones; whether it is exhausted; and the record.
+// The time; the lent, idle and opening ones; whether it is exhausted; and the record.
 #[derive(Clone, Copy, Serialize)]
 struct StepText(
     Nanoseconds,

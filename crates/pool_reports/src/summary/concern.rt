@@ -46,7 +46,7 @@ pub enum State {
 /// at most, after which it gives up; where none failed, for ten seconds at least.
 #[derive(Clone, Copy, Debug, PartialEq, Eq)]
 pub enum Concern {
-    /// Openings are pending at the end, and none succeeded since this moment, for too long.
+    /// Openings are pending at the end, and none succeeded since this time, for too long.
     NothingOpens { since: Duration },
     /// So many openings failed, and so many connections were opened.
     OpeningsFail { failed: u64, opened: u64 },
@@ -56,7 +56,7 @@ pub enum Concern {
     Churn { closed: u64, returned: u64 },
     /// So many connections are lent at the end for too long, this one for the longest.
     LentForLong { count: usize, longest: Loan },
-    /// The pool is exhausted at the end, since this moment, for too long.
+    /// The pool is exhausted at the end, since this time, for too long.
     Exhausted { since: Duration },
     /// It was exhausted for so long at a stretch, too long, and is so for less long at the end.
     WasExhausted { longest: Duration },
@@ -118,7 +118,7 @@ impl Summary {
         Some(Concern::NothingOpens { since })
     }
 
-    // Those of long ago are no concern of a report that tells of later times alone.
+    // Those of long ago are no concern of a report about later times alone.
     fn failed_openings(&self) -> Option<Concern> {
         let (failed, opened) = (self.calls?.failed_openings, self.opened);
         let latest = self.status?.latest_failure.unwrap_or(self.until);
@@ -204,7 +204,7 @@ impl Summary {
         Some(Concern::WaitedLong { waits })
     }
 
-    // Whether what is so at the end since a moment is so for that long.
+    // Whether what is so at the end since a time is so for that long.
     fn lasts(&self, since: Duration, least: Duration) -> bool
         ensures { IsTrue result
             ↔ (as_nanos least ≤ as_nanos self.now.until - as_nanos since) }
@@ -226,7 +226,7 @@ fn is_share_of(whole: u64, times: u64, part: u64) -> bool
     part > 0 && whole as u128 <= times as u128 * part as u128
 }
 
-// The same of lengths of time.
+// The same of durations.
 fn is_part_of(whole: Duration, times: u64, part: Duration) -> bool
     requires few { times ≤ 10 }
     ensures { IsTrue result ↔ IsShareOf (as_nanos whole) times (as_nanos part) }

@@ -76,7 +76,7 @@ impl Figures {
         }
     }
 
-    /// How long the longest while is in which it was exhausted, if nothing changes up to a moment.
+    /// How long the longest while is in which it was exhausted, if nothing changes up to a time.
     pub(super) fn longest_until(&self, at: Duration) -> Duration {
         match self.exhausted_since {
             Some(since) => self.longest.max(at.saturating_sub(since)),
@@ -85,7 +85,7 @@ impl Figures {
     }
 }
 
-// Since when something is so at a moment, if it is, and was so since then so far.
+// Since when something is so at a time, if it is, and was so since then so far.
 fn since(is_so: bool, so_far: Option<Duration>, at: Duration) -> Option<Duration> {
     if is_so { so_far.or(Some(at)) } else { None }
 }

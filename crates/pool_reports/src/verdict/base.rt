@@ -12,11 +12,11 @@ pub enum BaseReason {
     Twice(u64),
     #[error("connection {0} was idle earlier than the one that stands before it")]
     OutOfOrder(u64),
-    #[error("connection {0} is idle since after the moment of the base")]
+    #[error("connection {0} is idle since after the time of the base")]
     IdleAfterBase(u64),
     #[error("connection {0} was admitted after it came to be idle")]
     BornAfterIdle(u64),
-    #[error("connection {0} was admitted after the moment of the base")]
+    #[error("connection {0} was admitted after the time of the base")]
     BornAfterBase(u64),
     #[error("connections is {shown}, but {listed} are listed")]
     Connections { shown: u32, listed: usize },
@@ -73,14 +73,14 @@ fn wrong_idle(at: Duration, idle: &[(u64, Duration, Duration)]) -> Option<BaseRe
     None
 }
 
-// The first lent one that was admitted after the moment.
+// The first lent one that was admitted after the time.
 fn born_after(at: Duration, lent: &[(u64, Duration)]) -> Option<u64> {
     lent.iter()
         .find(|loan| loan.1.as_nanos() > at.as_nanos())
         .map(|loan| loan.0)
 }
 
-// Which counts are wrong, where the ids and the moments are not.
+// Which counts are wrong, where the ids and the times are not.
 fn wrong_count<A: Allocator>(limits: &Limits, base: &Base<A>) -> BaseReason {
     let idle = base.idle.len();
     let listed = idle.saturating_add(base.lent.len());

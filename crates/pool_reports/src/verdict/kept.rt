@@ -1,9 +1,9 @@
 // What else is wrong with a report that replays: each report of a pool keeps more than that.
 ghost use Rattle.std.specs.Prelude.{◌≡◌, ◌↔◌, length, IsTrue};
 ghost use Rattle.std.specs.Duration.{as_nanos};
-ghost use Rattle.r2d2_core.specs.Limits.{seen_limits, wanted_of};
+ghost use Rattle.pool_machine.specs.Limits.{seen_limits, wanted_of};
 ghost use Rattle.r2d2_core.specs.Bases.{first_base};
-ghost use Rattle.r2d2_core.specs.Sums.{IsReplenished};
+ghost use Rattle.pool_machine.specs.Sums.{IsReplenished};
 ghost use Rattle.r2d2_core.specs.Reports.{seen_base, DoesReplay};
 ghost use Rattle.pool_reports.specs.Verdicts.{IsVerdictOn};
 
@@ -16,13 +16,13 @@ use thiserror::Error;
 /// How a base, into which no record was folded, is not that of a pool just made.
 #[derive(Clone, Copy, Debug, Error, PartialEq, Eq)]
 pub enum MakingReason {
-    #[error("lost is 0, so it is that of the making, but idle has {0}")]
+    #[error("lost is 0, so it is that of a new pool, but idle has {0}")]
     Idle(usize),
-    #[error("lost is 0, so it is that of the making, but lent has {0}")]
+    #[error("lost is 0, so it is that of a new pool, but lent has {0}")]
     Lent(usize),
-    #[error("lost is 0, so it is that of the making, but pending is {shown} where {due} are wanted")]
+    #[error("lost is 0, so it is that of a new pool, but pending is {shown}, and {due} are wanted")]
     Pending { shown: u32, due: u32 },
-    #[error("lost is 0, so it is that of the making, but it is closed")]
+    #[error("lost is 0, so it is that of a new pool, but it is closed")]
     Closed,
 }
 

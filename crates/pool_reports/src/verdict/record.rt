@@ -1,6 +1,6 @@
 // Why a record may not follow what stood before it.
 ghost use Rattle.std.specs.Prelude.{◌≡◌};
-ghost use Rattle.r2d2_core.specs.Limits.{seen_limits, top_up};
+ghost use Rattle.pool_machine.specs.Limits.{seen_limits, top_up};
 
 use crate::walk::is_expired;
 use r2d2_core::{Base, LendingOrder, Limits, Record};
@@ -12,9 +12,9 @@ use thiserror::Error;
 /// Why a record may not follow what stood before it, as its text says.
 #[derive(Clone, Copy, Debug, Error, PartialEq, Eq)]
 pub enum RecordReason {
-    #[error("its moment is before that of the base")]
+    #[error("its time is before that of the base")]
     BeforeBase,
-    #[error("its moment is before that of the record before it")]
+    #[error("its time is before that of the record before it")]
     BeforeLast,
     #[error("connection {0} is taken, but none is idle")]
     NoneIdle(u64),

@@ -1,5 +1,5 @@
 use Rattle.std.specs.Io.Buffered.{reader_remaining, writer_contents}
-use Rattle.r2d2_core.specs.Limits.{seen_limits}
+use Rattle.pool_machine.specs.Limits.{seen_limits}
 use Rattle.pool_lines.proofs.Playing.{says_no_limits, starts}
 use Rattle.pool_lines.proofs.program.run.Goals as goal
 

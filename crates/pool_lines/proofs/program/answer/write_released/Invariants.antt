@@ -1,6 +1,6 @@
 use Rattle.std.proofs.Common.{ℕ, List, Option, drop, flat_map, map}
 use Rattle.std.specs.Io.KnownBytes.{Appends}
-use Rattle.r2d2_core.specs.Seen.{seen_released}
+use Rattle.pool_machine.specs.Seen.{seen_released}
 use Rattle.pool_lines.specs.Texts.{then_number}
 use Rattle.pool_lines.proofs.program.answer.write_released.Given as goal
 
