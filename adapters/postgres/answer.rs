@@ -100,7 +100,7 @@ fn column_of(alloc: Global, columns: &[u8]) -> Result<(Option<String>, &[u8]), P
 /// The rows of a query, or the server's refusal.
 pub type Rows = Result<Vec<Row>, PostgresError>;
 
-/// These, how many rows the statements told or changed, in which session they left the connection,
+/// These, how many rows the statements returned or changed, in which session they left the connection,
 /// and what they left on it.
 #[derive(Drop)]
 pub struct Answer {
@@ -189,8 +189,8 @@ impl Reading {
             b'Z' => return Ok(Some(Session::of(wire.body())?)),
             // A setting has changed, or somebody listens.
             b'S' | b'A' => self.mark = self.mark.and(Mark::Marked),
-            // Of the columns, of an empty query, and what the server tells.
-            b'T' | b'I' | b'N' => {}
+            // Of the columns, of an empty query, of values it has taken, and what the server tells.
+            b'T' | b'I' | b'1' | b'2' | b'N' => {}
             // As for COPY, where it waits for the client.
             _ => return Err(PostgresError::Protocol),
         }

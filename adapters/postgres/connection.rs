@@ -7,6 +7,7 @@ use crate::deadline::Deadline;
 use crate::error::PostgresError;
 use crate::login::Login;
 use crate::mark::Mark;
+use crate::query::Query;
 use crate::reset::Reset;
 use crate::wire::Wire;
 use std::time::Duration;
@@ -68,34 +69,63 @@ impl PostgresConnection {
     }
 
     /// Sends a query, or several with `;` between them, and reads the rows of all. It has no
-    /// parameters: quote each value that you put into it.
+    /// parameters: what is no part of the text belongs into `query_with`.
     pub fn query(&mut self, text: &str) -> Result<Vec<Row>, PostgresError>
         ensures err { self.old.session ≡ Session.Broken → IsErr result }
         ensures stays { self.old.session ≡ Session.Broken → self.new.session ≡ Session.Broken }
     {
-        self.asked(text)?.rows
+        self.asked(Query::of(text))?.rows
     }
 
-    /// The same. How many rows its statements inserted, changed, deleted or told, together.
+    /// Sends one query, with values for `$1`, `$2` and so on: each as text, or None for NULL. The
+    /// server takes them as values of the types that it finds for them, so nothing is to be quoted.
+    pub fn query_with(
+        &mut self,
+        text: &str,
+        values: &[Option<&str>],
+    ) -> Result<Vec<Row>, PostgresError>
+        ensures err { self.old.session ≡ Session.Broken → IsErr result }
+        ensures stays { self.old.session ≡ Session.Broken → self.new.session ≡ Session.Broken }
+    {
+        self.asked(Query::with(text, values))?.rows
+    }
+
+    /// As `query`. How many rows its statements inserted, changed, deleted or returned, together.
     pub fn execute(&mut self, text: &str) -> Result<u64, PostgresError>
         ensures err { self.old.session ≡ Session.Broken → IsErr result }
         ensures stays { self.old.session ≡ Session.Broken → self.new.session ≡ Session.Broken }
     {
-        let answer = self.asked(text)?;
+        self.counted(Query::of(text))
+    }
+
+    /// As `query_with`. How many rows it inserted, changed, deleted or returned.
+    pub fn execute_with(
+        &mut self,
+        text: &str,
+        values: &[Option<&str>],
+    ) -> Result<u64, PostgresError>
+        ensures err { self.old.session ≡ Session.Broken → IsErr result }
+        ensures stays { self.old.session ≡ Session.Broken → self.new.session ≡ Session.Broken }
+    {
+        self.counted(Query::with(text, values))
+    }
+
+    fn counted(&mut self, query: Query<'_>) -> Result<u64, PostgresError>
+        ensures stays { self.old.session ≡ Session.Broken →
+            IsErr result × (self.new.session ≡ Session.Broken) }
+    {
+        let answer = self.asked(query)?;
         answer.rows?;
         Ok(answer.affected)
     }
 
-    fn asked(&mut self, text: &str) -> Result<Answer, PostgresError>
+    fn asked(&mut self, query: Query<'_>) -> Result<Answer, PostgresError>
         ensures stays { self.old.session ≡ Session.Broken →
             IsErr result × (self.new.session ≡ Session.Broken) }
     {
-        // The server would take it for the end.
-        if text.contains('\0') {
-            return Err(PostgresError::ZeroByte);
-        }
+        query.must_be_one()?;
         let deadline = Deadline::new(self.rt, self.timeouts.command);
-        self.exchange(text, deadline)
+        self.exchange(query, deadline)
     }
 
     /// Asks for a row that has no other use.
@@ -103,7 +133,7 @@ impl PostgresConnection {
         ensures { self.old.session ≡ Session.Broken → IsErr result }
     {
         let deadline = Deadline::new(self.rt, self.timeouts.check);
-        let rows = self.exchange("SELECT 1", deadline)?.rows?;
+        let rows = self.exchange(Query::of("SELECT 1"), deadline)?.rows?;
         match rows.as_slice() {
             [row] if row.get(0) == Some("1") => Ok(()),
             _ => {
@@ -115,7 +145,7 @@ impl PostgresConnection {
 
     // It is broken from before the query is sent until the server is ready again, so each `?`
     // leaves it broken: an answer that comes late would be taken for that of the next query.
-    fn exchange(&mut self, text: &str, deadline: Deadline) -> Result<Answer, PostgresError>
+    fn exchange(&mut self, query: Query<'_>, deadline: Deadline) -> Result<Answer, PostgresError>
         ensures broken { IsErr result → self.new.session ≡ Session.Broken }
         ensures stays { self.old.session ≡ Session.Broken → IsErr result }
         ensures session { IfOk result (λ answer. self.new.session ≡ answer.session) }
@@ -126,7 +156,7 @@ impl PostgresConnection {
             return Err(PostgresError::Broken);
         }
         self.session = Session::Broken;
-        match self.talk(text, deadline) {
+        match self.talk(query, deadline) {
             Ok(answer) => {
                 self.session = answer.session;
                 Ok(answer)
@@ -140,15 +170,18 @@ impl PostgresConnection {
         }
     }
 
-    fn talk(&mut self, text: &str, deadline: Deadline) -> Result<Answer, PostgresError>
+    fn talk(&mut self, query: Query<'_>, deadline: Deadline) -> Result<Answer, PostgresError>
         ensures broken { self.old.session ≡ Session.Broken → self.new.session ≡ Session.Broken }
         ensures mark { IsOk result → self.new.mark ≡ Mark.Plain →
             (self.old.mark ≡ Mark.Plain) ⊎ (0 < self.old.resetting) }
     {
         self.end_reset(deadline)?;
         self.wire.must_be_quiet(deadline)?;
-        self.mark = self.mark.and(Mark::of_query(text));
-        self.wire.ask(&[text], deadline)?;
+        self.mark = self.mark.and(Mark::of_query(query.text));
+        match query.values {
+            Some(values) => self.wire.ask_with(query.text, values, deadline)?,
+            None => self.wire.ask(&[query.text], deadline)?,
+        }
         let answer = read_answer(self.rt.alloc(), &mut self.wire, self.limits, deadline)?;
         self.mark = self.mark.and(answer.mark);
         Ok(answer)

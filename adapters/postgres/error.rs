@@ -4,8 +4,8 @@ use std::alloc::AllocError;
 use std::io;
 use thiserror::Error;
 
-/// Why a query or an opening failed. After each of these but `Refused` and `ZeroByte` the
-/// connection is broken.
+/// Why a query or an opening failed. After each of these but `Refused`, `ZeroByte` and
+/// `TooManyValues` the connection is broken.
 #[derive(Debug, Drop, Error)]
 pub enum PostgresError {
     #[error("{address}: {error}")]
@@ -19,9 +19,9 @@ pub enum PostgresError {
     /// that this is the end.
     #[error("postgres: {text} (SQLSTATE {state})")]
     Refused { state: String, text: String },
-    /// What the server said has the password in it.
-    #[error("postgres: the login was refused")]
-    Login,
+    /// A login with a password. The server's words are left out: they may have that in them.
+    #[error("postgres: the login was refused (SQLSTATE {state})")]
+    Login { state: String },
     #[error("postgres: a message that is not understood")]
     Protocol,
     #[error("postgres: an answer is larger than the limits allow")]
@@ -33,12 +33,17 @@ pub enum PostgresError {
     /// Nothing was sent.
     #[error("postgres: a query has a zero byte in it")]
     ZeroByte,
+    /// Nothing was sent.
+    #[error("postgres: a query has more than 65535 values")]
+    TooManyValues,
     #[error("postgres: the server asks for a password, and there is none")]
     NoPassword,
     #[error("postgres: the server asks for a kind of login that this client has not")]
     UnknownLogin,
     #[error("postgres: the server asked for no proof of the password")]
     NoProof,
+    #[error("postgres: the server asks for MD5, by which it proves nothing itself")]
+    Md5,
     #[error("postgres: the server's nonce does not go on from this login's")]
     ForeignNonce,
     #[error("postgres: the server asks for fewer rounds than 4096, or more than 1000000")]
@@ -60,7 +65,9 @@ impl PostgresError {
     /// The SQLSTATE of a refusal, as `23505`.
     pub fn state(&self) -> Option<&str> {
         match self {
-            PostgresError::Refused { state, .. } => Some(state.as_str()),
+            PostgresError::Refused { state, .. } | PostgresError::Login { state } => {
+                Some(state.as_str())
+            }
             _ => None,
         }
     }

@@ -8,6 +8,7 @@ mod error;
 mod login;
 mod manager;
 mod mark;
+mod query;
 mod refusal;
 mod reset;
 mod scram;

@@ -1,6 +1,6 @@
 //! How a connection begins: who it is for, and how the server makes sure of that.
 
-ghost use Rattle.std.specs.Prelude.{◌≢◌, IfOk};
+ghost use Rattle.std.specs.Prelude.{◌≡◌, ◌≢◌, ◌⊎◌, IfOk, IsTrue, None};
 
 use crate::answer::Session;
 use crate::deadline::Deadline;
@@ -35,6 +35,8 @@ pub struct Login<'a> {
     pub password: Option<&'a str>,
     /// Whether a server that asks for no password is taken too.
     pub is_lenient: bool,
+    /// Whether one is taken that asks for it by MD5.
+    pub takes_md5: bool,
     pub random: [u8; 18],
 }
 
@@ -53,6 +55,15 @@ enum Stage {
     Proved,
     /// The server has taken it.
     Taken,
+}
+
+/// What the server's next message asks for.
+#[derive(Clone, Copy)]
+enum Step {
+    /// Nothing more.
+    Take,
+    Md5,
+    Scram,
 }
 
 impl Login<'_> {
@@ -79,14 +90,17 @@ impl Login<'_> {
         Err(PostgresError::Protocol)
     }
 
-    // A server, or a proxy before it, may know the password, and repeat it.
+    // A server, or a proxy before it, may know the password, and repeat it or a part of it: where
+    // there is one, its state alone is told.
     fn refused(&self, error: PostgresError) -> PostgresError {
-        match (&error, self.password) {
-            (PostgresError::Refused { state, text }, Some(password))
-                if text.as_str().contains(password) || state.as_str().contains(password) => {
-                PostgresError::Login
+        match (error, self.password) {
+            (PostgresError::Refused { mut state, .. }, Some(password)) => {
+                if password.contains(state.as_str()) || state.as_str().contains(password) {
+                    state.clear();
+                }
+                PostgresError::Login { state }
             }
-            _ => error,
+            (error, _) => error,
         }
     }
 
@@ -112,19 +126,34 @@ impl Login<'_> {
         deadline: Deadline,
     ) -> Result<Stage, PostgresError> {
         let (asked, rest) = asked_in(wire.body())?;
-        match (asked, stage) {
-            (DONE, Stage::Proved) => Ok(Stage::Taken),
-            (DONE, Stage::Begun) if self.password.is_none() || self.is_lenient => Ok(Stage::Taken),
-            (DONE, Stage::Begun) => Err(PostgresError::NoProof),
-            (BY_MD5, Stage::Begun) => {
+        match self.step(asked, stage, is_offered(rest))? {
+            Step::Take => Ok(Stage::Taken),
+            Step::Md5 => {
                 let answer = self.hashed(rest)?;
                 wire.send(Some(b'p'), answer.as_slice(), deadline)?;
                 Ok(Stage::Proved)
             }
-            (BY_SASL, Stage::Begun) if is_offered(rest) => {
+            Step::Scram => {
                 self.answer_by_scram(wire, deadline)?;
                 Ok(Stage::Proved)
             }
+        }
+    }
+
+    // A server that has not shown that it knows the password is taken only as the settings say: by
+    // SCRAM it shows that, by MD5 or without a question not.
+    fn step(&self, asked: u32, stage: Stage, offers_scram: bool) -> Result<Step, PostgresError>
+        ensures take { IfOk result (λ step. step ≡ Step.Take → (stage ≡ Stage.Proved)
+            ⊎ (self.now.password ≡ None) ⊎ IsTrue self.now.is_lenient) }
+        ensures md5 { IfOk result (λ step. step ≡ Step.Md5 → IsTrue self.now.takes_md5) }
+    {
+        match (asked, stage) {
+            (DONE, Stage::Proved) => Ok(Step::Take),
+            (DONE, Stage::Begun) if self.password.is_none() || self.is_lenient => Ok(Step::Take),
+            (DONE, Stage::Begun) => Err(PostgresError::NoProof),
+            (BY_MD5, Stage::Begun) if self.takes_md5 => Ok(Step::Md5),
+            (BY_MD5, Stage::Begun) => Err(PostgresError::Md5),
+            (BY_SASL, Stage::Begun) if offers_scram => Ok(Step::Scram),
             (_, Stage::Begun) => Err(PostgresError::UnknownLogin),
             _ => Err(PostgresError::Protocol),
         }

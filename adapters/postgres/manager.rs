@@ -24,6 +24,7 @@ pub struct PostgresConnectionManager {
     database: String,
     password: Option<String>,
     is_lenient: bool,
+    takes_md5: bool,
     reset: Reset,
     timeouts: Timeouts,
     limits: Limits,
@@ -51,6 +52,7 @@ impl PostgresConnectionManager {
             database: String::from_str(rt.alloc(), database)?,
             password: None,
             is_lenient: false,
+            takes_md5: false,
             reset: Reset::IfMarked,
             timeouts: Timeouts {
                 connect: timeout,
@@ -64,8 +66,8 @@ impl PostgresConnectionManager {
         })
     }
 
-    /// Logs in with a password, by SCRAM-SHA-256 or MD5, as the server asks. It is never sent. A
-    /// server that asks for no proof of it is refused.
+    /// Logs in with a password, by SCRAM-SHA-256, by which the server proves that it knows it too.
+    /// It is never sent. A server that asks for less is refused.
     pub fn with_password(self, password: &str) -> Result<Self, AllocError> {
         let password = Some(String::from_str(self.rt.alloc(), password)?);
         Ok(PostgresConnectionManager { password, ..self })
@@ -79,6 +81,15 @@ impl PostgresConnectionManager {
             is_lenient: true,
             ..manager
         })
+    }
+
+    /// A server is taken too that asks for the password by MD5. It proves nothing itself, and may
+    /// find out a weak password by what it is sent.
+    pub fn with_md5(self) -> Self {
+        PostgresConnectionManager {
+            takes_md5: true,
+            ..self
+        }
     }
 
     /// When a connection that comes back is reset: where its session may differ from how it began,
@@ -122,6 +133,7 @@ impl ManageConnection for PostgresConnectionManager {
             database: self.database.as_str(),
             password: self.password.as_deref(),
             is_lenient: self.is_lenient,
+            takes_md5: self.takes_md5,
             random,
         };
         let address = self.address.as_str();

@@ -14,7 +14,7 @@ pub enum Mark {
 }
 
 /// The statements that leave nothing, as the server names them at their end: INSERT is none of
-/// them, as `lastval` tells of it.
+/// them, as `lastval` shows what it inserted.
 const PLAIN: [&str; 9] = [
     "SELECT",
     "UPDATE",
@@ -26,8 +26,9 @@ const PLAIN: [&str; 9] = [
     "SAVEPOINT",
     "RELEASE",
 ];
-/// The words of those statements that may change a session.
-const TELLING: [&str; 4] = ["temp", "temporary", "default", "pg_settings"];
+/// The words of those statements that may change a session: a default draws a number, which an
+/// INSERT needs no word for, also where it is a part of a SELECT.
+const TELLING: [&str; 5] = ["temp", "temporary", "default", "insert", "pg_settings"];
 /// The words before a `(` after which nothing is called, or what changes nothing.
 const KNOWN: &str =
     "abs all and any array array_agg as avg between by case cast ceil coalesce concat \

@@ -6,9 +6,23 @@ use std::alloc::{AllocError, Global};
 /// The error that a message is.
 pub fn refusal_in(alloc: Global, body: &[u8]) -> Result<PostgresError, AllocError> {
     Ok(PostgresError::Refused {
-        state: escaped(alloc, field(body, b'C'))?,
+        state: String::from_str(alloc, state_in(body))?,
         text: escaped(alloc, field(body, b'M'))?,
     })
+}
+
+// Its SQLSTATE, which is five digits and capitals; anything else is none.
+fn state_in(body: &[u8]) -> &str {
+    let state = field(body, b'C');
+    let is_one = state.len() == 5
+        && state
+            .iter()
+            .all(|byte| byte.is_ascii_digit() || byte.is_ascii_uppercase());
+    if is_one {
+        str::from_utf8(state).unwrap_or("")
+    } else {
+        ""
+    }
 }
 
 /// Whether the connection is of no more use after it: the server ends it, or may not write.

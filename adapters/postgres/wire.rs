@@ -77,6 +77,31 @@ impl Wire {
         self.socket.send(messages.as_slice(), deadline)
     }
 
+    /// Sends a query with the values of its parameters, in text, to be answered as one. The server
+    /// finds their types, and sends all rows.
+    pub fn ask_with(
+        &mut self,
+        query: &str,
+        values: &[Option<&str>],
+        deadline: Deadline,
+    ) -> Result<(), PostgresError> {
+        let mut parse = Vec::new(self.alloc);
+        // (The statement has no name, and no types of parameters follow.)
+        parse.push(0)?;
+        parse.extend_from_slice(query.as_bytes())?;
+        parse.extend_from_slice(&[0, 0, 0])?;
+        let mut messages = Vec::new(self.alloc);
+        add(&mut messages, Some(b'P'), parse.as_slice())?;
+        add(
+            &mut messages,
+            Some(b'B'),
+            bound(self.alloc, values)?.as_slice(),
+        )?;
+        add(&mut messages, Some(b'E'), &[0; 5])?;
+        add(&mut messages, Some(b'S'), &[])?;
+        self.socket.send(messages.as_slice(), deadline)
+    }
+
     /// So many bytes may come from here on.
     pub fn allow(&mut self, bytes: usize) {
         self.left = bytes;
@@ -150,6 +175,27 @@ impl Wire {
         socket.receive(&mut byte, answer)?;
         Ok(())
     }
+}
+
+// What binds values to the statement without a name: each with its length in bytes, below zero for
+// NULL. They are text, as are the rows.
+fn bound(alloc: Global, values: &[Option<&str>]) -> Result<Vec<u8>, PostgresError> {
+    let count = u16::try_from(values.len()).map_err(|_| PostgresError::TooManyValues)?;
+    let mut body = Vec::new(alloc);
+    body.extend_from_slice(&[0; 4])?;
+    body.extend_from_slice(&count.to_be_bytes())?;
+    for value in values {
+        match value {
+            Some(text) => {
+                let length = i32::try_from(text.len()).map_err(|_| PostgresError::TooMuch)?;
+                body.extend_from_slice(&length.to_be_bytes())?;
+                body.extend_from_slice(text.as_bytes())?;
+            }
+            None => body.extend_from_slice(&[0xff; 4])?,
+        }
+    }
+    body.extend_from_slice(&[0; 2])?;
+    Ok(body)
 }
 
 // A message more.

@@ -19,9 +19,10 @@ pub enum RedisError {
     /// The server's own words, with control characters escaped.
     #[error("redis: {0}")]
     Refused(String),
-    /// What the server said has the password in it.
-    #[error("redis: the login was refused")]
-    Login,
+    /// A login with a password, by a refusal that begins with this word. The others are left out:
+    /// they may have the password in them.
+    #[error("redis: the login was refused ({0})")]
+    Login(String),
     #[error("redis: a reply that is not understood")]
     Protocol,
     #[error("redis: a reply is larger than the limits allow")]

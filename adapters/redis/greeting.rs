@@ -52,6 +52,19 @@ impl Greeting {
         standing: &mut Standing,
         items: Vec<Item>,
     ) -> Result<(), RedisError> {
+        match self.judged(alloc, login, standing, items) {
+            Ok(()) => Ok(()),
+            Err(error) => Err(login.told(alloc, error)),
+        }
+    }
+
+    fn judged(
+        &mut self,
+        alloc: Global,
+        login: &Login,
+        standing: &mut Standing,
+        items: Vec<Item>,
+    ) -> Result<(), RedisError> {
         if self.finds_reset {
             self.finds_reset = false;
             return standing.find_reset(alloc, items);

@@ -86,20 +86,27 @@ impl Login {
         add(talk, bytes, &[b"SELECT", database.as_str().as_bytes()])
     }
 
-    /// The answer to one of them. A server may repeat what it was sent, so its words are kept only
-    /// where the password is not in them.
+    /// The answer to one of them.
     pub fn must_be_taken(&self, alloc: Global, items: Vec<Item>) -> Result<(), RedisError> {
         match items.as_slice() {
             [Item::Word(_)] => Ok(()),
-            [Item::Refusal(text)] => Err(self.refused(escaped(alloc, text.as_slice())?)),
+            [Item::Refusal(text)] => Err(RedisError::Refused(escaped(alloc, text.as_slice())?)),
             _ => Err(RedisError::Protocol),
         }
     }
 
-    fn refused(&self, text: String) -> RedisError {
-        match &self.password {
-            Some(password) if text.as_str().contains(password.as_str()) => RedisError::Login,
-            _ => RedisError::Refused(text),
+    /// The error to return for one of the greeting. A server, or a proxy before it, may repeat what
+    /// it was sent, or a part of it: so with a password only a refusal's first word is kept.
+    pub fn told(&self, alloc: Global, error: RedisError) -> RedisError {
+        match (error, &self.password) {
+            (RedisError::Refused(text), Some(password)) => {
+                let word = first_word(text.as_str(), password.as_str());
+                match String::from_str(alloc, word) {
+                    Ok(word) => RedisError::Login(word),
+                    Err(error) => RedisError::Memory(error),
+                }
+            }
+            (error, _) => error,
         }
     }
 
@@ -147,6 +154,18 @@ impl Login {
             count += 1;
         }
         Ok(count)
+    }
+}
+
+// The word that a refusal begins with, as WRONGPASS; `?` where that is no such word, or has to do
+// with the password.
+fn first_word<'a>(text: &'a str, password: &str) -> &'a str {
+    let word = text.split(' ').next().unwrap_or("");
+    let is_one = word.bytes().all(|byte| byte.is_ascii_uppercase());
+    if is_one && !word.contains(password) && !password.contains(word) {
+        word
+    } else {
+        "?"
     }
 }
 

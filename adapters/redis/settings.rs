@@ -1,4 +1,4 @@
-//! What a manager was told.
+//! The settings of a manager.
 
 use crate::reset::{Login, Reset};
 use redis_codec::Limits;

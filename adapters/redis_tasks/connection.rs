@@ -95,12 +95,15 @@ impl TaskConnection {
         self.rt.alloc()
     }
 
-    /// The answer to a request, or why there is none by the deadline, which counts from here on.
+    /// The answer to a request, or why there is none by the deadline, which counts from here on. It
+    /// is broken until the answer is there: so who drops the request leaves its answer to nobody.
     pub(crate) fn poll_exchange(
         &mut self,
         request: &mut Request,
         cx: &mut Context<'_>,
     ) -> Poll<Result<Vec<Item>, RedisError>>
+        ensures pending { OnPending result (IsTrue self.new.standing.is_broken) }
+        ensures failed { IfReady result (λ r. IsErr r → IsTrue self.new.standing.is_broken) }
         ensures sound { IfReady result (λ r. IsOk r → IsFalse self.new.standing.is_broken) }
         ensures armed { OnPending result (IsArmed cx.new) }
         ensures kept { Keeps cx.old cx.new }
@@ -108,6 +111,7 @@ impl TaskConnection {
         if self.standing.is_broken && request.stage == Stage::New {
             return Poll::Ready(Err(RedisError::Broken));
         }
+        self.standing.is_broken = true;
         let mut patience = match request.patience.take() {
             Some(patience) => patience,
             None => match Patience::new(self.rt, &self.time, request.timeout) {
@@ -115,8 +119,6 @@ impl TaskConnection {
                 Err(error) => return Poll::Ready(Err(RedisError::Memory(error))),
             },
         };
-        // It is broken until the answer is there: who drops the future leaves it so.
-        self.standing.is_broken = true;
         let answered = match self.poll_steps(request, &patience, cx) {
             Poll::Pending if patience.poll_over(cx).is_ready() => {
                 Poll::Ready(Err(self.socket.late(patience.deadline)))
@@ -142,6 +144,7 @@ impl TaskConnection {
         patience: &Patience,
         cx: &mut Context<'_>,
     ) -> Poll<Result<Vec<Item>, RedisError>>
+        ensures same { self.new.standing.is_broken ≡ self.old.standing.is_broken }
         ensures armed { OnPending result (IsArmed cx.new) }
         ensures kept { Keeps cx.old cx.new }
     {
@@ -173,6 +176,7 @@ impl TaskConnection {
         deadline: Deadline,
         cx: &mut Context<'_>,
     ) -> Poll<Result<(), RedisError>>
+        ensures same { self.new.standing.is_broken ≡ self.old.standing.is_broken }
         ensures armed { OnPending result (IsArmed cx.new) }
         ensures kept { Keeps cx.old cx.new }
     {
@@ -195,7 +199,9 @@ impl TaskConnection {
     }
 
     // The server has said nothing since it answered last: so what comes now is the answer.
-    fn begin(&mut self, command: Command, deadline: Deadline) -> Result<(), RedisError> {
+    fn begin(&mut self, command: Command, deadline: Deadline) -> Result<(), RedisError>
+        ensures { self.new.standing ≡ self.old.standing }
+    {
         self.socket.must_be_quiet(deadline)?;
         self.socket.talk.expect(command)?;
         Ok(())

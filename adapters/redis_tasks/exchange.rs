@@ -1,6 +1,6 @@
 //! The futures of a command and of a check.
 
-ghost use Rattle.std.specs.Prelude.{IsFalse, IsOk, IsSome};
+ghost use Rattle.std.specs.Prelude.{IsFalse, IsOk, IsSome, IsTrue};
 ghost use Rattle.futures.specs.Task.{IsArmed, Keeps};
 ghost use Rattle.futures.specs.Poll.{IfReady, OnPending};
 
@@ -85,6 +85,7 @@ fn poll_reply(
     request: &mut Result<Request, AllocError>,
     cx: &mut Context<'_>,
 ) -> Poll<Result<Reply, RedisError>>
+    ensures pending { OnPending result (IsTrue connection.new.standing.is_broken) }
     ensures sound { IfReady result (λ r. IsOk r → IsFalse connection.new.standing.is_broken) }
     ensures armed { OnPending result (IsArmed cx.new) }
     ensures kept { Keeps cx.old cx.new }
@@ -103,6 +104,7 @@ fn poll_items(
     request: &mut Result<Request, AllocError>,
     cx: &mut Context<'_>,
 ) -> Poll<Result<Vec<Item>, RedisError>>
+    ensures pending { OnPending result (IsTrue connection.new.standing.is_broken) }
     ensures sound { IfReady result (λ r. IsOk r → IsFalse connection.new.standing.is_broken) }
     ensures armed { OnPending result (IsArmed cx.new) }
     ensures kept { Keeps cx.old cx.new }

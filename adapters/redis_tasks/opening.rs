@@ -50,8 +50,15 @@ struct Opening {
     patience: Option<Patience>,
     // Those that were not tried yet, the next one last.
     addresses: Vec<SocketAddr>,
-    dialing: Option<ConnectFuture>,
+    dialing: Option<Dialing>,
     dialed: Option<Dialed>,
+}
+
+// An address at which it is tried, and for how long.
+#[derive(Drop)]
+struct Dialing {
+    connecting: ConnectFuture,
+    patience: Patience,
 }
 
 // A connection whose session has not begun.
@@ -133,7 +140,7 @@ impl Opening {
         ensures kept { Keeps cx.old cx.new }
     {
         if self.dialed.is_none() {
-            let dialed = match ready!(self.poll_dial(cx)) {
+            let dialed = match ready!(self.poll_dial(deadline, cx)) {
                 Ok(stream) => self.greet(stream),
                 Err(error) => Err(self.explained(deadline, error)),
             };
@@ -149,18 +156,24 @@ impl Opening {
     }
 
     // Connects to the first address at which somebody listens.
-    fn poll_dial(&mut self, cx: &mut Context<'_>) -> Poll<io::Result<TcpStream>>
+    fn poll_dial(&mut self, deadline: Deadline, cx: &mut Context<'_>) -> Poll<io::Result<TcpStream>>
         ensures armed { OnPending result (IsArmed cx.new) }
         ensures kept { Keeps cx.old cx.new }
     {
         let mut dialing = match self.dialing.take() {
             Some(dialing) => dialing,
-            None => match self.addresses.pop() {
-                Some(address) => TcpStream::connect(&self.rt, address, self.handle.reactor()),
-                None => return Poll::Ready(Err(io::Error::from(io::ErrorKind::NotFound))),
+            None => match self.dial(deadline) {
+                Ok(dialing) => dialing,
+                Err(error) => return Poll::Ready(Err(error)),
             },
         };
-        match dialing.poll(cx) {
+        let dialed = match dialing.connecting.poll(cx) {
+            Poll::Pending if dialing.patience.poll_over(cx).is_ready() => {
+                Poll::Ready(Err(io::Error::from(io::ErrorKind::TimedOut)))
+            }
+            dialed => dialed,
+        };
+        match dialed {
             Poll::Ready(Err(error)) if self.addresses.is_empty() => Poll::Ready(Err(error)),
             Poll::Ready(Err(_)) => cx.yield_now(),
             Poll::Ready(Ok(stream)) => Poll::Ready(Ok(stream)),
@@ -169,6 +182,19 @@ impl Opening {
                 Poll::Pending
             }
         }
+    }
+
+    // Begins at the next address. What is left of the time is shared by those that are left.
+    fn dial(&mut self, deadline: Deadline) -> io::Result<Dialing> {
+        let addresses = u32::try_from(self.addresses.len()).unwrap_or(u32::MAX);
+        let Some(address) = self.addresses.pop() else {
+            return Err(io::Error::from(io::ErrorKind::NotFound));
+        };
+        let share = deadline.left(self.rt)? / addresses.max(1);
+        Ok(Dialing {
+            connecting: TcpStream::connect(&self.rt, address, self.handle.reactor()),
+            patience: Patience::new(self.rt, self.handle.time(), share)?,
+        })
     }
 
     // What is sent first.

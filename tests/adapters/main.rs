@@ -6,7 +6,8 @@
 //! return as they say, have one connection, check nothing, and wait for half a second; so do those
 //! of `postgres`, which take 100 rows and 64 KiB. `postgres-eight` has eight connections, and waits
 //! for a second; `postgres-salted` waits for fifteen; `postgres-lenient` takes a server that asks
-//! for no password. In place of `postgres`, `calm` waits for ten seconds.
+//! for no password, `postgres-md5` one that asks for it by MD5. In place of `postgres`, `calm`
+//! waits for ten seconds.
 #![tactic(auto)]
 
 mod service;
@@ -67,6 +68,8 @@ fn main(rt: HostRuntime) -> Result<(), Fail> {
                 }
                 [password, ..] => {
                     let manager = manager.with_password(password.as_str())?;
+                    let is_md5 = kind.as_str() == "postgres-md5";
+                    let manager = if is_md5 { manager.with_md5() } else { manager };
                     serve(rt, manager, settings.lending)
                 }
             }

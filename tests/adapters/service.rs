@@ -109,31 +109,56 @@ impl Counting for PostgresConnection {
         refused && self.session() == Session::Idle && self.query("SELECT 1").is_ok()
     }
 
-    // Each may be of several statements. One after a `#` tells how many rows it was about.
+    // Each may be of several statements.
     fn run(&mut self, alloc: Global, requests: &str) -> Result<String, AllocError> {
         let mut told = String::new(alloc);
         for request in requests.split(";;") {
-            let request = request.trim();
-            let error = match request.strip_prefix("#") {
-                Some(request) => match self.execute(request) {
-                    Ok(count) => {
-                        write!(told, "{count} rows | ")?;
-                        continue;
-                    }
-                    Err(error) => error,
-                },
-                None => match self.query(request) {
-                    Ok(rows) => {
-                        write_rows(&mut told, rows.as_slice())?;
-                        continue;
-                    }
-                    Err(error) => error,
-                },
-            };
-            write!(told, "! {error} | ")?;
+            if let Err(error) = tell(self, alloc, request.trim(), &mut told) {
+                write!(told, "! {error} | ")?;
+            }
         }
         Ok(told)
     }
+}
+
+// A query behind a `#` tells how many rows it was about. Its values stand behind a ` <- `.
+fn tell(
+    connection: &mut PostgresConnection,
+    alloc: Global,
+    request: &str,
+    told: &mut String,
+) -> Result<(), PostgresError> {
+    let (request, is_counted) = match request.strip_prefix("#") {
+        Some(request) => (request, true),
+        None => (request, false),
+    };
+    let (text, values) = match request.split_once(" <- ") {
+        Some((text, values)) => (text, Some(values_of(alloc, values)?)),
+        None => (request, None),
+    };
+    if is_counted {
+        let count = match &values {
+            Some(values) => connection.execute_with(text, values.as_slice())?,
+            None => connection.execute(text)?,
+        };
+        write!(told, "{count} rows | ")?;
+        return Ok(());
+    }
+    let rows = match &values {
+        Some(values) => connection.query_with(text, values.as_slice())?,
+        None => connection.query(text)?,
+    };
+    write_rows(told, rows.as_slice())?;
+    Ok(())
+}
+
+// They have a `,` between them.
+fn values_of<'a>(alloc: Global, values: &'a str) -> Result<Vec<Option<&'a str>>, AllocError> {
+    let mut found: Vec<Option<&'a str>> = Vec::new(alloc);
+    for value in values.split(',') {
+        found.push((value != "NULL").then_some(value))?;
+    }
+    Ok(found)
 }
 
 fn write_rows(told: &mut String, rows: &[Row]) -> Result<(), AllocError> {
