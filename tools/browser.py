@@ -3,6 +3,7 @@ two pipes. `tools/pages` and `tools/tries/page.py` have it in common."""
 import base64
 import contextlib
 import fcntl
+import hashlib
 import json
 import os
 import select
@@ -76,10 +77,15 @@ def chunk(kind, data):
     return struct.pack(">I", len(data)) + kind + data + struct.pack(">I", zlib.crc32(kind + data))
 
 
-def png(width, palette, places):
-    """A PNG whose pixels are places in a palette."""
+def note_of(data):
+    """What a picture says of the data that it shows: by this it is known when it is of other data."""
+    return b"Comment\0data " + hashlib.sha256(data.encode()).hexdigest().encode()
+
+
+def png(width, palette, places, data):
+    """A PNG of the data whose pixels are places in a palette."""
     rows = [b"\0" + places[at:at + width] for at in range(0, len(places), width)]
-    head = chunk(b"IHDR", struct.pack(">IIBBBBB", width, len(rows), 8, 3, 0, 0, 0)) + chunk(b"PLTE", palette)
+    head = chunk(b"IHDR", struct.pack(">IIBBBBB", width, len(rows), 8, 3, 0, 0, 0)) + chunk(b"tEXt", note_of(data)) + chunk(b"PLTE", palette)
     return b"\x89PNG\r\n\x1a\n" + head + chunk(b"IDAT", zlib.compress(b"".join(rows), 9)) + chunk(b"IEND", b"")
 
 
@@ -200,15 +206,15 @@ class Browser:
                      **(text if kind == "keyDown" else {}))
         self.settle()
 
-    def picture(self, path):
-        """A PNG of the whole page, of 256 colours, which take less than half of the room."""
+    def picture(self, path, data):
+        """A PNG of the whole page, which shows the data, of 256 colours, which take less than half of the room."""
         size = self.ask("Page.getLayoutMetrics")["cssContentSize"]
         clip = {"x": 0, "y": 0, "width": size["width"], "height": size["height"], "scale": 1}
         done = self.ask("Page.captureScreenshot", format="png", captureBeyondViewport=True, clip=clip)
         self.open_url("about:blank")
         seen = self.run(f"({FEW_COLOURS})({json.dumps(done['data'])})")
         with open(path, "wb") as file:
-            file.write(png(seen["width"], base64.b64decode(seen["palette"]), base64.b64decode(seen["places"])))
+            file.write(png(seen["width"], base64.b64decode(seen["palette"]), base64.b64decode(seen["places"]), data))
 
     def end(self):
         for pipe_end in (self.asks, self.answers):

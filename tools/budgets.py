@@ -1,5 +1,6 @@
 """How many minutes of a processor each part of `./prove` and the proof of each crate may take: tools/budget.txt. `./prove` compares, and
-fails what is above its budget by a third, so that growth is decided and not met. `tools/budget` prints the file from a log.
+fails what is above its budget by a third, so that growth is decided and not met. `tools/budget` prints the file from a log. What a run
+of `--all` may take in all is decided too: the lines of the file may not come to more, and a log does not change it.
 
 Machines differ, and a processor that two programs share is slower for both. So a fixed loop is timed by the processor's own clock each
 minute of a run; the file says how long it took where the figures come from, and what was measured is scaled by the ratio of the two. One
@@ -18,6 +19,9 @@ SPARE = 4 / 3
 # A part that takes less is too short to be judged by a third.
 LEAST = 0.5
 UNKNOWN = "?"
+TOTAL = "total"
+# What `./prove` runs, and `--all` within another part.
+NOT_OF_ALL = {"part tests of the pool", "part the first command of the README"}
 ROW = re.compile(r"\| ((?:crate|part) .+?) \| ([\d.]+) \| ([\d.]+) \|")
 SECONDS = re.compile(r"A fixed loop took ([\d.]+) seconds here")
 TICKS = os.sysconf("SC_CLK_TCK")
@@ -45,6 +49,11 @@ def read(text):
 def of_file():
     with open(FILE, encoding="utf-8") as file:
         return read(file.read())
+
+
+def total_of(minutes):
+    """What a run of `--all` takes by these, as far as they are known."""
+    return sum(it for name, it in minutes.items() if it is not None and name not in {TOTAL, *NOT_OF_ALL})
 
 
 class Speed:
@@ -139,9 +148,11 @@ class Row:
         return f"| {self.name} | {self.minutes:.1f} | {self.scaled:.1f} | {budget} |{' ABOVE' * self.is_above}"
 
 
-def rows(measured, speed, budget=None):
-    """A row for each of what was measured, by name."""
+def rows(measured, speed, budget=None, is_whole=False):
+    """A row for each of what was measured, by name; and where that is of a whole run of `--all`, one of what has a budget in all."""
     allowed, seconds = budget or of_file()
+    if is_whole:
+        measured = {**measured, TOTAL: total_of({name: it for name, it in measured.items() if allowed.get(name) is not None})}
     return [Row(name, minutes, speed / seconds, allowed.get(name)) for name, minutes in measured.items()]
 
 

@@ -86,14 +86,22 @@ def needed_by(copy, crate, modules):
     return needed
 
 
+def modules_for(copy, name, tests):
+    """The modules at the top of a crate of tests that these tests need; None where they need all of it."""
+    root = os.path.join(copy, place_of(name, "lib.rs"))
+    if name.startswith(INSIDE) or not all("::" in it for it in tests) or not tests or not os.path.exists(root):
+        return None
+    return needed_by(copy, crate_of(name), {it.partition("::")[0] for it in tests})
+
+
 @contextlib.contextmanager
 def only_what_they_need(copy, name, tests):
     """Leaves of a crate of tests what these tests need: the whole of it takes several times as long to compile."""
-    root, modules = os.path.join(copy, place_of(name, "lib.rs")), {it.partition("::")[0] for it in tests}
-    if name.startswith(INSIDE) or not all("::" in it for it in tests) or not tests or not os.path.exists(root):
+    root, needed = os.path.join(copy, place_of(name, "lib.rs")), modules_for(copy, name, tests)
+    if needed is None:
         yield
         return
-    text, needed = open(root, encoding="utf-8").read(), needed_by(copy, crate_of(name), modules)
+    text = open(root, encoding="utf-8").read()
     write(root, re.sub(r"^(?:#\[cfg\(test\)\]\n)?mod (\w+);\n", lambda it: it[0] * (it[1] in needed), text, flags=re.M))
     unused = [file for file in sources(os.path.dirname(root)) if top_of(os.path.dirname(root), file) not in needed | {"lib"}]
     for file in unused:

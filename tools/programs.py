@@ -184,7 +184,7 @@ class Program:
             except (OSError, subprocess.CalledProcessError, IndexError):
                 return "unknown"
 
-        print(f"{self.script}, by the rules of r2d2 0.8.10")
+        print(f"{self.script} {newest_version()}, by the rules of r2d2 0.8.10")
         print("commit:", first_line("git", "log", "-1", "--format=%h of %cs"))
         print("toolchain:", first_line("rt", "version"))
 
@@ -217,12 +217,30 @@ class OfTests(Program):
 
 def pool_steps(script):
     """The program of scripts, for a script of this name."""
-    return Program(script, "pool_steps", ["r2d2_core", "pool_lines"], b"limits 1 - - - 30000 30000\n")
+    return Program(script, "pool_steps", ["pool_machine", "r2d2_core", "pool_lines"], b"limits 1 - - - 30000 30000\n")
+
+
+# Where `pool_audit` judged each report: whether or not all are sound, and have a concern.
+JUDGED = [0, 1, 7]
+
+
+def pool_audit(script):
+    """The program that audits reports, for a script of this name."""
+    return Program(script, "pool_audit", ["pool_machine", "r2d2_core", "pool_reports"], b"")
 
 
 def examples(script):
     """The program of examples, for a script of this name."""
-    return Program(script, "examples", ["r2d2_core", "pool_state", "r2d2", "pool_reports", "pool_lines", "pool_metrics"], b"")
+    return Program(script, "examples", ["pool_machine", "r2d2_core", "pool_state", "r2d2", "pool_reports", "pool_lines", "pool_metrics"], b"")
+
+
+def newest_version():
+    """The version of the first section of the changelog."""
+    try:
+        with open(os.path.join(TOP, "CHANGELOG.md"), encoding="utf-8") as file:
+            return next(line.removeprefix("## ").rstrip().partition(",")[0] for line in file if line.startswith("## "))
+    except (OSError, StopIteration):
+        return "of an unknown version"
 
 
 def raise_ended(number, _):

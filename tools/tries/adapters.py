@@ -81,10 +81,10 @@ def built(name, mine, aside, tally):
 
 
 class Service:
-    """The service at a port."""
+    """The service at a port, of this machine or of a name, and what runs it."""
 
-    def __init__(self, program, kind, port, *words):
-        words, how = [program, kind, f"{HOST}:{port}", *words], {"text": True, "env": SETTINGS, "bufsize": 1}
+    def __init__(self, program, kind, port, *words, name=HOST, runner=()):
+        words, how = [*runner, program, kind, f"{name}:{port}", *words], {"text": True, "env": SETTINGS, "bufsize": 1}
         self.process = subprocess.Popen(words, stdin=subprocess.PIPE, stdout=subprocess.PIPE, stderr=subprocess.STDOUT, **how)
         self.said, self.asked = [], 0
 
@@ -140,8 +140,8 @@ class Peers:
     def check(self, what, holds, seen=""):
         self.tally.check(f"{self.name}, a scripted peer: {what}", holds, seen)
 
-    def at(self, port, kind, *words):
-        return Service(self.program, kind, port, *words)
+    def at(self, port, kind, *words, **how):
+        return Service(self.program, kind, port, *words, **how)
 
 
 class Trial:
@@ -180,6 +180,7 @@ class Trial:
             self.try_drain(service)
             if self.kind is Postgres:
                 self.try_logins()
+                self.try_values()
                 postgres_sessions.try_sessions(self)
                 if IS_CALM:
                     self.try_locked()
@@ -309,12 +310,27 @@ class Trial:
         self.check("no password", "NOAUTH" in self.service(self.server.port).ask("get"))
 
     def try_logins(self):
-        for user in ("hashed", "salted"):
-            self.check(f"a login of {user}", self.service(self.server.port, user, "kept").ask("get") == "lent")
+        self.check("a login of salted", self.service(self.server.port, "salted", "kept").ask("get") == "lent")
+        hashed = [self.service_of(kind, "hashed", "kept").ask("get") for kind in ("postgres", "postgres-md5")]
+        self.check("a login of hashed, where that is allowed", "asks for MD5" in hashed[0] and hashed[1] == "lent", hashed)
         wrong = self.service(self.server.port, "salted", "lost").ask("get")
-        self.check("a wrong password", "password authentication failed" in wrong, wrong)
+        self.check("a wrong password", "SQLSTATE 28P01" in wrong, wrong)
         none = self.service(self.server.port, "salted").ask("get")
         self.check("no password", "asks for a password, and there is none" in none, none)
+
+    def try_values(self):
+        """What is bound to a query is a value, whatever it says."""
+        service, evil = self.service_of("calm-never", *self.words), "Robert'); DROP TABLE counts; --"
+        for what, line, wanted in [
+            ("values are bound", f"SELECT $1::int + 1, $2, $3::text IS NULL, $4, $5::text || '' <- 41,{evil},NULL,,\u00e9", f'[Some("42"), Some("{evil}"), Some("t"), Some(""), Some("\u00e9")]'),
+            ("a query with values counts rows", "# UPDATE counts SET n = n + $1::int WHERE thread < $2 AND $3 <- 0,3,true", "3 rows"),
+            ("a value of another type", "SELECT 1 / $1::int <- x", "! postgres: invalid input syntax for type integer: \"x\" (SQLSTATE 22P02)"),
+            ("a value too few", "SELECT $1::int, $2::int <- 1", "SQLSTATE 08P01"),
+            ("two statements with values", "SELECT 1; SELECT 2 <- 1", "SQLSTATE 42601"),
+            ("a query like it again", "SELECT $1::int <- 7", '[Some("7")]'),
+        ]:
+            told = service.ask(f"run {line}")
+            self.check(what, wanted in told, told)
 
     def try_locked(self):
         """Queries that wait for a lock are cancelled: the server is not left with what their callers have given up. On a busy machine one of

@@ -9,12 +9,13 @@ import time
 
 import adapters
 from copies import Runs
+from peer import AT_TWO
 from tally import Tally
 
 # (first_redis_tasks is run alone: that each of its hundred tasks may be polled is a loop's invariant, and it has no ghost line)
 CRATES = ["redis", "postgres", "tokio_timer", "redis_tasks", "first_redis", "first_postgres", "first_tokio"]
 # What they stand on, whose proofs this repository may have kept.
-BELOW = ["r2d2_core", "pool_state", "r2d2", "r2d2_async", "redis_codec"]
+BELOW = ["pool_machine", "r2d2_core", "pool_state", "r2d2", "pool_tasks", "r2d2_async", "redis_codec"]
 # What the redis manager asks at a return.
 HAS_BROKEN = "!connection.come_back(self.settings.reset, &self.settings.login)"
 # A read that goes on where its call's deadline is not over, and one that has a deadline of its own.
@@ -35,6 +36,17 @@ READ_BY_ITSELF = """            self.stream.set_read_timeout(Some(Duration::from
 READ_BY_HALF = READ_BY.replace("deadline.tenth()", "deadline.tenth() / 2")
 # Memory for what a length says, before any of it has come.
 TAKE, TAKE_AT_ONCE = "        self.body.clear();\n", "        self.body.clear();\n        self.body.resize(count, 0)?;\n        self.body.clear();\n"
+# What is told of a refusal in a greeting, and what of the refusal of a login alone.
+TOLD = """        match self.judged(alloc, login, standing, items) {
+            Ok(()) => Ok(()),
+            Err(error) => Err(login.told(alloc, error)),
+"""
+TOLD_OF_LOGINS = """        let is_login = !self.finds_reset;
+        match self.judged(alloc, login, standing, items) {
+            Ok(()) => Ok(()),
+            Err(error) if !is_login => Err(error),
+            Err(error) => Err(login.told(alloc, error)),
+"""
 # What the postgres manager asks at a return.
 POSTGRES_BROKEN = "!connection.come_back(self.reset)"
 # A function, a passage of its file, and what somebody could write in its place. The prover refuses each.
@@ -46,6 +58,9 @@ REFUSED = [
     ("redis::standing::Standing::ask_to_reset", "self.resetting = count;\n", ""),
     ("redis::deadline::Deadline::left", "if left.is_zero() { Err(late) } else { Ok(left) }", "Ok(left)"),
     ("redis::manager::RedisConnectionManagerManageConnection::has_broken", HAS_BROKEN, "{\n            let _ = connection;\n            false\n        }"),
+    ("redis_tasks::connection::TaskConnection::poll_exchange", "        self.standing.is_broken = true;\n        let mut patience", "        let mut patience"),
+    ("redis_tasks::connection::TaskConnection::poll_exchange", "            Poll::Pending => {\n                request.patience", "            Poll::Pending => {\n                self.standing.is_broken = false;\n                request.patience"),
+    ("redis_tasks::connection::TaskConnection::poll_steps", "            request.stage = Stage::Sending;\n", "            request.stage = Stage::Sending;\n            self.standing.is_broken = false;\n"),
     ("postgres::answer::Session::of", "Ok(Session::InFailedTransaction)", "Ok(Session::Broken)"),
     ("postgres::connection::PostgresConnection::session", "{\n        self.session\n", "{\n        let _ = self;\n        Session::Idle\n"),
     ("postgres::connection::PostgresConnection::exchange", "        self.session = Session::Broken;\n        match", "        match"),
@@ -56,6 +71,8 @@ REFUSED = [
     ("postgres::connection::PostgresConnection::send_reset", 'queries.push("ROLLBACK")?;', "{}"),
     ("postgres::connection::PostgresConnection::send_reset", "Reset::IfMarked => self.mark != Mark::Plain,", "Reset::IfMarked => false,"),
     ("postgres::connection::PostgresConnection::send_reset", "        self.resetting = queries.len();\n", ""),
+    ("postgres::login::Login::step", "(BY_MD5, Stage::Begun) if self.takes_md5 =>", "(BY_MD5, Stage::Begun) if self.takes_md5 || self.password.is_some() =>"),
+    ("postgres::login::Login::step", "if self.password.is_none() || self.is_lenient =>", "if self.password.is_none() || !self.is_lenient =>"),
     ("postgres::deadline::Deadline::left", "if left.is_zero() { Err(late) } else { Ok(left) }", "Ok(left)"),
     ("postgres::manager::PostgresConnectionManagerManageConnection::has_broken", POSTGRES_BROKEN, "connection.session() == crate::answer::Session::Broken"),
     ("postgres::mark::Mark::and", "(Mark::Plain, Mark::Plain) => Mark::Plain,", "(_, Mark::Plain) => Mark::Plain,"),
@@ -66,9 +83,9 @@ SEEN = [
         ("redis/manager", HAS_BROKEN, "connection.is_broken()", "redis: if-marked: a database is not seen by the next caller"),
         ("redis/socket", READ_BY, READ_BY_ITSELF, "redis, a scripted peer: a value that drips: the deadline"),
         ("redis/reply", "list.push(made.pop().ok_or(RedisError::Protocol)?)?;", "list.insert(0, made.pop().ok_or(RedisError::Protocol)?)?;", "redis, a scripted peer: an answer byte by byte: the text"),
+        ("redis/reset", "if is_one && !word.contains(password) && !password.contains(word) {", "if is_one && !word.is_empty() {", "redis, a scripted peer: a password of capitals, behind '' in the answer to AUTH: no error has it"),
+        ("redis/greeting", TOLD, TOLD_OF_LOGINS, "redis, a scripted peer: a password of a word, behind 'DENIED ' in the answer to RESET: no error has it"),
         ("redis/reply", "if letter.is_control() {", "if letter == '\\r' {", "redis, a scripted peer: a refusal with control characters: the text"),
-        # Together these lend on a connection that has sent half of what was said over it.
-        ("redis_tasks/connection", "        self.standing.is_broken = true;\n        let answered", "        let answered", "redis for tasks: an answer of a request that was given up is nobody's"),
         ("redis_tasks/connection", "self.socket.must_be_quiet(deadline)?;\n        self.socket.talk", "let _ = deadline;\n        self.socket.talk", "redis for tasks: an answer that comes twice, the second 0.1 s later"),
         ("redis_tasks/manager", HAS_BROKEN, "connection.is_broken()", "redis for tasks: if-marked: a database is not seen by the next caller"),
         ("redis_tasks/opening", "if self.addresses.is_empty() => Poll::Ready(Err(error)),", "if self.addresses.is_empty() => {\n                let _ = error;\n                Poll::Pending\n            }", "redis for tasks: served again soon after a restart"),
@@ -78,12 +95,18 @@ SEEN = [
         ("postgres/connection", "self.wire.cancel(key, asking, answer).ok();", "let _ = (key, asking, answer);", "postgres: a locked table leaves the server with no more than two connections for each"),
         ("postgres/refusal", "if letter.is_control() {", "if letter == '\\r' {", "postgres, a scripted peer: a refusal with control characters: the text"),
         ("postgres/answer", "return Ok((None, rest));", "return Ok((Some(String::new(alloc)), rest));", "postgres, a scripted peer: an answer byte by byte: the text"),
+        ("postgres/wire", "i32::try_from(text.len())", "i32::try_from(text.chars().count())", "postgres, a scripted peer: \u00e9\u20ac,\U0001f600 is bound"),
+        ("postgres/wire", "None => body.extend_from_slice(&[0xff; 4])?,", "None => body.extend_from_slice(&[0; 4])?,", "postgres, a scripted peer: a,NULL, is bound"),
+        ("postgres/query", "values.len() > MOST", "values.len() > MOST + 1", "postgres, a scripted peer: how many rows a query with values was about"),
         ("postgres/wire", TAKE, TAKE_AT_ONCE, "postgres, a scripted peer: a length that is told takes no memory"),
     ],
     [
+        ("redis/socket", "deadline.left(rt)? / others.max(1)", "deadline.left(rt)?", "redis, a scripted peer: a name at whose first address nobody answers"),
+        ("redis_tasks/opening", "deadline.left(self.rt)? / addresses.max(1)", "deadline.left(self.rt)?", "redis for tasks: a name at whose first address nobody answers"),
+        ("postgres/socket", "deadline.left(rt)? / others.max(1)", "deadline.left(rt)?", "postgres, a scripted peer: a name at whose first address nobody answers"),
         ("redis/wire", "self.socket.must_be_quiet(deadline)", "{\n            let _ = deadline;\n            Ok(())\n        }", "redis, a scripted peer: an answer that comes twice, the second 0.1 s later"),
         ("redis/standing", 'text.starts_with(b"READONLY")', 'text.starts_with(b"LOADING")', "redis, a scripted peer: a demoted server is left"),
-        ("redis/reset", "if text.as_str().contains(password.as_str())", "if text.as_str() == password.as_str()", "redis, a scripted peer: no error has the password"),
+        ("redis/reset", "String::from_str(alloc, word)", "String::from_str(alloc, text.as_str())", "redis, a scripted peer: a password of 200 letters, behind 'ERR no ' in the answer to AUTH: no error has it"),
         ("redis/error", "io::ErrorKind::TimedOut => RedisError::Timeout {", "io::ErrorKind::NotFound => RedisError::Timeout {", "redis, a scripted peer: silence: the text"),
         ("redis/reset", "session.subscriptions || session.monitor || session.settings", "session.subscriptions || session.monitor", "redis: always: a setting is not seen by the next caller"),
         ("redis_tasks/patience", "Deadline::new(rt, length)", "Deadline::new(rt, length.saturating_mul(2))", "redis for tasks: at a silent server: the deadline of each command"),
@@ -93,14 +116,16 @@ SEEN = [
         ("postgres/answer", "self.affected = self.affected.saturating_add(count.parse().unwrap_or(0));", "self.affected = count.parse().unwrap_or(self.affected);", "postgres, a scripted peer: how many rows the statements were about"),
         ("postgres/answer", "self.rows.len() >= limits.rows", "self.rows.len() > limits.rows", "postgres, a scripted peer: a row more: the text"),
         ("postgres/answer", "b'S' | b'A' => self.mark = self.mark.and(Mark::Marked),", "b'S' | b'A' => {}", "postgres, a scripted peer: a setting that the server tells of: a reset"),
-        ("postgres/login", "if self.password.is_none() || self.is_lenient =>", "if self.password.is_none() || !self.is_lenient =>", "postgres, a scripted peer: a login without a proof: the text"),
-        ("postgres/login", "if text.as_str().contains(password)", "if text.as_str() == password", "postgres, a scripted peer: a refusal that repeats the password: nobody is told the password"),
+        ("postgres/login", "(PostgresError::Refused { mut state, .. }, Some(password)) => {", "(PostgresError::Refused { mut state, text }, Some(password)) => {\n                if !text.as_str().contains(password) {\n                    return PostgresError::Refused { state, text };\n                }", "postgres, a scripted peer: a refusal that repeats a password of a tab: nobody is told it"),
+        ("postgres/login", "password.contains(state.as_str()) || ", "password.is_empty() || ", "postgres, a scripted peer: a refusal that repeats a password of capitals, some of them as the state: nobody is told it"),
+        ("postgres/connection", "self.mark = self.mark.and(Mark::of_query(query.text));", "if query.values.is_none() {\n            self.mark = self.mark.and(Mark::of_query(query.text));\n        }", "postgres, a scripted peer: a query with values marks as its words do"),
         ("postgres/mark", '"LOAD" => Mark::Lasting', '"LOAD" => Mark::Marked', "postgres: always: a library"),
         ("postgres/scram", "const FEWEST_ROUNDS: u32 = 4096;", "const FEWEST_ROUNDS: u32 = 1;", "postgres, a scripted peer: too few rounds: the text"),
         ("postgres/scram", "!nonce.starts_with(self.nonce.as_str()) || nonce.len() == self.nonce.len()", "nonce.len() == self.nonce.len()", "postgres, a scripted peer: a foreign nonce: the text"),
         ("postgres/refusal", 'b"25006" | b"57P01"', 'b"57P01"', "postgres, a scripted peer: the state 25006 breaks a connection"),
         ("postgres/wire", "self.socket.must_be_quiet(deadline)", "{\n            let _ = deadline;\n            Ok(())\n        }", "postgres, a scripted peer: an answer that comes twice, the second 0.1 s later"),
         ("postgres/mark", '["--", "/*", "&\\""]', '["--", "--", "&\\""]', "postgres: if-marked: a lock behind a comment is not seen by the next caller"),
+        ("postgres/mark", '"default", "insert"', '"default", "merge"', "postgres: if-marked: the number of WITH it AS (INSERT INTO noted SELECT 1 RETURNING 1) SELECT 1"),
         ("postgres/mark", 'b"pg_temp"', 'b"no_temp"', "postgres: if-marked: a table among the temporary ones is not seen by the next caller"),
     ],
 ]
@@ -192,7 +217,9 @@ def try_seen(place, tally):
         with timed(f"{len(bodies)} wrong bodies at servers"):
             adapters.try_servers(kinds, mine, inner, seen)
         for file, _, _, what in bodies:
-            if any(file.startswith(kind.NAME) for kind in kinds):
+            if what.endswith(AT_TWO) and seen.skipped:
+                tally.skip(f"a wrong body of {file}, which two addresses show")
+            elif any(file.startswith(kind.NAME) for kind in kinds):
                 tally.check(f"a wrong body of {file}, which a server shows", what in seen.names, seen.names)
         shutil.rmtree(inner)
 

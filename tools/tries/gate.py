@@ -63,11 +63,17 @@ def try_the_budget():
     check("only what is above by a third fails", [it.name for it in found.values() if it.is_above] == ["part a long one"])
     fast = budgets.rows({"part a long one": 3.9}, 0.05, BUDGET)
     check("nor does what is above only as it is scaled", round(fast[0].scaled, 3) == 7.8 and not fast[0].is_above, fast[0].line())
+    whole = {it.name: it for it in budgets.rows({**measured, "part tests of the pool": 9.0}, 0.1, ({**BUDGET[0], budgets.TOTAL: 12.5}, 0.1), is_whole=True)}
+    check("all is what has a budget", round(whole[budgets.TOTAL].minutes, 1) == 16.9 and whole[budgets.TOTAL].is_above, whole[budgets.TOTAL].line())
+    below = budgets.rows(measured, 0.1, ({**BUDGET[0], budgets.TOTAL: 12.7}, 0.1), is_whole=True)[-1]
+    check("nor does all fail below a third more", not below.is_above and below.line() == "| total | 16.9 | 16.9 | 12.7 |", below.line())
     said = found["part a long one"].line(), found["part new"].line()
     check("its line says so", said == ("| part a long one | 8.2 | 4.1 | 3.0 | ABOVE", "| part new | 50.0 | 25.0 | ? |"), said)
-    log = "anything\n| part the blocks of code | 8.2 | 4.1 | 3.0 | ABOVE\n| crate anew | 1.0 | 2.0 | ? |\n"
+    log = "anything\n| total | 1.0 | 2.0 | 3.0 |\n| part the blocks of code | 8.2 | 4.1 | 3.0 | ABOVE\n| crate anew | 1.0 | 2.0 | ? |\n"
     lines = list(budgets.from_log(log))
     check("a log's figures come into the file", "part the blocks of code: 4.1" in lines and lines[-1] == "crate anew: 2.0", lines)
+    kept = f"total: {budgets.of_file()[0][budgets.TOTAL]}"
+    check("but not what all may take", kept in lines and not any(it.startswith("total") for it in lines if it != kept), lines)
     check("what it has not measured stays", "part bodies that the prover refuses: " + shown(budgets.of_file()[0]["part bodies that the prover refuses"]) in lines, lines)
 
 
@@ -80,7 +86,11 @@ def try_that_each_has_a_budget():
     stages = [[[part for part in [*parts, *itertools.chain(*lanes)] if not part.meter] for parts, lanes in stage] for stage in stages_of(prove)]
     wanted = {f"part {part.name}" for stage in stages for parts in stage for part in parts} | {f"crate {name}" for name in prove.crates()}
     check("each part and crate has a line in the budget", wanted <= set(budget), wanted - set(budget))
-    check("and no other has one", set(budget) <= wanted, set(budget) - wanted)
+    check("and no other has one", set(budget) - {budgets.TOTAL} <= wanted, set(budget) - wanted)
+    of_all = {f"part {part.name}" for parts in stages[1] for part in parts}
+    not_of_all = {f"part {part.name}" for parts in stages[0] for part in parts} - of_all
+    check("what --all runs within another part is known", not_of_all == budgets.NOT_OF_ALL, not_of_all)
+    check("the lines come to no more than all may take", budgets.total_of(budget) <= budget[budgets.TOTAL], budgets.total_of(budget))
 
 
 def stages_of(prove):
@@ -109,14 +119,21 @@ def try_what_is_kept():
     prove.Part.is_anew = True
     anew = prove.proofs(["r2d2_core"]).words
     check("--anew is handed to the toolchain, and only then", "--anew" in anew and "--anew" not in words, (words, anew))
+    tests = prove.tests_of("all tests")
+    check("with --anew tests are compiled too", tests.words == ["tools/run-tests", "--anew"], tests.words)
+    tests.is_over, tests.minutes = True, 2.0
+    check("tests have a budget to meet", tests.measured() == {"part all tests": 2.0}, tests.measured())
+    tests.lines = ["stage: kept, compiled by an earlier run from the same files\n"]
+    check("those of a program that was kept have none", tests.measured() == {}, tests.measured())
     try_what_is_named(prove)
     with contextlib.redirect_stdout(io.StringIO()) as said:
         above = prove.within_budget([part], 1e-6)
     check("a proof that has no figure yet fails nothing", above.failed == 0 and "| crate mid | 3.0 |" in said.getvalue(), said.getvalue())
-    prove.budgets = types_of(budgets, {"crate mid": 1.0})
+    prove.budgets = types_of(budgets, {"crate mid": 1.0, budgets.TOTAL: 2.2})
     with contextlib.redirect_stdout(io.StringIO()):
-        above = prove.within_budget([part], 1.0)
+        above, whole = prove.within_budget([part], 1.0), prove.within_budget([part], 1.0, is_whole=True)
     check("one above its budget fails", (above.passed, above.failed) == (0, 1), (above.passed, above.failed))
+    check("and all above its own", (whole.passed, whole.failed) == (0, 2), (whole.passed, whole.failed))
 
 
 def try_what_is_named(prove):
@@ -127,9 +144,9 @@ def try_what_is_named(prove):
         return [[[it for it in part.words if it in prove.crates()] for part in parts] for parts in prove.all_proofs(*others)]
 
     was = os.environ.get("CI")
-    check("the longest chain comes first, and the rest beside it", named("pool_steps") == [[["r2d2_async"]], [["pool_steps"]]], named("pool_steps"))
-    beside = [["pool_audit", "pool_steps", "worked_rows"], ["first_pool", "examples"]]
-    check("reports and metrics are proved beside it", named() == [[["r2d2_async"], ["task_service"], []], beside], named())
+    check("the longest chain comes first, and the rest beside it", named("pool_steps") == [[["r2d2"], ["r2d2_async"]], [["pool_tasks"], ["pool_steps"]]], named("pool_steps"))
+    beside = [["pool_tasks"], ["pool_audit", "pool_steps", "worked_rows"], ["first_pool", "examples"]]
+    check("reports and metrics are proved beside it", named() == [[["r2d2"], ["r2d2_async"], ["task_service"], []], beside], named())
     check("with --anew all is one run", named("pool_steps", is_anew=True) == [[["r2d2_async", "pool_steps"]], []])
     check("in CI it is one of all crates", named("pool_steps", in_ci=True) == named(is_anew=True, in_ci=True) == [[[]], []])
     try_an_older_toolchain(prove, named)
@@ -142,10 +159,10 @@ def try_what_is_named(prove):
 def try_an_older_toolchain(prove, named):
     """One whose gate takes no names, and keeps nothing: what `./prove` promises is proved in a copy that has no other crates."""
     prove.takes_names = lambda: False
-    below = [["pool_lines", "pool_state", "pool_steps", "r2d2", "r2d2_async", "r2d2_core"]]
+    below = [["pool_lines", "pool_machine", "pool_state", "pool_steps", "pool_tasks", "r2d2", "r2d2_async", "r2d2_core"]]
     check("without names it is one run, of all that these stand on", named("pool_steps") == [below, []], named("pool_steps"))
     words = prove.proofs(["pool_lines"]).words
-    check("in a copy of these crates", words[3:] == ["tools/some", "pool_lines", "r2d2_core"], words)
+    check("in a copy of these crates", words[3:] == ["tools/some", "pool_lines", "pool_machine", "r2d2_core"], words)
     check("and one of all crates as it is", named() == [[[]], []] and prove.proofs().words[3:] == ["rt", "ci"], prove.proofs().words)
     prove.Part.is_anew = True
     check("which is anew without a word", prove.proofs().words[3:] == ["rt", "ci"], prove.proofs().words)
@@ -183,6 +200,8 @@ def try_the_model(top):
     part = prove.Part("the model of waiting", [])
     part.lines, part.is_over = [*said.getvalue().splitlines(keepends=True), "6 passed, 0 failed, 0 skipped\n"], True
     told = list(prove.not_checked([part], []))[0]
+    with set_up.path_of(top), contextlib.redirect_stdout(io.StringIO()):
+        check("without git some are made too", len(model.drawn(every)) == len(chosen))
     check("the others are told of", told == f"the model of waiting: all but 6 of {len(every)} searches, which went well before, as model/searched says", told)
 
 
@@ -191,7 +210,7 @@ def types_of(module, budget):
     class Other:
         Meter, Speed = module.Meter, module.Speed
         table = staticmethod(lambda found, speed: [])
-        rows = staticmethod(lambda measured, speed: module.rows(measured, speed, (budget, 1.0)))
+        rows = staticmethod(lambda measured, speed, **how: module.rows(measured, speed, (budget, 1.0), **how))
 
     return Other
 
@@ -231,6 +250,21 @@ def try_ctrl_c(top):
     far = [line for line in said.splitlines() if line.startswith("FAR ")]
     check("how far the proof is was said, by the processor", len(far) == 1 and "(top 0." in far[0] and "processor min" in far[0], said)
     check("and what was done before is not told again", far and "mid" not in far[0] and "low" not in far[0], far)
+
+
+def try_ctrl_c_of_the_tries(top):
+    """They end without a word."""
+    programs = os.path.join(top, "slow programs")
+    os.makedirs(programs)
+    for name in ("rt", "git"):
+        set_up.put_program("#!/bin/sh\n: > begun\nexec sleep 60\n", os.path.join(programs, name))
+    how = {"cwd": programs, "env": {**os.environ, "PATH": f"{programs}:{os.environ['PATH']}"}, "stderr": subprocess.PIPE, "text": True}
+    running = subprocess.Popen([sys.executable, "-B", os.path.join(TOP, "tools", "try"), "documents"], start_new_session=True, **how)
+    while running.poll() is None and not os.path.exists(os.path.join(programs, "begun")):
+        time.sleep(0.05)
+    os.killpg(running.pid, signal.SIGINT)
+    _, said = running.communicate()
+    check("Ctrl-C ends the tries without a word", (running.returncode, said) == (130, ""), said[-600:])
 
 
 class Compiler:
@@ -292,7 +326,7 @@ def try_the_compiler(top):
     words = trying.words_of(os.path.join(TOP, "crates", "pool_lines"), ["--test", "--seconds", "7"], ["some::test"])
     wanted = ["--test", "some::test", "7", "pool_lines", "src/lib.rt"]
     named = [word.partition(":")[0] for word in words if "=" in word]
-    check("the compiler is told what stands below", set(wanted) <= set(words) and {"r2d2_core", "circular_buffer", "std"} <= set(named), words)
+    check("the compiler is told what stands below", set(wanted) <= set(words) and {"pool_machine", "circular_buffer", "std"} <= set(named), words)
     place = os.path.join(top, "a compiler")
     os.makedirs(place)
     compiler = os.path.join(place, "compiler")
@@ -342,15 +376,31 @@ def try_a_space(top):
         copy.program("echo answered")
         came = copy.run(given=b"state\n")
     check("a script compiles its program there", came == (0, "answered\n", stand_in.first("pool-steps")), came)
+    programs = os.path.join(top, "its programs")
+    os.makedirs(programs)
+    set_up.put_program('#!/bin/sh\necho "$PWD: $1, $(ls crates)"\n', os.path.join(programs, "rt"))
+    how["env"]["PATH"] = f"{programs}:{os.environ['PATH']}"
+    done = subprocess.run([sys.executable, "-B", os.path.join(TOP, "tools", "some"), "pool_lines"], **how)
+    said = done.stdout + done.stderr
+    check("some crates are proved there", said.startswith(place) and said.endswith(": ci, pool_lines\n") and os.listdir(place) == [], said)
 
 
-TOOLS = [["prove"], ["tools/run-tests", "inside_r2d2_core"], ["tools/blocks"], ["tools/schedules/try", "tasks"], ["tools/wrong/try", "check"], ["tools/refuse/try", "in_turn::building"]]
+TOOLS = [
+    ["prove"],
+    ["tools/run-tests", "inside_pool_machine"],
+    ["tools/blocks"],
+    ["tools/schedules/try", "tasks"],
+    ["tools/wrong/try", "check"],
+    ["tools/refuse/try", "in_turn::building"],
+    ["tools/some", "pool_lines"],
+    ["tools/try", "gate"],
+]
 
 
 def names_it(where, top, programs, wanted, **settings):
     for tool, *words in TOOLS:
-        how = {"cwd": top, "env": {"PATH": programs, "HOME": programs, **settings}, "capture_output": True, "text": True, "timeout": 60}
-        done = subprocess.run([sys.executable, os.path.join(top, tool), *words], **how)
+        how = {"cwd": top, "env": {"PATH": programs, "HOME": programs, "TMPDIR": programs, **settings}, "capture_output": True, "text": True, "timeout": 60}
+        done = subprocess.run([sys.executable, "-B", os.path.join(top, tool), *words], **how)
         said = done.stdout + done.stderr
         check(f"{tool} {where}", done.returncode != 0 and wanted in said and "Traceback" not in said, said[-600:])
 
@@ -363,6 +413,7 @@ def tried():
     with tempfile.TemporaryDirectory() as top:
         try_the_model(top)
         try_ctrl_c(top)
+        try_ctrl_c_of_the_tries(top)
         try_the_compiler(top)
         try_tools_without(top)
         try_a_space(top)

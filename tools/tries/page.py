@@ -1,5 +1,5 @@
-"""The page of `pool-audit --html` in headless Chromium, as a person uses it: with keys, wheel and pointer, over the data of tests/pages.
-Where there is no Chromium, nobody has looked at it.
+"""The page of `pool-audit --html` in headless Chromium, as a person uses it: with keys, wheel and pointer, over the data of tests/pages,
+which is what the program makes of the reports of tools/samples.py. Where there is no Chromium, nobody has looked at it.
 
     tools/tries/page.py --wrong [WORD]     whether the checks find each of the wrong pages of page_wrong.py, or those with this word
 """
@@ -385,12 +385,11 @@ def try_keys(page):
     page.is_true("what can be reached has a name", names and all(names), names)
 
 
-def try_rows(page, reports):
+def try_rows(page, reports, met):
     rows = page.each(".history tbody tr", "[...it.children].map(it => it.innerText.trim())")
     page.holds("a row for each report", len(rows), len(reports))
-    for report, row in zip(reports, rows):
+    for report, row, calls in zip(reports, rows, met):
         if report["sound"]:
-            calls = [report["calls"][it] for it in ("timeouts", "refused", "failed_openings", "failed_checks", "takes")]
             wanted = [*calls[:4], report["waiting"], report["most_lent"], calls[4]]
             page.holds("its numbers", row[4:9] + row[10:], [str(it) for it in wanted])
             share = report["exhausted"] / (report["until"] - report["from"]) * 100
@@ -399,25 +398,36 @@ def try_rows(page, reports):
             page.is_true("a report that is not sound is marked", row[1].startswith("✕") and "Record 17" in row[-1], row)
 
 
+def met_since_before():
+    """What callers of the leak met from one of its reports to the next, by the totals in each: they cover each other's time."""
+    totals = [[*(it["status"][name] for name in ("timeouts", "refused", "failed_openings", "failed_checks")), it["takes"]] for it in samples.leak()]
+    return [[now - then for now, then in zip(*it)] for it in zip(totals, [[0] * 5] + totals)]
+
+
 def try_history(page):
-    data = sample("leak")
+    data, met = sample("leak"), met_since_before()
     reports = data["pools"][0]["reports"]
+    page.is_true("its reports count from different ones", len({it["since"] for it in reports}) < len(reports), [it["since"] for it in reports])
     reports.insert(3, sample("pools")["pools"][3]["reports"][0])
-    # The pool of an earlier start of the service, whose moments count from another making.
+    met.insert(3, None)
+    # The pool of an earlier start of the service, whose times count from another creation.
     reports.insert(0, {**reports[-1], "created_at": "2026-01-30T09:30:00Z", "since": None})
+    met.insert(0, [reports[0]["calls"][it] for it in ("timeouts", "refused", "failed_openings", "failed_checks", "takes")])
     page.open("history", data)
-    try_rows(page, reports)
+    try_rows(page, reports, met)
     page.holds("what is not sound is marked in each chart", page.each(".charts svg",
                "[...it.querySelectorAll('text')].filter(it => it.textContent === '✕').length"), [1] * 7)
-    late = [it for it in reports if it["sound"] and it["calls"]["timeouts"]]
-    counts = [it["calls"]["timeouts"] for it in late]
+    late = [it for it, calls in zip(reports, met) if calls and calls[0]]
+    counts = [calls[0] for calls in met if calls and calls[0]]
     page.holds("all timeouts are told", page.text_of(".charts figcaption span")[0], f"{sum(counts)} in all")
     lengths = "[...it.getAttribute('d').matchAll(/v([0-9.]+)/g)].map(it => Number(it[1]))"
     heights = page.each(".charts figure:first-child path.late", lengths)[0]
     page.is_true("its bars are as high as the counts", len(heights) == len(counts)
                  and all(abs(high / max(heights) - count / max(counts)) < .06 for high, count in zip(heights, counts)), (heights, counts))
     bars = [box for _, box in page.boxes(".stage path.late")]
-    wanted = [(page.place(max(it["since"] or 0, page.ends()[0])), page.place(it["until"])) for it in late[1:]]
+    untils = [it["until"] for it in reports[1:] if it["sound"]]
+    before = {until: since for since, until in zip([0] + untils, untils)}
+    wanted = [(page.place(max(before[it["until"]], page.ends()[0])), page.place(it["until"])) for it in late[1:]]
     found = [any(abs(it["left"] - left) < 1.5 and abs(it["right"] - right) < 2.5 for it in bars) for left, right in wanted]
     # One more is in the legend.
     page.holds("the timeouts stand where their reports are", (found, len(bars)), ([True] * len(wanted), len(wanted) + 1))
@@ -579,7 +589,7 @@ def try_export(page):
 
 def try_text(text, check):
     """The page as it is written: short, with one place for the data, and nothing that takes texts for HTML or comes from elsewhere."""
-    check("the page is short", text.count("\n") <= 700 and max(map(len, text.splitlines())) <= 140, text.count("\n"))
+    check("the page is short", text.count("\n") <= 720 and max(map(len, text.splitlines())) <= 140, text.count("\n"))
     check("the data has one place", text.count(browser.PLACE) == 1, text.count(browser.PLACE))
     taken = [it for it in ("innerHTML", "outerHTML", "insertAdjacentHTML", "document.write", "eval(", "fetch(", "src=") if it in text]
     check("no text becomes HTML, and nothing is loaded", not taken, taken)
@@ -587,7 +597,7 @@ def try_text(text, check):
 
 
 def try_all(screen, folder, text, check):
-    page, busy = Page(screen, folder, text, check), {"pools": [samples.busy(RECORDS)]}
+    page, busy = Page(screen, folder, text, check), samples.as_read(json.loads(samples.judged(samples.busy(RECORDS))))
     for part in [try_findings, try_states, try_lanes, try_many_lanes, try_wheel, try_zoom, try_keys, try_history, try_many_reports,
                  try_print, try_hostile, try_nothing, try_odd]:
         part(page)
@@ -600,8 +610,17 @@ def try_all(screen, folder, text, check):
     try_looks(page)
 
 
+def try_samples(check):
+    """Each word and figure of the data is the program's."""
+    for name, reports in samples.SAMPLES.items():
+        with open(os.path.join(TOP, "tests", "pages", name + ".json"), encoding="utf-8") as file:
+            seen, wanted = file.read(), samples.judged(reports())
+        check(f"{name}.json is what pool-audit makes of its reports: tools/pages samples", seen == wanted, wanted[:300])
+
+
 def tried():
     tally = Tally("page")
+    try_samples(tally.check)
     if browser.program() is None:
         tally.skip("chromium is missing")
         return tally

@@ -41,6 +41,8 @@ WRONG = [
      "order = [...seen].sort((a, b) => lent.get(b) - lent.get(a));", "order = [...seen];"),
     ("timeouts count from the making",
      "const x = this.x(Math.max(from, this.a)), wide", "const x = this.x(this.a), wide"),
+    ("timeouts count twice in reports that cover the same time",
+     "const isNext = (making ?? null) !== null && ", "const isNext = false && "),
     ("timeouts of an earlier making are drawn",
      "it.created_at === report.created_at && ", ""),
     ("a report that is not sound is drawn as zero",

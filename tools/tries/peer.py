@@ -2,8 +2,12 @@
 asked to."""
 import collections
 import contextlib
+import os
 import re
 import socket
+import subprocess
+import sys
+import tempfile
 import threading
 import time
 
@@ -13,6 +17,11 @@ from servers import HOST
 DEADLINE, SLACK = 0.5, 0.45
 # How often an attempt is made at most.
 TRIES = 4
+# A name of two addresses, at the first of which nobody answers, and what runs a program that knows it.
+NAME, NOBODY, BEHIND = "two.test", "127.0.0.2", "127.0.0.3"
+RUNNER = ["unshare", "--mount", *([] if os.geteuid() == 0 else ["--map-root-user"]), "sh", "-c", 'mount --bind "$0" /etc/hosts && exec "$@"']
+AT_TWO = "a name at whose first address nobody answers"
+LOOK_UP = f"import socket; print(*(it[4][0] for it in socket.getaddrinfo('{NAME}', 1, type=socket.SOCK_STREAM)))"
 LATE = r"no answer in 500 ms from 127\.0\.0\.1:\d+"
 
 
@@ -21,9 +30,9 @@ class Peer:
 
     PATIENCE = 6 * DEADLINE
 
-    def __init__(self):
+    def __init__(self, host=HOST):
         self.count, self.asked = 0, []
-        self.listener = socket.create_server((HOST, 0))
+        self.listener = socket.create_server((host, 0))
         self.port = self.listener.getsockname()[1]
         threading.Thread(target=self.accept, daemon=True).start()
 
@@ -77,6 +86,33 @@ def service_at(trial, peer, kind, *words):
     try:
         yield peer, service
     finally:
+        service.end()
+        peer.close()
+
+
+@contextlib.contextmanager
+def nobody_at(port):
+    """An address that takes no connection, and refuses none: its queue is full."""
+    with socket.socket() as listener, socket.socket() as first:
+        listener.bind((NOBODY, port))
+        listener.listen(0)
+        first.connect((NOBODY, port))
+        yield
+
+
+def try_two_addresses(trial, peer, kind, *words):
+    """A peer is behind. An opening shares its time among the addresses of a name: where the first one does not answer, it goes on to the next."""
+    with tempfile.NamedTemporaryFile("w") as hosts, nobody_at(peer.port):
+        hosts.write(f"{NOBODY} {NAME}\n{BEHIND} {NAME}\n")
+        hosts.flush()
+        runner = [*RUNNER, hosts.name]
+        looked_up = subprocess.run([*runner, sys.executable, "-c", LOOK_UP], stdout=subprocess.PIPE, stderr=subprocess.DEVNULL, text=True)
+        if looked_up.stdout.split() != [NOBODY, BEHIND]:
+            trial.tally.skip("no name can be given two addresses here")
+            return
+        service = trial.at(peer.port, kind, *words, name=NAME, runner=runner)
+        told = service.ask("get")
+        trial.check(AT_TWO, told == "lent", told)
         service.end()
         peer.close()
 

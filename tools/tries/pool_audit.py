@@ -2,6 +2,7 @@
 import gzip
 import json
 import os
+import re
 import shutil
 import signal
 import subprocess
@@ -33,8 +34,12 @@ def read(*path):
 def try_words():
     help = subprocess.run([SCRIPT, "--help"], stdout=subprocess.PIPE, timeout=60)
     check("--help", help.returncode == 0 and b"--json" in help.stdout, help)
+    # A name of its own in the table of concerns, and in the code that makes one.
+    named = re.findall(r"^    ([a-z_]+) {3,}", help.stdout.decode(), re.M)
+    made = re.findall(r"Told::of\(\s*\"(\w+)\"", read("crates", "pool_audit", "src", "concerns.rt").decode())
+    check("--help names each concern", sorted(named) == sorted(made) and len(made) == 11, (named, made))
     version = subprocess.run([SCRIPT, "--version"], stdout=subprocess.PIPE, timeout=60)
-    check("--version", version.returncode == 0 and version.stdout.startswith(b"pool-audit, by the rules"), version)
+    check("--version", version.returncode == 0 and re.match(rb"pool-audit \d+\.\d+\.\d+\S*, by the rules of", version.stdout), version)
     unknown = "pool-audit: usage: pool-audit [--find] [--pool NAME] [--json] [--html PAGE] [FILE]; --help says more\n"
     for words in [["--pool"], ["a", "b"], ["--fast"], ["--json", "--json"], ["--text"], ["--svg", "a"], ["--html"], ["--html", "a", "--html", "b"]]:
         runs(f"the words {words}", words, b"", 5, "", unknown)
@@ -232,7 +237,7 @@ def try_an_interrupt(number, status):
         again, program = os.path.join(folder, "again"), os.path.join(copy.crate, "out", "pool_audit")
         comes(lambda: os.path.exists(program))
         log = read(copy.crate, "out", "build.log")
-        check("the log of a build from its first second", log.startswith(b"proving r2d2_core, "), log)
+        check("the log of a build from its first second", log.startswith(b"proving pool_machine, "), log)
         first.send_signal(number)
         told = first.communicate(timeout=30)[1]
         check(f"the signal {number}", first.returncode == status and b"interrupted: the program is not built" in told, (first.returncode, told))

@@ -1,6 +1,7 @@
 """The script `pool-steps`."""
 import glob
 import os
+import re
 import select
 import subprocess
 import tempfile
@@ -13,6 +14,9 @@ TALLY = Tally("pool-steps")
 check = TALLY.check
 SCRIPT = os.path.join(TOP, "pool-steps")
 PROGRAM = os.path.join(TOP, "crates", "pool_steps", "out", "pool_steps")
+# The newest section of the changelog has a version, and says after a comma when it was released.
+with open(os.path.join(TOP, "CHANGELOG.md"), encoding="utf-8") as changes:
+    NEWEST = re.search(r"^## (\d+\.\d+\.\d+\S*), ", changes.read(), re.M)[1]
 LIMITS = "limits 1 - - - 30000 30000\n"
 # The first words and fields of the lines, as `pool-steps` says them.
 FORMS = ["limits MAX MIN LIFE IDLE TIMEOUT RATE [ORDER]", "take T", "want T", "begin T", "number K", "admit T ID V", "fail T K [TEXT]",
@@ -44,7 +48,7 @@ def try_words():
     check("the examples of --help are steps", (status, errors, len(output.splitlines())) == (0, "", 13), (examples, errors))
     status, output, errors = run(["--version"])
     lines = output.splitlines()
-    check("--version", status == 0 and len(lines) == 3 and lines[0] == "pool-steps, by the rules of r2d2 0.8.10", output)
+    check("--version", status == 0 and len(lines) == 3 and lines[0] == f"pool-steps {NEWEST}, by the rules of r2d2 0.8.10", output)
     runs("an unknown word", ["--fast"], "", 5, "", "pool-steps: usage: pool-steps [FILE]; --help says more")
     runs("two files", ["a", "b"], "", 5, "", "pool-steps: usage: pool-steps [FILE]; --help says more")
     runs("a file that is missing", ["/nowhere/at.all"], "", 3, "", "pool-steps: read failed: /nowhere/at.all: No such file or directory")

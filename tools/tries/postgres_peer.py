@@ -2,13 +2,14 @@
 import base64
 import hashlib
 import hmac
+import io
 import re
 import socket
 import struct
 import time
 
-from peer import DEADLINE, LATE, Peer, each_byte, sends, sends_forever, service_at, try_answer, try_each
-from servers import SECONDS
+from peer import BEHIND, DEADLINE, LATE, Peer, each_byte, sends, sends_forever, service_at, try_answer, try_each, try_two_addresses
+from servers import HOST, SECONDS
 
 CANCEL, SECRET = 80877102, b"hush"
 PASSWORD = "hidden-word"
@@ -53,20 +54,47 @@ def body_of(stream, length):
     return stream.read(struct.unpack("!I", length)[0] - 4)
 
 
-def message_of(stream):
-    """The body of the next message."""
-    return body_of(stream, stream.read(5)[1:])
+def message_of(stream, kind=b""):
+    """The body of the next message, which is to be of this kind."""
+    head = stream.read(5)
+    if not head.startswith(kind):
+        raise ValueError(head)
+    return body_of(stream, head[1:])
+
+
+def query_of(stream):
+    """The next query, with what was bound to it; the end is none."""
+    begin = stream.peek(1)[:1]
+    if begin != b"P":
+        return message_of(stream, b"Q" if begin == b"Q" else b"X")[:-1], None
+    parse, bind = message_of(stream, b"P"), message_of(stream, b"B")
+    if (parse[:1], parse[-3:], bind[:4], bind[-2:], message_of(stream, b"E"), message_of(stream, b"S")) != (b"\0", b"\0" * 3, b"\0" * 4, b"\0" * 2, b"\0" * 5, b""):
+        raise ValueError(bind)
+    return parse[1:-3], values_in(bind[4:-2])
+
+
+def values_in(bound):
+    """The values that these bytes are."""
+    stream, values = io.BytesIO(bound), []
+    for _ in range(*struct.unpack("!H", stream.read(2))):
+        (length,) = struct.unpack("!i", stream.read(4))
+        values.append(None if length < 0 else stream.read(length))
+        if len(values[-1] or b"") != max(length, 0):
+            raise ValueError(bound)
+    if stream.read():
+        raise ValueError(bound)
+    return values
 
 
 class PostgresPeer(Peer):
     """Takes each login by `login(peer, connection, stream, number)`, and answers each query by `play(connection, query, number)`: the number is
     that of the connection. What asks for the end of another's query is no connection of these."""
 
-    def __init__(self, play, login=None):
+    def __init__(self, play, login=None, host=HOST):
         self.play, self.login, self.cancelled, self.ended = play, login, [], []
         # (the service's checks make the rounds of a login a hundred times as long)
         self.PATIENCE = SECONDS if login else Peer.PATIENCE
-        super().__init__()
+        super().__init__(host)
 
     def take(self, connection, stream, number):
         start = body_of(stream, stream.read(4))
@@ -80,8 +108,9 @@ class PostgresPeer(Peer):
             self.login(self, connection, stream, number)
         connection.sendall(BEGUN + SETTING + message(b"K", key) + ready())
         try:
-            while query := message_of(stream)[:-1]:
-                self.asked.append(query)
+            while (asked := query_of(stream))[0]:
+                query, values = asked
+                self.asked.append(query if values is None else asked)
                 self.play(connection, query, number)
         finally:
             self.ended.append(key)
@@ -197,6 +226,11 @@ MARKS = [
     ('SELECT "count" (1)', b"SELECT 1", False),
     ("SELECT 1 INTO pg_temp_3.t", b"SELECT 1", False),
     ("UPDATE t SET id = DEFAULT", b"UPDATE 1", False),
+    ("WITH a AS (UPDATE t SET n = 1 RETURNING n), b AS (DELETE FROM u RETURNING n) SELECT n FROM a", b"SELECT 1", True),
+    ("WITH a AS (UPDATE t SET id = DEFAULT RETURNING n) SELECT n FROM a", b"SELECT 1", False),
+    ("WITH a AS (insert INTO t SELECT 1 RETURNING 1) SELECT 1", b"SELECT 1", False),
+    ("WITH a AS (WITH b AS (SELECT 1)INSERT INTO t SELECT 1 RETURNING 1) DELETE FROM u", b"DELETE 1", False),
+    ("WITH a AS (MERGE INTO t USING u ON true WHEN NOT MATCHED THEN INSERT VALUES (1) RETURNING 1) SELECT 1", b"SELECT 1", False),
     ("INSERT INTO t VALUES (1)", b"INSERT 0 1", False),
     ("SELECT 1", b"SET", False),
 ]
@@ -299,6 +333,15 @@ def takes(peer, connection, stream, number):
     """A login that is taken at once, by a peer that has patience."""
 
 
+def hashed(peer, connection, stream, number):
+    """A login by MD5, of a server that knows the password."""
+    connection.sendall(asks(5, b"salt"))
+    inner = hashlib.md5(PASSWORD.encode() + b"somebody").hexdigest()
+    peer.asked.append(message_of(stream))
+    if peer.asked[-1] != b"md5" + hashlib.md5(inner.encode() + b"salt").hexdigest().encode() + b"\0":
+        raise ValueError("another password")
+
+
 def drips(peer, connection, stream, number):
     sends_forever(b"", NOTICE, 0.05)(connection, b"", 0)
 
@@ -308,10 +351,12 @@ def floods(peer, connection, stream, number):
 
 
 NO_PROOF, FOREIGN = "postgres: the server asked for no proof of the password", "postgres: the server's nonce does not go on from this login's"
+MD5 = "postgres: the server asks for MD5, by which it proves nothing itself"
 ROUNDS = "postgres: the server asks for fewer rounds than 4096, or more than 1000000"
 # What is tried, how the server takes the login, and what the caller is told.
 LOGINS = [
     ("a login without a proof", None, NO_PROOF),
+    ("a login by MD5", says(asks(5, b"salt")), MD5),
     ("a wrong signature", scram(sign=False), "postgres: the server does not know the password itself"),
     ("no signature", scram(ends=False), NOT_UNDERSTOOD),
     ("a foreign nonce", scram(lambda nonce: b"A" + nonce[1:] + b"more"), FOREIGN),
@@ -324,8 +369,13 @@ LOGINS = [
     ("a login that is not answered", says(), LATE),
     ("a login that drips", drips, LATE),
     ("a login without an end", floods, TOO_MUCH),
-    ("a refusal that repeats the password", says(refusal(b"28P01", b"no: " + PASSWORD.encode(), b"FATAL")), "postgres: the login was refused"),
+    ("a refusal that repeats the password", says(refusal(b"28P01", b"no: " + PASSWORD.encode(), b"FATAL")), re.escape("postgres: the login was refused (SQLSTATE 28P01)")),
 ]
+# Passwords that a server's text may have in part, or in other letters; and what it repeats of them, as the state or the text of a refusal.
+SECRETS = {
+    "200 letters, a half of them": ("hidden" + "x" * 194, b"28P01", slice(100)), "a tab": ("hidden\tword", b"28P01", slice(None)),
+    "capitals, some of them as the state": ("HIDDEN", b"HIDDE", slice(None)), "a word, as the state": ("hidden", b"hidden", slice(None)),
+}
 
 
 def try_logins(trial):
@@ -336,13 +386,57 @@ def try_logins(trial):
             told = service.ask("get")
             trial.check(f"{what}: the text", re.search(wanted, told), told)
             trial.check_each_time(f"{what}: nobody is told the password", PASSWORD not in told + "".join(service.said), (told, service.said))
+    for what, (secret, state, part) in SECRETS.items():
+        with at_peer(trial, sends(ONE), "somebody", secret, login=says(refusal(state, b"no: " + secret.encode()[part], b"FATAL"))) as (_, service):
+            told = service.ask("get")
+            is_so = "the login was refused (SQLSTATE" in told and not re.search("hid", told + "".join(service.said), re.IGNORECASE)
+            trial.check_each_time(f"a refusal that repeats a password of {what}: nobody is told it", is_so, (told, service.said))
     with at_peer(trial, sends(ONE), "somebody", PASSWORD, kind="postgres-lenient") as (_, service):
         told = service.ask("get")
         trial.check("a login without a proof, where that is allowed", told == "lent", told)
+    with at_peer(trial, sends(ONE), "somebody", PASSWORD, kind="postgres-lenient", login=says(asks(5, b"salt"))) as (_, service):
+        told = service.ask("get")
+        trial.check("a login by MD5, where one that proves nothing is allowed", MD5 in told, told)
+    with at_peer(trial, sends(ONE), "somebody", PASSWORD, kind="postgres-md5", login=hashed) as (peer, service):
+        told = service.ask("get")
+        trial.check("a login by MD5, where that is allowed", told == "lent", (told, peer.asked))
     with at_peer(trial, sends(ONE), "somebody", PASSWORD, kind="postgres", login=scram()) as (peer, service):
         told = [service.ask("get"), service.ask("evict"), service.ask("get")]
         is_so = told[0] == told[2] == "lent" and len(set(peer.asked) - {b"SELECT 1"}) >= 2
         trial.check("a login with a proof, each with a nonce of its own", is_so, (told, peer.asked))
+
+
+# What is bound, as a line of the service says it, and as it comes.
+BOUND = [
+    ("a,NULL,", [b"a", None, b""]), ("NULL", [None]), ("'; DROP TABLE t --,$1,\\", [b"'; DROP TABLE t --", b"$1", b"\\"]),
+    ("\u00e9\u20ac,\U0001f600", ["\u00e9\u20ac".encode(), "\U0001f600".encode()]), (",".join(["x"] * 65535), [b"x"] * 65535),
+]
+TAKEN = message(b"1") + message(b"2")
+
+
+def try_values(trial):
+    """What is bound to a query comes as it is, each value apart from the text."""
+    # (a peer that has patience: many values take the service long)
+    for line, values in BOUND:
+        with at_peer(trial, sends(TAKEN + VALUES), kind="calm-never", login=takes) as (peer, service):
+            told = service.ask(f"run SELECT $1 <- {line}")
+            is_so = re.fullmatch(VALUES_TOLD + r" \|", told) and peer.asked == [(b"SELECT $1", values)]
+            trial.check(f"{line[:20]} is bound", is_so, (told, peer.asked))
+    with at_peer(trial, sends(TAKEN + done(b"UPDATE 3") + ready()), kind="calm-never", login=takes) as (peer, service):
+        told = service.ask("run #UPDATE t SET n = $1 <- 7;; SELECT 1 <- " + ",".join(["x"] * 65536) + ";; #UPDATE t <- 8")
+        wanted = "3 rows | ! postgres: a query has more than 65535 values | 3 rows |"
+        asked = [(b"UPDATE t SET n = $1", [b"7"]), (b"UPDATE t", [b"8"])]
+        trial.check("how many rows a query with values was about", told == wanted and peer.asked == asked and peer.count == 1, (told, peer.asked))
+    with at_peer(trial, sends(message(b"1") + refusal(b"22P02", b"no") + ready())) as (peer, service):
+        told = [service.ask("run SELECT $1 <- x") for _ in range(2)]
+        is_so = told == ["! postgres: no (SQLSTATE 22P02) |"] * 2 and peer.count == 1
+        trial.check("a value that is refused breaks nothing", is_so, (told, peer.count))
+    answers = {**RESET, b"SELECT mine($1)": TAKEN + ONE, b"SELECT max($1)": TAKEN + ONE}
+    with at_peer(trial, lambda connection, query, number: connection.sendall(answers[query]), kind="postgres-if-marked") as (peer, service):
+        for name in ("max", "mine", "max"):
+            service.ask(f"run SELECT {name}($1) <- 1")
+        asked = [it if isinstance(it, bytes) else it[0] for it in peer.asked]
+        trial.check("a query with values marks as its words do", asked == [b"SELECT max($1)", b"SELECT mine($1)", b"DISCARD ALL", b"SELECT max($1)"], asked)
 
 
 def try_ends(trial):
@@ -355,7 +449,8 @@ def try_ends(trial):
         told = service.ask("run SELECT 1;; SELECT \0;; SELECT 1")
         wanted = '[Some("1")] | ! postgres: a query has a zero byte in it | [Some("1")] |'
         trial.check("a query with a zero byte", told == wanted and len(peer.asked) == 2 and peer.count == 1, (told, peer.asked))
+    try_two_addresses(trial, PostgresPeer(sends(ONE), host=BEHIND), "postgres-never", "somebody")
 
 
 def try_peer(trial):
-    try_each(trial, (try_answers, try_doubled, try_reset_in_time, try_marks, try_states, try_cancel, try_memory, try_logins, try_ends))
+    try_each(trial, (try_answers, try_doubled, try_reset_in_time, try_marks, try_states, try_cancel, try_memory, try_logins, try_values, try_ends))

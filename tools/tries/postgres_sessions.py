@@ -62,11 +62,16 @@ LEFT = [
     ("a failed transaction with a channel", "BEGIN;; LISTEN news;; SELECT 1/0", False),
 ]
 # How a caller leaves what `lastval` tells.
-NUMBERED = ["SELECT nextval('numbers')", "INSERT INTO numbered DEFAULT VALUES", "UPDATE numbered SET id = DEFAULT"]
+NUMBERED = [
+    "SELECT nextval('numbers')", "INSERT INTO numbered DEFAULT VALUES", "UPDATE numbered SET id = DEFAULT",
+    "WITH it AS (INSERT INTO noted SELECT 1 RETURNING 1) SELECT 1", "WITH it AS (INSERT INTO noted SELECT 1 RETURNING 1) DELETE FROM noted",
+    "WITH it AS (UPDATE numbered SET id = DEFAULT RETURNING 1) SELECT 1",
+]
 
 
 def try_sessions(trial):
     trial.server.ask("""CREATE SEQUENCE numbers; CREATE TABLE numbered (id serial); INSERT INTO numbered VALUES (0);
+        CREATE TABLE noted (n int, id serial);
         CREATE PROCEDURE sets() AS 'SET statement_timeout = 12345' LANGUAGE sql""")
     for mode in MODES:
         # (one that waits for longer: here it is the server that is slow, on a busy machine)

@@ -3,7 +3,8 @@ import re
 import socket
 import time
 
-from peer import DEADLINE, LATE, Peer, each_byte, sends, sends_forever, service_at, try_answer, try_each
+from peer import BEHIND, DEADLINE, LATE, Peer, each_byte, sends, sends_forever, service_at, try_answer, try_each, try_two_addresses
+from servers import HOST
 
 PONG = b"+PONG\r\n"
 # 16 MiB is the most of one answer.
@@ -25,9 +26,9 @@ def words_of(stream):
 class RedisPeer(Peer):
     """Answers each PING, and any other request by `play(connection, words, number)`: the number is that of the connection."""
 
-    def __init__(self, play, greeting=PONG):
+    def __init__(self, play, greeting=PONG, host=HOST):
         self.play, self.greeting = play, greeting
-        super().__init__()
+        super().__init__(host)
 
     def take(self, connection, stream, number):
         while (words := words_of(stream)) is not None:
@@ -139,14 +140,22 @@ def try_demoted(trial):
         trial.check("a demoted server is left", "READONLY" in told[0] and told[1] == "OK |", (told, peer.count))
 
 
+# Passwords that a server's text may have in part, or in other letters.
+SECRETS = {"a word": "hidden", "200 letters": "hidden" + "x" * 194, "a tab": "hidden\tword", "capitals": "HIDDEN"}
+
+
 def try_secrets(trial):
-    """A server that repeats what it was sent."""
-    def play(connection, words, number):
-        connection.sendall(b"-ERR unknown command 'AUTH', with args beginning with: '" + words[-1] + b"'\r\n")
-    with at_peer(trial, play, "hidden") as (_, service):
-        told = service.ask("get")
-        is_so = "the login was refused" in told and "hidden" not in told + "".join(service.said)
-        trial.check("no error has the password", is_so, (told, service.said))
+    """A server that repeats what it was sent, cut after 128 letters as the real one does, at a login or where something else was asked."""
+    for at, begin, word in ((b"AUTH", b"ERR no ", "ERR"), (b"RESET", b"DENIED ", "DENIED"), (b"AUTH", b"", "?")):
+        for what, secret in SECRETS.items():
+            def play(connection, words, number, at=at, begin=begin, secret=secret):
+                is_told = words[0] == at
+                connection.sendall(b"-%s\r\n" % (begin + secret.encode()[:128]) if is_told else b"+RESET\r\n")
+            with at_peer(trial, play, secret, kind="redis-if-marked") as (_, service):
+                told = service.ask("get")
+                said = told + "".join(service.said)
+                is_so = f"redis: the login was refused ({word})" in told and not re.search("hid", said, re.IGNORECASE)
+                trial.check(f"a password of {what}, behind {begin.decode()!r} in the answer to {at.decode()}: no error has it", is_so, (told, service.said))
 
 
 def try_openings(trial):
@@ -158,6 +167,7 @@ def try_openings(trial):
         service.ask("get")
         told = service.ask("run GET it")
         trial.check("a connection that is closed", re.search(r"! 127\.0\.0\.1:\d+ closed the connection", told), told)
+    try_two_addresses(trial, RedisPeer(sends(b"+RESET\r\n"), host=BEHIND), "redis-if-marked")
 
 
 def try_peer(trial):

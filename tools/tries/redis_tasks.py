@@ -69,8 +69,8 @@ class TaskTrial:
     def check(self, what, holds, seen=""):
         self.tally.check(f"redis for tasks: {what}", holds, seen)
 
-    def at(self, port, kind, *words):
-        return self.make(self.program, kind, port, *words)
+    def at(self, port, kind, *words, **how):
+        return self.make(self.program, kind, port, *words, **how)
 
     def service_of(self, kind, *words):
         service = self.at(self.server.port, kind, *words)

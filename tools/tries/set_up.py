@@ -139,7 +139,7 @@ def try_what_was_not_checked(top):
     said = list(script.not_checked([model, wrong, stopped], []))
     wanted = [
         f"the model of waiting, {model.skipped} of it: the model of waiting is skipped: spin is missing",
-        "wrong bodies: of r2d2 all but one each, which were refused before, as wrong/tried says",
+        "wrong bodies: of r2d2 all but three each, which were refused before, as wrong/tried says",
         "the blocks of code: stopped, since another part failed",
     ]
     check("what was not checked is said", model.skipped > 0 and said[:3] == wanted and len(said) == 5, said)
@@ -153,7 +153,7 @@ def try_the_tests_that_it_names():
     """A test in a crate would be proved, twice as long as the crate: those of the core stand in a folder, of which each test counts."""
     script, folders = prove(), copies.names()
     check("each folder that prove names has tests", set(script.POOL_TESTS) <= set(folders), script.POOL_TESTS)
-    check("the core's tests are among them", {"core_tests", "inside_r2d2_core"} <= set(script.POOL_TESTS), script.POOL_TESTS)
+    check("the core's tests are among them", {"core_tests", "inside_pool_machine"} <= set(script.POOL_TESTS), script.POOL_TESTS)
     in_crates = [name for name in script.crates() if copies.count_in(os.path.join(TOP, "crates", name, "src"))]
     check("no crate has tests that are proved", in_crates == [], in_crates)
 

@@ -109,7 +109,7 @@ def runs(mine):
 def try_an_empty_folder(mine, lines):
     os.mkdir(mine)
     answers("an empty folder", 0, "put there: crates/r2d2", mine)
-    for crate in ("r2d2_core", "pool_state", "r2d2"):
+    for crate in ("pool_machine", "r2d2_core", "pool_state", "r2d2"):
         arrives(mine, crate)
     check("the lines arrive", read(mine, "crates.txt") == lines, read(mine, "crates.txt"))
     check("the handles arrive", read(mine, "HANDLES") == read(TOP, "HANDLES"))
@@ -124,15 +124,15 @@ def try_a_repository(theirs, lines):
     os.mkdir(theirs)
     write("# mine\nown: anyhow", theirs, "crates.txt")
     shutil.copy(os.path.join(TOP, "HANDLES"), theirs)
-    answers("a repository with crates", 0, "put there: crates.txt: three lines more", theirs)
+    answers("a repository with crates", 0, "put there: crates.txt: four lines more", theirs)
     check("its lines stay", read(theirs, "crates.txt") == "# mine\nown: anyhow\n" + lines, read(theirs, "crates.txt"))
 
 
 def try_reports(logged):
     """With what writes reports of the journal as text."""
     os.mkdir(logged)
-    answers("with reports", 0, "put there: crates.txt: made, with four lines", "--reports", logged)
-    lines = re.findall(r"^(?:r2d2|r2d2_core|pool_state|pool_reports)[ :].*\n", read(TOP, "crates.txt"), re.M)
+    answers("with reports", 0, "put there: crates.txt: made, with five lines", "--reports", logged)
+    lines = re.findall(r"^(?:r2d2|pool_machine|r2d2_core|pool_state|pool_reports)[ :].*\n", read(TOP, "crates.txt"), re.M)
     check("the lines of all arrive", sorted(read(logged, "crates.txt").splitlines(True)) == sorted(lines), read(logged, "crates.txt"))
     arrives(logged, "pool_reports")
 
@@ -140,21 +140,85 @@ def try_reports(logged):
 def try_metrics(measured):
     """With what counts and times, which stands on what writes reports."""
     os.mkdir(measured)
-    answers("with metrics", 0, "put there: crates.txt: made, with five lines", "--metrics", measured)
+    answers("with metrics", 0, "put there: crates.txt: made, with six lines", "--metrics", measured)
     arrives(measured, "pool_metrics")
     arrives(measured, "pool_reports")
 
 
 def try_options(place):
     """With all that there is beside the pool."""
-    mine, crates = os.path.join(place, "all"), ["r2d2_async", "tokio_timer", "pool_metrics", "pool_reports", "redis_codec", "redis", "redis_tasks", "postgres"]
+    mine, crates = os.path.join(place, "all"), ["pool_tasks", "r2d2_async", "tokio_timer", "pool_metrics", "pool_reports", "redis_codec", "redis", "redis_tasks", "postgres"]
     os.mkdir(mine)
     words = ["--postgres", "--async", "--redis", "--reports", mine, "--metrics"]
     answers("with all options", 0, "put there: HANDLES: made; it reads 'Handles allowed: Threads, Wait, Net.'", *words)
-    for crate in ["r2d2_core", "pool_state", "r2d2", *crates]:
+    for crate in ["pool_machine", "r2d2_core", "pool_state", "r2d2", *crates]:
         arrives(mine, crate)
     listed = [line.partition(":")[0].split()[0] for line in read(mine, "crates.txt").splitlines()]
-    check("each has its line", sorted(listed) == sorted(["r2d2_core", "pool_state", "r2d2", *crates]), listed)
+    check("each has its line", sorted(listed) == sorted(["pool_machine", "r2d2_core", "pool_state", "r2d2", *crates]), listed)
+
+
+def try_later(place):
+    """Into a repository that has the pool comes what else is asked for. What is there stays."""
+    mine = os.path.join(place, "later")
+    os.mkdir(mine)
+    answers("the pool at first", 0, "put there: crates/r2d2", mine)
+    # (a proof, and a program of its owner's, who has Net allowed)
+    for path in (("crates", "r2d2", "out"), ("crates", "hello")):
+        os.makedirs(os.path.join(mine, *path))
+        write("mine", mine, *path, "mine")
+    write("Handles allowed: Threads, Wait, Net.\n", mine, "HANDLES")
+    before = files(mine)
+    for what, option, added in [
+        ("tasks", "--async", ["pool_tasks", "r2d2_async", "tokio_timer"]), ("Redis for them", "--redis", ["redis_codec", "redis", "redis_tasks"]), ("reports", "--reports", ["pool_reports"]),
+    ]:
+        if option == "--redis":
+            write("mine", mine, "crates", "tokio_timer", "src", "lib.rt")
+            before = files(mine)
+        words = ["--async", "--redis", mine] if option == "--redis" else [option, mine]
+        answers(f"{what} later", 0, "already there: crates/r2d2_core", *words)
+        for crate in added:
+            arrives(mine, crate)
+        now = files(mine)
+        check(f"what was there before {what} stays", all(now.get(path) == text or path == "crates.txt" for path, text in before.items()), now.keys())
+        check(f"its lines stay before {what}", now["crates.txt"].startswith(before["crates.txt"]), now["crates.txt"])
+        before = now
+    listed = [line.partition(":")[0].split()[0] for line in read(mine, "crates.txt").splitlines()]
+    check("each has one line at last", len(listed) == len(set(listed)) == 11, listed)
+    answers("a program of its owner's stays", 0, "    cp " + os.path.join(TOP, "adapters", "first_postgres", "main.rs") + " crates/hello_postgres/src/main.rt", "--postgres", mine)
+
+
+def try_another_pool(place):
+    """A pool that is not that of here is none to add to."""
+    mine = os.path.join(place, "another")
+    os.mkdir(mine)
+    answers("a pool", 0, "put there: crates/r2d2", mine)
+    path = os.path.join("crates", "pool_state", "src", "lib.rt")
+    write(read(mine, path) + "// mine\n", mine, path)
+    before = files(mine)
+    answers("an edited pool is refused", 1, "vendor: crates/pool_state is already there, and differs from the one here", "--async", mine)
+    write(read(TOP, path), mine, path)
+    os.unlink(os.path.join(mine, "crates", "r2d2", "src", "lib.rt"))
+    answers("a part of a pool is refused", 1, "vendor: crates/r2d2 is already there, and differs from the one here", "--async", mine)
+    shutil.copy(os.path.join(TOP, "crates", "r2d2", "src", "lib.rt"), os.path.join(mine, "crates", "r2d2", "src"))
+    write("", mine, "crates.txt")
+    answers("a pool without lines is refused", 1, "vendor: crates/r2d2_core is already there, and crates.txt has no line for it", "--async", mine)
+    check("refusals do nothing", files(mine).keys() == before.keys(), files(mine).keys() ^ before.keys())
+
+
+def try_steps(place):
+    """The steps name all that was asked for."""
+    for options, firsts, pages in [
+        (["--redis", "--postgres"], ["first_redis", "first_postgres"], []),
+        (["--async", "--postgres"], ["first_postgres", "first_tokio"], []),
+        (["--async", "--redis", "--postgres", "--metrics", "--reports"], ["first_redis_tasks", "first_postgres"], ["pool_metrics", "pool_reports"]),
+        (["--metrics"], ["first_pool"], ["pool_metrics"]),
+    ]:
+        mine = os.path.join(place, "steps" + "".join(options))
+        os.mkdir(mine)
+        said = subprocess.run([os.path.join(TOP, "vendor"), *options, mine], stdout=subprocess.PIPE, text=True).stdout
+        copied = re.findall(r"^    cp \S*/(first_\w+)(?:/src)?/main\.r[st] crates/(\w+)/src/main\.rt$", said, re.M)
+        is_so = [first for first, _ in copied] == firsts and len({name for _, name in copied}) == len(firsts)
+        check(f"the steps after {' '.join(options)}", is_so and re.findall(r"\.md shows (\w+)", said) == pages, said)
 
 
 def try_an_adapter(place):
@@ -168,6 +232,10 @@ def try_an_adapter(place):
     os.unlink(os.path.join(mine, "HANDLES"))
     told = f"    cp {first} crates/hello/src/main.rt"
     answers("an adapter tells of its first program", 0, told, "--redis", mine)
+    mine = os.path.join(place, "server")
+    os.mkdir(mine)
+    server = "Next, for a first program of your own, which expects a Redis at 127.0.0.1:6379:"
+    answers("and which server that expects", 0, server, "--redis", mine)
     check("the first program is there", os.path.isfile(first))
 
 
@@ -182,7 +250,7 @@ def try_tasks(place):
         f"cd {mine} && mkdir -p crates/hello/src", f"cp {first} crates/hello/src/main.rt",
         "echo 'hello: r2d2_async tokio_timer tokio futures anyhow' >> crates.txt",
         "echo 'Handles allowed: Print, Threads, Wait, Net.' > HANDLES    # tokio needs Net",
-        "cd crates/hello && rt try    # runs it without proof, in half a minute",
+        "cd crates/hello && rt try    # compiles and runs it, without proof: some minutes of a processor each time",
     ]
     check("the steps to a first program of tasks", steps == wanted and os.path.isfile(first), steps)
     arrives(mine, "tokio_timer")
@@ -229,13 +297,16 @@ def try_nobody_who_reads(mine):
 
 
 def tried():
-    lines = "".join(re.findall(r"^(?:r2d2|r2d2_core|pool_state)[ :].*\n", read(TOP, "crates.txt"), re.M))
+    lines = "".join(re.findall(r"^(?:r2d2|pool_machine|r2d2_core|pool_state)[ :].*\n", read(TOP, "crates.txt"), re.M))
     with tempfile.TemporaryDirectory() as place:
         try_an_empty_folder(os.path.join(place, "mine"), lines)
         try_a_repository(os.path.join(place, "theirs"), lines)
         try_reports(os.path.join(place, "logged"))
         try_metrics(os.path.join(place, "measured"))
         try_options(place)
+        try_later(place)
+        try_another_pool(place)
+        try_steps(place)
         try_an_adapter(place)
         try_tasks(place)
         try_redis_for_tasks(place)

@@ -76,7 +76,7 @@ def told(place, body, source):
 def tries(tally):
     """How many are tried of a crate, by what wrong/tried says of it: in the gate no fewer than otherwise."""
     bodies = prover.of_crates()["pool_state"]
-    for is_known, is_gate, wanted in ((True, True, 1), (False, True, len(bodies)), (True, False, 1), (False, False, len(bodies))):
+    for is_known, is_gate, wanted in ((True, True, prover.DRAWN), (False, True, len(bodies)), (True, False, prover.DRAWN), (False, False, len(bodies))):
         given = types.SimpleNamespace(all=False, proved=is_gate, seed="one")
         count = len(prover.chosen_of("pool_state", bodies, is_known, given))
         tally.check(f"of one that is {'' if is_known else 'not '}known, {'in the gate' if is_gate else 'by hand'}", count == wanted, count)

@@ -30,7 +30,7 @@ TRIED = os.path.join(TOP, "wrong", "tried")
 PARTS = ("src", "specs", "proofs")
 HEAD = "# The crates whose wrong bodies the prover all refused, with a sum of what that rests on, and by which logic: written by tools/wrong/try prover --all.\n"
 # Of a crate whose bodies are known to be refused so many are tried again; and so many functions are few for one check.
-DRAWN, FEW = 1, 3
+DRAWN, FEW = 3, 3
 # The most memory that a check was seen to take, in bytes.
 ONE_CHECK = 4_000_000_000
 
