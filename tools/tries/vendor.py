@@ -208,9 +208,10 @@ def try_another_pool(place):
 def try_steps(place):
     """The steps name all that was asked for."""
     for options, firsts, pages in [
-        (["--redis", "--postgres"], ["first_redis", "first_postgres"], []),
-        (["--async", "--postgres"], ["first_postgres", "first_tokio"], []),
-        (["--async", "--redis", "--postgres", "--metrics", "--reports"], ["first_redis_tasks", "first_postgres"], ["pool_metrics", "pool_reports"]),
+        (["--redis", "--postgres"], ["first_redis", "first_postgres"], ["redis", "postgres"]),
+        (["--async", "--postgres"], ["first_postgres", "first_tokio"], ["postgres"]),
+        (["--async", "--redis", "--postgres", "--metrics", "--reports"], ["first_redis_tasks", "first_postgres"],
+         ["redis", "postgres", "pool_metrics", "pool_reports"]),
         (["--metrics"], ["first_pool"], ["pool_metrics"]),
     ]:
         mine = os.path.join(place, "steps" + "".join(options))
@@ -219,6 +220,8 @@ def try_steps(place):
         copied = re.findall(r"^    cp \S*/(first_\w+)(?:/src)?/main\.r[st] crates/(\w+)/src/main\.rt$", said, re.M)
         is_so = [first for first, _ in copied] == firsts and len({name for _, name in copied}) == len(firsts)
         check(f"the steps after {' '.join(options)}", is_so and re.findall(r"\.md shows (\w+)", said) == pages, said)
+        guide = "TASKS" if "--async" in options else "GUIDE"
+        check(f"where {' '.join(options)} goes on", re.findall(r"(\w+)\.md goes on from here", said) == [guide], said)
 
 
 def try_an_adapter(place):
