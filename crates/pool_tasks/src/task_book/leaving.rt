@@ -34,9 +34,9 @@ impl<P: Drop> TaskBook<P> {
     ghost use Rattle.pool_state.specs.declared.failures.Failures.{Failures as SeenFailures};
     ghost use Rattle.pool_state.specs.Failed.{IsOneOpeningMore, IsOneTimeoutMore};
     ghost use Rattle.pool_state.specs.Settled.{IsSettling};
-    ghost use Rattle.pool_state.specs.Status.{IsStatus};
+    ghost use Rattle.pool_state.specs.Status.{IsStatus, all_who_wait};
     ghost use Rattle.pool_state.specs.Waiting.{before, slot_if, told_if, told_by};
-    ghost use Rattle.pool_state.specs.Waits.{WaitAsBefore};
+    ghost use Rattle.pool_state.specs.Waits.{WaitAsBefore, count_of};
 
     /// A caller goes that was lent nothing: it leaves the line, and a connection under its check,
     /// which went with it, is no longer the pool's, as one whose check failed. What was idle before
@@ -125,6 +125,10 @@ impl<P: Drop> TaskBook<P> {
         ensures status { IsStatus result.status }
         ensures idle { result.status.idle ≡ length self.new.guarded.book.picture.idle }
         ensures lent { result.status.lent ≡ length self.new.guarded.book.picture.lent }
+        ensures opening { result.status.opening
+            ≡ self.new.guarded.book.picture.on_order.pending }
+        ensures waiting { result.status.waiting
+            ≡ all_who_wait (count_of self.new.guarded.waiting) self.new.guarded.places }
         ensures timeouts { result.status.timeouts ≡ self.new.guarded.failures.timeouts }
         ensures workers { result.status.workers ≡ Some self.old.at_work }
         ensures line { self.new.guarded.places
