@@ -8,6 +8,9 @@
    - where nobody can go on and a worker rests while an opening is due, or after the close;
    - where connections and pending openings exceed `max_size`, or too few are idle or pending;
    - where more wait than `max_waiting` allows;
+   - where a caller comes and a turn stands, though nobody is to come who was woken; or where nobody can go on and a caller
+     gives way, even if its patience has no end (ENDLESS);
+   - where a `get` takes while one that was woken is to come first, unless it found all lent since it came;
    - in line, where a caller takes while one that began to wait before it has no idle connection of its own, or where one
      whose turn it is was not told.
    It also finds that three wakes are not needed, the two of a reap and an eviction's of the callers, if it counts none:
@@ -27,11 +30,11 @@
      told. Only a failed opening makes an earlier one, and wakes them all: that it does is found without reaps.
    - Who finds the lock taken tries again a few times before it sleeps for it (Shared::lock). Here it comes to the lock
      when that is free: nobody waits for anything else meanwhile, and whoever has the lock lets it go.
-   - A caller that finds none looks again a few times before it waits (Shared::look_again). Such a look changes nothing
-     and waits for nothing: it is a caller that comes to its one look later.
-   - A caller that comes gives way to one that was woken (Shared::give_way), before it orders and is counted as waiting;
-     `max_waiting` is asked again after that. It changes only whose turn it is, for which nobody sleeps, and waits for
-     nothing: it is a caller that comes to its one look later.
+   - A caller that finds all lent looks again a few times before it waits (Shared::look_again). Here it is the last of
+     these looks, at any time: those before it change nothing, and wait for nothing.
+   - A turn may be given by each step that wakes one of those who wait (Waiters::give_turn): in the code once in a while,
+     by the clock. Who gives way (Shared::give_way) may lose its patience at any time: in the code after so many looks, or
+     so long. Only that ends its giving way to turn after turn, while others go on for ever: no search looks for this.
    - `close` is there as the begin of a drain alone. A second close is not there; it would but wake everybody once more.
    - A connection that outlives its pool is here a pool that its caller still has.
    tools/schedules plays the code itself, with the real variables, though by chance and not in all interleavings.
@@ -49,6 +52,9 @@
 #endif
 #ifndef LINE
 #define LINE 0            /* so many callers may stand in line; 0: all wait at one variable */
+#endif
+#ifndef ENDLESS
+#define ENDLESS 0         /* 1: who gives way does so until the turn ends; 0: or loses its patience before, at any time */
 #endif
 #ifndef LIMIT
 #define LIMIT 0           /* so many may wait at the one variable; 0: as many as come */
@@ -139,6 +145,8 @@ byte resting[WORKERS];
 byte counted;             /* Waiters::callers: those who began to wait and have not looked again, nor given up */
 byte sent;                /* Waiters::woken: wakes that were sent to them, and not taken */
 bool maker_sleeps, drain_sleeps;        /* of the same name there: who waits for no connection, and was not woken */
+bool turn;                /* Waiters::has_turn: one of those who were woken is to come first */
+byte giving_way;          /* for the judge alone: so many give way */
 byte holders = WAITERS;   /* those who hold the pool */
 bool built = (BUILD == 0);
 hidden byte ordered, k;   /* for use inside one step alone */
@@ -232,6 +240,25 @@ inline count_all() {
   sent = counted; maker_sleeps = false; drain_sleeps = false
 }
 
+/* Waiters::give_turn and end_turn, under the lock. Those in line are not counted, and are given none. */
+#ifdef GIVES_TURNS_WHERE_NOBODY_WAITS
+#define IS_FOR_SOMEBODY true
+#else
+#define IS_FOR_SOMEBODY (counted > 0)
+#endif
+inline give_turn() {
+  if
+  :: !turn && IS_FOR_SOMEBODY -> turn = true
+  :: true
+  fi
+}
+inline end_turn() {
+  turn = false
+}
+
+/* PoolState::is_anothers_turn */
+#define IS_ANOTHERS_TURN (idle > 0 && turn)
+
 /* Waiters::wake_if, under the lock: whom to wake at the callers' variable once it is free. */
 #define ONE 1
 #define ALL 2
@@ -246,6 +273,7 @@ inline count_all() {
 #define OTHERS_SLEEP (maker_sleeps || drain_sleeps)
 #endif
 inline count_wake() {
+  give_turn();
   if
   :: OTHERS_SLEEP -> count_all(); wakes = ALL
 #ifdef WAKES_ONE_OF_THOSE_WHO_DRAIN
@@ -284,6 +312,21 @@ inline wake_caller(step) {
 #define IS_TOO_MANY false
 #define IS_DONE skip
 #endif
+/* Who let the lock go before its step is asked again then, if it does not wait yet. */
+#if LIMIT && defined(ASKS_ONCE)
+#define IS_BACK has_waited = true
+#else
+#define IS_BACK skip
+#endif
+
+/* What has to be true as a caller comes, and as one takes. */
+#ifdef IS_NOT_LOOKED_AT
+#define SOMEBODY_IS_TO_COME skip
+#define PASSES_NOBODY skip
+#else
+#define SOMEBODY_IS_TO_COME assert(!turn || sent > 0)
+#define PASSES_NOBODY assert(!turn || idle == 0 || found_none || IS_TRYING || waits)
+#endif
 
 /* AnyPool::lend_within, the drop of what was lent, and the drop of the pool. */
 active [CALLERS] proctype caller() {
@@ -295,6 +338,9 @@ active [CALLERS] proctype caller() {
 #endif
 #if LIMIT
   bool has_waited;        /* it began to wait since its latest take */
+#endif
+#if !LINE
+  bool found_none;        /* it found all lent, and looks again before it waits */
 #endif
 #if BUILD
   if
@@ -339,14 +385,39 @@ evicts: /* Shared::evict: what is lent then is closed as it comes back, as each 
   if :: MAY_STAY -> goto stays :: true fi;                          /* Hooks::release */
   goto calls;
 
-look: /* Shared::lend_until, and wait_for_turn once it waited; of a `try_get` lend_once, of which a miss makes no step */
+look: /* Shared::lend_until, of one that comes; of a `try_get` lend_once, of which a miss makes no step */
 #ifdef WAKES_BEFORE_THE_STEP
   atomic { wake_workers(MISS) };
 #endif
 #if LINE
+woken:
   atomic { look_in_line() };
 #else
   atomic {
+    SOMEBODY_IS_TO_COME;
+    if
+    :: IS_TRYING -> goto step
+#ifndef NOBODY_GIVES_WAY
+    :: !IS_TRYING && IS_ANOTHERS_TURN -> giving_way++; goto gives_way
+#endif
+    :: !IS_TRYING && idle == 0 && !closed && IS_TOO_MANY -> goto calls
+    :: else -> goto looks
+    fi;
+woken: /* Shared::wait_for_turn: it has the lock again */
+#ifdef WAKES_AFTER_THE_WAIT
+    wake_workers(MISS);
+#endif
+#ifndef TURNS_OUTLAST_A_WAIT
+    end_turn();
+#endif
+looks: /* Shared::look_again: where all are lent, it lets the lock go, unless it is hurried */
+    if
+    :: idle == 0 && lent > 0 && !closed -> found_none = true; goto looks_again
+    :: true
+    fi;
+step: /* PoolState::look, or look_again */
+    PASSES_NOBODY;
+    found_none = false;
     end_wait();
     if
     :: idle > 0 -> idle--; lent++; top_up(); orders = ordered > 0; IS_DONE; goto took
@@ -378,6 +449,34 @@ look: /* Shared::lend_until, and wait_for_turn once it waited; of a `try_get` le
 #endif
     fi
   };
+
+gives_way: /* Shared::give_way, where it has let the lock go */
+  if
+  :: atomic { !IS_ANOTHERS_TURN -> giving_way--; IS_BACK; goto looks }
+#if !ENDLESS
+  :: atomic {
+       turn -> giving_way--; IS_BACK;
+#ifndef LOST_PATIENCE_ENDS_NO_TURN
+       end_turn();
+#endif
+       goto looks
+     }
+#endif
+  fi;
+
+looks_again: /* the last look of Shared::look_again: what is idle by now it takes, whoever was to come first */
+  if
+  :: atomic {
+       if
+#if !defined(TURNS_OUTLAST_A_WAIT) && !defined(TURNS_OUTLAST_A_LOOK)
+       :: waits -> end_turn()                                       /* once more: one may have been given meanwhile */
+#endif
+       :: !waits -> IS_BACK
+       :: else
+       fi;
+       goto step
+     }
+  fi;
 #endif
 
 #ifdef WAITS_AFTER_UNLOCKING
@@ -388,27 +487,29 @@ unlocked:
 asleep: /* Condvar::wait_timeout: who is impatient may be told of a timeout whether or not it was woken */
 end_asleep:
   if
-  :: !waiting[_pid] -> goto woken
-  :: IS_IMPATIENT -> waiting[_pid] = false; goto woken
-  :: IS_IMPATIENT -> waiting[_pid] = false; goto gives_up
-  fi;
-
-woken:
-#ifdef WAKES_AFTER_THE_WAIT
-  atomic { wake_workers(MISS) };
-#endif
+  :: atomic { !waiting[_pid] -> goto woken }
+  :: atomic { IS_IMPATIENT && waiting[_pid] -> waiting[_pid] = false; goto asleep }
+  :: atomic { IS_IMPATIENT -> waiting[_pid] = false; goto gives_up }
 #ifdef LOOKS_UNCOUNTED
-  atomic { end_wait() };
+  :: atomic { waits && !waiting[_pid] -> end_wait(); goto asleep }
 #endif
-  goto look;
+  fi;
 
 gives_up: /* PoolState::give_up_wait or give_up_late, then Shared::give_up, which takes the latest error */
 #if LINE
   atomic { give_up_in_line() };
-#elif defined(PASSES_ON_ONLY_WHERE_ONE_IS_IDLE)
-  atomic { end_wait(); IS_DONE; if :: idle > 0 -> count_wake() :: else fi };
 #else
-  atomic { end_wait(); IS_DONE; count_wake() };
+  atomic {
+#ifndef TURNS_OUTLAST_A_TIMEOUT
+    if :: waits -> end_turn() :: else fi;
+#endif
+    end_wait(); IS_DONE;
+#ifdef PASSES_ON_ONLY_WHERE_ONE_IS_IDLE
+    if :: idle > 0 -> count_wake() :: else fi
+#else
+    count_wake()
+#endif
+  };
 #endif
   wake_caller(GIVING_UP);
   goto calls;
@@ -569,6 +670,7 @@ active proctype judge() {
 #if LINE
     for (k : 0 .. CALLERS - 1) { assert((is[k] == QUIET || is[k] == TOLD) == (waiting[k] && !(k == 0 && builds))) };
 #endif
+    assert(giving_way == 0);
     assert(asleep == 0 || (!closed && built && idle == 0 && due == 0 && (lent + in_work == SIZE || asleep <= in_work)));
     for (k : 0 .. WORKERS - 1) { assert(resting[k] == AWAKE || (!closed && due == 0)) }
 #if CLOSERS
