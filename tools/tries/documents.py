@@ -92,7 +92,8 @@ def try_a_sound_set():
         words, of_crate = made(top)
         both = words + of_crate
         faults, seen = documents.checked(top, both, words)
-        wanted = f"5 documents of {both:,} words, {len(list(documents.wanted_rows(top)))} settings, 1 links"
+        looked_at = f"{words:,} words, {both:,} with READMEs of crates and folders"
+        wanted = f"5 documents of {looked_at}, {len(list(documents.wanted_rows(top)))} settings, 1 links"
         TALLY.check("a sound set", faults == [] and seen == wanted, (faults, seen))
         faults, _ = documents.checked(top, both - 1, words)
         TALLY.check("a word too many", faults == [f"all Markdown files together have {both:,} words, more than {both - 1:,}"], faults)

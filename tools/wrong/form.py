@@ -2,7 +2,7 @@
 
     what it is, in plain words
     seen by: prover
-    in: fn pool::in_line::Shared::settle
+    in: r2d2 fn pool::in_line::Shared::settle
     old: words of the function
     new: what stands in their place
 
