@@ -1,0 +1,5 @@
+pub mod Rows
+pub mod Texts
+pub mod Encoded
+pub mod Again
+pub mod Worked

@@ -1,0 +1,4 @@
+pub mod Frames
+pub mod Messages
+pub mod Requests
+pub mod Talks
