@@ -4,13 +4,10 @@ ghost use Rattle.std.specs.Prelude.{◌≢◌, IfOk};
 
 use crate::deadline::Deadline;
 use crate::error::PostgresError;
-use crate::mark::Mark;
-use crate::refusal::is_end;
+use crate::refusal::refused;
 use crate::wire::Wire;
+use postgres_codec::{Mark, Message, Status};
 use std::alloc::Global;
-
-/// What a value takes beside its text, in bytes.
-const VALUE: usize = 32;
 
 /// How much one answer may have.
 #[derive(Clone, Copy, Debug, PartialEq, Eq)]
@@ -32,15 +29,14 @@ pub enum Session {
 }
 
 impl Session {
-    /// What the server's word for it means, once it is ready for a query.
-    pub(crate) fn of(word: &[u8]) -> Result<Session, PostgresError>
-        ensures { IfOk result (λ session. session ≢ Session.Broken) }
+    /// How the server is once it is ready for a query.
+    pub(crate) fn of(status: Status) -> Session
+        ensures { result ≢ Session.Broken }
     {
-        match word {
-            b"I" => Ok(Session::Idle),
-            b"T" => Ok(Session::InTransaction),
-            b"E" => Ok(Session::InFailedTransaction),
-            _ => Err(PostgresError::Protocol),
+        match status {
+            Status::Idle => Session::Idle,
+            Status::InTransaction => Session::InTransaction,
+            Status::InFailedTransaction => Session::InFailedTransaction,
         }
     }
 }
@@ -65,36 +61,24 @@ impl Row {
         self.columns.as_slice()
     }
 
-    // The row that a message is: so many columns.
-    fn of(alloc: Global, count: u16, body: &[u8]) -> Result<Row, PostgresError> {
+    // The row of these values, which are to be text.
+    fn of(alloc: Global, values: Vec<Option<Vec<u8>>>) -> Result<Row, PostgresError> {
         let mut columns = Vec::new(alloc);
-        let mut rest = body;
-        for _ in 0..count {
-            let (column, after) = column_of(alloc, rest)?;
-            columns.push(column)?;
-            rest = after;
-        }
-        if !rest.is_empty() {
-            return Err(PostgresError::Protocol);
+        for value in values {
+            columns.push(match value {
+                Some(bytes) => Some(text_of(bytes)?),
+                None => None,
+            })?;
         }
         Ok(Row { columns })
     }
 }
 
-// The first column of these, and the others: its length in four bytes, below zero for NULL, and its
-// text.
-fn column_of(alloc: Global, columns: &[u8]) -> Result<(Option<String>, &[u8]), PostgresError> {
-    let [a, b, c, d, rest @ ..] = columns else {
-        return Err(PostgresError::Protocol);
-    };
-    let Ok(length) = usize::try_from(i32::from_be_bytes([*a, *b, *c, *d])) else {
-        return Ok((None, rest));
-    };
-    let (text, rest) = rest
-        .split_at_checked(length)
-        .ok_or(PostgresError::Protocol)?;
-    let text = str::from_utf8(text).map_err(|_| PostgresError::Protocol)?;
-    Ok((Some(String::from_str(alloc, text)?), rest))
+fn text_of(bytes: Vec<u8>) -> Result<String, PostgresError> {
+    match String::from_utf8(bytes) {
+        Ok(text) => Ok(text),
+        Err(_) => Err(PostgresError::Protocol),
+    }
 }
 
 /// The rows of a query, or the server's refusal.
@@ -117,22 +101,20 @@ pub fn read_answer(
     limits: Limits,
     deadline: Deadline,
 ) -> Result<Answer, PostgresError> {
-    wire.allow(limits.bytes);
     let mut reading = Reading {
         alloc,
         rows: Vec::new(alloc),
         refused: None,
         affected: 0,
-        mark: Mark::Plain,
     };
     for _ in 0..u64::MAX {
-        let kind = wire.receive(deadline)?;
-        if let Some(session) = reading.take(kind, wire, limits)? {
+        let message = wire.receive(deadline)?;
+        if let Some(session) = reading.take(message, limits)? {
             return Ok(Answer {
                 rows: reading.refused.map_or(Ok(reading.rows), Err),
                 affected: reading.affected,
                 session,
-                mark: reading.mark,
+                mark: wire.talk.take_mark(),
             });
         }
     }
@@ -164,62 +146,27 @@ struct Reading {
     rows: Vec<Row>,
     refused: Option<PostgresError>,
     affected: u64,
-    mark: Mark,
 }
 
 impl Reading {
     // Takes a message in. The session, where it is the last one.
-    fn take(
-        &mut self,
-        kind: u8,
-        wire: &mut Wire,
-        limits: Limits,
-    ) -> Result<Option<Session>, PostgresError> {
-        match kind {
-            b'D' => self.take_row(wire, limits)?,
-            b'C' => self.take_end(wire.body())?,
-            b'E' => {
-                // What it did before it failed may last: a lock, say.
-                self.mark = self.mark.and(Mark::Marked);
-                self.refused = Some(wire.refusal()?);
-                if is_end(wire.body()) {
+    fn take(&mut self, message: Message, limits: Limits) -> Result<Option<Session>, PostgresError> {
+        match message {
+            Message::Ready(status) => return Ok(Some(Session::of(status))),
+            Message::Row(_) if self.rows.len() >= limits.rows => {
+                return Err(PostgresError::TooMuch);
+            }
+            Message::Row(values) => self.rows.push(Row::of(self.alloc, values)?)?,
+            Message::Complete(done) => self.affected = self.affected.saturating_add(done.rows),
+            Message::Refusal(refusal) => {
+                self.refused = Some(refused(self.alloc, &refusal)?);
+                if refusal.ends() {
                     return Ok(Some(Session::Broken));
                 }
             }
-            b'Z' => return Ok(Some(Session::of(wire.body())?)),
-            // A setting has changed, or somebody listens.
-            b'S' | b'A' => self.mark = self.mark.and(Mark::Marked),
-            // Of the columns, of an empty query, of values it has taken, and what the server tells.
-            b'T' | b'I' | b'1' | b'2' | b'N' => {}
-            // As for COPY, where it waits for the client.
-            _ => return Err(PostgresError::Protocol),
+            Message::Setting | Message::Notification | Message::Notice | Message::Passed => {}
+            Message::Login(..) | Message::Key(_) => return Err(PostgresError::Protocol),
         }
         Ok(None)
-    }
-
-    fn take_row(&mut self, wire: &mut Wire, limits: Limits) -> Result<(), PostgresError> {
-        let [high, low, ..] = wire.body() else {
-            return Err(PostgresError::Protocol);
-        };
-        let count = u16::from_be_bytes([*high, *low]);
-        if self.rows.len() >= limits.rows {
-            return Err(PostgresError::TooMuch);
-        }
-        wire.spend(usize::from(count) * VALUE)?;
-        let columns = wire.body().get(2..).ok_or(PostgresError::Protocol)?;
-        self.rows.push(Row::of(self.alloc, count, columns)?)?;
-        Ok(())
-    }
-
-    // The end of a statement: its name, and how many rows it told or changed.
-    fn take_end(&mut self, body: &[u8]) -> Result<(), PostgresError> {
-        let Some((0, said)) = body.split_last() else {
-            return Err(PostgresError::Protocol);
-        };
-        let said = str::from_utf8(said).map_err(|_| PostgresError::Protocol)?;
-        let count = said.rsplit(' ').next().unwrap_or("");
-        self.affected = self.affected.saturating_add(count.parse().unwrap_or(0));
-        self.mark = self.mark.and(Mark::of_statement(said));
-        Ok(())
     }
 }

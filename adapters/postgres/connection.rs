@@ -5,11 +5,11 @@ ghost use Rattle.std.specs.Prelude.{◌≡◌, ◌≢◌, ◌<◌, ◌⊎◌, If
 use crate::answer::{Answer, Limits, Row, Session, read_answer, skip_answers};
 use crate::deadline::Deadline;
 use crate::error::PostgresError;
-use crate::login::Login;
-use crate::mark::Mark;
+use crate::login::{LOGIN, Login};
 use crate::query::Query;
 use crate::reset::Reset;
 use crate::wire::Wire;
+use postgres_codec::Mark;
 use std::time::Duration;
 
 /// How long a call may take, from its beginning to its end.
@@ -33,7 +33,7 @@ pub struct PostgresConnection {
     // How many answers to a reset were not read yet.
     resetting: usize,
     // What a cancel names this connection by.
-    key: Option<[u8; 8]>,
+    key: Option<Vec<u8>>,
 }
 
 impl PostgresConnection {
@@ -48,8 +48,9 @@ impl PostgresConnection {
         ensures { IfOk result (λ connection. connection.session ≢ Session.Broken) }
     {
         let deadline = Deadline::new(rt, timeouts.connect);
-        let mut wire = Wire::open(rt, address, deadline)?;
+        let mut wire = Wire::open(rt, address, LOGIN, deadline)?;
         let begun = login.run(&mut wire, deadline)?;
+        wire.talk.allow(limits.bytes);
         Ok(PostgresConnection {
             rt,
             wire,
@@ -74,7 +75,7 @@ impl PostgresConnection {
         ensures err { self.old.session ≡ Session.Broken → IsErr result }
         ensures stays { self.old.session ≡ Session.Broken → self.new.session ≡ Session.Broken }
     {
-        self.asked(Query::of(text))?.rows
+        self.asked(Query::of(self.rt.alloc(), text)?)?.rows
     }
 
     /// Sends one query, with values for `$1`, `$2` and so on: each as text, or None for NULL. The
@@ -87,7 +88,8 @@ impl PostgresConnection {
         ensures err { self.old.session ≡ Session.Broken → IsErr result }
         ensures stays { self.old.session ≡ Session.Broken → self.new.session ≡ Session.Broken }
     {
-        self.asked(Query::with(text, values))?.rows
+        self.asked(Query::with(self.rt.alloc(), text, values)?)?
+            .rows
     }
 
     /// As `query`. How many rows its statements inserted, changed, deleted or returned, together.
@@ -95,7 +97,7 @@ impl PostgresConnection {
         ensures err { self.old.session ≡ Session.Broken → IsErr result }
         ensures stays { self.old.session ≡ Session.Broken → self.new.session ≡ Session.Broken }
     {
-        self.counted(Query::of(text))
+        self.counted(Query::of(self.rt.alloc(), text)?)
     }
 
     /// As `query_with`. How many rows it inserted, changed, deleted or returned.
@@ -107,10 +109,10 @@ impl PostgresConnection {
         ensures err { self.old.session ≡ Session.Broken → IsErr result }
         ensures stays { self.old.session ≡ Session.Broken → self.new.session ≡ Session.Broken }
     {
-        self.counted(Query::with(text, values))
+        self.counted(Query::with(self.rt.alloc(), text, values)?)
     }
 
-    fn counted(&mut self, query: Query<'_>) -> Result<u64, PostgresError>
+    fn counted(&mut self, query: Query) -> Result<u64, PostgresError>
         ensures stays { self.old.session ≡ Session.Broken →
             IsErr result × (self.new.session ≡ Session.Broken) }
     {
@@ -119,11 +121,10 @@ impl PostgresConnection {
         Ok(answer.affected)
     }
 
-    fn asked(&mut self, query: Query<'_>) -> Result<Answer, PostgresError>
+    fn asked(&mut self, query: Query) -> Result<Answer, PostgresError>
         ensures stays { self.old.session ≡ Session.Broken →
             IsErr result × (self.new.session ≡ Session.Broken) }
     {
-        query.must_be_one()?;
         let deadline = Deadline::new(self.rt, self.timeouts.command);
         self.exchange(query, deadline)
     }
@@ -133,7 +134,8 @@ impl PostgresConnection {
         ensures { self.old.session ≡ Session.Broken → IsErr result }
     {
         let deadline = Deadline::new(self.rt, self.timeouts.check);
-        let rows = self.exchange(Query::of("SELECT 1"), deadline)?.rows?;
+        let query = Query::of(self.rt.alloc(), "SELECT 1")?;
+        let rows = self.exchange(query, deadline)?.rows?;
         match rows.as_slice() {
             [row] if row.get(0) == Some("1") => Ok(()),
             _ => {
@@ -145,7 +147,7 @@ impl PostgresConnection {
 
     // It is broken from before the query is sent until the server is ready again, so each `?`
     // leaves it broken: an answer that comes late would be taken for that of the next query.
-    fn exchange(&mut self, query: Query<'_>, deadline: Deadline) -> Result<Answer, PostgresError>
+    fn exchange(&mut self, query: Query, deadline: Deadline) -> Result<Answer, PostgresError>
         ensures broken { IsErr result → self.new.session ≡ Session.Broken }
         ensures stays { self.old.session ≡ Session.Broken → IsErr result }
         ensures session { IfOk result (λ answer. self.new.session ≡ answer.session) }
@@ -170,18 +172,15 @@ impl PostgresConnection {
         }
     }
 
-    fn talk(&mut self, query: Query<'_>, deadline: Deadline) -> Result<Answer, PostgresError>
+    fn talk(&mut self, query: Query, deadline: Deadline) -> Result<Answer, PostgresError>
         ensures broken { self.old.session ≡ Session.Broken → self.new.session ≡ Session.Broken }
         ensures mark { IsOk result → self.new.mark ≡ Mark.Plain →
             (self.old.mark ≡ Mark.Plain) ⊎ (0 < self.old.resetting) }
     {
         self.end_reset(deadline)?;
         self.wire.must_be_quiet(deadline)?;
-        self.mark = self.mark.and(Mark::of_query(query.text));
-        match query.values {
-            Some(values) => self.wire.ask_with(query.text, values, deadline)?,
-            None => self.wire.ask(&[query.text], deadline)?,
-        }
+        self.mark = self.mark.and(query.mark);
+        self.wire.ask(query.request.as_slice(), deadline)?;
         let answer = read_answer(self.rt.alloc(), &mut self.wire, self.limits, deadline)?;
         self.mark = self.mark.and(answer.mark);
         Ok(answer)
@@ -207,11 +206,11 @@ impl PostgresConnection {
     // The server goes on with a query whose caller has left, so it is told to end it. Where it does
     // not hear that in time nothing more can be done from here.
     fn cancel(&self, deadline: Deadline) {
-        if let Some(key) = self.key {
+        if let Some(key) = &self.key {
             // A server that lives takes it at once: so long it takes on a busy machine alone.
             let asking = Deadline::new(self.rt, Duration::from_millis(200));
             let answer = Deadline::new(self.rt, deadline.tenth() / 2);
-            self.wire.cancel(key, asking, answer).ok();
+            self.wire.cancel(key.as_slice(), asking, answer).ok();
         }
     }
 
@@ -265,7 +264,7 @@ impl PostgresConnection {
             queries.push("DISCARD ALL")?;
         }
         if !queries.is_empty() {
-            self.wire.ask(queries.as_slice(), deadline)?;
+            self.wire.ask_each(queries.as_slice(), deadline)?;
         }
         self.resetting = queries.len();
         self.session = Session::Idle;

@@ -1,5 +1,6 @@
 //! What fails.
 
+use postgres_codec::{CodecError, Fault, RequestError};
 use std::alloc::AllocError;
 use std::io;
 use thiserror::Error;
@@ -31,7 +32,7 @@ pub enum PostgresError {
     #[error("postgres: the session of an earlier caller could not be ended")]
     Reset,
     /// Nothing was sent.
-    #[error("postgres: a query has a zero byte in it")]
+    #[error("postgres: a query or a name has a zero byte in it")]
     ZeroByte,
     /// Nothing was sent.
     #[error("postgres: a query has more than 65535 values")]
@@ -59,6 +60,28 @@ pub enum PostgresError {
     Broken,
     #[error(transparent)]
     Memory(#[from(alloc)] AllocError),
+}
+
+impl From<CodecError> for PostgresError {
+    fn from(error: CodecError) -> PostgresError {
+        match error {
+            CodecError::Memory => PostgresError::Memory(AllocError),
+            CodecError::Fault(Fault::Malformed) => PostgresError::Protocol,
+            CodecError::Fault(Fault::TooMuch) => PostgresError::TooMuch,
+            CodecError::Unasked => PostgresError::Unasked,
+        }
+    }
+}
+
+impl From<RequestError> for PostgresError {
+    fn from(error: RequestError) -> PostgresError {
+        match error {
+            RequestError::Memory => PostgresError::Memory(AllocError),
+            RequestError::ZeroByte => PostgresError::ZeroByte,
+            RequestError::TooManyValues => PostgresError::TooManyValues,
+            RequestError::TooMuch => PostgresError::TooMuch,
+        }
+    }
 }
 
 impl PostgresError {

@@ -5,26 +5,17 @@ ghost use Rattle.std.specs.Prelude.{◌≡◌, ◌≢◌, ◌⊎◌, IfOk, IsTru
 use crate::answer::Session;
 use crate::deadline::Deadline;
 use crate::error::PostgresError;
+use crate::refusal::refused;
 use crate::scram::Scram;
 use crate::wire::Wire;
 use md5::{Digest, Md5};
+use postgres_codec::{Asked, Message, Refusal, password, sasl_first, sasl_next, start};
+use std::alloc::AllocError;
 
-/// Version 3.0 of the protocol.
-const VERSION: u32 = 196_608;
-/// What the server asks for, in its messages of kind `R`.
-const DONE: u32 = 0;
-
-const BY_MD5: u32 = 5;
-
-const BY_SASL: u32 = 10;
-
-const GOES_ON: u32 = 11;
-
-const ENDS: u32 = 12;
 /// The way of SASL that is known here.
 const MECHANISM: &str = "SCRAM-SHA-256";
 /// How much a server may say in a login, in bytes.
-const LOGIN: usize = 64 * 1024;
+pub const LOGIN: usize = 64 * 1024;
 
 /// Who a connection is for. `random` is for this login alone.
 #[derive(Drop)]
@@ -44,7 +35,7 @@ pub struct Login<'a> {
 #[derive(Drop)]
 pub struct Begun {
     pub session: Session,
-    pub key: Option<[u8; 8]>,
+    pub key: Option<Vec<u8>>,
 }
 
 /// How far a login is.
@@ -71,17 +62,21 @@ impl Login<'_> {
     pub fn run(&self, wire: &mut Wire, deadline: Deadline) -> Result<Begun, PostgresError>
         ensures { IfOk result (λ begun. begun.session ≢ Session.Broken) }
     {
-        wire.allow(LOGIN);
-        wire.send(None, self.start()?.as_slice(), deadline)?;
+        let request = start(self.rt.alloc(), self.user, self.database)?;
+        wire.ask(request.as_slice(), deadline)?;
         let (mut stage, mut key) = (Stage::Begun, None);
         for _ in 0..u64::MAX {
             match wire.receive(deadline)? {
-                b'R' => stage = self.answer(wire, stage, deadline)?,
-                b'E' => return Err(self.refused(wire.refusal()?)),
-                b'K' => key = key_in(wire.body()),
-                b'S' | b'N' => {}
-                b'Z' if stage == Stage::Taken => {
-                    let session = Session::of(wire.body())?;
+                Message::Login(asked, text) => {
+                    stage = self.answer(wire, stage, asked, text.as_slice(), deadline)?;
+                }
+                Message::Refusal(refusal) => return Err(self.refused(&refusal)?),
+                Message::Key(name) => key = Some(name),
+                Message::Setting | Message::Notice => {}
+                Message::Ready(status) if stage == Stage::Taken => {
+                    // What the server tells of its settings here is how each session begins.
+                    wire.talk.take_mark();
+                    let session = Session::of(status);
                     return Ok(Begun { session, key });
                 }
                 _ => return Err(PostgresError::Protocol),
@@ -92,8 +87,8 @@ impl Login<'_> {
 
     // A server, or a proxy before it, may know the password, and repeat it or a part of it: where
     // there is one, its state alone is told.
-    fn refused(&self, error: PostgresError) -> PostgresError {
-        match (error, self.password) {
+    fn refused(&self, refusal: &Refusal) -> Result<PostgresError, AllocError> {
+        Ok(match (refused(self.rt.alloc(), refusal)?, self.password) {
             (PostgresError::Refused { mut state, .. }, Some(password)) => {
                 if password.contains(state.as_str()) || state.as_str().contains(password) {
                     state.clear();
@@ -101,36 +96,22 @@ impl Login<'_> {
                 PostgresError::Login { state }
             }
             (error, _) => error,
-        }
-    }
-
-    // Names and values, each with a zero after it, which none of them may have in it.
-    fn start(&self) -> Result<Vec<u8>, PostgresError> {
-        if self.user.contains('\0') || self.database.contains('\0') {
-            return Err(PostgresError::Protocol);
-        }
-        let mut body = Vec::new(self.rt.alloc());
-        body.extend_from_slice(&VERSION.to_be_bytes())?;
-        for text in ["user", self.user, "database", self.database] {
-            body.extend_from_slice(text.as_bytes())?;
-            body.push(0)?;
-        }
-        body.extend_from_slice(b"client_encoding\0UTF8\0\0")?;
-        Ok(body)
+        })
     }
 
     fn answer(
         &self,
         wire: &mut Wire,
         stage: Stage,
+        asked: Asked,
+        text: &[u8],
         deadline: Deadline,
     ) -> Result<Stage, PostgresError> {
-        let (asked, rest) = asked_in(wire.body())?;
-        match self.step(asked, stage, is_offered(rest))? {
+        match self.step(asked, stage, is_offered(text))? {
             Step::Take => Ok(Stage::Taken),
             Step::Md5 => {
-                let answer = self.hashed(rest)?;
-                wire.send(Some(b'p'), answer.as_slice(), deadline)?;
+                let answer = self.hashed(text)?;
+                wire.send(answer.as_slice(), deadline)?;
                 Ok(Stage::Proved)
             }
             Step::Scram => {
@@ -142,18 +123,20 @@ impl Login<'_> {
 
     // A server that has not shown that it knows the password is taken only as the settings say: by
     // SCRAM it shows that, by MD5 or without a question not.
-    fn step(&self, asked: u32, stage: Stage, offers_scram: bool) -> Result<Step, PostgresError>
+    fn step(&self, asked: Asked, stage: Stage, offers_scram: bool) -> Result<Step, PostgresError>
         ensures take { IfOk result (λ step. step ≡ Step.Take → (stage ≡ Stage.Proved)
             ⊎ (self.now.password ≡ None) ⊎ IsTrue self.now.is_lenient) }
         ensures md5 { IfOk result (λ step. step ≡ Step.Md5 → IsTrue self.now.takes_md5) }
     {
         match (asked, stage) {
-            (DONE, Stage::Proved) => Ok(Step::Take),
-            (DONE, Stage::Begun) if self.password.is_none() || self.is_lenient => Ok(Step::Take),
-            (DONE, Stage::Begun) => Err(PostgresError::NoProof),
-            (BY_MD5, Stage::Begun) if self.takes_md5 => Ok(Step::Md5),
-            (BY_MD5, Stage::Begun) => Err(PostgresError::Md5),
-            (BY_SASL, Stage::Begun) if offers_scram => Ok(Step::Scram),
+            (Asked::Nothing, Stage::Proved) => Ok(Step::Take),
+            (Asked::Nothing, Stage::Begun) if self.password.is_none() || self.is_lenient => Ok(
+                Step::Take,
+            ),
+            (Asked::Nothing, Stage::Begun) => Err(PostgresError::NoProof),
+            (Asked::Md5, Stage::Begun) if self.takes_md5 => Ok(Step::Md5),
+            (Asked::Md5, Stage::Begun) => Err(PostgresError::Md5),
+            (Asked::Sasl, Stage::Begun) if offers_scram => Ok(Step::Scram),
             (_, Stage::Begun) => Err(PostgresError::UnknownLogin),
             _ => Err(PostgresError::Protocol),
         }
@@ -173,50 +156,42 @@ impl Login<'_> {
         hasher.update(inner.as_bytes());
         hasher.update(salt);
         let outer = hex::encode(self.rt.alloc(), &hasher.finalize())?;
-        let mut answer = Vec::new(self.rt.alloc());
-        answer.extend_from_slice(b"md5")?;
-        answer.extend_from_slice(outer.as_bytes())?;
-        answer.push(0)?;
-        Ok(answer)
+        let answer = format!(in self.rt.alloc(); "md5{}", outer.as_str())?;
+        Ok(password(self.rt.alloc(), answer.as_bytes())?)
     }
 
     fn answer_by_scram(&self, wire: &mut Wire, deadline: Deadline) -> Result<(), PostgresError> {
         let password = self.password()?;
         let scram = Scram::new(self.rt, &self.random)?;
         let first = scram.first()?;
-        let length = u32::try_from(first.len()).map_err(|_| PostgresError::Protocol)?;
-        let mut body = Vec::new(self.rt.alloc());
-        body.extend_from_slice(MECHANISM.as_bytes())?;
-        body.push(0)?;
-        body.extend_from_slice(&length.to_be_bytes())?;
-        body.extend_from_slice(first.as_bytes())?;
-        wire.send(Some(b'p'), body.as_slice(), deadline)?;
-        let challenge = self.text_of(wire, GOES_ON, deadline)?;
-        let proof = scram.proof(challenge, password, deadline)?;
-        wire.send(Some(b'p'), proof.message.as_bytes(), deadline)?;
-        if self.text_of(wire, ENDS, deadline)? != proof.reply.as_str() {
+        let first = sasl_first(self.rt.alloc(), MECHANISM.as_bytes(), first.as_bytes())?;
+        wire.send(first.as_slice(), deadline)?;
+        let challenge = self.text_of(wire, Asked::SaslGoesOn, deadline)?;
+        let proof = scram.proof(challenge.as_str(), password, deadline)?;
+        let next = sasl_next(self.rt.alloc(), proof.message.as_bytes())?;
+        wire.send(next.as_slice(), deadline)?;
+        let reply = self.text_of(wire, Asked::SaslEnds, deadline)?;
+        if reply.as_str() != proof.reply.as_str() {
             return Err(PostgresError::UnknownServer);
         }
         Ok(())
     }
 
     // The text of the server's next message, which is to be this one.
-    fn text_of<'w>(
+    fn text_of(
         &self,
-        wire: &'w mut Wire,
-        wanted: u32,
+        wire: &mut Wire,
+        wanted: Asked,
         deadline: Deadline,
-    ) -> Result<&'w str, PostgresError> {
+    ) -> Result<String, PostgresError> {
         match wire.receive(deadline)? {
-            b'R' => {}
-            b'E' => return Err(self.refused(wire.refusal()?)),
-            _ => return Err(PostgresError::Protocol),
+            Message::Login(asked, text) if asked == wanted => match String::from_utf8(text) {
+                Ok(text) => Ok(text),
+                Err(_) => Err(PostgresError::Protocol),
+            },
+            Message::Refusal(refusal) => Err(self.refused(&refusal)?),
+            _ => Err(PostgresError::Protocol),
         }
-        let (asked, text) = asked_in(wire.body())?;
-        if asked != wanted {
-            return Err(PostgresError::Protocol);
-        }
-        str::from_utf8(text).map_err(|_| PostgresError::Protocol)
     }
 }
 
@@ -224,20 +199,4 @@ impl Login<'_> {
 fn is_offered(ways: &[u8]) -> bool {
     ways.split(|byte| *byte == 0)
         .any(|way| way == MECHANISM.as_bytes())
-}
-
-// What a message of kind `R` asks for, and what else it says.
-fn asked_in(body: &[u8]) -> Result<(u32, &[u8]), PostgresError> {
-    match body {
-        [a, b, c, d, rest @ ..] => Ok((u32::from_be_bytes([*a, *b, *c, *d]), rest)),
-        _ => Err(PostgresError::Protocol),
-    }
-}
-
-// The name of the connection that a cancel asks for, and its secret.
-fn key_in(body: &[u8]) -> Option<[u8; 8]> {
-    match body {
-        [a, b, c, d, e, f, g, h] => Some([*a, *b, *c, *d, *e, *f, *g, *h]),
-        _ => None,
-    }
 }

@@ -1,31 +1,7 @@
-//! What may have changed a session beyond its transactions.
+//! What the words of a query tell of what it may change in a session beyond its transactions.
 
-ghost use Rattle.std.specs.Prelude.{◌≡◌};
+use postgres_codec::Mark;
 
-/// What a session may keep when its transaction is over.
-#[derive(Clone, Copy, Debug, PartialEq, Eq)]
-pub enum Mark {
-    /// Nothing.
-    Plain,
-    /// What DISCARD ALL brings back.
-    Marked,
-    /// What stays until the connection is closed, as a library that was loaded.
-    Lasting,
-}
-
-/// The statements that leave nothing, as the server names them at their end: INSERT is none of
-/// them, as `lastval` shows what it inserted.
-const PLAIN: [&str; 9] = [
-    "SELECT",
-    "UPDATE",
-    "DELETE",
-    "BEGIN",
-    "START TRANSACTION",
-    "COMMIT",
-    "ROLLBACK",
-    "SAVEPOINT",
-    "RELEASE",
-];
 /// The words of those statements that may change a session: a default draws a number, which an
 /// INSERT needs no word for, also where it is a part of a SELECT.
 const TELLING: [&str; 5] = ["temp", "temporary", "default", "insert", "pg_settings"];
@@ -38,37 +14,14 @@ const KNOWN: &str =
     over position rank replace returning right round row row_number select string_agg \
     substring sum then trim union upper using values when where";
 
-impl Mark {
-    /// What a query leaves, by its words. Where they stand in a text or a name counts too: so the
-    /// ways to write those matter little.
-    pub fn of_query(query: &str) -> Mark {
-        let is_hidden = ["--", "/*", "&\""].iter().any(|sign| query.contains(*sign));
-        if is_hidden || has_telling_word(query) || !are_known(query) {
-            Mark::Marked
-        } else {
-            Mark::Plain
-        }
-    }
-
-    /// What a statement has left, by what the server says at its end, as `UPDATE 3`.
-    pub fn of_statement(said: &str) -> Mark {
-        let name = said.trim_end_matches(|letter: char| letter.is_ascii_digit() || letter == ' ');
-        match name {
-            "LOAD" => Mark::Lasting,
-            _ if PLAIN.iter().any(|plain| *plain == name) => Mark::Plain,
-            _ => Mark::Marked,
-        }
-    }
-
-    /// What both leave.
-    pub fn and(self, other: Mark) -> Mark
-        ensures { result ≡ Mark.Plain → self ≡ Mark.Plain }
-    {
-        match (self, other) {
-            (Mark::Lasting, _) | (_, Mark::Lasting) => Mark::Lasting,
-            (Mark::Plain, Mark::Plain) => Mark::Plain,
-            _ => Mark::Marked,
-        }
+/// What a query leaves, by its words. Where they stand in a text or a name counts too: so the ways
+/// to write those matter little.
+pub fn of_query(query: &str) -> Mark {
+    let is_hidden = ["--", "/*", "&\""].iter().any(|sign| query.contains(*sign));
+    if is_hidden || has_telling_word(query) || !are_known(query) {
+        Mark::Marked
+    } else {
+        Mark::Plain
     }
 }
 

@@ -1,38 +1,35 @@
 //! What is asked.
 
 use crate::error::PostgresError;
+use crate::mark;
+use postgres_codec::Mark;
+use std::alloc::Global;
 
-/// The most values that one query may have.
-const MOST: usize = 65_535;
-
-#[derive(Clone, Copy)]
-pub struct Query<'a> {
-    pub text: &'a str,
-    /// Those of its parameters; None where it was written without any.
-    pub values: Option<&'a [Option<&'a str>]>,
+/// A request that may be sent, and what its words tell of what it leaves.
+#[derive(Drop)]
+pub struct Query {
+    pub request: Vec<u8>,
+    pub mark: Mark,
 }
 
-impl<'a> Query<'a> {
-    pub fn of(text: &'a str) -> Query<'a> {
-        Query { text, values: None }
+impl Query {
+    /// One of these words, or several with `;` between them.
+    pub fn of(alloc: Global, text: &str) -> Result<Query, PostgresError> {
+        Ok(Query {
+            request: postgres_codec::query(alloc, text)?,
+            mark: mark::of_query(text),
+        })
     }
 
-    pub fn with(text: &'a str, values: &'a [Option<&'a str>]) -> Query<'a> {
-        Query {
-            text,
-            values: Some(values),
-        }
-    }
-
-    /// Fails where it can't be sent.
-    pub fn must_be_one(&self) -> Result<(), PostgresError> {
-        // The server would take it for the end.
-        if self.text.contains('\0') {
-            return Err(PostgresError::ZeroByte);
-        }
-        match self.values {
-            Some(values) if values.len() > MOST => Err(PostgresError::TooManyValues),
-            _ => Ok(()),
-        }
+    /// One with values for its parameters.
+    pub fn with(
+        alloc: Global,
+        text: &str,
+        values: &[Option<&str>],
+    ) -> Result<Query, PostgresError> {
+        Ok(Query {
+            request: postgres_codec::query_with(alloc, text, values)?,
+            mark: mark::of_query(text),
+        })
     }
 }

@@ -1,19 +1,19 @@
-//! What the server refuses with, and what that breaks.
+//! What the server refuses with.
 
 use crate::error::PostgresError;
+use postgres_codec::Refusal;
 use std::alloc::{AllocError, Global};
 
-/// The error that a message is.
-pub fn refusal_in(alloc: Global, body: &[u8]) -> Result<PostgresError, AllocError> {
+/// The error that it is.
+pub fn refused(alloc: Global, refusal: &Refusal) -> Result<PostgresError, AllocError> {
     Ok(PostgresError::Refused {
-        state: String::from_str(alloc, state_in(body))?,
-        text: escaped(alloc, field(body, b'M'))?,
+        state: String::from_str(alloc, state_in(refusal.state.as_slice()))?,
+        text: escaped(alloc, refusal.text.as_slice())?,
     })
 }
 
-// Its SQLSTATE, which is five digits and capitals; anything else is none.
-fn state_in(body: &[u8]) -> &str {
-    let state = field(body, b'C');
+// A SQLSTATE is five digits and capitals; anything else is none.
+fn state_in(state: &[u8]) -> &str {
     let is_one = state.len() == 5
         && state
             .iter()
@@ -23,26 +23,6 @@ fn state_in(body: &[u8]) -> &str {
     } else {
         ""
     }
-}
-
-/// Whether the connection is of no more use after it: the server ends it, or may not write.
-pub fn is_end(body: &[u8]) -> bool {
-    let state = field(body, b'C');
-    matches!(field(body, b'V'), b"FATAL" | b"PANIC")
-        || matches!(state, b"25006" | b"57P01" | b"57P02" | b"57P03")
-        || state.starts_with(b"08")
-}
-
-// A field of a refusal: each begins with a letter, and ends with a zero.
-fn field(body: &[u8], letter: u8) -> &[u8] {
-    for field in body.split(|byte| *byte == 0) {
-        if let Some((first, text)) = field.split_first() {
-            if *first == letter {
-                return text;
-            }
-        }
-    }
-    &[]
 }
 
 // A server's text, which may go to a log or a terminal: without control characters, and UTF-8.
