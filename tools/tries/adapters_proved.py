@@ -15,7 +15,7 @@ from tally import Tally
 # (first_redis_tasks is run alone: that each of its hundred tasks may be polled is a loop's invariant, and it has no ghost line)
 CRATES = ["redis", "postgres", "tokio_timer", "redis_tasks", "first_redis", "first_postgres", "first_tokio"]
 # What they stand on, whose proofs this repository may have kept.
-BELOW = ["pool_machine", "r2d2_core", "pool_state", "r2d2", "pool_tasks", "r2d2_async", "redis_codec"]
+BELOW = ["pool_machine", "r2d2_core", "pool_state", "r2d2", "pool_tasks", "r2d2_async", "redis_codec", "postgres_codec"]
 # What the redis manager asks at a return.
 HAS_BROKEN = "!connection.come_back(self.settings.reset, &self.settings.login)"
 # A read that goes on where its call's deadline is not over, and one that has a deadline of its own.
@@ -34,8 +34,6 @@ READ_BY_ITSELF = """            self.stream.set_read_timeout(Some(Duration::from
 """
 # The same of the other adapter, which leaves half of a call's tenth to a cancel.
 READ_BY_HALF = READ_BY.replace("deadline.tenth()", "deadline.tenth() / 2")
-# Memory for what a length says, before any of it has come.
-TAKE, TAKE_AT_ONCE = "        self.body.clear();\n", "        self.body.clear();\n        self.body.resize(count, 0)?;\n        self.body.clear();\n"
 # What is told of a refusal in a greeting, and what of the refusal of a login alone.
 TOLD = """        match self.judged(alloc, login, standing, items) {
             Ok(()) => Ok(()),
@@ -61,7 +59,7 @@ REFUSED = [
     ("redis_tasks::connection::TaskConnection::poll_exchange", "        self.standing.is_broken = true;\n        let mut patience", "        let mut patience"),
     ("redis_tasks::connection::TaskConnection::poll_exchange", "            Poll::Pending => {\n                request.patience", "            Poll::Pending => {\n                self.standing.is_broken = false;\n                request.patience"),
     ("redis_tasks::connection::TaskConnection::poll_steps", "            request.stage = Stage::Sending;\n", "            request.stage = Stage::Sending;\n            self.standing.is_broken = false;\n"),
-    ("postgres::answer::Session::of", "Ok(Session::InFailedTransaction)", "Ok(Session::Broken)"),
+    ("postgres::answer::Session::of", "Status::InFailedTransaction => Session::InFailedTransaction,", "Status::InFailedTransaction => Session::Broken,"),
     ("postgres::connection::PostgresConnection::session", "{\n        self.session\n", "{\n        let _ = self;\n        Session::Idle\n"),
     ("postgres::connection::PostgresConnection::exchange", "        self.session = Session::Broken;\n        match", "        match"),
     ("postgres::connection::PostgresConnection::exchange", "self.session = answer.session;", "self.session = Session::Idle;"),
@@ -71,11 +69,10 @@ REFUSED = [
     ("postgres::connection::PostgresConnection::send_reset", 'queries.push("ROLLBACK")?;', "{}"),
     ("postgres::connection::PostgresConnection::send_reset", "Reset::IfMarked => self.mark != Mark::Plain,", "Reset::IfMarked => false,"),
     ("postgres::connection::PostgresConnection::send_reset", "        self.resetting = queries.len();\n", ""),
-    ("postgres::login::Login::step", "(BY_MD5, Stage::Begun) if self.takes_md5 =>", "(BY_MD5, Stage::Begun) if self.takes_md5 || self.password.is_some() =>"),
+    ("postgres::login::Login::step", "(Asked::Md5, Stage::Begun) if self.takes_md5 =>", "(Asked::Md5, Stage::Begun) if self.takes_md5 || self.password.is_some() =>"),
     ("postgres::login::Login::step", "if self.password.is_none() || self.is_lenient =>", "if self.password.is_none() || !self.is_lenient =>"),
     ("postgres::deadline::Deadline::left", "if left.is_zero() { Err(late) } else { Ok(left) }", "Ok(left)"),
     ("postgres::manager::PostgresConnectionManagerManageConnection::has_broken", POSTGRES_BROKEN, "connection.session() == crate::answer::Session::Broken"),
-    ("postgres::mark::Mark::and", "(Mark::Plain, Mark::Plain) => Mark::Plain,", "(_, Mark::Plain) => Mark::Plain,"),
 ]
 # A file, such a passage, and the check that is to fail: the bodies of a list are made together.
 SEEN = [
@@ -92,13 +89,9 @@ SEEN = [
         ("postgres/manager", POSTGRES_BROKEN, "connection.session() == crate::answer::Session::Broken", "postgres: nobody meets what was left open"),
         ("postgres/login", "!= proof.reply.as_str()", "== \"\"", "postgres, a scripted peer: a wrong signature: the text"),
         ("postgres/socket", READ_BY_HALF, READ_BY_ITSELF, "postgres, a scripted peer: a row that drips: the deadline"),
-        ("postgres/connection", "self.wire.cancel(key, asking, answer).ok();", "let _ = (key, asking, answer);", "postgres: a locked table leaves the server with no more than two connections for each"),
+        ("postgres/connection", "self.wire.cancel(key.as_slice(), asking, answer).ok();", "let _ = (key, asking, answer);", "postgres: a locked table leaves the server with no more than two connections for each"),
         ("postgres/refusal", "if letter.is_control() {", "if letter == '\\r' {", "postgres, a scripted peer: a refusal with control characters: the text"),
-        ("postgres/answer", "return Ok((None, rest));", "return Ok((Some(String::new(alloc)), rest));", "postgres, a scripted peer: an answer byte by byte: the text"),
-        ("postgres/wire", "i32::try_from(text.len())", "i32::try_from(text.chars().count())", "postgres, a scripted peer: \u00e9\u20ac,\U0001f600 is bound"),
-        ("postgres/wire", "None => body.extend_from_slice(&[0xff; 4])?,", "None => body.extend_from_slice(&[0; 4])?,", "postgres, a scripted peer: a,NULL, is bound"),
-        ("postgres/query", "values.len() > MOST", "values.len() > MOST + 1", "postgres, a scripted peer: how many rows a query with values was about"),
-        ("postgres/wire", TAKE, TAKE_AT_ONCE, "postgres, a scripted peer: a length that is told takes no memory"),
+        ("postgres/answer", "                None => None,\n", "                None => Some(String::new(alloc)),\n", "postgres, a scripted peer: an answer byte by byte: the text"),
     ],
     [
         ("redis/socket", "deadline.left(rt)? / others.max(1)", "deadline.left(rt)?", "redis, a scripted peer: a name at whose first address nobody answers"),
@@ -110,19 +103,16 @@ SEEN = [
         ("redis/error", "io::ErrorKind::TimedOut => RedisError::Timeout {", "io::ErrorKind::NotFound => RedisError::Timeout {", "redis, a scripted peer: silence: the text"),
         ("redis/reset", "session.subscriptions || session.monitor || session.settings", "session.subscriptions || session.monitor", "redis: always: a setting is not seen by the next caller"),
         ("redis_tasks/patience", "Deadline::new(rt, length)", "Deadline::new(rt, length.saturating_mul(2))", "redis for tasks: at a silent server: the deadline of each command"),
-        ("postgres/wire", "if self.begin != self.end {", "if self.begin > self.end {", "postgres, a scripted peer: an answer that comes twice, the second 0.0 s later"),
+        ("postgres/wire", "        if !self.talk.is_settled() {\n            return Err(PostgresError::Unasked);\n        }\n", "", "postgres, a scripted peer: an answer that comes twice, the second 0.0 s later"),
         ("postgres/connection", "self.send_reset(reset).is_ok();", "self.send_reset(reset).is_ok() && self.end_reset(Deadline::new(self.rt, self.timeouts.check)).is_ok();", "postgres, a scripted peer: a return waits for no answer"),
-        ("postgres/answer", "self.refused = Some(wire.refusal()?);", "{}", "postgres: a refusal is an error, and no more"),
-        ("postgres/answer", "self.affected = self.affected.saturating_add(count.parse().unwrap_or(0));", "self.affected = count.parse().unwrap_or(self.affected);", "postgres, a scripted peer: how many rows the statements were about"),
+        ("postgres/answer", "self.refused = Some(refused(self.alloc, &refusal)?);", "let _ = refused(self.alloc, &refusal)?;", "postgres: a refusal is an error, and no more"),
+        ("postgres/answer", "self.affected = self.affected.saturating_add(done.rows)", "self.affected = done.rows", "postgres, a scripted peer: how many rows the statements were about"),
         ("postgres/answer", "self.rows.len() >= limits.rows", "self.rows.len() > limits.rows", "postgres, a scripted peer: a row more: the text"),
-        ("postgres/answer", "b'S' | b'A' => self.mark = self.mark.and(Mark::Marked),", "b'S' | b'A' => {}", "postgres, a scripted peer: a setting that the server tells of: a reset"),
-        ("postgres/login", "(PostgresError::Refused { mut state, .. }, Some(password)) => {", "(PostgresError::Refused { mut state, text }, Some(password)) => {\n                if !text.as_str().contains(password) {\n                    return PostgresError::Refused { state, text };\n                }", "postgres, a scripted peer: a refusal that repeats a password of a tab: nobody is told it"),
+        ("postgres/login", "(PostgresError::Refused { mut state, .. }, Some(password)) => {", "(PostgresError::Refused { mut state, text }, Some(password)) => {\n                if !text.as_str().contains(password) {\n                    return Ok(PostgresError::Refused { state, text });\n                }", "postgres, a scripted peer: a refusal that repeats a password of a tab: nobody is told it"),
         ("postgres/login", "password.contains(state.as_str()) || ", "password.is_empty() || ", "postgres, a scripted peer: a refusal that repeats a password of capitals, some of them as the state: nobody is told it"),
-        ("postgres/connection", "self.mark = self.mark.and(Mark::of_query(query.text));", "if query.values.is_none() {\n            self.mark = self.mark.and(Mark::of_query(query.text));\n        }", "postgres, a scripted peer: a query with values marks as its words do"),
-        ("postgres/mark", '"LOAD" => Mark::Lasting', '"LOAD" => Mark::Marked', "postgres: always: a library"),
+        ("postgres/query", "values)?,\n            mark: mark::of_query(text),", "values)?,\n            mark: Mark::Plain,", "postgres, a scripted peer: a query with values marks as its words do"),
         ("postgres/scram", "const FEWEST_ROUNDS: u32 = 4096;", "const FEWEST_ROUNDS: u32 = 1;", "postgres, a scripted peer: too few rounds: the text"),
         ("postgres/scram", "!nonce.starts_with(self.nonce.as_str()) || nonce.len() == self.nonce.len()", "nonce.len() == self.nonce.len()", "postgres, a scripted peer: a foreign nonce: the text"),
-        ("postgres/refusal", 'b"25006" | b"57P01"', 'b"57P01"', "postgres, a scripted peer: the state 25006 breaks a connection"),
         ("postgres/wire", "self.socket.must_be_quiet(deadline)", "{\n            let _ = deadline;\n            Ok(())\n        }", "postgres, a scripted peer: an answer that comes twice, the second 0.1 s later"),
         ("postgres/mark", '["--", "/*", "&\\""]', '["--", "--", "&\\""]', "postgres: if-marked: a lock behind a comment is not seen by the next caller"),
         ("postgres/mark", '"default", "insert"', '"default", "merge"', "postgres: if-marked: the number of WITH it AS (INSERT INTO noted SELECT 1 RETURNING 1) SELECT 1"),

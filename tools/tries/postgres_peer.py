@@ -447,7 +447,7 @@ def try_ends(trial):
         trial.check("a connection that is closed", re.search(r"! 127\.0\.0\.1:\d+ closed the connection", told), told)
     with at_peer(trial, sends(ONE)) as (peer, service):
         told = service.ask("run SELECT 1;; SELECT \0;; SELECT 1")
-        wanted = '[Some("1")] | ! postgres: a query has a zero byte in it | [Some("1")] |'
+        wanted = '[Some("1")] | ! postgres: a query or a name has a zero byte in it | [Some("1")] |'
         trial.check("a query with a zero byte", told == wanted and len(peer.asked) == 2 and peer.count == 1, (told, peer.asked))
     try_two_addresses(trial, PostgresPeer(sends(ONE), host=BEHIND), "postgres-never", "somebody")
 

@@ -147,7 +147,7 @@ def try_metrics(measured):
 
 def try_options(place):
     """With all that there is beside the pool."""
-    mine, crates = os.path.join(place, "all"), ["pool_tasks", "r2d2_async", "tokio_timer", "pool_metrics", "pool_reports", "redis_codec", "redis", "redis_tasks", "postgres"]
+    mine, crates = os.path.join(place, "all"), ["pool_tasks", "r2d2_async", "tokio_timer", "pool_metrics", "pool_reports", "redis_codec", "redis", "redis_tasks", "postgres_codec", "postgres"]
     os.mkdir(mine)
     words = ["--postgres", "--async", "--redis", "--reports", mine, "--metrics"]
     answers("with all options", 0, "put there: HANDLES: made; it reads 'Handles allowed: Threads, Wait, Net.'", *words)
