@@ -4,4 +4,6 @@
 #[cfg(test)]
 mod executors;
 #[cfg(test)]
+mod names;
+#[cfg(test)]
 mod throng;

@@ -29,9 +29,11 @@ pub use get::Get;
 pub use hooks::{Handlers, Hooks};
 pub use lent::PooledConnection;
 pub use pool::Pool;
-use r2d2::event::NopEventHandler;
-pub use r2d2::{Builder, State};
-use r2d2::{Extension, NopConnectionCustomizer, NopErrorHandler};
+pub use r2d2::{
+    Builder, CustomizeConnection, Error, ErrorKind, Extension, Extensions, HandleError,
+    HandleEvent, LendingOrder, LoggingErrorHandler, NopConnectionCustomizer, NopErrorHandler,
+    NopEventHandler, State, Status, event,
+};
 use std::alloc::AllocGlobal;
 use std::fmt;
 use std::rt::Clock;

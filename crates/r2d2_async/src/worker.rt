@@ -211,11 +211,18 @@ impl<M: ManageConnection, T: Timer, K: Hooks<M>, R: AsyncRuntime> Worker<M, T, K
         }
     }
 
-    // One poll of a sleep until this moment, which is so far away: of the one that it sleeps, if
-    // that is until the same moment.
-    fn poll_sleep(&mut self, cx: &mut Context<'_>, due: Duration, length: Duration) -> Poll<()>
+    // One poll of a sleep until this moment, which is so far away: of the one that it slept, if that
+    // was until the same moment.
+    fn poll_sleep(
+        &mut self,
+        cx: &mut Context<'_>,
+        slept: Option<Sleeping<T::Sleep>>,
+        due: Duration,
+        length: Duration,
+    ) -> Poll<()>
         requires opening { self.old.opening ≡ None }
-        requires sleeps { IfSome self.old.sleep (λ s. T.Sleep.can_poll s.sleep) }
+        requires awake { self.old.sleep ≡ None }
+        requires sleeps { IfSome slept (λ s. T.Sleep.can_poll s.sleep) }
         requires parked { Covers cx.old (λ s. s ≡ orders_of self.old.shared) }
         ensures opening { self.new.opening ≡ None }
         ensures shared { self.new.shared ≡ self.old.shared }
@@ -226,9 +233,9 @@ impl<M: ManageConnection, T: Timer, K: Hooks<M>, R: AsyncRuntime> Worker<M, T, K
             → Hears cx.new s }
         ensures kept { Keeps cx.old cx.new }
     {
-        let mut sleep = match self.sleep.take() {
+        let mut sleep = match slept {
             Some(sleeping) if sleeping.due == due => sleeping.sleep,
-            _ => self.shared.timer.sleep(length),
+            _other => self.shared.timer.sleep(length),
         };
         match sleep.poll(cx) {
             Poll::Pending => {
@@ -256,12 +263,10 @@ impl<M: ManageConnection, T: Timer, K: Hooks<M>, R: AsyncRuntime> Future for Wor
             return Poll::Pending;
         }
         let next = self.ask(cx);
-        if let Next::Sleep { due, length } = next {
-            return self.poll_sleep(cx, due, length);
-        }
-        self.sleep = None;
+        let slept = self.sleep.take();
         match next {
-            Next::Again | Next::Sleep { .. } => cx.yield_now(),
+            Next::Again => cx.yield_now(),
+            Next::Sleep { due, length } => self.poll_sleep(cx, slept, due, length),
             Next::Idle => Poll::Pending,
             Next::Open(tries) => {
                 let connect = self.shared.manager.connect();
