@@ -74,7 +74,8 @@ impl Row {
     }
 }
 
-fn text_of(bytes: Vec<u8>) -> Result<String, PostgresError> {
+/// The text that bytes are.
+pub fn text_of(bytes: Vec<u8>) -> Result<String, PostgresError> {
     match String::from_utf8(bytes) {
         Ok(text) => Ok(text),
         Err(_) => Err(PostgresError::Protocol),

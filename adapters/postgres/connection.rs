@@ -75,7 +75,8 @@ impl PostgresConnection {
         ensures err { self.old.session ≡ Session.Broken → IsErr result }
         ensures stays { self.old.session ≡ Session.Broken → self.new.session ≡ Session.Broken }
     {
-        self.asked(Query::of(self.rt.alloc(), text)?)?.rows
+        let query = Query::of(self.rt.alloc(), text)?;
+        self.asked(query)?.rows
     }
 
     /// Sends one query, with values for `$1`, `$2` and so on: each as text, or None for NULL. The
@@ -88,8 +89,8 @@ impl PostgresConnection {
         ensures err { self.old.session ≡ Session.Broken → IsErr result }
         ensures stays { self.old.session ≡ Session.Broken → self.new.session ≡ Session.Broken }
     {
-        self.asked(Query::with(self.rt.alloc(), text, values)?)?
-            .rows
+        let query = Query::with(self.rt.alloc(), text, values)?;
+        self.asked(query)?.rows
     }
 
     /// As `query`. How many rows its statements inserted, changed, deleted or returned, together.
@@ -97,7 +98,8 @@ impl PostgresConnection {
         ensures err { self.old.session ≡ Session.Broken → IsErr result }
         ensures stays { self.old.session ≡ Session.Broken → self.new.session ≡ Session.Broken }
     {
-        self.counted(Query::of(self.rt.alloc(), text)?)
+        let query = Query::of(self.rt.alloc(), text)?;
+        self.counted(query)
     }
 
     /// As `query_with`. How many rows it inserted, changed, deleted or returned.
@@ -109,7 +111,8 @@ impl PostgresConnection {
         ensures err { self.old.session ≡ Session.Broken → IsErr result }
         ensures stays { self.old.session ≡ Session.Broken → self.new.session ≡ Session.Broken }
     {
-        self.counted(Query::with(self.rt.alloc(), text, values)?)
+        let query = Query::with(self.rt.alloc(), text, values)?;
+        self.counted(query)
     }
 
     fn counted(&mut self, query: Query) -> Result<u64, PostgresError>

@@ -2,7 +2,7 @@
 
 ghost use Rattle.std.specs.Prelude.{◌≡◌, ◌≢◌, ◌⊎◌, IfOk, IsTrue, None};
 
-use crate::answer::Session;
+use crate::answer::{Session, text_of};
 use crate::deadline::Deadline;
 use crate::error::PostgresError;
 use crate::refusal::refused;
@@ -185,10 +185,13 @@ impl Login<'_> {
         deadline: Deadline,
     ) -> Result<String, PostgresError> {
         match wire.receive(deadline)? {
-            Message::Login(asked, text) if asked == wanted => match String::from_utf8(text) {
-                Ok(text) => Ok(text),
-                Err(_) => Err(PostgresError::Protocol),
-            },
+            Message::Login(asked, text) => {
+                if asked == wanted {
+                    text_of(text)
+                } else {
+                    Err(PostgresError::Protocol)
+                }
+            }
             Message::Refusal(refusal) => Err(self.refused(&refusal)?),
             _ => Err(PostgresError::Protocol),
         }
