@@ -10,7 +10,7 @@
    - where more wait than `max_waiting` allows;
    - where a caller comes and a turn stands, though nobody is to come who was woken; or where nobody can go on and a caller
      gives way, even if its patience has no end (ENDLESS);
-   - where a `get` takes while one that was woken is to come first, unless it found all lent since it came;
+   - where a `get` takes while one that was woken is to come first;
    - in line, where a caller takes while one that began to wait before it has no idle connection of its own, or where one
      whose turn it is was not told.
    It also finds that three wakes are not needed, the two of a reap and an eviction's of the callers, if it counts none:
@@ -31,7 +31,8 @@
    - Who finds the lock taken tries again a few times before it sleeps for it (Shared::lock). Here it comes to the lock
      when that is free: nobody waits for anything else meanwhile, and whoever has the lock lets it go.
    - A caller that finds all lent looks again a few times before it waits (Shared::look_again). Here it is the last of
-     these looks, at any time: those before it change nothing, and wait for nothing.
+     these looks, at any time: those before it change nothing, and wait for nothing. Here it may look and give way any number
+     of times; in the code it gives way once before its looks, and once behind them.
    - A turn may be given by each step that wakes one of those who wait (Waiters::give_turn): in the code once in a while,
      by the clock. Who gives way (Shared::give_way) may lose its patience at any time: in the code after so many looks, or
      so long. Only that ends its giving way to turn after turn, while others go on for ever: no search looks for this.
@@ -325,7 +326,7 @@ inline wake_caller(step) {
 #define PASSES_NOBODY skip
 #else
 #define SOMEBODY_IS_TO_COME assert(!turn || sent > 0)
-#define PASSES_NOBODY assert(!turn || idle == 0 || found_none || IS_TRYING || waits)
+#define PASSES_NOBODY assert(!turn || idle == 0 || IS_TRYING || waits)
 #endif
 
 /* AnyPool::lend_within, the drop of what was lent, and the drop of the pool. */
@@ -338,9 +339,6 @@ active [CALLERS] proctype caller() {
 #endif
 #if LIMIT
   bool has_waited;        /* it began to wait since its latest take */
-#endif
-#if !LINE
-  bool found_none;        /* it found all lent, and looks again before it waits */
 #endif
 #if BUILD
   if
@@ -412,12 +410,11 @@ woken: /* Shared::wait_for_turn: it has the lock again */
 #endif
 looks: /* Shared::look_again: where all are lent, it lets the lock go, unless it is hurried */
     if
-    :: idle == 0 && lent > 0 && !closed -> found_none = true; goto looks_again
+    :: idle == 0 && lent > 0 && !closed -> goto looks_again
     :: true
     fi;
 step: /* PoolState::look, or look_again */
     PASSES_NOBODY;
-    found_none = false;
     end_wait();
     if
     :: idle > 0 -> idle--; lent++; top_up(); orders = ordered > 0; IS_DONE; goto took
@@ -464,14 +461,19 @@ gives_way: /* Shared::give_way, where it has let the lock go */
 #endif
   fi;
 
-looks_again: /* the last look of Shared::look_again: what is idle by now it takes, whoever was to come first */
+looks_again: /* the last look of Shared::look_again: one that was woken before, and was passed, gives way to nobody */
   if
   :: atomic {
        if
 #if !defined(TURNS_OUTLAST_A_WAIT) && !defined(TURNS_OUTLAST_A_LOOK)
        :: waits -> end_turn()                                       /* once more: one may have been given meanwhile */
 #endif
+#if !defined(NOBODY_GIVES_WAY) && !defined(LOOKS_GIVE_NO_WAY)
+       :: !waits && IS_ANOTHERS_TURN -> IS_BACK; giving_way++; goto gives_way
+       :: !waits && !IS_ANOTHERS_TURN -> IS_BACK
+#else
        :: !waits -> IS_BACK
+#endif
        :: else
        fi;
        goto step

@@ -170,10 +170,10 @@ fn looks_that_take_too_long_are_the_last_for_a_second(rt: HostRuntime) -> Result
         // The worker may come to its rest, for which it reads the clock.
         world.glimpse(|| false);
         for (passes, reads, wanted) in [
-            (10_000, "", 10),
+            (10_000, "", 8),
             (10_000, "1+", 6),
             (999, "", 5),
-            (1, "", 10),
+            (1, "", 8),
         ] {
             world.pass(passes);
             world.readings.goes(reads);

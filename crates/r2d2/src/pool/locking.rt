@@ -19,7 +19,7 @@ use std::time::Duration;
 const TURNS: u32 = 10;
 
 /// How many turns of a loop it lets the lock alone between two tries.
-const PAUSES: u32 = 40;
+const PAUSES: u32 = 250;
 
 /// What workers, pools and lent connections share. The lock is held for the book's steps, and while
 /// a report of it is copied.

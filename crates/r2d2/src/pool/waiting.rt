@@ -24,7 +24,7 @@ use std::sync::{MutexGuard, Wait};
 use std::time::Duration;
 
 /// How often a caller looks again before it waits.
-const LOOKS: u32 = 20;
+const LOOKS: u32 = 12;
 
 /// How often it looks whether one that was woken, and is to come first, has come; and for how many
 /// nanoseconds at most.
@@ -210,7 +210,7 @@ impl<P: Drop, C: TakeTotal, M, K, R: Clock + Wait + AllocGlobal> Shared<PoolStat
     }
 
     // Before a call waits for the first time, where none is idle, or one that was woken is to come
-    // first: its time begins, and it looks again. None where as many wait as may.
+    // first: its time begins, it looks again, and gives way. None where as many wait as may.
     fn look_before_wait<'a>(
         &'a self,
         mut guarded: MutexGuard<'a, PoolState<P, C>>,
@@ -224,8 +224,8 @@ impl<P: Drop, C: TakeTotal, M, K, R: Clock + Wait + AllocGlobal> Shared<PoolStat
             return None;
         }
         self.begin(time);
-        guarded = self.give_way(guarded, time.seen());
         guarded = self.look_again(guarded, time.seen());
+        guarded = self.give_way(guarded, time.seen());
         if guarded.is_refused(self.tuning.max_waiting) {
             return None;
         }
