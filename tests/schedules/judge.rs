@@ -8,12 +8,15 @@ use crate::*;
 pub(crate) struct Stopwatch {
     pub(crate) jumps: u64,
     pub(crate) begun: u64,
+    /// The same in microseconds.
+    pub(crate) since: u64,
 }
 
 impl Stopwatch {
     pub(crate) fn begin(world: &World) -> Stopwatch {
-        let (jumps, begun) = (world.jumps(), world.now());
-        Stopwatch { jumps, begun }
+        let (jumps, since) = (world.jumps(), world.micros());
+        let begun = since / 1_000;
+        Stopwatch { jumps, begun, since }
     }
 
     /// How many milliseconds passed.

@@ -20,6 +20,7 @@ mod plan;
 mod pools;
 mod task;
 mod threads;
+mod turns;
 mod within;
 mod world;
 
@@ -34,6 +35,7 @@ use self::pools::{
 };
 use self::task::{Move, Step, Task, tasks_of};
 use self::threads::{join_all, sleep};
+use self::turns::Return;
 use self::within::Own;
 use self::world::{Count, LONG, LONGEST_DELAY, NEVER, Wait, World, drawn};
 use futures::Future;

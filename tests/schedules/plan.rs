@@ -55,6 +55,7 @@ pub(crate) struct Plan {
     pub(crate) error_stays: bool,
     pub(crate) release_stays: bool,
     pub(crate) busy: bool,
+    pub(crate) turns: bool,
     pub(crate) endless: bool,
     /// The callback that calls into its own pool, and the call that was drawn.
     pub(crate) within: Option<&'static str>,
@@ -103,7 +104,7 @@ impl Plan {
         }
         set!(self, word, true; fails checks breaks distrusts after_idle reaps lifetimes jitter
             oldest evicts detaches tries builds last_drop slow_openings slow_checks slow_returns
-            slow_releases error_stays release_stays busy endless);
+            slow_releases error_stays release_stays busy turns endless);
         false
     }
 

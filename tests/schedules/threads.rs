@@ -93,7 +93,7 @@ fn watches<R: PoolRuntime>(world: &World, pool: Pool<R>) {
 fn calls<R: PoolRuntime>(world: &World, pool: Pool<R>, who: u64) {
     let plan = &world.plan;
     for _ in 0..plan.calls {
-        if plan.is_timed() {
+        if plan.is_timed() || plan.turns {
             sleep(world, [0, 3, 5][world.choose(3) as usize]);
         }
         if plan.evicts && world.choose(4) == 0 {
@@ -121,10 +121,14 @@ fn gets<R: PoolRuntime>(world: &World, pool: &Pool<R>, who: u64) {
     world.tell_number("calls get, for seconds:", wait);
     let was_closed = world.count(Count::Closed) > 0;
     let watch = Stopwatch::begin(world);
-    world.set_wait(who, Some(Wait::of(watch.begun, watch, wait)));
+    let free = if plan.turns { turns::begins(world, pool) } else { None };
+    world.set_wait(who, Some(Wait::of(watch.since, watch, wait)));
     let found = pool.get(wait);
     if plan.is_served_in_order() && found.is_ok() {
         is_in_order(world, who);
+    }
+    if plan.turns && found.is_ok() {
+        turns::takes(world, who, free);
     }
     world.set_wait(who, None);
     // It may be at its check as its time ends, or look again, and does so no other time then.
@@ -200,6 +204,8 @@ fn tries<R: PoolRuntime>(world: &World, pool: &Pool<R>) {
 fn holds<R: PoolRuntime>(world: &World, mut lent: Lent<R>, was_closed: bool) {
     let plan = &world.plan;
     lent.line().is_lent();
+    world.add(Count::Taken);
+    let since = plan.turns.then(|| world.micros());
     world.fault_if(was_closed, "a closed pool lends");
     match world.choose(4) {
         0 => thread::yield_now(),
@@ -208,6 +214,9 @@ fn holds<R: PoolRuntime>(world: &World, mut lent: Lent<R>, was_closed: bool) {
         _ => {}
     }
     let detaches = lent.line().is_let_go();
+    if let Some(since) = since {
+        turns::comes_back(world, since);
+    }
     let watch = Stopwatch::begin(world);
     if detaches {
         lent.detach().leaves();

@@ -55,12 +55,14 @@ pub(crate) enum Count {
     Unsound,
     /// What has been idle since before this moment is distrusted.
     Distrusted,
+    /// Connections that callers were lent.
+    Taken,
 }
 
 /// A call of `get` that waits, as its caller tells it.
 #[derive(Clone, Copy)]
 pub(crate) struct Wait {
-    /// Since when it waits, or which one it was of those who came to wait.
+    /// Since which microsecond it waits, or which one it was of those who came to wait.
     pub(crate) since: u64,
     /// How long its call has lasted, and for how many seconds it may.
     pub(crate) watch: Stopwatch,
@@ -109,9 +111,11 @@ pub(crate) struct World {
     pub(crate) lifetime: u64,
     /// For how many milliseconds a connection is idle that is checked, where not all are.
     pub(crate) after_idle: u64,
-    counts: [AtomicU64; 24],
+    counts: [AtomicU64; 25],
     // By caller.
     waits: Mutex<[Option<Wait>; PLACES]>,
+    // The latest return, if somebody waited.
+    returned: Mutex<Option<Return>>,
     // By task: when the sleep ends that its latest poll left.
     sleeps: [AtomicU64; PLACES],
     // Since when connections are idle, by their numbers; NEVER where they are not.
@@ -132,6 +136,7 @@ impl World {
             after_idle,
             counts: zeros(),
             waits: Mutex::new([None; PLACES]),
+            returned: Mutex::new(None),
             sleeps: zeros(),
             idle: zeros(),
         };
@@ -266,6 +271,21 @@ impl World {
         lock(&self.waits).and_then(|waits| waits[who as usize])
     }
 
+    /// Whether one waits since then, or since before.
+    pub(crate) fn waits_since(&self, moment: u64) -> bool {
+        lock(&self.waits).is_some_and(|waits| waits.iter().flatten().any(|it| it.since <= moment))
+    }
+
+    pub(crate) fn set_return(&self, it: Option<Return>) {
+        if let Some(mut returned) = lock(&self.returned) {
+            *returned = it;
+        }
+    }
+
+    pub(crate) fn latest_return(&self) -> Option<Return> {
+        lock(&self.returned).and_then(|it| *it)
+    }
+
     /// How many have a place of which this is so, and whose time ends after this moment.
     pub(crate) fn waiting<F: Fn(&Wait) -> bool>(&self, now: u64, is_so: F) -> u64 {
         let has_time = |it: &Wait| now < it.watch.begun + it.seconds * 1_000;
@@ -294,6 +314,14 @@ impl World {
             return self.count(Count::Now);
         }
         self.rt.monotonic().map_or(0, |now| now.as_millis() as u64)
+    }
+
+    /// Its microseconds.
+    pub(crate) fn micros(&self) -> u64 {
+        if !self.plan.is_drawn() {
+            return self.now() * 1_000;
+        }
+        self.rt.monotonic().map_or(0, |now| now.as_micros() as u64)
     }
 
     /// How often time went on before it had to: the scheduler tells it by the wall clock.

@@ -28,8 +28,8 @@
      looks at what there is, and is not cut short.
    - What it writes to the standard output is shown only where the steps are told, beside them.
 
-   With YIELD_TAKES=SECONDS, as on a busy machine, a thread that yields goes on after so long. Nobody
-   who watches is woken meanwhile.
+   With YIELD_TAKES=MICROSECONDS a thread that yields goes on after so long: a second, as on a busy
+   machine, or so little that all who can go on do before it. Nobody who watches is woken meanwhile.
 
    SCHEDULES=FIRST:COUNT names the seeds. Each is played in a child, forked before `main`, until one
    has a fault: a status other than 0, or
@@ -762,7 +762,7 @@ __attribute__((constructor)) static void begin(void) {
     if (!schedules || sscanf(schedules, "%llu:%ld", &first, &count) != 2)
         return;
     is_told = getenv("TOLD") != NULL;
-    yield_takes = getenv("YIELD_TAKES") ? atol(getenv("YIELD_TAKES")) * SECOND : 0;
+    yield_takes = getenv("YIELD_TAKES") ? atol(getenv("YIELD_TAKES")) * 1000 : 0;
     shared = mmap(NULL, sizeof *shared, PROT_READ | PROT_WRITE, MAP_SHARED | MAP_ANONYMOUS, -1, 0);
     atexit(await_all);
     if (getenv("POINTS"))
