@@ -28,32 +28,34 @@ pub type Waits = Option<Vec<u64>>;
 /// Loads of two seconds at most.
 pub fn short() -> [Load; 6] {
     [
-        load(8, 1, 0, 10_000),
-        load(8, 1, 20, 2_000),
-        load(8, 1, 1_000, 250),
-        load(8, 4, 0, 10_000),
-        load(8, 4, 20, 2_000),
-        load(8, 4, 1_000, 250),
+        Load::new(8, 1, 0, 10_000),
+        Load::new(8, 1, 20, 2_000),
+        Load::new(8, 1, 1_000, 250),
+        Load::new(8, 4, 0, 10_000),
+        Load::new(8, 4, 20, 2_000),
+        Load::new(8, 4, 1_000, 250),
     ]
 }
 
 /// Loads of some ten seconds, in which who is not served for long is seen.
 pub fn long() -> [Load; 3] {
     [
-        load(8, 1, 50, 22_000),
-        load(8, 1, 1_000, 1_180),
-        load(64, 8, 1_000, 1_180),
+        Load::new(8, 1, 50, 22_000),
+        Load::new(8, 1, 1_000, 1_180),
+        Load::new(64, 8, 1_000, 1_180),
     ]
 }
 
-fn load(callers: u32, max_size: u32, held_us: u32, calls: u32) -> Load
-    requires { 0 < max_size }
-{
-    Load {
-        callers,
-        max_size,
-        held_us,
-        calls,
+impl Load {
+    fn new(callers: u32, max_size: u32, held_us: u32, calls: u32) -> Load
+        requires { 0 < max_size }
+    {
+        Load {
+            callers,
+            max_size,
+            held_us,
+            calls,
+        }
     }
 }
 
