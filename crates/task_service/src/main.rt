@@ -4,15 +4,13 @@
 
 ghost use Rattle.std.specs.Prelude.{IfSome};
 
-mod one_thread;
-
 use anyhow::ensure;
 use futures::channel::mpsc::{Receiver, Sender, channel};
 use futures::executor::{EventLoop, TaskSet};
 use futures::future::{Ready, join, ready};
 use futures::task::{Context, Doorbell, Poll};
 use futures::{Future, Stream};
-use one_thread::{LoopTimer, Nap, Ticks};
+use loop_timer::{LoopTimer, Nap, Ticks};
 use pool_metrics::Metrics;
 use r2d2::{NopConnectionCustomizer, NopErrorHandler, PoolRuntime};
 use r2d2_async::{Builder, Drain, Get, Handlers, ManageConnection, Pool, PooledConnection, Timer};

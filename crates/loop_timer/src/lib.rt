@@ -1,4 +1,7 @@
-// Time for tasks on one thread: an event loop that sleeps until the next of its timers is due.
+//! The timer of an event loop of one thread, `EventLoop` of `futures`, for the pool `r2d2_async`:
+//! the loop sleeps until the next of its timers is due.
+#![tactic(auto)]
+
 ghost use Rattle.std.specs.Prelude.{◌≡◌, IsSomeAnd};
 ghost use Rattle.futures.specs.Task.EventLoop.Names.{key_source};
 
@@ -16,13 +19,14 @@ fn ticks_in(length: Duration) -> u64 {
     u64::try_from(length.as_millis()).unwrap_or(u64::MAX)
 }
 
-/// What the loop waits for: time, and nothing else.
+/// What the loop waits for: time, and nothing else. A run of it is given these.
 #[derive(Drop)]
 pub struct Ticks {
     start: Instant,
 }
 
 impl Ticks {
+    /// Those since this moment, which is to be that of the loop's timers.
     pub fn of(start: Instant) -> Ticks {
         Ticks { start }
     }
@@ -47,7 +51,7 @@ impl<R: Clock> Events<R> for Ticks {
     }
 }
 
-/// Makes timers of the loop that has these keys.
+/// Makes sleeps of a loop, which end only while that runs.
 #[derive(Drop)]
 pub struct LoopTimer<R> {
     keys: Keys,
@@ -56,11 +60,14 @@ pub struct LoopTimer<R> {
 }
 
 impl<R: Clock + Copy> LoopTimer<R> {
+    /// The timer of the loop that has these keys, and ticks since this moment. The error is lack of
+    /// memory.
     pub fn new(rt: R, keys: &Keys, start: Instant) -> Result<LoopTimer<R>, AllocError> {
         let keys = keys.clone()?;
         Ok(LoopTimer { keys, start, rt })
     }
 
+    /// Another one of the same loop. The error is lack of memory.
     pub fn try_clone(&self) -> Result<LoopTimer<R>, AllocError> {
         LoopTimer::new(self.rt, &self.keys, self.start)
     }
