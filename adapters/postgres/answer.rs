@@ -2,11 +2,9 @@
 
 ghost use Rattle.std.specs.Prelude.{◌≢◌, IfOk};
 
-use crate::deadline::Deadline;
 use crate::error::PostgresError;
 use crate::refusal::refused;
-use crate::wire::Wire;
-use postgres_codec::{Mark, Message, Status};
+use postgres_codec::{Conversation, Mark, Message, Status};
 use std::alloc::Global;
 
 /// How much one answer may have.
@@ -85,8 +83,8 @@ pub fn text_of(bytes: Vec<u8>) -> Result<String, PostgresError> {
 /// The rows of a query, or the server's refusal.
 pub type Rows = Result<Vec<Row>, PostgresError>;
 
-/// These, how many rows the statements returned or changed, in which session they left the connection,
-/// and what they left on it.
+/// These, how many rows the statements returned or changed, in which session they left the
+/// connection, and what they left on it.
 #[derive(Drop)]
 pub struct Answer {
     pub rows: Rows,
@@ -95,54 +93,9 @@ pub struct Answer {
     pub mark: Mark,
 }
 
-/// Reads until the server is ready again, or says that this is the end.
-pub fn read_answer(
-    alloc: Global,
-    wire: &mut Wire,
-    limits: Limits,
-    deadline: Deadline,
-) -> Result<Answer, PostgresError> {
-    let mut reading = Reading {
-        alloc,
-        rows: Vec::new(alloc),
-        refused: None,
-        affected: 0,
-    };
-    for _ in 0..u64::MAX {
-        let message = wire.receive(deadline)?;
-        if let Some(session) = reading.take(message, limits)? {
-            return Ok(Answer {
-                rows: reading.refused.map_or(Ok(reading.rows), Err),
-                affected: reading.affected,
-                session,
-                mark: wire.talk.take_mark(),
-            });
-        }
-    }
-    Err(PostgresError::Protocol)
-}
-
-/// Reads so many answers, which are refusals of nothing.
-pub fn skip_answers(
-    alloc: Global,
-    wire: &mut Wire,
-    count: usize,
-    limits: Limits,
-    deadline: Deadline,
-) -> Result<(), PostgresError> {
-    for _ in 0..count {
-        let answer = read_answer(alloc, wire, limits, deadline)?;
-        answer.rows?;
-        if answer.session == Session::Broken {
-            return Err(PostgresError::Reset);
-        }
-    }
-    Ok(())
-}
-
-/// What came of an answer.
+/// What has come of an answer.
 #[derive(Drop)]
-struct Reading {
+pub struct Reading {
     alloc: Global,
     rows: Vec<Row>,
     refused: Option<PostgresError>,
@@ -150,6 +103,44 @@ struct Reading {
 }
 
 impl Reading {
+    /// Nothing yet.
+    pub fn new(alloc: Global) -> Reading {
+        Reading {
+            alloc,
+            rows: Vec::new(alloc),
+            refused: None,
+            affected: 0,
+        }
+    }
+
+    /// Takes in what came. The answer, once the server is ready again, or says that this is the
+    /// end; then another one may be read.
+    pub fn go_on(
+        &mut self,
+        talk: &mut Conversation,
+        limits: Limits,
+    ) -> Result<Option<Answer>, PostgresError> {
+        for _ in 0..u64::MAX {
+            let Some(message) = talk.next()? else {
+                return Ok(None);
+            };
+            if let Some(session) = self.take(message, limits)? {
+                return Ok(Some(self.answer(session, talk.take_mark())));
+            }
+        }
+        Err(PostgresError::Protocol)
+    }
+
+    fn answer(&mut self, session: Session, mark: Mark) -> Answer {
+        let read = std::mem::replace(self, Reading::new(self.alloc));
+        Answer {
+            rows: read.refused.map_or(Ok(read.rows), Err),
+            affected: read.affected,
+            session,
+            mark,
+        }
+    }
+
     // Takes a message in. The session, where it is the last one.
     fn take(&mut self, message: Message, limits: Limits) -> Result<Option<Session>, PostgresError> {
         match message {

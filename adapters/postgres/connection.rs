@@ -2,23 +2,18 @@
 
 ghost use Rattle.std.specs.Prelude.{◌≡◌, ◌≢◌, ◌<◌, ◌⊎◌, IfOk, IsErr, IsFalse, IsOk, IsTrue, OnOk};
 
-use crate::answer::{Answer, Limits, Row, Session, read_answer, skip_answers};
-use crate::deadline::Deadline;
+use crate::answer::{Answer, Limits, Row, Session};
 use crate::error::PostgresError;
-use crate::login::{LOGIN, Login};
+use crate::greeting::{Begun, Greeting, Next};
+use crate::login::Login;
 use crate::query::Query;
 use crate::reset::Reset;
+use crate::settings::{Settings, Timeouts};
+use crate::standing::{CHECK, Standing};
 use crate::wire::Wire;
+use deadline::Deadline;
 use postgres_codec::Mark;
 use std::time::Duration;
-
-/// How long a call may take, from its beginning to its end.
-#[derive(Clone, Copy)]
-pub struct Timeouts {
-    pub connect: Duration,
-    pub check: Duration,
-    pub command: Duration,
-}
 
 /// A connection to PostgreSQL.
 #[derive(Drop)]
@@ -27,11 +22,7 @@ pub struct PostgresConnection {
     wire: Wire,
     timeouts: Timeouts,
     limits: Limits,
-    session: Session,
-    // What was left since the session began, or was reset last.
-    mark: Mark,
-    // How many answers to a reset were not read yet.
-    resetting: usize,
+    standing: Standing,
     // What a cancel names this connection by.
     key: Option<Vec<u8>>,
 }
@@ -40,40 +31,37 @@ impl PostgresConnection {
     /// Connects to a server, and logs in.
     pub(crate) fn open(
         rt: HostRuntime,
-        address: &str,
-        login: &Login<'_>,
-        timeouts: Timeouts,
-        limits: Limits,
+        settings: &Settings,
     ) -> Result<PostgresConnection, PostgresError>
-        ensures { IfOk result (λ connection. connection.session ≢ Session.Broken) }
+        ensures { IfOk result (λ connection. connection.standing.session ≢ Session.Broken) }
     {
-        let deadline = Deadline::new(rt, timeouts.connect);
-        let mut wire = Wire::open(rt, address, LOGIN, deadline)?;
-        let begun = login.run(&mut wire, deadline)?;
-        wire.talk.allow(limits.bytes);
+        let deadline = Deadline::new(rt, settings.timeouts.connect);
+        let mut wire = Wire::open(rt, settings.address.as_str(), Greeting::MOST, deadline)?;
+        let begun = begin(rt, &mut wire, &settings.login, deadline)?;
+        // What the server tells of its settings here is how each session begins.
+        wire.talk.take_mark();
+        wire.talk.allow(settings.limits.bytes);
         Ok(PostgresConnection {
             rt,
             wire,
-            timeouts,
-            limits,
-            session: begun.session,
-            mark: Mark::Plain,
-            resetting: 0,
+            timeouts: settings.timeouts,
+            limits: settings.limits,
+            standing: Standing::new(begun.session),
             key: begun.key,
         })
     }
 
     pub fn session(&self) -> Session
-        ensures { result ≡ self.now.session }
+        ensures { result ≡ self.now.standing.session }
     {
-        self.session
+        self.standing.session
     }
 
     /// Sends a query, or several with `;` between them, and reads the rows of all. It has no
     /// parameters: what is no part of the text belongs into `query_with`.
     pub fn query(&mut self, text: &str) -> Result<Vec<Row>, PostgresError>
-        ensures err { self.old.session ≡ Session.Broken → IsErr result }
-        ensures stays { self.old.session ≡ Session.Broken → self.new.session ≡ Session.Broken }
+        ensures err { self.old.standing.session ≡ Session.Broken → IsErr result }
+        ensures stays { self.old.standing.session ≡ Session.Broken → self.new.standing.session ≡ Session.Broken }
     {
         let query = Query::of(self.rt.alloc(), text)?;
         self.asked(query)?.rows
@@ -86,8 +74,8 @@ impl PostgresConnection {
         text: &str,
         values: &[Option<&str>],
     ) -> Result<Vec<Row>, PostgresError>
-        ensures err { self.old.session ≡ Session.Broken → IsErr result }
-        ensures stays { self.old.session ≡ Session.Broken → self.new.session ≡ Session.Broken }
+        ensures err { self.old.standing.session ≡ Session.Broken → IsErr result }
+        ensures stays { self.old.standing.session ≡ Session.Broken → self.new.standing.session ≡ Session.Broken }
     {
         let query = Query::with(self.rt.alloc(), text, values)?;
         self.asked(query)?.rows
@@ -95,8 +83,8 @@ impl PostgresConnection {
 
     /// As `query`. How many rows its statements inserted, changed, deleted or returned, together.
     pub fn execute(&mut self, text: &str) -> Result<u64, PostgresError>
-        ensures err { self.old.session ≡ Session.Broken → IsErr result }
-        ensures stays { self.old.session ≡ Session.Broken → self.new.session ≡ Session.Broken }
+        ensures err { self.old.standing.session ≡ Session.Broken → IsErr result }
+        ensures stays { self.old.standing.session ≡ Session.Broken → self.new.standing.session ≡ Session.Broken }
     {
         let query = Query::of(self.rt.alloc(), text)?;
         self.counted(query)
@@ -108,16 +96,16 @@ impl PostgresConnection {
         text: &str,
         values: &[Option<&str>],
     ) -> Result<u64, PostgresError>
-        ensures err { self.old.session ≡ Session.Broken → IsErr result }
-        ensures stays { self.old.session ≡ Session.Broken → self.new.session ≡ Session.Broken }
+        ensures err { self.old.standing.session ≡ Session.Broken → IsErr result }
+        ensures stays { self.old.standing.session ≡ Session.Broken → self.new.standing.session ≡ Session.Broken }
     {
         let query = Query::with(self.rt.alloc(), text, values)?;
         self.counted(query)
     }
 
     fn counted(&mut self, query: Query) -> Result<u64, PostgresError>
-        ensures stays { self.old.session ≡ Session.Broken →
-            IsErr result × (self.new.session ≡ Session.Broken) }
+        ensures stays { self.old.standing.session ≡ Session.Broken →
+            IsErr result × (self.new.standing.session ≡ Session.Broken) }
     {
         let answer = self.asked(query)?;
         answer.rows?;
@@ -125,8 +113,8 @@ impl PostgresConnection {
     }
 
     fn asked(&mut self, query: Query) -> Result<Answer, PostgresError>
-        ensures stays { self.old.session ≡ Session.Broken →
-            IsErr result × (self.new.session ≡ Session.Broken) }
+        ensures stays { self.old.standing.session ≡ Session.Broken →
+            IsErr result × (self.new.standing.session ≡ Session.Broken) }
     {
         let deadline = Deadline::new(self.rt, self.timeouts.command);
         self.exchange(query, deadline)
@@ -134,36 +122,30 @@ impl PostgresConnection {
 
     /// Asks for a row that has no other use.
     pub fn check(&mut self) -> Result<(), PostgresError>
-        ensures { self.old.session ≡ Session.Broken → IsErr result }
+        ensures { self.old.standing.session ≡ Session.Broken → IsErr result }
     {
         let deadline = Deadline::new(self.rt, self.timeouts.check);
-        let query = Query::of(self.rt.alloc(), "SELECT 1")?;
-        let rows = self.exchange(query, deadline)?.rows?;
-        match rows.as_slice() {
-            [row] if row.get(0) == Some("1") => Ok(()),
-            _ => {
-                self.session = Session::Broken;
-                Err(PostgresError::Protocol)
-            }
-        }
+        let query = Query::of(self.rt.alloc(), CHECK)?;
+        let answer = self.exchange(query, deadline)?;
+        self.standing.is_one(answer.rows)
     }
 
     // It is broken from before the query is sent until the server is ready again, so each `?`
     // leaves it broken: an answer that comes late would be taken for that of the next query.
     fn exchange(&mut self, query: Query, deadline: Deadline) -> Result<Answer, PostgresError>
-        ensures broken { IsErr result → self.new.session ≡ Session.Broken }
-        ensures stays { self.old.session ≡ Session.Broken → IsErr result }
-        ensures session { IfOk result (λ answer. self.new.session ≡ answer.session) }
-        ensures mark { IsOk result → self.new.mark ≡ Mark.Plain →
-            (self.old.mark ≡ Mark.Plain) ⊎ (0 < self.old.resetting) }
+        ensures broken { IsErr result → self.new.standing.session ≡ Session.Broken }
+        ensures stays { self.old.standing.session ≡ Session.Broken → IsErr result }
+        ensures session { IfOk result (λ answer. self.new.standing.session ≡ answer.session) }
+        ensures mark { IsOk result → self.new.standing.mark ≡ Mark.Plain →
+            (self.old.standing.mark ≡ Mark.Plain) ⊎ (0 < self.old.standing.resetting) }
     {
-        if self.session == Session::Broken {
+        if self.standing.session == Session::Broken {
             return Err(PostgresError::Broken);
         }
-        self.session = Session::Broken;
+        self.standing.session = Session::Broken;
         match self.talk(query, deadline) {
             Ok(answer) => {
-                self.session = answer.session;
+                self.standing.answered(&answer);
                 Ok(answer)
             }
             Err(error) => {
@@ -176,33 +158,28 @@ impl PostgresConnection {
     }
 
     fn talk(&mut self, query: Query, deadline: Deadline) -> Result<Answer, PostgresError>
-        ensures broken { self.old.session ≡ Session.Broken → self.new.session ≡ Session.Broken }
-        ensures mark { IsOk result → self.new.mark ≡ Mark.Plain →
-            (self.old.mark ≡ Mark.Plain) ⊎ (0 < self.old.resetting) }
+        ensures broken { self.old.standing.session ≡ Session.Broken → self.new.standing.session ≡ Session.Broken }
+        ensures mark { IsOk result → self.new.standing.mark ≡ Mark.Plain →
+            (self.old.standing.mark ≡ Mark.Plain) ⊎ (0 < self.old.standing.resetting) }
     {
         self.end_reset(deadline)?;
         self.wire.must_be_quiet(deadline)?;
-        self.mark = self.mark.and(query.mark);
+        self.standing.mark = self.standing.mark.and(query.mark);
         self.wire.ask(query.request.as_slice(), deadline)?;
-        let answer = read_answer(self.rt.alloc(), &mut self.wire, self.limits, deadline)?;
-        self.mark = self.mark.and(answer.mark);
-        Ok(answer)
+        self.wire.answer(self.limits, deadline)
     }
 
     // Reads the answers to a reset.
     fn end_reset(&mut self, deadline: Deadline) -> Result<(), PostgresError>
-        ensures session { self.new.session ≡ self.old.session }
-        ensures ok { OnOk result (self.new.resetting ≡ 0) }
-        ensures mark { self.new.mark ≡ Mark.Plain →
-            (self.old.mark ≡ Mark.Plain) ⊎ (0 < self.old.resetting) }
+        ensures session { self.new.standing.session ≡ self.old.standing.session }
+        ensures mark { self.new.standing.mark ≡ Mark.Plain →
+            (self.old.standing.mark ≡ Mark.Plain) ⊎ (0 < self.old.standing.resetting) }
     {
-        if self.resetting == 0 {
-            return Ok(());
+        let count = self.standing.resetting;
+        if count > 0 {
+            self.wire.end_reset(count, self.limits, deadline)?;
+            self.standing.is_reset();
         }
-        let (alloc, count) = (self.rt.alloc(), self.resetting);
-        skip_answers(alloc, &mut self.wire, count, self.limits, deadline)?;
-        self.resetting = 0;
-        self.mark = Mark::Plain;
         Ok(())
     }
 
@@ -220,57 +197,83 @@ impl PostgresConnection {
     /// Comes back from a caller. Whether it may be lent on: to a caller who finds no transaction,
     /// and the session as it began, or as the mode says. It waits for no answer.
     pub(crate) fn come_back(&mut self, reset: Reset) -> bool
-        ensures broken { self.old.session ≡ Session.Broken → IsFalse result }
-        ensures idle { IsTrue result → self.new.session ≡ Session.Idle }
-        ensures rolled_back { IsTrue result → self.old.session ≢ Session.Idle →
-            0 < self.new.resetting }
+        ensures broken { self.old.standing.session ≡ Session.Broken → IsFalse result }
+        ensures idle { IsTrue result → self.new.standing.session ≡ Session.Idle }
+        ensures rolled_back { IsTrue result → self.old.standing.session ≢ Session.Idle →
+            0 < self.new.standing.resetting }
         ensures marked { IsTrue result → reset ≡ Reset.IfMarked →
-            (self.new.mark ≡ Mark.Plain) ⊎ (0 < self.new.resetting) }
-        ensures always { IsTrue result → reset ≡ Reset.Always → 0 < self.new.resetting }
+            (self.new.standing.mark ≡ Mark.Plain) ⊎ (0 < self.new.standing.resetting) }
+        ensures always { IsTrue result → reset ≡ Reset.Always → 0 < self.new.standing.resetting }
     {
-        // Nothing was said since the last reset was sent.
-        if self.resetting > 0 {
-            return self.session == Session::Idle;
-        }
-        let is_kept = self.session != Session::Broken && self.send_reset(reset).is_ok();
+        let is_kept = self.end_session(reset).is_ok();
         if !is_kept {
-            self.session = Session::Broken;
+            self.standing.session = Session::Broken;
         }
         is_kept
     }
 
-    fn send_reset(&mut self, reset: Reset) -> Result<(), PostgresError>
-        ensures idle { IsOk result → self.new.session ≡ Session.Idle }
-        ensures rolled_back { IsOk result → self.old.session ≢ Session.Idle →
-            0 < self.new.resetting }
+    fn end_session(&mut self, reset: Reset) -> Result<(), PostgresError>
+        ensures broken { self.old.standing.session ≡ Session.Broken → IsErr result }
+        ensures idle { IsOk result → self.new.standing.session ≡ Session.Idle }
+        ensures rolled_back { IsOk result → self.old.standing.session ≢ Session.Idle →
+            0 < self.new.standing.resetting }
         ensures marked { IsOk result → reset ≡ Reset.IfMarked →
-            (self.new.mark ≡ Mark.Plain) ⊎ (0 < self.new.resetting) }
-        ensures always { IsOk result → reset ≡ Reset.Always → 0 < self.new.resetting }
+            (self.new.standing.mark ≡ Mark.Plain) ⊎ (0 < self.new.standing.resetting) }
+        ensures always { IsOk result → reset ≡ Reset.Always → 0 < self.new.standing.resetting }
     {
         let deadline = Deadline::new(self.rt, self.timeouts.check);
-        self.wire.must_be_quiet(deadline)?;
-        let is_open = self.session != Session::Idle;
-        let is_reset = match reset {
-            Reset::Never => false,
-            Reset::IfMarked => self.mark != Mark::Plain,
-            Reset::Always => true,
-        };
-        if is_reset && self.mark == Mark::Lasting {
-            return Err(PostgresError::Reset);
+        // (What comes of a reset is read by the next query.)
+        if self.standing.resetting == 0 {
+            self.wire.must_be_quiet(deadline)?;
         }
-        // (DISCARD ALL is refused beside other statements)
-        let mut queries = Vec::new(self.rt.alloc());
-        if is_open {
-            queries.push("ROLLBACK")?;
+        let (alloc, talk) = (self.rt.alloc(), &mut self.wire.talk);
+        let requests = self.standing.come_back(alloc, talk, reset)?;
+        if requests.is_empty() {
+            return Ok(());
         }
-        if is_reset {
-            queries.push("DISCARD ALL")?;
-        }
-        if !queries.is_empty() {
-            self.wire.ask_each(queries.as_slice(), deadline)?;
-        }
-        self.resetting = queries.len();
-        self.session = Session::Idle;
-        Ok(())
+        self.wire.send(requests.as_slice(), deadline)
     }
+}
+
+// Logs in.
+fn begin(
+    rt: HostRuntime,
+    wire: &mut Wire,
+    login: &Login,
+    deadline: Deadline,
+) -> Result<Begun, PostgresError>
+    ensures { IfOk result (λ begun. begun.session ≢ Session.Broken) }
+{
+    let (mut greeting, request) = Greeting::ask(rt, login)?;
+    wire.ask(request.as_slice(), deadline)?;
+    for _ in 0..u64::MAX {
+        let message = wire.receive(deadline)?;
+        match greeting.answered(login, message)? {
+            Next::Receive => {}
+            Next::Send(bytes) => wire.send(bytes.as_slice(), deadline)?,
+            Next::Prove => {
+                let bytes = proven(rt, &mut greeting, deadline)?;
+                wire.send(bytes.as_slice(), deadline)?;
+            }
+            Next::Begun(begun) => return Ok(begun),
+        }
+    }
+    Err(PostgresError::Protocol)
+}
+
+// Makes the rounds of a proof: the bytes to send.
+fn proven(
+    rt: HostRuntime,
+    greeting: &mut Greeting,
+    deadline: Deadline,
+) -> Result<Vec<u8>, PostgresError> {
+    for _ in 0..u64::MAX {
+        if deadline.left(rt).is_err() {
+            return Err(PostgresError::SlowLogin);
+        }
+        if let Some(bytes) = greeting.go_on()? {
+            return Ok(bytes);
+        }
+    }
+    Err(PostgresError::SlowLogin)
 }

@@ -1,7 +1,8 @@
 //! What fails.
 
+use deadline::Deadline;
 use postgres_codec::{CodecError, Fault, RequestError};
-use std::alloc::AllocError;
+use std::alloc::{AllocError, Global};
 use std::io;
 use thiserror::Error;
 
@@ -85,6 +86,27 @@ impl From<RequestError> for PostgresError {
 }
 
 impl PostgresError {
+    /// An error of the socket, with the server's address, and what it was that took too long.
+    pub fn of_socket(
+        alloc: Global,
+        address: &str,
+        deadline: Deadline,
+        error: io::Error,
+    ) -> PostgresError {
+        let address = match String::from_str(alloc, address) {
+            Ok(address) => address,
+            Err(error) => return PostgresError::Memory(error),
+        };
+        match error.kind() {
+            io::ErrorKind::TimedOut => PostgresError::Timeout {
+                address,
+                millis: deadline.millis(),
+            },
+            io::ErrorKind::UnexpectedEof => PostgresError::Closed { address },
+            _ => PostgresError::Io { address, error },
+        }
+    }
+
     /// The SQLSTATE of a refusal, as `23505`.
     pub fn state(&self) -> Option<&str> {
         match self {

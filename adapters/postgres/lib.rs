@@ -3,8 +3,8 @@
 
 mod answer;
 mod connection;
-mod deadline;
 mod error;
+mod greeting;
 mod login;
 mod manager;
 mod mark;
@@ -12,11 +12,18 @@ mod query;
 mod refusal;
 mod reset;
 mod scram;
+mod settings;
 mod socket;
+mod standing;
 mod wire;
 
-pub use answer::{Limits, Row, Session};
+pub use answer::{Answer, Limits, Reading, Row, Rows, Session};
 pub use connection::PostgresConnection;
 pub use error::PostgresError;
+pub use greeting::{Begun, Greeting, Next};
+pub use login::Login;
 pub use manager::PostgresConnectionManager;
+pub use query::Query;
 pub use reset::Reset;
+pub use settings::{Settings, Timeouts};
+pub use standing::{CHECK, Standing, must_be_taken};

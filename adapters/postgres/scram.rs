@@ -2,23 +2,22 @@
 //! it knows it too. A password is taken as it is written: one beyond ASCII has to be normalized
 //! (SASLprep) by the caller.
 
-use crate::deadline::Deadline;
 use crate::error::PostgresError;
 use base64::engine::general_purpose::STANDARD;
 use sha2::{Digest, Sha256};
-use std::alloc::AllocError;
+use std::alloc::{AllocError, Global};
 
 /// The fewest and the most rounds that a server may ask for: its own default are the fewest.
 const FEWEST_ROUNDS: u32 = 4096;
 
 const MOST_ROUNDS: u32 = 1_000_000;
-/// After so many of them the clock is read.
-const ROUNDS_A_LOOK: u32 = 64;
+/// So many are made at once.
+const ROUNDS_A_TIME: u32 = 64;
 
 /// The client's side.
 #[derive(Drop)]
 pub struct Scram {
-    rt: HostRuntime,
+    alloc: Global,
     nonce: String,
 }
 
@@ -31,25 +30,20 @@ pub struct Proof {
 
 impl Scram {
     /// `random` has to be new each time.
-    pub fn new(rt: HostRuntime, random: &[u8]) -> Result<Scram, AllocError> {
-        let nonce = STANDARD.encode(rt.alloc(), random)?;
-        Ok(Scram { rt, nonce })
+    pub fn new(alloc: Global, random: &[u8]) -> Result<Scram, AllocError> {
+        let nonce = STANDARD.encode(alloc, random)?;
+        Ok(Scram { alloc, nonce })
     }
 
     /// The first message. The server knows the user's name already.
     pub fn first(&self) -> Result<String, AllocError> {
         let nonce = &self.nonce;
-        format!(in self.rt.alloc(); "n,,n=,r={nonce}")
+        format!(in self.alloc; "n,,n=,r={nonce}")
     }
 
-    /// The answer to the server's first message.
-    pub fn proof(
-        &self,
-        challenge: &str,
-        password: &str,
-        deadline: Deadline,
-    ) -> Result<Proof, PostgresError> {
-        let (nonce, salt, rounds) = parts_of(challenge).ok_or(PostgresError::Protocol)?;
+    /// What the server's first message asks for.
+    pub fn challenged(&self, challenge: String, password: &str) -> Result<Salting, PostgresError> {
+        let (nonce, salt, rounds) = parts_of(challenge.as_str()).ok_or(PostgresError::Protocol)?;
         if !nonce.starts_with(self.nonce.as_str()) || nonce.len() == self.nonce.len() {
             return Err(PostgresError::ForeignNonce);
         }
@@ -57,25 +51,32 @@ impl Scram {
             return Err(PostgresError::Rounds);
         }
         let salt = STANDARD
-            .decode(self.rt.alloc(), salt.as_bytes())
+            .decode(self.alloc, salt.as_bytes())
             .map_err(|_| PostgresError::Protocol)?;
-        let salting = Salting {
-            rt: self.rt,
-            salt: salt.as_slice(),
+        let nonce = String::from_str(self.alloc, nonce)?;
+        let rounds = Rounds::of(self.alloc, password.as_bytes(), salt.as_slice(), rounds)?;
+        Ok(Salting {
+            challenge,
+            nonce,
             rounds,
-        };
-        let salted = salting.salted(password.as_bytes(), deadline)?;
-        let begun = format!(in self.rt.alloc(); "c=biws,r={nonce}")?;
-        let all = format!(in self.rt.alloc(); "n=,r={},{challenge},{begun}", self.nonce)?;
+        })
+    }
+
+    /// The answer to it, once its rounds are made.
+    pub fn proof(&self, salting: &Salting) -> Result<Proof, AllocError> {
+        let (nonce, challenge) = (salting.nonce.as_str(), salting.challenge.as_str());
+        let salted = salting.rounds.salted;
+        let begun = format!(in self.alloc; "c=biws,r={nonce}")?;
+        let all = format!(in self.alloc; "n=,r={},{challenge},{begun}", self.nonce)?;
         let mut client = hmac(&salted, b"Client Key")?;
         let signature = hmac(&Sha256::digest(&client), all.as_bytes())?;
         mix(&mut client, &signature);
-        let proof = STANDARD.encode(self.rt.alloc(), &client)?;
+        let proof = STANDARD.encode(self.alloc, &client)?;
         let server = hmac(&hmac(&salted, b"Server Key")?, all.as_bytes())?;
-        let server = STANDARD.encode(self.rt.alloc(), &server)?;
+        let server = STANDARD.encode(self.alloc, &server)?;
         Ok(Proof {
-            message: format!(in self.rt.alloc(); "{begun},p={proof}")?,
-            reply: format!(in self.rt.alloc(); "v={server}")?,
+            message: format!(in self.alloc; "{begun},p={proof}")?,
+            reply: format!(in self.alloc; "v={server}")?,
         })
     }
 }
@@ -89,32 +90,53 @@ fn parts_of(challenge: &str) -> Option<(&str, &str, u32)> {
     Some((nonce, salt, rounds))
 }
 
-/// PBKDF2 with one block.
+/// An answer that is under way.
 #[derive(Drop)]
-struct Salting<'a> {
-    rt: HostRuntime,
-    salt: &'a [u8],
-    rounds: u32,
+pub struct Salting {
+    challenge: String,
+    nonce: String,
+    rounds: Rounds,
 }
 
-impl Salting<'_> {
-    // Many rounds take long.
-    fn salted(&self, password: &[u8], deadline: Deadline) -> Result<[u8; 32], PostgresError> {
+impl Salting {
+    /// Makes some rounds. Whether that were the last.
+    pub fn go_on(&mut self) -> Result<bool, AllocError> {
+        self.rounds.go_on()
+    }
+}
+
+/// PBKDF2 with one block.
+#[derive(Drop)]
+struct Rounds {
+    password: Keyed,
+    latest: [u8; 32],
+    salted: [u8; 32],
+    left: u32,
+}
+
+impl Rounds {
+    // The first of them is made.
+    fn of(alloc: Global, password: &[u8], salt: &[u8], rounds: u32) -> Result<Rounds, AllocError> {
         let password = Keyed::new(password);
-        let mut first = Vec::new(self.rt.alloc());
-        first.extend_from_slice(self.salt)?;
+        let mut first = Vec::new(alloc);
+        first.extend_from_slice(salt)?;
         first.extend_from_slice(&[0, 0, 0, 1])?;
-        let mut latest = password.of(first.as_slice())?;
-        let mut salted = latest;
-        for round in 1..self.rounds {
-            if round % ROUNDS_A_LOOK == 0 && deadline.left(self.rt).is_err() {
-                return Err(PostgresError::SlowLogin);
-            }
-            let next = password.of(&latest)?;
-            mix(&mut salted, &next);
-            latest = next;
+        let latest = password.of(first.as_slice())?;
+        Ok(Rounds {
+            password,
+            latest,
+            salted: latest,
+            left: rounds.saturating_sub(1),
+        })
+    }
+
+    fn go_on(&mut self) -> Result<bool, AllocError> {
+        for _ in 0..self.left.min(ROUNDS_A_TIME) {
+            self.latest = self.password.of(&self.latest)?;
+            mix(&mut self.salted, &self.latest);
         }
-        Ok(salted)
+        self.left = self.left.saturating_sub(ROUNDS_A_TIME);
+        Ok(self.left == 0)
     }
 }
 
@@ -170,18 +192,18 @@ fn mix(bytes: &mut [u8], others: &[u8]) {
 mod tests {
     use super::*;
     use std::test::Fail;
-    use std::time::Duration;
 
     /// The exchange that RFC 7677 shows has the user's name in it, which PostgreSQL leaves out.
     #[test]
     fn salts_as_the_standard_shows(rt: HostRuntime) -> Result<(), Fail> {
         let salt = STANDARD.decode(rt.alloc(), b"W22ZaJ0SNY7soEsUEjb6gQ==")?;
-        let salted = Salting {
-            rt,
-            salt: salt.as_slice(),
-            rounds: 4096,
+        let mut rounds = Rounds::of(rt.alloc(), b"pencil", salt.as_slice(), 4096)?;
+        // (64 of them a time)
+        for _ in 0..63 {
+            assert_eq!(rt; rounds.go_on()?, false);
         }
-        .salted(b"pencil", Deadline::new(rt, Duration::MAX))?;
+        assert_eq!(rt; rounds.go_on()?, true);
+        let salted = rounds.salted;
         let all = "n=user,r=rOprNGfwEbeRWgbNEkqO,\
             r=rOprNGfwEbeRWgbNEkqO%hvYDpWUa2RaTCAfuxFIlj)hNlF$k0,s=W22ZaJ0SNY7soEsUEjb6gQ==,i=4096,\
             c=biws,r=rOprNGfwEbeRWgbNEkqO%hvYDpWUa2RaTCAfuxFIlj)hNlF$k0";

@@ -1,8 +1,7 @@
 //! The socket: what waits, and for how long.
 
-use crate::deadline::Deadline;
+use deadline::Deadline;
 use crate::error::PostgresError;
-use std::alloc::Global;
 use std::io;
 use std::io::{Read, Write};
 use std::net::{SocketAddr, TcpStream, ToSocketAddrs};
@@ -37,7 +36,12 @@ impl Socket {
                 read_limit: Duration::MAX,
                 write_limit: Duration::MAX,
             }),
-            Err(error) => Err(explained(rt.alloc(), address, deadline, error)),
+            Err(error) => Err(PostgresError::of_socket(
+                rt.alloc(),
+                address,
+                deadline,
+                error,
+            )),
         }
     }
 
@@ -137,7 +141,7 @@ impl Socket {
     }
 
     fn explained(&self, deadline: Deadline, error: io::Error) -> PostgresError {
-        explained(self.rt.alloc(), self.address.as_str(), deadline, error)
+        PostgresError::of_socket(self.rt.alloc(), self.address.as_str(), deadline, error)
     }
 }
 
@@ -173,20 +177,4 @@ fn may_go_on(error: &io::Error) -> bool {
         error.kind(),
         io::ErrorKind::WouldBlock | io::ErrorKind::TimedOut | io::ErrorKind::Interrupted
     )
-}
-
-// The error with the server's address, and what it was that took too long.
-fn explained(alloc: Global, address: &str, deadline: Deadline, error: io::Error) -> PostgresError {
-    let address = match String::from_str(alloc, address) {
-        Ok(address) => address,
-        Err(error) => return PostgresError::Memory(error),
-    };
-    match error.kind() {
-        io::ErrorKind::TimedOut => PostgresError::Timeout {
-            address,
-            millis: deadline.millis(),
-        },
-        io::ErrorKind::UnexpectedEof => PostgresError::Closed { address },
-        _ => PostgresError::Io { address, error },
-    }
 }

@@ -1,8 +1,10 @@
 //! What is said over the socket: requests, and the server's messages.
 
-use crate::deadline::Deadline;
+use crate::answer::{Answer, Limits, Reading};
 use crate::error::PostgresError;
 use crate::socket::Socket;
+use crate::standing::must_be_taken;
+use deadline::Deadline;
 use postgres_codec::{Conversation, Message};
 use std::alloc::Global;
 
@@ -41,18 +43,7 @@ impl Wire {
         self.send(request, deadline)
     }
 
-    /// Sends queries, each with an end of its own.
-    pub fn ask_each(&mut self, queries: &[&str], deadline: Deadline) -> Result<(), PostgresError> {
-        let mut requests = Vec::new(self.alloc);
-        for query in queries {
-            let request = postgres_codec::query(self.alloc, query)?;
-            requests.extend_from_slice(request.as_slice())?;
-            self.talk.expect();
-        }
-        self.socket.send(requests.as_slice(), deadline)
-    }
-
-    /// Sends a step of a login.
+    /// Sends requests that are expected, or a step of a login.
     pub fn send(&mut self, bytes: &[u8], deadline: Deadline) -> Result<(), PostgresError> {
         self.socket.send(bytes, deadline)
     }
@@ -63,11 +54,42 @@ impl Wire {
             if let Some(message) = self.talk.next()? {
                 return Ok(message);
             }
-            let count = self.socket.receive(self.piece.as_mut_slice(), deadline)?;
-            let came = self.piece.as_slice().get(..count);
-            self.talk.feed(came.ok_or(PostgresError::Protocol)?)?;
+            self.feed(deadline)?;
         }
         Err(PostgresError::Protocol)
+    }
+
+    /// Waits for the next answer.
+    pub fn answer(&mut self, limits: Limits, deadline: Deadline) -> Result<Answer, PostgresError> {
+        let mut reading = Reading::new(self.alloc);
+        for _ in 0..u64::MAX {
+            if let Some(answer) = reading.go_on(&mut self.talk, limits)? {
+                return Ok(answer);
+            }
+            self.feed(deadline)?;
+        }
+        Err(PostgresError::Protocol)
+    }
+
+    /// Reads the answers to a reset, which are so many.
+    pub fn end_reset(
+        &mut self,
+        count: usize,
+        limits: Limits,
+        deadline: Deadline,
+    ) -> Result<(), PostgresError> {
+        for _ in 0..count {
+            must_be_taken(self.answer(limits, deadline)?)?;
+        }
+        Ok(())
+    }
+
+    // Waits for bytes.
+    fn feed(&mut self, deadline: Deadline) -> Result<(), PostgresError> {
+        let count = self.socket.receive(self.piece.as_mut_slice(), deadline)?;
+        let came = self.piece.as_slice().get(..count);
+        self.talk.feed(came.ok_or(PostgresError::Protocol)?)?;
+        Ok(())
     }
 
     /// Fails where a request has not ended, or bytes came that nobody asked for.

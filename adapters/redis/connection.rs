@@ -3,7 +3,7 @@
 ghost use Rattle.std.specs.Prelude.{◌≡◌, ◌↔◌, ◌<◌, ◌⊎◌, IsErr, IsFalse, IsOk, IsTrue};
 ghost use Rattle.redis_codec.specs.Sessions.{plain};
 
-use crate::deadline::Deadline;
+use deadline::Deadline;
 use crate::error::RedisError;
 use crate::greeting::Greeting;
 use crate::reply::Reply;

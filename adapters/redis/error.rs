@@ -1,6 +1,6 @@
 //! What fails.
 
-use crate::deadline::Deadline;
+use deadline::Deadline;
 use redis_codec::{CodecError, Fault};
 use std::alloc::{AllocError, Global};
 use std::io;

@@ -2,7 +2,6 @@
 #![tactic(auto)]
 
 mod connection;
-mod deadline;
 mod error;
 mod greeting;
 mod manager;
@@ -14,7 +13,6 @@ mod standing;
 mod wire;
 
 pub use connection::RedisConnection;
-pub use deadline::Deadline;
 pub use error::RedisError;
 pub use greeting::Greeting;
 pub use manager::RedisConnectionManager;

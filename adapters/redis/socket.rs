@@ -1,6 +1,6 @@
 //! The socket: what waits, and for how long.
 
-use crate::deadline::Deadline;
+use deadline::Deadline;
 use crate::error::RedisError;
 use std::io;
 use std::io::{Read, Write};

@@ -3,7 +3,7 @@
 ghost use Rattle.std.specs.Prelude.{◌≡◌, ◌<◌, OnOk};
 ghost use Rattle.redis_codec.specs.Sessions.{plain};
 
-use crate::deadline::Deadline;
+use deadline::Deadline;
 use crate::error::RedisError;
 use crate::socket::Socket;
 use crate::standing::must_be_a_word;

@@ -5,15 +5,16 @@ ghost use Rattle.futures.specs.Task.{IsArmed, Keeps};
 ghost use Rattle.futures.specs.Poll.{IfReady, OnPending};
 ghost use Rattle.redis_codec.specs.Sessions.{plain};
 
-use crate::patience::Patience;
 use crate::socket::Socket;
+use deadline::Deadline;
 use futures::ready;
 use futures::task::{Context, Poll};
-use redis::{Deadline, Login, RedisError, Reset, Session, Standing, Timeouts, must_be_a_word};
+use redis::{Login, RedisError, Reset, Session, Standing, Timeouts, must_be_a_word};
 use redis_codec::{Command, Item};
 use std::alloc::{AllocError, Global};
 use std::time::Duration;
 use tokio::time;
+use tokio_socket::Patience;
 
 /// A connection to Redis, whose commands are futures: those of the trait `Commands`.
 #[derive(Drop)]

@@ -7,7 +7,6 @@ mod connection;
 mod exchange;
 mod manager;
 mod opening;
-mod patience;
 mod socket;
 
 pub use connection::TaskConnection;

@@ -4,17 +4,17 @@ ghost use Rattle.futures.specs.Task.{IsArmed, Keeps};
 ghost use Rattle.futures.specs.Poll.{OnPending};
 
 use crate::connection::TaskConnection;
-use crate::patience::Patience;
 use crate::socket::Socket;
+use deadline::Deadline;
 use futures::task::{Context, Poll};
 use futures::{Future, ready};
-use redis::{Deadline, Greeting, RedisError, Settings, Standing};
+use redis::{Greeting, RedisError, Settings, Standing};
 use std::alloc::AllocError;
 use std::io;
-use std::net::{SocketAddr, ToSocketAddrs};
 use std::sync::Arc;
-use tokio::net::{ConnectFuture, TcpStream};
+use tokio::net::TcpStream;
 use tokio::runtime::Handle;
+use tokio_socket::{Dialing, Patience};
 
 /// Connects to a server, and logs in. Dropped before its end, it closes the socket.
 #[derive(Drop)]
@@ -48,17 +48,8 @@ struct Opening {
     handle: Handle,
     // Since its first poll.
     patience: Option<Patience>,
-    // Those that were not tried yet, the next one last.
-    addresses: Vec<SocketAddr>,
     dialing: Option<Dialing>,
     dialed: Option<Dialed>,
-}
-
-// An address at which it is tried, and for how long.
-#[derive(Drop)]
-struct Dialing {
-    connecting: ConnectFuture,
-    patience: Patience,
 }
 
 // A connection whose session has not begun.
@@ -82,7 +73,6 @@ impl Opening {
             settings: Arc::try_clone(settings)?,
             handle: handle.clone()?,
             patience: None,
-            addresses: Vec::new(rt.alloc()),
             dialing: None,
             dialed: None,
         })
@@ -117,18 +107,14 @@ impl Opening {
     fn start(&mut self) -> Result<Patience, RedisError> {
         let timeout = self.settings.timeouts.connect;
         let patience = Patience::new(self.rt, self.handle.time(), timeout)?;
-        match self.look_up() {
-            Ok(()) => Ok(patience),
+        let address = self.settings.address.as_str();
+        match Dialing::by_name(self.rt, &self.handle, address) {
+            Ok(dialing) => {
+                self.dialing = Some(dialing);
+                Ok(patience)
+            }
             Err(error) => Err(self.explained(patience.deadline, error)),
         }
-    }
-
-    fn look_up(&mut self) -> io::Result<()> {
-        for address in self.settings.address.as_str().to_socket_addrs(&self.rt)? {
-            self.addresses.push(address)?;
-        }
-        self.addresses.reverse();
-        Ok(())
     }
 
     fn poll_steps(
@@ -155,56 +141,20 @@ impl Opening {
         Poll::Ready(self.opened())
     }
 
-    // Connects to the first address at which somebody listens.
     fn poll_dial(&mut self, deadline: Deadline, cx: &mut Context<'_>) -> Poll<io::Result<TcpStream>>
         ensures armed { OnPending result (IsArmed cx.new) }
         ensures kept { Keeps cx.old cx.new }
     {
-        let mut dialing = match self.dialing.take() {
-            Some(dialing) => dialing,
-            None => match self.dial(deadline) {
-                Ok(dialing) => dialing,
-                Err(error) => return Poll::Ready(Err(error)),
-            },
-        };
-        let dialed = match dialing.connecting.poll(cx) {
-            Poll::Pending if dialing.patience.poll_over(cx).is_ready() => {
-                Poll::Ready(Err(io::Error::from(io::ErrorKind::TimedOut)))
-            }
-            dialed => dialed,
-        };
-        match dialed {
-            Poll::Ready(Err(error)) if self.addresses.is_empty() => Poll::Ready(Err(error)),
-            Poll::Ready(Err(_)) => cx.yield_now(),
-            Poll::Ready(Ok(stream)) => Poll::Ready(Ok(stream)),
-            Poll::Pending => {
-                self.dialing = Some(dialing);
-                Poll::Pending
-            }
+        match &mut self.dialing {
+            Some(dialing) => dialing.poll_dial(deadline, cx),
+            None => Poll::Ready(Err(io::Error::from(io::ErrorKind::NotFound))),
         }
-    }
-
-    // Begins at the next address. What is left of the time is shared by those that are left.
-    fn dial(&mut self, deadline: Deadline) -> io::Result<Dialing> {
-        let addresses = u32::try_from(self.addresses.len()).unwrap_or(u32::MAX);
-        let Some(address) = self.addresses.pop() else {
-            return Err(io::Error::from(io::ErrorKind::NotFound));
-        };
-        let share = deadline.left(self.rt)? / addresses.max(1);
-        Ok(Dialing {
-            connecting: TcpStream::connect(&self.rt, address, self.handle.reactor()),
-            patience: Patience::new(self.rt, self.handle.time(), share)?,
-        })
     }
 
     // What is sent first.
     fn greet(&self, stream: TcpStream) -> Result<Dialed, RedisError> {
         let (alloc, settings) = (self.rt.alloc(), &*self.settings);
         let address = settings.address.as_str();
-        if let Err(error) = stream.set_nodelay(true) {
-            let deadline = Deadline::new(self.rt, settings.timeouts.connect);
-            return Err(self.explained(deadline, error));
-        }
         let mut socket = Socket::new(alloc, stream, address, settings.limits)?;
         let mut requests = Vec::new(alloc);
         let (login, talk) = (&settings.login, &mut socket.talk);

@@ -1,4 +1,6 @@
-//! By when a call is over, however many reads and writes it takes.
+//! By when a call to a server is over, however many reads and writes it takes. This copy is yours,
+//! to be changed.
+#![tactic(auto)]
 
 ghost use Rattle.std.specs.Prelude.{◌<◌, ◌≤◌, IfOk};
 ghost use Rattle.std.specs.Duration.{as_nanos};
@@ -6,6 +8,7 @@ ghost use Rattle.std.specs.Duration.{as_nanos};
 use std::io;
 use std::time::{Duration, Instant};
 
+/// A length of time that has begun.
 #[derive(Clone, Copy)]
 pub struct Deadline {
     // When it began. With a clock that fails nothing is left.
@@ -40,6 +43,7 @@ impl Deadline {
         self.length / 10
     }
 
+    /// How long it is.
     pub fn millis(&self) -> u128 {
         self.length.as_millis()
     }

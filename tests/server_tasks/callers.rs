@@ -2,13 +2,11 @@
 //! is given up where it takes too long.
 
 use crate::service::{Lent, TaskPool};
+use crate::talks::{Server, Talks};
 use futures::task::{Context, Poll};
 use futures::{Future, future, ready};
 use r2d2::PoolRuntime;
 use r2d2_async::{Builder, Get, NoHandlers, Pool, Timer};
-use redis_tasks::{
-    Commands, Exchange, RedisConnectionManager, RedisError, Reply, TaskConnectionManager,
-};
 use std::alloc::AllocError;
 use std::io;
 use std::random::RandomSource;
@@ -19,7 +17,7 @@ use std::time::{Duration, Instant};
 use tokio::runtime::LocalRuntime;
 use tokio_timer::{TokioSleep, TokioTimer};
 
-type Call<R> = Get<TaskConnectionManager, TokioTimer<R>, NoHandlers, R>;
+type Call<M, R> = Get<M, TokioTimer<R>, NoHandlers, R>;
 
 /// What all of them count.
 #[derive(Drop)]
@@ -31,6 +29,9 @@ pub struct Counts {
     pub given_up: AtomicU64,
     pub failed: AtomicU64,
     pub refused: AtomicU64,
+    /// The longest time that a `get` and a request took, in milliseconds.
+    pub longest_get: AtomicU64,
+    pub longest_request: AtomicU64,
 }
 
 impl Counts {
@@ -43,6 +44,8 @@ impl Counts {
             given_up: zero(),
             failed: zero(),
             refused: zero(),
+            longest_get: zero(),
+            longest_request: zero(),
         }
     }
 }
@@ -51,13 +54,16 @@ impl Counts {
     fn tell<R: Print>(&self, rt: &R, gap: (u128, u128)) -> Result<(), Fail> {
         let read = |count: &AtomicU64| count.load(Ordering::SeqCst);
         println!(rt;
-            "= asked={} answered={} wrong={} given_up={} failed={} refused={} from={} to={}",
+            "= asked={} answered={} wrong={} given_up={} failed={} refused={} longest_get={} \
+             longest_request={} from={} to={}",
             read(&self.asked),
             read(&self.answered),
             read(&self.wrong),
             read(&self.given_up),
             read(&self.failed),
             read(&self.refused),
+            read(&self.longest_get),
+            read(&self.longest_request),
             gap.0,
             gap.1
         )?;
@@ -73,44 +79,49 @@ const CONNECTIONS: u32 = 8;
 
 const CALLERS: u32 = 12;
 
-/// How many requests there are at most, until when, and how long one waits for its answer.
+/// How many requests there are at most, until when, and how long one waits for a connection, and for
+/// its answer before it is given up.
 #[derive(Clone, Copy)]
 pub struct Length {
     pub requests: u64,
     pub until: Option<Instant>,
     pub patience: Option<Duration>,
+    pub get: Duration,
 }
 
 // A request, and when it is given up.
 #[derive(Drop)]
-struct Asked<R: PoolRuntime> {
-    exchange: Exchange<Lent<R>>,
+struct Asked<T> {
+    told: T,
     sleep: Option<TokioSleep>,
-    number: u64,
+    // How its answer is told.
+    wanted: String,
 }
 
 /// Asks for one number after the other, each over a connection that is lent for that alone.
 #[derive(Drop)]
-pub struct Caller<R: PoolRuntime> {
+pub struct Caller<M: Talks<Lent<M, R>>, R: PoolRuntime> {
     rt: R,
-    pool: TaskPool<R>,
+    pool: TaskPool<M, R>,
     timer: Arc<TokioTimer<R>>,
     counts: Arc<Counts>,
     /// When the answers came that were right.
     pub answers: Vec<Instant>,
     length: Length,
-    call: Option<Call<R>>,
-    asked: Option<Asked<R>>,
+    // When the call or the request began.
+    begun: Option<Instant>,
+    call: Option<Call<M, R>>,
+    asked: Option<Asked<M::Told>>,
 }
 
-impl<R: PoolRuntime> Caller<R> {
+impl<M: Talks<Lent<M, R>>, R: PoolRuntime> Caller<M, R> {
     pub fn new(
         rt: R,
-        pool: TaskPool<R>,
+        pool: TaskPool<M, R>,
         timer: Arc<TokioTimer<R>>,
         counts: Arc<Counts>,
         length: Length,
-    ) -> Caller<R> {
+    ) -> Caller<M, R> {
         Caller {
             rt,
             pool,
@@ -118,8 +129,21 @@ impl<R: PoolRuntime> Caller<R> {
             counts,
             answers: Vec::new(rt.alloc()),
             length,
+            begun: None,
             call: None,
             asked: None,
+        }
+    }
+
+    fn begin(&mut self) {
+        self.begun = Instant::now(&self.rt).ok();
+    }
+
+    // How long it took from there on.
+    fn lasted(&self) -> u64 {
+        match self.begun.map(|begun| begun.elapsed(&self.rt)) {
+            Some(Ok(length)) => u64::try_from(length.as_millis()).unwrap_or(u64::MAX),
+            _ => 0,
         }
     }
 
@@ -132,31 +156,34 @@ impl<R: PoolRuntime> Caller<R> {
         is_late || self.counts.asked.load(Ordering::SeqCst) >= self.length.requests
     }
 
-    fn ask(&mut self, lent: Lent<R>) -> Result<(), AllocError> {
+    fn ask(&mut self, lent: Lent<M, R>) -> Result<(), AllocError> {
         let number = self.counts.asked.fetch_add(1, Ordering::SeqCst);
-        let text = format!(in self.rt.alloc(); "{number}")?;
+        let (request, wanted) = M::echo(self.rt.alloc(), number)?;
+        self.begin();
         self.asked = Some(Asked {
-            exchange: lent.command(&["ECHO", text.as_str()]),
+            told: M::tell(self.rt.alloc(), lent, request.as_str())?,
             sleep: self
                 .length
                 .patience
                 .map(|patience| self.timer.sleep(patience)),
-            number,
+            wanted,
         });
         Ok(())
     }
 
-    // What a reply shows.
-    fn judge(&mut self, number: u64, reply: Result<Reply, RedisError>) -> Result<(), AllocError> {
-        match &reply {
-            Ok(reply) if reply.as_text().and_then(|it| it.parse::<u64>().ok()) == Some(number) => {
-                add_one(&self.counts.answered);
-                if let Ok(now) = Instant::now(&self.rt) {
-                    self.answers.push(now)?;
-                }
+    // What an answer shows.
+    fn judge(&mut self, told: &str, wanted: &str) -> Result<(), AllocError> {
+        let lasted = self.lasted();
+        self.counts.longest_request.fetch_max(lasted, Ordering::SeqCst);
+        if told == wanted {
+            add_one(&self.counts.answered);
+            if let Ok(now) = Instant::now(&self.rt) {
+                self.answers.push(now)?;
             }
-            Ok(_) => add_one(&self.counts.wrong),
-            Err(_) => add_one(&self.counts.failed),
+        } else if told.starts_with("! ") {
+            add_one(&self.counts.failed);
+        } else {
+            add_one(&self.counts.wrong);
         }
         Ok(())
     }
@@ -169,6 +196,8 @@ impl<R: PoolRuntime> Caller<R> {
         if let Some(call) = &mut self.call {
             let lent = ready!(call.poll(cx));
             self.call = None;
+            let lasted = self.lasted();
+            self.counts.longest_get.fetch_max(lasted, Ordering::SeqCst);
             return match lent {
                 Ok(lent) => Poll::Ready(self.ask(lent).map(|()| true)),
                 Err(_) => {
@@ -180,32 +209,39 @@ impl<R: PoolRuntime> Caller<R> {
         if self.is_done() {
             return Poll::Ready(Ok(false));
         }
+        self.begin();
         self.call = self.pool.get().ok();
         Poll::Ready(Ok(true))
     }
 
     fn poll_answer(&mut self, cx: &mut Context<'_>) -> Poll<Result<bool, AllocError>> {
-        let Some(asked) = &mut self.asked else {
+        let Some(mut asked) = self.asked.take() else {
             return Poll::Ready(Ok(true));
         };
-        let number = asked.number;
-        if let Poll::Ready((lent, reply)) = asked.exchange.poll(cx) {
-            self.asked = None;
+        if let Poll::Ready((lent, told)) = asked.told.poll(cx) {
             drop(lent);
-            return Poll::Ready(self.judge(number, reply).map(|()| true));
+            let judged = match told {
+                Ok(told) => self.judge(told.as_str(), asked.wanted.as_str()),
+                Err(error) => Err(error),
+            };
+            return Poll::Ready(judged.map(|()| true));
         }
-        let Some(sleep) = &mut asked.sleep else {
-            return Poll::Pending;
+        let is_over = match &mut asked.sleep {
+            Some(sleep) => sleep.poll(cx).is_ready(),
+            None => false,
         };
-        ready!(sleep.poll(cx));
-        // The future is dropped half-way, with what was lent.
-        self.asked = None;
-        add_one(&self.counts.given_up);
-        Poll::Ready(Ok(true))
+        if is_over {
+            // The future is dropped half-way, with what was lent.
+            drop(asked);
+            add_one(&self.counts.given_up);
+            return Poll::Ready(Ok(true));
+        }
+        self.asked = Some(asked);
+        Poll::Pending
     }
 }
 
-impl<R: PoolRuntime> Future for Caller<R> {
+impl<M: Talks<Lent<M, R>>, R: PoolRuntime> Future for Caller<M, R> {
     /// When its answers came.
     type Output = Result<Vec<Instant>, AllocError>;
 
@@ -227,19 +263,18 @@ impl<R: PoolRuntime> Future for Caller<R> {
 
 /// Lets so many callers ask, and tells what came of it: how often what was counted, when the longest
 /// time without an answer began, and when it was over, in milliseconds.
-pub fn throng<R: PoolRuntime + RandomSource + Print>(
+pub fn throng<M: Talks<Lent<M, R>>, R: PoolRuntime + RandomSource + Print>(
     rt: R,
     runtime: &mut LocalRuntime,
-    manager: RedisConnectionManager,
+    manager: M,
     length: Length,
 ) -> Result<(), Fail> {
     let begun = Instant::now(&rt)?;
-    let manager = TaskConnectionManager::new(manager, runtime.handle())?;
     let timer = TokioTimer::new(rt, runtime.handle())?;
     let builder = Builder::new()
         .max_size(CONNECTIONS)
         .test_if_idle_for(Some(Duration::from_millis(1)))
-        .connection_timeout(Duration::from_secs(20))
+        .connection_timeout(length.get)
         .max_retry_delay(Some(Duration::from_millis(200)));
     let pool = Pool::build(builder, rt, manager, timer)?;
     let workers = runtime.task_set(&rt)?;

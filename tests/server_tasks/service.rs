@@ -1,36 +1,53 @@
 //! What the lines say.
 
+use crate::talks::{Server, Talks};
 use futures::task::{Context, Poll};
 use futures::{Future, future};
 use r2d2::PoolRuntime;
-use r2d2_async::{
-    Builder, ManageConnection, NoHandlers, PlainPool, Pool, PooledConnection, Worker,
-};
-use redis_tasks::{Commands, RedisConnectionManager, TaskConnection, TaskConnectionManager};
+use r2d2_async::{Builder, NoHandlers, PlainPool, Pool, PooledConnection, Worker};
 use std::io;
+use std::ops::{Deref, DerefMut};
 use std::random::RandomSource;
 use std::test::Fail;
 use std::time::{Duration, Instant};
 use tokio::runtime::LocalRuntime;
 use tokio_timer::TokioTimer;
 
-pub type TaskPool<R> = PlainPool<TaskConnectionManager, TokioTimer<R>, R>;
+pub type TaskPool<M, R> = PlainPool<M, TokioTimer<R>, R>;
 
-pub type Lent<R> = PooledConnection<TaskConnectionManager, TokioTimer<R>, NoHandlers, R>;
+pub type Lent<M, R> = PooledConnection<M, TokioTimer<R>, NoHandlers, R>;
 
-type Opener<R> = Worker<TaskConnectionManager, TokioTimer<R>, NoHandlers, R>;
+type Opener<M, R> = Worker<M, TokioTimer<R>, NoHandlers, R>;
 
 /// How many calls are late at once.
 const CALLS: u32 = 8;
 
+/// A connection of no pool.
+#[derive(Drop)]
+pub struct Owned<C>(C);
+
+impl<C: Drop> Deref for Owned<C> {
+    type Target = C;
+
+    fn deref(&self) -> &C {
+        &self.0
+    }
+}
+
+impl<C: Drop> DerefMut for Owned<C> {
+    fn deref_mut(&mut self) -> &mut C {
+        &mut self.0
+    }
+}
+
 // A future, with the worker beside it: it ends when that does.
 #[derive(Drop)]
-struct Beside<'a, F, R: PoolRuntime> {
-    worker: &'a mut Opener<R>,
+struct Beside<'a, F, M: Server, R: PoolRuntime> {
+    worker: &'a mut Opener<M, R>,
     future: F,
 }
 
-impl<F: Future, R: PoolRuntime> Future for Beside<'_, F, R> {
+impl<F: Future, M: Server, R: PoolRuntime> Future for Beside<'_, F, M, R> {
     type Output = F::Output;
 
     fn poll(&mut self, cx: &mut Context<'_>) -> Poll<F::Output> {
@@ -41,37 +58,40 @@ impl<F: Future, R: PoolRuntime> Future for Beside<'_, F, R> {
 
 /// A pool of one connection, and what runs it.
 #[derive(Drop)]
-pub struct Service<R: PoolRuntime> {
+pub struct Service<M: Server, R: PoolRuntime> {
     rt: R,
     runtime: LocalRuntime,
-    worker: Opener<R>,
-    pool: TaskPool<R>,
+    worker: Opener<M, R>,
+    pool: TaskPool<M, R>,
     // One whose openings and checks are called without a pool.
-    manager: TaskConnectionManager,
+    manager: M,
 }
 
-impl<R: PoolRuntime + RandomSource + Print> Service<R> {
+impl<M, R> Service<M, R>
+where
+    M: Talks<Lent<M, R>> + Talks<Owned<M::Connection>>,
+    R: PoolRuntime + RandomSource + Print,
+{
+    /// Two managers of the same; a `get` waits for so long.
     pub fn new(
         rt: R,
         runtime: LocalRuntime,
-        ours: RedisConnectionManager,
-        other: RedisConnectionManager,
-    ) -> Result<Service<R>, Fail> {
-        let manager = TaskConnectionManager::new(ours, runtime.handle())?;
-        let other = TaskConnectionManager::new(other, runtime.handle())?;
+        managers: (M, M),
+        patience: Duration,
+    ) -> Result<Service<M, R>, Fail> {
         let timer = TokioTimer::new(rt, runtime.handle())?;
         let builder = Builder::new()
             .max_size(1)
             .test_on_check_out(false)
-            .connection_timeout(Duration::from_secs(3))
+            .connection_timeout(patience)
             .max_retry_delay(Some(Duration::from_millis(200)));
-        let pool = Pool::build(builder, rt, manager, timer)?;
+        let pool = Pool::build(builder, rt, managers.0, timer)?;
         Ok(Service {
             rt,
             runtime,
             worker: pool.worker()?,
             pool,
-            manager: other,
+            manager: managers.1,
         })
     }
 
@@ -95,6 +115,7 @@ impl<R: PoolRuntime + RandomSource + Print> Service<R> {
             }
             "evict" => Ok(println!(self.rt; "= {}", self.pool.evict()?)?),
             "late" => self.be_late(rest),
+            "drop" => self.drop_late(rest),
             _ => self.say("what?"),
         }
     }
@@ -103,8 +124,7 @@ impl<R: PoolRuntime + RandomSource + Print> Service<R> {
         Ok(println!(self.rt; "= {text}")?)
     }
 
-    // Sends requests, with a `;` after each but the last, over one connection, and tells what came
-    // of each.
+    // Sends requests over one connection, and tells what came of each.
     fn run(&mut self, requests: &str) -> Result<(), Fail> {
         let get = self.pool.get()?;
         let mut lent = match self.wait(get)? {
@@ -112,23 +132,29 @@ impl<R: PoolRuntime + RandomSource + Print> Service<R> {
             Err(error) => return Ok(println!(self.rt; "= {error}")?),
         };
         let mut told = String::new(self.rt.alloc());
-        for request in requests.split(';') {
-            let mut words = Vec::new(self.rt.alloc());
-            for word in request.split_whitespace() {
-                words.push(word)?;
-            }
-            let (back, reply) = self.wait(lent.command(words.as_slice()))?;
+        for request in requests.split(M::separator()) {
+            let (back, answer) = self.wait(M::tell(self.rt.alloc(), lent, request)?)?;
             lent = back;
-            match reply {
-                Ok(reply) => match reply.as_text() {
-                    Some(text) => write!(told, "{} | ", text.trim())?,
-                    None => write!(told, "{reply:?} | ")?,
-                },
-                Err(error) => write!(told, "! {error} | ")?,
-            }
+            let answer = answer?;
+            let gap = if answer.is_empty() { "" } else { " " };
+            write!(told, "{}{gap}| ", answer.as_str())?;
         }
         drop(lent);
         self.say(told.as_str())
+    }
+
+    // Sends a request, and drops its future after 100 milliseconds. Whether it had no answer.
+    fn drop_late(&mut self, request: &str) -> Result<(), Fail> {
+        let get = self.pool.get()?;
+        let lent = match self.wait(get)? {
+            Ok(lent) => lent,
+            Err(error) => return Ok(println!(self.rt; "= {error}")?),
+        };
+        let timer = TokioTimer::new(self.rt, self.runtime.handle())?;
+        let sleep = r2d2_async::Timer::sleep(&timer, Duration::from_millis(100));
+        let told = M::tell(self.rt.alloc(), lent, request)?;
+        let is_over = self.wait(future::select(told, sleep))?.is_right();
+        self.say(if is_over { "dropped" } else { "answered" })
     }
 
     // Eight calls at once. It tells how many failed, and after how many milliseconds the last of
@@ -140,7 +166,7 @@ impl<R: PoolRuntime + RandomSource + Print> Service<R> {
         }
         let mut begun = Instant::now(&self.rt)?;
         let mut failed = 0;
-        let mut connections: Vec<TaskConnection> = Vec::new(self.rt.alloc());
+        let mut connections: Vec<M::Connection> = Vec::new(self.rt.alloc());
         let all = future::join_all(self.rt.alloc(), openings)?;
         for opened in self.wait(all)?? {
             match opened {
@@ -162,7 +188,7 @@ impl<R: PoolRuntime + RandomSource + Print> Service<R> {
         Ok(())
     }
 
-    fn fail_checks(&mut self, connections: Vec<TaskConnection>) -> Result<u32, Fail> {
+    fn fail_checks(&mut self, connections: Vec<M::Connection>) -> Result<u32, Fail> {
         let mut checks = Vec::new(self.rt.alloc());
         for connection in connections {
             checks.push(self.manager.check(connection))?;
@@ -170,21 +196,22 @@ impl<R: PoolRuntime + RandomSource + Print> Service<R> {
         let all = future::join_all(self.rt.alloc(), checks)?;
         let mut failed = 0;
         for (connection, verdict) in self.wait(all)?? {
-            failed += u32::from(verdict.is_err() && connection.is_broken());
+            failed += u32::from(verdict.is_err() && M::is_broken(&connection));
         }
         Ok(failed)
     }
 
-    fn fail_commands(&mut self, connections: Vec<TaskConnection>) -> Result<u32, Fail> {
-        let mut connections = connections;
+    fn fail_commands(&mut self, connections: Vec<M::Connection>) -> Result<u32, Fail> {
+        let (request, _) = M::echo(self.rt.alloc(), 7)?;
         let mut commands = Vec::new(self.rt.alloc());
-        for connection in connections.as_mut_slice() {
-            commands.push(connection.command(&["GET", "it"]))?;
+        for connection in connections {
+            let told = M::tell(self.rt.alloc(), Owned(connection), request.as_str())?;
+            commands.push(told)?;
         }
         let all = future::join_all(self.rt.alloc(), commands)?;
         let mut failed = 0;
-        for (connection, reply) in self.wait(all)?? {
-            failed += u32::from(reply.is_err() && connection.is_broken());
+        for (owned, answer) in self.wait(all)?? {
+            failed += u32::from(answer?.as_str().starts_with("! ") && M::is_broken(&owned.0));
         }
         Ok(failed)
     }

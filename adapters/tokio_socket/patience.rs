@@ -3,9 +3,9 @@
 ghost use Rattle.futures.specs.Task.{IsArmed, Keeps};
 ghost use Rattle.futures.specs.Poll.{OnPending};
 
+use deadline::Deadline;
 use futures::Future;
 use futures::task::{Context, Poll};
-use redis::Deadline;
 use std::alloc::AllocError;
 use std::time::Duration;
 use tokio::time;

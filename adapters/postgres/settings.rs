@@ -1,0 +1,25 @@
+//! The settings of a manager.
+
+use crate::answer::Limits;
+use crate::login::Login;
+use crate::reset::Reset;
+use std::time::Duration;
+
+/// Where the server is, who logs in, and how long to wait.
+#[derive(Drop)]
+pub struct Settings {
+    /// A host and a port.
+    pub address: String,
+    pub login: Login,
+    pub reset: Reset,
+    pub timeouts: Timeouts,
+    pub limits: Limits,
+}
+
+/// How long a call may take, from its beginning to its end.
+#[derive(Clone, Copy)]
+pub struct Timeouts {
+    pub connect: Duration,
+    pub check: Duration,
+    pub command: Duration,
+}
