@@ -1,4 +1,4 @@
-//! A first program with a pool for tasks of connections to PostgreSQL: 100 tasks ask with 8 of
+//! A first program with a pool for tasks of connections to PostgreSQL: 100 tasks ask with 4 of
 //! them.
 #![tactic(auto)]
 
@@ -12,15 +12,16 @@ use tokio_timer::TokioTimer;
 
 fn main(rt: HostRuntime) -> Result<(), anyhow::Error> {
     let mut runtime = LocalRuntime::new(&rt)?;
-    let (address, timeout) = ("127.0.0.1:5432", Duration::from_secs(1));
+    // (Without proof, logging in takes seconds.)
+    let (address, timeout) = ("127.0.0.1:5432", Duration::from_secs(30));
     let settings = PostgresConnectionManager::new(
         rt, address, "postgres", "postgres", timeout,
     )?.with_password("secret")?;
     let manager = TaskConnectionManager::new(settings, runtime.handle())?;
     let timer = TokioTimer::new(rt, runtime.handle())?;
-    let pool = Pool::build(Builder::new().max_size(8), rt, manager, timer)?;
+    let pool = Pool::build(Builder::new().max_size(4), rt, manager, timer)?;
     let workers = runtime.task_set(&rt)?;
-    for _ in 0..8 {
+    for _ in 0..4 {
         workers.spawn(pool.worker()?).map_err(io::Error::from)?;
     }
     let mut tasks = Vec::new(rt.alloc());

@@ -265,7 +265,7 @@ impl<M: Talks<Lent<M, R>>, R: PoolRuntime> Future for Caller<M, R> {
 /// time without an answer began, and when it was over, in milliseconds.
 pub fn throng<M: Talks<Lent<M, R>>, R: PoolRuntime + RandomSource + Print>(
     rt: R,
-    runtime: &mut LocalRuntime,
+    mut runtime: LocalRuntime,
     manager: M,
     length: Length,
 ) -> Result<(), Fail> {

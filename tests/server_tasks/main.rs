@@ -14,7 +14,7 @@ mod service;
 mod talks;
 
 use self::callers::{Length, throng};
-use self::service::{Lent, Owned, Service};
+use self::service::{Lent, Service};
 use self::talks::Talks;
 use postgres_tasks::PostgresConnectionManager;
 use r2d2::PoolRuntime;
@@ -37,44 +37,49 @@ fn main(rt: HostRuntime) -> Result<(), Fail> {
             fs::write(&rt, place.as_str(), program.as_slice())?;
             Ok(())
         }
-        [kind, address, rest @ ..] => begin(rt, kind.as_str(), address.as_str(), rest),
+        [kind, address, rest @ ..] => {
+            let (kind, address) = (kind.as_str(), address.as_str());
+            let runtime = LocalRuntime::new(&rt)?;
+            begin(rt, rt, runtime, kind, address, rest)
+        }
         [] => Ok(()),
     }
 }
 
-fn begin(rt: HostRuntime, kind: &str, address: &str, rest: &[String]) -> Result<(), Fail> {
-    let mut runtime = LocalRuntime::new(&rt)?;
+fn begin<R: PoolRuntime + RandomSource + Print + Input>(
+    rt: R,
+    host: HostRuntime,
+    runtime: LocalRuntime,
+    kind: &str,
+    address: &str,
+    rest: &[String],
+) -> Result<(), Fail> {
     let (what, name) = kind.split_once('-').unwrap_or((kind, ""));
     match (what, rest) {
         ("cancel" | "serve" | "outage", [number, ..]) => {
-            let length = length(rt, what, number.as_str().parse::<u64>()?)?;
+            let length = length(host, what, number.as_str().parse::<u64>()?)?;
             let timeout = Duration::from_millis(if what == "outage" { 300 } else { 5000 });
             if name == "redis" {
-                let settings = RedisConnectionManager::new(rt, address, timeout)?;
+                let settings = RedisConnectionManager::new(host, address, timeout)?;
                 let manager = redis_tasks::TaskConnectionManager::new(settings, runtime.handle())?;
-                return throng(rt, &mut runtime, manager, length);
+                return throng(rt, runtime, manager, length);
             }
             let settings =
-                PostgresConnectionManager::new(rt, address, "trusted", "postgres", timeout)?;
+                PostgresConnectionManager::new(host, address, "trusted", "postgres", timeout)?;
             let manager = postgres_tasks::TaskConnectionManager::new(settings, runtime.handle())?;
-            throng(rt, &mut runtime, manager, length)
+            throng(rt, runtime, manager, length)
         }
         ("redis", login) => {
-            let mut made = || {
-                let settings = of_redis(rt, name, address, login)?;
-                Ok(redis_tasks::TaskConnectionManager::new(settings, runtime.handle())?)
-            };
-            let managers: (_, _) = (made()?, made()?);
-            serve(rt, Service::new(rt, runtime, managers, Duration::from_secs(3))?)
+            let ours = of_redis(host, name, address, login, &runtime)?;
+            let other = of_redis(host, name, address, login, &runtime)?;
+            let patience = Duration::from_secs(3);
+            serve(rt, Service::new(rt, runtime, ours, other, patience)?)
         }
         (_, login) => {
-            let mut made = || {
-                let settings = of_postgres(rt, kind, address, login)?;
-                Ok(postgres_tasks::TaskConnectionManager::new(settings, runtime.handle())?)
-            };
-            let managers: (_, _) = (made()?, made()?);
+            let ours = of_postgres(host, kind, address, login, &runtime)?;
+            let other = of_postgres(host, kind, address, login, &runtime)?;
             let patience = Duration::from_secs(if waits_long(kind) { 14 } else { 3 });
-            serve(rt, Service::new(rt, runtime, managers, patience)?)
+            serve(rt, Service::new(rt, runtime, ours, other, patience)?)
         }
     }
 }
@@ -101,7 +106,8 @@ fn of_redis(
     mode: &str,
     address: &str,
     login: &[String],
-) -> Result<RedisConnectionManager, Fail> {
+    runtime: &LocalRuntime,
+) -> Result<redis_tasks::TaskConnectionManager, Fail> {
     let reset = match mode {
         "never" => redis_tasks::Reset::Never,
         "always" => redis_tasks::Reset::Always,
@@ -109,14 +115,14 @@ fn of_redis(
     };
     let manager = RedisConnectionManager::new(rt, address, Duration::from_millis(500))?;
     let manager = manager.with_reset(reset);
-    match login {
-        [] => Ok(manager),
-        [password] => Ok(manager.with_password(password.as_str())?),
-        [user, password, ..] => {
-            let manager = manager.with_user(user.as_str(), password.as_str())?;
-            Ok(manager.with_database(2))
-        }
-    }
+    let manager = match login {
+        [] => manager,
+        [password] => manager.with_password(password.as_str())?,
+        [user, password, ..] => manager
+            .with_user(user.as_str(), password.as_str())?
+            .with_database(2),
+    };
+    Ok(redis_tasks::TaskConnectionManager::new(manager, runtime.handle())?)
 }
 
 // Those at which a login, or the server, takes long.
@@ -129,7 +135,8 @@ fn of_postgres(
     kind: &str,
     address: &str,
     login: &[String],
-) -> Result<PostgresConnectionManager, Fail> {
+    runtime: &LocalRuntime,
+) -> Result<postgres_tasks::TaskConnectionManager, Fail> {
     let (_, mode) = kind.split_once('-').unwrap_or((kind, ""));
     let reset = match mode {
         "never" => postgres_tasks::Reset::Never,
@@ -150,19 +157,19 @@ fn of_postgres(
             bytes: 64 * 1024,
             rows: 100,
         });
-    match (mode, login) {
-        ("lenient", [_, password, ..]) => Ok(manager.with_password_if_asked(password.as_str())?),
-        ("md5", [_, password, ..]) => Ok(manager.with_password(password.as_str())?.with_md5()),
-        (_, [_, password, ..]) => Ok(manager.with_password(password.as_str())?),
-        _ => Ok(manager),
-    }
+    let manager = match (mode, login) {
+        ("lenient", [_, password, ..]) => manager.with_password_if_asked(password.as_str())?,
+        ("md5", [_, password, ..]) => manager.with_password(password.as_str())?.with_md5(),
+        (_, [_, password, ..]) => manager.with_password(password.as_str())?,
+        _ => manager,
+    };
+    Ok(postgres_tasks::TaskConnectionManager::new(manager, runtime.handle())?)
 }
 
-fn serve<M, R>(rt: R, service: Service<M, R>) -> Result<(), Fail>
-where
-    M: Talks<Lent<M, R>> + Talks<Owned<M::Connection>>,
-    R: PoolRuntime + RandomSource + Print + Input,
-{
+fn serve<M: Talks<Lent<M, R>>, R: PoolRuntime + RandomSource + Print + Input>(
+    rt: R,
+    service: Service<M, R>,
+) -> Result<(), Fail> {
     let mut service = service;
     for line in rt.lines(rt.alloc()) {
         service.obey(line?.as_str())?;

@@ -1,12 +1,12 @@
 //! What the lines say.
 
 use crate::talks::{Server, Talks};
+use futures::future::Either;
 use futures::task::{Context, Poll};
 use futures::{Future, future};
 use r2d2::PoolRuntime;
-use r2d2_async::{Builder, NoHandlers, PlainPool, Pool, PooledConnection, Worker};
+use r2d2_async::{Builder, NoHandlers, PlainPool, Pool, PooledConnection, Timer, Worker};
 use std::io;
-use std::ops::{Deref, DerefMut};
 use std::random::RandomSource;
 use std::test::Fail;
 use std::time::{Duration, Instant};
@@ -21,24 +21,6 @@ type Opener<M, R> = Worker<M, TokioTimer<R>, NoHandlers, R>;
 
 /// How many calls are late at once.
 const CALLS: u32 = 8;
-
-/// A connection of no pool.
-#[derive(Drop)]
-pub struct Owned<C>(C);
-
-impl<C: Drop> Deref for Owned<C> {
-    type Target = C;
-
-    fn deref(&self) -> &C {
-        &self.0
-    }
-}
-
-impl<C: Drop> DerefMut for Owned<C> {
-    fn deref_mut(&mut self) -> &mut C {
-        &mut self.0
-    }
-}
 
 // A future, with the worker beside it: it ends when that does.
 #[derive(Drop)]
@@ -67,16 +49,13 @@ pub struct Service<M: Server, R: PoolRuntime> {
     manager: M,
 }
 
-impl<M, R> Service<M, R>
-where
-    M: Talks<Lent<M, R>> + Talks<Owned<M::Connection>>,
-    R: PoolRuntime + RandomSource + Print,
-{
+impl<M: Talks<Lent<M, R>>, R: PoolRuntime + RandomSource + Print> Service<M, R> {
     /// Two managers of the same; a `get` waits for so long.
     pub fn new(
         rt: R,
         runtime: LocalRuntime,
-        managers: (M, M),
+        ours: M,
+        other: M,
         patience: Duration,
     ) -> Result<Service<M, R>, Fail> {
         let timer = TokioTimer::new(rt, runtime.handle())?;
@@ -85,13 +64,13 @@ where
             .test_on_check_out(false)
             .connection_timeout(patience)
             .max_retry_delay(Some(Duration::from_millis(200)));
-        let pool = Pool::build(builder, rt, managers.0, timer)?;
+        let pool = Pool::build(builder, rt, ours, timer)?;
         Ok(Service {
             rt,
             runtime,
             worker: pool.worker()?,
             pool,
-            manager: managers.1,
+            manager: other,
         })
     }
 
@@ -143,7 +122,7 @@ where
         self.say(told.as_str())
     }
 
-    // Sends a request, and drops its future after 100 milliseconds. Whether it had no answer.
+    // Sends a request, and drops its future after 100 milliseconds. Whether it was answered.
     fn drop_late(&mut self, request: &str) -> Result<(), Fail> {
         let get = self.pool.get()?;
         let lent = match self.wait(get)? {
@@ -151,10 +130,15 @@ where
             Err(error) => return Ok(println!(self.rt; "= {error}")?),
         };
         let timer = TokioTimer::new(self.rt, self.runtime.handle())?;
-        let sleep = r2d2_async::Timer::sleep(&timer, Duration::from_millis(100));
+        let sleep = timer.sleep(Duration::from_millis(100));
         let told = M::tell(self.rt.alloc(), lent, request)?;
-        let is_over = self.wait(future::select(told, sleep))?.is_right();
-        self.say(if is_over { "dropped" } else { "answered" })
+        match self.wait(future::select(told, sleep))? {
+            Either::Left(_) => self.say("answered"),
+            Either::Right((_, told)) => {
+                drop(told);
+                self.say("dropped")
+            }
+        }
     }
 
     // Eight calls at once. It tells how many failed, and after how many milliseconds the last of
@@ -205,7 +189,7 @@ where
         let (request, _) = M::echo(self.rt.alloc(), 7)?;
         let mut commands = Vec::new(self.rt.alloc());
         for connection in connections {
-            let told = M::tell(self.rt.alloc(), Owned(connection), request.as_str())?;
+            let told = M::tell_alone(self.rt.alloc(), connection, request.as_str())?;
             commands.push(told)?;
         }
         let all = future::join_all(self.rt.alloc(), commands)?;

@@ -6,10 +6,37 @@ use postgres_tasks::{Commands as Queries, Executed, PostgresError, Queried, Row,
 use r2d2_async::ManageConnection;
 use redis_tasks::{Commands, Exchange, RedisError, Reply};
 use std::alloc::{AllocError, Global};
-use std::ops::DerefMut;
+use std::ops::{Deref, DerefMut};
+
+/// A connection of no pool.
+#[derive(Drop)]
+pub struct Owned<C>(pub C);
+
+impl<C: Drop> Deref for Owned<C> {
+    type Target = C;
+
+    fn deref(&self) -> &C {
+        &self.0
+    }
+}
+
+impl<C: Drop> DerefMut for Owned<C> {
+    fn deref_mut(&mut self) -> &mut C {
+        &mut self.0
+    }
+}
 
 /// A kind of server.
 pub trait Server: ManageConnection {
+    /// What comes of a request over a connection of no pool.
+    type ToldAlone: Future<Output = (Owned<Self::Connection>, Result<String, AllocError>)>;
+
+    fn tell_alone(
+        alloc: Global,
+        connection: Self::Connection,
+        request: &str,
+    ) -> Result<Self::ToldAlone, AllocError>;
+
     /// What stands between two requests of a line.
     fn separator() -> &'static str;
 
@@ -29,6 +56,16 @@ pub trait Talks<L>: Server {
 }
 
 impl Server for redis_tasks::TaskConnectionManager {
+    type ToldAlone = RedisTold<Owned<redis_tasks::TaskConnection>>;
+
+    fn tell_alone(
+        alloc: Global,
+        connection: redis_tasks::TaskConnection,
+        request: &str,
+    ) -> Result<Self::ToldAlone, AllocError> {
+        RedisTold::of(alloc, Owned(connection), request)
+    }
+
     fn separator() -> &'static str {
         ";"
     }
@@ -48,6 +85,18 @@ impl<L: DerefMut<Target = redis_tasks::TaskConnection> + Drop> Talks<L>
     type Told = RedisTold<L>;
 
     fn tell(alloc: Global, lent: L, request: &str) -> Result<RedisTold<L>, AllocError> {
+        RedisTold::of(alloc, lent, request)
+    }
+}
+
+#[derive(Drop)]
+pub struct RedisTold<L> {
+    alloc: Global,
+    exchange: Exchange<L>,
+}
+
+impl<L: DerefMut<Target = redis_tasks::TaskConnection> + Drop> RedisTold<L> {
+    fn of(alloc: Global, lent: L, request: &str) -> Result<RedisTold<L>, AllocError> {
         let mut words = Vec::new(alloc);
         for word in request.split_whitespace() {
             words.push(word)?;
@@ -57,12 +106,6 @@ impl<L: DerefMut<Target = redis_tasks::TaskConnection> + Drop> Talks<L>
             exchange: lent.command(words.as_slice()),
         })
     }
-}
-
-#[derive(Drop)]
-pub struct RedisTold<L> {
-    alloc: Global,
-    exchange: Exchange<L>,
 }
 
 impl<L: DerefMut<Target = redis_tasks::TaskConnection> + Drop> Future for RedisTold<L> {
@@ -85,6 +128,16 @@ fn told_of_redis(alloc: Global, reply: Result<Reply, RedisError>) -> Result<Stri
 }
 
 impl Server for postgres_tasks::TaskConnectionManager {
+    type ToldAlone = PostgresTold<Owned<postgres_tasks::TaskConnection>>;
+
+    fn tell_alone(
+        alloc: Global,
+        connection: postgres_tasks::TaskConnection,
+        request: &str,
+    ) -> Result<Self::ToldAlone, AllocError> {
+        PostgresTold::of(alloc, Owned(connection), request)
+    }
+
     fn separator() -> &'static str {
         ";;"
     }
@@ -103,8 +156,26 @@ impl<L: DerefMut<Target = postgres_tasks::TaskConnection> + Drop> Talks<L>
     for postgres_tasks::TaskConnectionManager {
     type Told = PostgresTold<L>;
 
-    // A query behind a `#` tells how many rows it was about. Its values stand behind a ` <- `.
     fn tell(alloc: Global, lent: L, request: &str) -> Result<PostgresTold<L>, AllocError> {
+        PostgresTold::of(alloc, lent, request)
+    }
+}
+
+#[derive(Drop)]
+enum Asked<L> {
+    Rows(Queried<L>),
+    Count(Executed<L>),
+}
+
+#[derive(Drop)]
+pub struct PostgresTold<L> {
+    alloc: Global,
+    asked: Asked<L>,
+}
+
+impl<L: DerefMut<Target = postgres_tasks::TaskConnection> + Drop> PostgresTold<L> {
+    // A query behind a `#` tells how many rows it was about. Its values stand behind a ` <- `.
+    fn of(alloc: Global, lent: L, request: &str) -> Result<PostgresTold<L>, AllocError> {
         let (request, is_counted) = match request.trim().strip_prefix("#") {
             Some(request) => (request, true),
             None => (request.trim(), false),
@@ -121,18 +192,6 @@ impl<L: DerefMut<Target = postgres_tasks::TaskConnection> + Drop> Talks<L>
         };
         Ok(PostgresTold { alloc, asked })
     }
-}
-
-#[derive(Drop)]
-enum Asked<L> {
-    Rows(Queried<L>),
-    Count(Executed<L>),
-}
-
-#[derive(Drop)]
-pub struct PostgresTold<L> {
-    alloc: Global,
-    asked: Asked<L>,
 }
 
 impl<L: DerefMut<Target = postgres_tasks::TaskConnection> + Drop> Future for PostgresTold<L> {

@@ -13,7 +13,7 @@ import postgres_peer
 import postgres_sessions
 import redis_peer
 import redis_sessions
-import redis_tasks
+import server_tasks
 import trying
 from copies import Runs, TESTS
 from servers import HOST, SECONDS, Forwarder, Postgres, Redis, within
@@ -24,11 +24,12 @@ SERVERS = [Redis, Postgres]
 FIRST = {
     "first_redis": "r2d2 redis anyhow", "first_postgres": "r2d2 postgres anyhow", "first_tokio": "r2d2_async tokio_timer tokio futures anyhow",
     "first_redis_tasks": "r2d2_async redis_tasks tokio_timer tokio futures anyhow",
+    "first_postgres_tasks": "r2d2_async postgres_tasks tokio_timer tokio futures anyhow",
 }
 # The services, each with its folder of tests and what it stands on.
 SERVICES = {
     "service": ("adapters", "r2d2 redis postgres"),
-    "service_of_tasks": ("redis_tasks", "r2d2 r2d2_async redis_tasks tokio_timer tokio futures"),
+    "service_of_tasks": ("server_tasks", "r2d2 r2d2_async redis_tasks postgres_tasks tokio_timer tokio futures"),
 }
 CONNECTIONS = 4
 # Whether queries are tried that wait at a locked table: where a machine is busy, as beside proofs, cancels come too late.
@@ -385,13 +386,16 @@ def try_servers(kinds, mine, place, tally):
 
 
 def try_tasks_of(kinds, mine, aside, place, tally):
-    """The service of tasks, at Redis."""
-    program = built("service_of_tasks", mine, aside, tally) if Redis in kinds else None
-    if program:
+    """The service of tasks, at each server."""
+    program = built("service_of_tasks", mine, aside, tally) if kinds else None
+    for kind in kinds if program else []:
+        folder = os.path.join(place, f"tasks_with_{kind.NAME}")
+        os.mkdir(folder)
+        os.chmod(place, 0o711)
         try:
-            redis_tasks.TaskTrial(program, SETTINGS, place, tally, Service).run(mine)
+            server_tasks.TRIALS[kind.NAME](program, SETTINGS, folder, tally, Service).run(mine)
         except (RuntimeError, OSError, ValueError, subprocess.SubprocessError) as error:
-            tally.check("redis for tasks", False, error)
+            tally.check(f"{kind.NAME} for tasks", False, error)
 
 
 def those_there(tally):

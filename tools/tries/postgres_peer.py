@@ -287,6 +287,24 @@ def try_cancel(trial):
         trial.check("an answered query is not cancelled", not peer.cancelled, peer.cancelled)
 
 
+def try_cancel_of_tasks(trial):
+    """A query that takes too long, or whose future is dropped, is cancelled by the key of its connection, before another is opened. Nobody
+    waits for that."""
+    def never(connection, query, number):
+        if number > 1:
+            connection.sendall(ONE)
+    for what, line in (("late", "run SELECT 1"), ("dropped", "drop SELECT 1")):
+        with at_peer(trial, never) as (peer, service):
+            told = service.ask(line)
+            after = service.ask("run SELECT 1")
+            keys = [key for key, _ in peer.cancelled]
+            is_so = (re.search(LATE, told) if what == "late" else told == "dropped") and after == '[Some("1")] |'
+            trial.check(f"a query that is {what} is cancelled", is_so and keys == [b"\0\0\0\1" + SECRET] and peer.count == 2, (told, after, peer.cancelled))
+    with at_peer(trial, sends(ONE)) as (peer, service):
+        told = [service.ask("run SELECT 1"), service.ask("evict"), service.ask("run SELECT 1")]
+        trial.check("an answered query is not cancelled", told[2] == '[Some("1")] |' and peer.count == 2 and not peer.cancelled, (told, peer.cancelled))
+
+
 def try_memory(trial):
     """A length that is told takes no memory: what comes does."""
     with at_peer(trial, sends(message(b"D", b"x" * 15_000_000)[:9]), kind="postgres-eight") as (_, service):
@@ -452,5 +470,13 @@ def try_ends(trial):
     try_two_addresses(trial, PostgresPeer(sends(ONE), host=BEHIND), "postgres-never", "somebody")
 
 
+# What is tried with each adapter.
+OF_BOTH = (try_answers, try_doubled, try_reset_in_time, try_marks, try_states, try_logins, try_values, try_ends)
+
+
 def try_peer(trial):
-    try_each(trial, (try_answers, try_doubled, try_reset_in_time, try_marks, try_states, try_cancel, try_memory, try_logins, try_values, try_ends))
+    try_each(trial, (*OF_BOTH, try_cancel, try_memory))
+
+
+def try_tasks_peer(trial):
+    try_each(trial, (*OF_BOTH, try_cancel_of_tasks))

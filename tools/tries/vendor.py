@@ -147,7 +147,8 @@ def try_metrics(measured):
 
 def try_options(place):
     """With all that there is beside the pool."""
-    mine, crates = os.path.join(place, "all"), ["pool_tasks", "r2d2_async", "tokio_timer", "pool_metrics", "pool_reports", "redis_codec", "redis", "redis_tasks", "postgres_codec", "postgres"]
+    mine, crates = os.path.join(place, "all"), ["pool_tasks", "r2d2_async", "tokio_timer", "pool_metrics", "pool_reports", "deadline", "redis_codec", "redis",
+                                                 "postgres_codec", "postgres", "tokio_socket", "redis_tasks", "postgres_tasks"]
     os.mkdir(mine)
     words = ["--postgres", "--async", "--redis", "--reports", mine, "--metrics"]
     answers("with all options", 0, "put there: HANDLES: made; it reads 'Handles allowed: Threads, Wait, Net.'", *words)
@@ -169,7 +170,8 @@ def try_later(place):
     write("Handles allowed: Threads, Wait, Net.\n", mine, "HANDLES")
     before = files(mine)
     for what, option, added in [
-        ("tasks", "--async", ["pool_tasks", "r2d2_async", "tokio_timer"]), ("Redis for them", "--redis", ["redis_codec", "redis", "redis_tasks"]), ("reports", "--reports", ["pool_reports"]),
+        ("tasks", "--async", ["pool_tasks", "r2d2_async", "tokio_timer"]), ("Redis for them", "--redis", ["redis_codec", "deadline", "redis", "tokio_socket", "redis_tasks"]),
+        ("reports", "--reports", ["pool_reports"]),
     ]:
         if option == "--redis":
             write("mine", mine, "crates", "tokio_timer", "src", "lib.rt")
@@ -183,8 +185,11 @@ def try_later(place):
         check(f"its lines stay before {what}", now["crates.txt"].startswith(before["crates.txt"]), now["crates.txt"])
         before = now
     listed = [line.partition(":")[0].split()[0] for line in read(mine, "crates.txt").splitlines()]
-    check("each has one line at last", len(listed) == len(set(listed)) == 11, listed)
-    answers("a program of its owner's stays", 0, "    cp " + os.path.join(TOP, "adapters", "first_postgres", "main.rs") + " crates/hello_postgres/src/main.rt", "--postgres", mine)
+    check("each has one line at last", len(listed) == len(set(listed)) == 13, listed)
+    first = os.path.join(TOP, "adapters", "first_postgres_tasks", "main.rs")
+    answers("a program of its owner's stays", 0, f"    cp {first} crates/hello_postgres_tasks/src/main.rt", "--async", "--postgres", mine)
+    for crate in ("postgres_codec", "postgres", "postgres_tasks"):
+        arrives(mine, crate)
 
 
 def try_another_pool(place):
@@ -209,8 +214,8 @@ def try_steps(place):
     """The steps name all that was asked for."""
     for options, firsts, pages in [
         (["--redis", "--postgres"], ["first_redis", "first_postgres"], ["redis", "postgres"]),
-        (["--async", "--postgres"], ["first_postgres", "first_tokio"], ["postgres"]),
-        (["--async", "--redis", "--postgres", "--metrics", "--reports"], ["first_redis_tasks", "first_postgres"],
+        (["--async", "--postgres"], ["first_postgres_tasks"], ["postgres"]),
+        (["--async", "--redis", "--postgres", "--metrics", "--reports"], ["first_redis_tasks", "first_postgres_tasks"],
          ["redis", "postgres", "pool_metrics", "pool_reports"]),
         (["--metrics"], ["first_pool"], ["pool_metrics"]),
     ]:
@@ -259,15 +264,26 @@ def try_tasks(place):
     arrives(mine, "tokio_timer")
 
 
-def try_redis_for_tasks(place):
-    """Who wants Redis and tasks gets what is for both, and its first program."""
-    mine, first = os.path.join(place, "both"), os.path.join(TOP, "adapters", "first_redis_tasks", "main.rs")
-    os.mkdir(mine)
-    told = "    echo 'hello: r2d2_async redis_tasks tokio_timer tokio futures anyhow' >> crates.txt"
-    answers("Redis for tasks tells what its first program stands on", 0, told, "--redis", "--async", mine)
-    arrives(mine, "redis_tasks")
-    check("its first program is there", os.path.isfile(first))
-    check("who wants no tasks does not get it", not os.path.exists(os.path.join(place, "redis", "crates", "redis_tasks")))
+def try_servers_for_tasks(place):
+    """Who wants a server and tasks gets what is for both, and its first program, of at most sixty lines, none of which is for a proof."""
+    for name, server in (("redis", "a Redis at 127.0.0.1:6379"), ("postgres", "a PostgreSQL at 127.0.0.1:5432")):
+        mine, first = os.path.join(place, f"{name}-for-tasks"), os.path.join(TOP, "adapters", f"first_{name}_tasks", "main.rs")
+        os.mkdir(mine)
+        done = subprocess.run([os.path.join(TOP, "vendor"), f"--{name}", "--async", mine], stdout=subprocess.PIPE, text=True)
+        steps = [line.strip() for line in done.stdout.splitlines() if line.startswith("    ")]
+        wanted = [
+            f"cd {mine} && mkdir -p crates/hello/src", f"cp {first} crates/hello/src/main.rt",
+            f"echo 'hello: r2d2_async {name}_tasks tokio_timer tokio futures anyhow' >> crates.txt",
+            "cd crates/hello && rt try    # compiles and runs it, without proof: some minutes of a processor each time",
+        ]
+        check(f"the steps to a first program of tasks over {name}", steps == wanted, steps)
+        check(f"the server that it expects is {server}", f"which expects {server}:" in done.stdout, done.stdout)
+        for crate in (f"{name}_tasks", "tokio_socket", "tokio_timer", "deadline"):
+            arrives(mine, crate)
+        lines = read(first).splitlines()
+        check(f"the first program of tasks over {name} is short", len(lines) <= 60 and not any("ghost" in line for line in lines), len(lines))
+    mine = os.path.join(place, "redis")
+    check("who wants no tasks does not get them", not any(os.path.exists(os.path.join(mine, "crates", crate)) for crate in ("redis_tasks", "tokio_socket")))
 
 
 def try_refusals(place):
@@ -312,7 +328,7 @@ def tried():
         try_steps(place)
         try_an_adapter(place)
         try_tasks(place)
-        try_redis_for_tasks(place)
+        try_servers_for_tasks(place)
         try_refusals(place)
         try_nobody_who_reads(os.path.join(place, "unread"))
     return TALLY
