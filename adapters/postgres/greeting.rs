@@ -88,12 +88,7 @@ impl Greeting {
         }
     }
 
-    fn asked(
-        &mut self,
-        login: &Login,
-        asked: Asked,
-        text: Vec<u8>,
-    ) -> Result<Next, PostgresError>
+    fn asked(&mut self, login: &Login, asked: Asked, text: Vec<u8>) -> Result<Next, PostgresError>
         ensures { IfOk result (λ next. (begun : _) → next ≢ Next.Begun begun) }
     {
         match login.step(asked, self.stage, is_offered(text.as_slice()))? {

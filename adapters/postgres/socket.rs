@@ -1,7 +1,7 @@
 //! The socket: what waits, and for how long.
 
-use deadline::Deadline;
 use crate::error::PostgresError;
+use deadline::Deadline;
 use std::io;
 use std::io::{Read, Write};
 use std::net::{SocketAddr, TcpStream, ToSocketAddrs};
@@ -36,12 +36,7 @@ impl Socket {
                 read_limit: Duration::MAX,
                 write_limit: Duration::MAX,
             }),
-            Err(error) => Err(PostgresError::of_socket(
-                rt.alloc(),
-                address,
-                deadline,
-                error,
-            )),
+            Err(error) => Err(PostgresError::of_socket(rt.alloc(), address, deadline, error)),
         }
     }
 

@@ -131,12 +131,7 @@ impl Cancelling {
 
 impl Asking {
     // (The server reads what was sent though nobody waits for it.)
-    fn poll_sent(
-        &mut self,
-        rt: HostRuntime,
-        deadline: Deadline,
-        cx: &mut Context<'_>,
-    ) -> Poll<()>
+    fn poll_sent(&mut self, rt: HostRuntime, deadline: Deadline, cx: &mut Context<'_>) -> Poll<()>
         ensures armed { OnPending result (IsArmed cx.new) }
         ensures kept { Keeps cx.old cx.new }
     {

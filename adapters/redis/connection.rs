@@ -3,7 +3,6 @@
 ghost use Rattle.std.specs.Prelude.{◌≡◌, ◌↔◌, ◌<◌, ◌⊎◌, IsErr, IsFalse, IsOk, IsTrue};
 ghost use Rattle.redis_codec.specs.Sessions.{plain};
 
-use deadline::Deadline;
 use crate::error::RedisError;
 use crate::greeting::Greeting;
 use crate::reply::Reply;
@@ -11,6 +10,7 @@ use crate::reset::{Login, Reset};
 use crate::settings::{Settings, Timeouts};
 use crate::standing::Standing;
 use crate::wire::Wire;
+use deadline::Deadline;
 use redis_codec::{Item, Session};
 
 /// A connection to Redis.

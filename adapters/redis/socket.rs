@@ -1,7 +1,7 @@
 //! The socket: what waits, and for how long.
 
-use deadline::Deadline;
 use crate::error::RedisError;
+use deadline::Deadline;
 use std::io;
 use std::io::{Read, Write};
 use std::net::{SocketAddr, TcpStream, ToSocketAddrs};

@@ -3,10 +3,10 @@
 ghost use Rattle.std.specs.Prelude.{◌≡◌, ◌<◌, OnOk};
 ghost use Rattle.redis_codec.specs.Sessions.{plain};
 
-use deadline::Deadline;
 use crate::error::RedisError;
 use crate::socket::Socket;
 use crate::standing::must_be_a_word;
+use deadline::Deadline;
 use redis_codec::{Conversation, Item, Limits};
 
 const PIECE: usize = 16 * 1024;

@@ -43,7 +43,11 @@ impl Dialing {
     }
 
     /// To an address.
-    pub fn to(rt: HostRuntime, handle: &Handle, address: SocketAddr) -> Result<Dialing, AllocError> {
+    pub fn to(
+        rt: HostRuntime,
+        handle: &Handle,
+        address: SocketAddr,
+    ) -> Result<Dialing, AllocError> {
         let mut dialing = Dialing::nowhere(rt, handle)?;
         dialing.addresses.push(address)?;
         Ok(dialing)

@@ -174,7 +174,9 @@ impl<M: Talks<Lent<M, R>>, R: PoolRuntime> Caller<M, R> {
     // What an answer shows.
     fn judge(&mut self, told: &str, wanted: &str) -> Result<(), AllocError> {
         let lasted = self.lasted();
-        self.counts.longest_request.fetch_max(lasted, Ordering::SeqCst);
+        self.counts
+            .longest_request
+            .fetch_max(lasted, Ordering::SeqCst);
         if told == wanted {
             add_one(&self.counts.answered);
             if let Ok(now) = Instant::now(&self.rt) {

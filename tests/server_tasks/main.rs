@@ -64,8 +64,9 @@ fn begin<R: PoolRuntime + RandomSource + Print + Input>(
                 let manager = redis_tasks::TaskConnectionManager::new(settings, runtime.handle())?;
                 return throng(rt, runtime, manager, length);
             }
-            let settings =
-                PostgresConnectionManager::new(host, address, "trusted", "postgres", timeout)?;
+            let settings = PostgresConnectionManager::new(
+                host, address, "trusted", "postgres", timeout,
+            )?;
             let manager = postgres_tasks::TaskConnectionManager::new(settings, runtime.handle())?;
             throng(rt, runtime, manager, length)
         }

@@ -220,7 +220,10 @@ fn values_of<'a>(alloc: Global, values: &'a str) -> Result<Vec<Option<&'a str>>,
     Ok(found)
 }
 
-fn told_of_rows(alloc: Global, rows: Result<Vec<Row>, PostgresError>) -> Result<String, AllocError> {
+fn told_of_rows(
+    alloc: Global,
+    rows: Result<Vec<Row>, PostgresError>,
+) -> Result<String, AllocError> {
     let mut told = String::new(alloc);
     match rows {
         Ok(rows) => {

@@ -76,7 +76,7 @@ def standing_still(server):
     is_over = threading.Event()
 
     def stand_still():
-        while not is_over.wait(0.1):
+        while not is_over.wait(0.05):
             with contextlib.suppress(OSError, ValueError):
                 server.stand_still()
 
@@ -192,7 +192,7 @@ class TaskTrial:
         with standing_still(self.server):
             counts = self.counts(self.throng("cancel", self.server.port, REQUESTS))
         some = counts.get("given_up", 0)
-        self.check("requests are given up", REQUESTS <= counts.get("asked", 0) and REQUESTS / 200 < some < REQUESTS / 2, counts)
+        self.check("requests are given up", REQUESTS <= counts.get("asked", 0) and REQUESTS / 400 < some < REQUESTS / 2, counts)
         self.check_each_time("an answer of a request that was given up is nobody's", counts.get("wrong") == 0, counts)
         self.check("the others are answered", counts.get("answered") == counts.get("asked", 0) - some and counts.get("refused") == 0, counts)
 
