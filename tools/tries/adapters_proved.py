@@ -12,8 +12,9 @@ from copies import Runs
 from peer import AT_TWO
 from tally import Tally
 
-# (first_redis_tasks is run alone: that each of its hundred tasks may be polled is a loop's invariant, and it has no ghost line)
-CRATES = ["redis", "postgres", "tokio_timer", "redis_tasks", "first_redis", "first_postgres", "first_tokio"]
+# (the first programs of tasks over a server are run alone: that each of their hundred tasks may be polled is a loop's invariant, and they
+# have no ghost line)
+CRATES = ["deadline", "redis", "postgres", "tokio_timer", "tokio_socket", "redis_tasks", "postgres_tasks", "first_redis", "first_postgres", "first_tokio"]
 # What they stand on, whose proofs this repository may have kept.
 BELOW = ["pool_machine", "r2d2_core", "pool_state", "r2d2", "pool_tasks", "r2d2_async", "redis_codec", "postgres_codec"]
 # What the redis manager asks at a return.
@@ -46,7 +47,31 @@ TOLD_OF_LOGINS = """        let is_login = !self.finds_reset;
             Err(error) => Err(login.told(alloc, error)),
 """
 # What the postgres manager asks at a return.
-POSTGRES_BROKEN = "!connection.come_back(self.reset)"
+POSTGRES_BROKEN = "!connection.come_back(self.settings.reset)"
+POSTGRES_TASKS_BROKEN = "        if connection.come_back(self.settings.reset) {\n            return false;\n        }\n"
+# What looks for bytes that nobody asked for, and what does not.
+QUIET_OF_REDIS = """        if !self.talk.is_settled() {
+            return Err(RedisError::Unasked);
+        }
+        match self.socket.is_quiet() {
+            Ok(true) => Ok(()),
+            Ok(false) => Err(RedisError::Unasked),
+"""
+QUIET = """        match self.socket.is_quiet() {
+            Ok(_) => Ok(()),
+"""
+# A check of a connection for tasks, and one that asks nothing.
+CHECKED = """        let verdict = match ready!(poll_answer(connection, &mut self.request, cx)) {
+            Ok(answer) => connection.standing.is_one(answer.rows),
+            Err(error) => Err(error),
+        };
+"""
+UNCHECKED = """        let _ = cx;
+        let verdict = match connection.session() {
+            Session::Broken => Err(PostgresError::Broken),
+            _ => Ok(()),
+        };
+"""
 # A function, a passage of its file, and what somebody could write in its place. The prover refuses each.
 REFUSED = [
     ("redis::connection::RedisConnection::is_broken", "{\n        self.standing.is_broken\n", "{\n        let _ = self;\n        false\n"),
@@ -54,24 +79,27 @@ REFUSED = [
     ("redis::connection::RedisConnection::quiet_exchange", "if self.standing.is_broken {\n            return Err(RedisError::Broken);\n        }\n", ""),
     ("redis::standing::Standing::come_back", "Reset::IfMarked if session == Session::PLAIN => Ok(none),", "Reset::IfMarked => Ok(none),"),
     ("redis::standing::Standing::ask_to_reset", "self.resetting = count;\n", ""),
-    ("redis::deadline::Deadline::left", "if left.is_zero() { Err(late) } else { Ok(left) }", "Ok(left)"),
+    ("deadline::Deadline::left", "if left.is_zero() { Err(late) } else { Ok(left) }", "Ok(left)"),
     ("redis::manager::RedisConnectionManagerManageConnection::has_broken", HAS_BROKEN, "{\n            let _ = connection;\n            false\n        }"),
     ("redis_tasks::connection::TaskConnection::poll_exchange", "        self.standing.is_broken = true;\n        let mut patience", "        let mut patience"),
     ("redis_tasks::connection::TaskConnection::poll_exchange", "            Poll::Pending => {\n                request.patience", "            Poll::Pending => {\n                self.standing.is_broken = false;\n                request.patience"),
     ("redis_tasks::connection::TaskConnection::poll_steps", "            request.stage = Stage::Sending;\n", "            request.stage = Stage::Sending;\n            self.standing.is_broken = false;\n"),
     ("postgres::answer::Session::of", "Status::InFailedTransaction => Session::InFailedTransaction,", "Status::InFailedTransaction => Session::Broken,"),
-    ("postgres::connection::PostgresConnection::session", "{\n        self.session\n", "{\n        let _ = self;\n        Session::Idle\n"),
-    ("postgres::connection::PostgresConnection::exchange", "        self.session = Session::Broken;\n        match", "        match"),
-    ("postgres::connection::PostgresConnection::exchange", "self.session = answer.session;", "self.session = Session::Idle;"),
-    ("postgres::connection::PostgresConnection::talk", "self.mark = self.mark.and(answer.mark);", "self.mark = answer.mark;"),
-    ("postgres::connection::PostgresConnection::end_reset", "        self.resetting = 0;\n        self.mark", "        self.mark"),
-    ("postgres::connection::PostgresConnection::come_back", "self.session != Session::Broken && ", ""),
-    ("postgres::connection::PostgresConnection::send_reset", 'queries.push("ROLLBACK")?;', "{}"),
-    ("postgres::connection::PostgresConnection::send_reset", "Reset::IfMarked => self.mark != Mark::Plain,", "Reset::IfMarked => false,"),
-    ("postgres::connection::PostgresConnection::send_reset", "        self.resetting = queries.len();\n", ""),
+    ("postgres::connection::PostgresConnection::session", "{\n        self.standing.session\n", "{\n        let _ = self;\n        Session::Idle\n"),
+    ("postgres::connection::PostgresConnection::exchange", "        self.standing.session = Session::Broken;\n        match", "        match"),
+    ("postgres::standing::Standing::answered", "self.session = answer.session;", "self.session = Session::Idle;"),
+    ("postgres::standing::Standing::answered", "self.mark = self.mark.and(answer.mark);", "self.mark = answer.mark;"),
+    ("postgres::standing::Standing::is_reset", "        self.resetting = 0;\n        self.mark", "        self.mark"),
+    ("postgres::standing::Standing::come_back", "        if self.session == Session::Broken {\n            return Err(PostgresError::Broken);\n        }\n", ""),
+    ("postgres::standing::Standing::come_back", 'ask(alloc, talk, "ROLLBACK", &mut requests)?;\n            count += 1;', "{}"),
+    ("postgres::standing::Standing::come_back", "Reset::IfMarked => self.mark != Mark::Plain,", "Reset::IfMarked => false,"),
+    ("postgres::standing::Standing::come_back", "        self.resetting = count;\n", ""),
     ("postgres::login::Login::step", "(Asked::Md5, Stage::Begun) if self.takes_md5 =>", "(Asked::Md5, Stage::Begun) if self.takes_md5 || self.password.is_some() =>"),
     ("postgres::login::Login::step", "if self.password.is_none() || self.is_lenient =>", "if self.password.is_none() || !self.is_lenient =>"),
-    ("postgres::deadline::Deadline::left", "if left.is_zero() { Err(late) } else { Ok(left) }", "Ok(left)"),
+    ("postgres_tasks::connection::TaskConnection::poll_exchange", "        self.standing.session = Session::Broken;\n        let mut patience", "        let mut patience"),
+    ("postgres_tasks::connection::TaskConnection::poll_exchange", "            Poll::Pending => {\n                request.patience", "            Poll::Pending => {\n                self.standing.session = Session::Idle;\n                request.patience"),
+    ("postgres_tasks::connection::TaskConnection::poll_steps", "            request.stage = Stage::Sending;\n", "            request.stage = Stage::Sending;\n            self.standing.session = Session::Idle;\n"),
+    ("postgres_tasks::manager::TaskConnectionManagerManageConnection::has_broken", POSTGRES_TASKS_BROKEN, "        if connection.session() != Session::Broken {\n            return false;\n        }\n"),
     ("postgres::manager::PostgresConnectionManagerManageConnection::has_broken", POSTGRES_BROKEN, "connection.session() == crate::answer::Session::Broken"),
 ]
 # A file, such a passage, and the check that is to fail: the bodies of a list are made together.
@@ -85,26 +113,31 @@ SEEN = [
         ("redis/reply", "if letter.is_control() {", "if letter == '\\r' {", "redis, a scripted peer: a refusal with control characters: the text"),
         ("redis_tasks/connection", "self.socket.must_be_quiet(deadline)?;\n        self.socket.talk", "let _ = deadline;\n        self.socket.talk", "redis for tasks: an answer that comes twice, the second 0.1 s later"),
         ("redis_tasks/manager", HAS_BROKEN, "connection.is_broken()", "redis for tasks: if-marked: a database is not seen by the next caller"),
-        ("redis_tasks/opening", "if self.addresses.is_empty() => Poll::Ready(Err(error)),", "if self.addresses.is_empty() => {\n                let _ = error;\n                Poll::Pending\n            }", "redis for tasks: served again soon after a restart"),
+        ("tokio_socket/dialing", "if self.addresses.is_empty() => Poll::Ready(Err(error)),", "if self.addresses.is_empty() => {\n                let _ = error;\n                Poll::Pending\n            }", "redis for tasks: killed for five seconds: served again soon"),
         ("postgres/manager", POSTGRES_BROKEN, "connection.session() == crate::answer::Session::Broken", "postgres: nobody meets what was left open"),
-        ("postgres/login", "!= proof.reply.as_str()", "== \"\"", "postgres, a scripted peer: a wrong signature: the text"),
+        ("postgres/greeting", "if self.reply.as_deref() != Some(told.as_str()) {", "if told.is_empty() {", "postgres, a scripted peer: a wrong signature: the text"),
         ("postgres/socket", READ_BY_HALF, READ_BY_ITSELF, "postgres, a scripted peer: a row that drips: the deadline"),
         ("postgres/connection", "self.wire.cancel(key.as_slice(), asking, answer).ok();", "let _ = (key, asking, answer);", "postgres: a locked table leaves the server with no more than two connections for each"),
         ("postgres/refusal", "if letter.is_control() {", "if letter == '\\r' {", "postgres, a scripted peer: a refusal with control characters: the text"),
         ("postgres/answer", "                None => None,\n", "                None => Some(String::new(alloc)),\n", "postgres, a scripted peer: an answer byte by byte: the text"),
+        ("postgres_tasks/connection", "        self.standing.session = Session::Broken;\n        let mut patience", "        let mut patience", "postgres for tasks: after it another connection is lent"),
+        ("postgres_tasks/connection", "            key: self.key.take()?,", "            key: self.key.take().filter(|key| key.is_empty())?,", "postgres for tasks: a query that is late is cancelled"),
+        ("postgres_tasks/connection", "        self.socket.must_be_quiet(deadline)?;\n        self.standing.mark", "        let _ = deadline;\n        self.standing.mark", "postgres for tasks: an answer that comes twice, the second 0.1 s later"),
+        ("postgres_tasks/opening", "let timeout = self.settings.timeouts.connect;", "let timeout = self.settings.timeouts.connect.saturating_mul(4);", "postgres for tasks: at a silent server: the deadline of each opening"),
+        ("postgres_tasks/opening", "let address = self.settings.address.as_str();\n        PostgresError", "let address = self.settings.address.as_str();\n        let address = self.settings.login.password.as_deref().unwrap_or(address);\n        PostgresError", "postgres for tasks: a login that is not answered: nobody is told the password"),
     ],
     [
         ("redis/socket", "deadline.left(rt)? / others.max(1)", "deadline.left(rt)?", "redis, a scripted peer: a name at whose first address nobody answers"),
-        ("redis_tasks/opening", "deadline.left(self.rt)? / addresses.max(1)", "deadline.left(self.rt)?", "redis for tasks: a name at whose first address nobody answers"),
+        ("tokio_socket/dialing", "deadline.left(self.rt)? / addresses.max(1)", "deadline.left(self.rt)?", "redis for tasks: a name at whose first address nobody answers"),
         ("postgres/socket", "deadline.left(rt)? / others.max(1)", "deadline.left(rt)?", "postgres, a scripted peer: a name at whose first address nobody answers"),
         ("redis/wire", "self.socket.must_be_quiet(deadline)", "{\n            let _ = deadline;\n            Ok(())\n        }", "redis, a scripted peer: an answer that comes twice, the second 0.1 s later"),
         ("redis/standing", 'text.starts_with(b"READONLY")', 'text.starts_with(b"LOADING")', "redis, a scripted peer: a demoted server is left"),
         ("redis/reset", "String::from_str(alloc, word)", "String::from_str(alloc, text.as_str())", "redis, a scripted peer: a password of 200 letters, behind 'ERR no ' in the answer to AUTH: no error has it"),
         ("redis/error", "io::ErrorKind::TimedOut => RedisError::Timeout {", "io::ErrorKind::NotFound => RedisError::Timeout {", "redis, a scripted peer: silence: the text"),
         ("redis/reset", "session.subscriptions || session.monitor || session.settings", "session.subscriptions || session.monitor", "redis: always: a setting is not seen by the next caller"),
-        ("redis_tasks/patience", "Deadline::new(rt, length)", "Deadline::new(rt, length.saturating_mul(2))", "redis for tasks: at a silent server: the deadline of each command"),
+        ("tokio_socket/patience", "Deadline::new(rt, length)", "Deadline::new(rt, length.saturating_mul(2))", "redis for tasks: at a silent server: the deadline of each command"),
         ("postgres/wire", "        if !self.talk.is_settled() {\n            return Err(PostgresError::Unasked);\n        }\n", "", "postgres, a scripted peer: an answer that comes twice, the second 0.0 s later"),
-        ("postgres/connection", "self.send_reset(reset).is_ok();", "self.send_reset(reset).is_ok() && self.end_reset(Deadline::new(self.rt, self.timeouts.check)).is_ok();", "postgres, a scripted peer: a return waits for no answer"),
+        ("postgres/connection", "self.end_session(reset).is_ok();", "self.end_session(reset).is_ok() && self.end_reset(Deadline::new(self.rt, self.timeouts.check)).is_ok();", "postgres, a scripted peer: a return waits for no answer"),
         ("postgres/answer", "self.refused = Some(refused(self.alloc, &refusal)?);", "let _ = refused(self.alloc, &refusal)?;", "postgres: a refusal is an error, and no more"),
         ("postgres/answer", "self.affected = self.affected.saturating_add(done.rows)", "self.affected = done.rows", "postgres, a scripted peer: how many rows the statements were about"),
         ("postgres/answer", "self.rows.len() >= limits.rows", "self.rows.len() > limits.rows", "postgres, a scripted peer: a row more: the text"),
@@ -117,6 +150,20 @@ SEEN = [
         ("postgres/mark", '["--", "/*", "&\\""]', '["--", "--", "&\\""]', "postgres: if-marked: a lock behind a comment is not seen by the next caller"),
         ("postgres/mark", '"default", "insert"', '"default", "merge"', "postgres: if-marked: the number of WITH it AS (INSERT INTO noted SELECT 1 RETURNING 1) SELECT 1"),
         ("postgres/mark", 'b"pg_temp"', 'b"no_temp"', "postgres: if-marked: a table among the temporary ones is not seen by the next caller"),
+        ("postgres_tasks/connection", "        self.standing.session = Session::Broken;\n        let mut patience", "        if request.stage == Stage::Sending {\n            self.standing.session = Session::Broken;\n        }\n        let mut patience", "postgres for tasks: a reset that is not answered"),
+        ("postgres_tasks/connection", "            key: self.key.take()?,", "            key: self.key.take().map(|mut key| {\n                key.as_mut_slice().reverse();\n                key\n            })?,", "postgres for tasks: a query that is dropped is cancelled"),
+        ("postgres_tasks/exchange", CHECKED, UNCHECKED, "postgres for tasks: at a silent server: the deadline of each check"),
+        ("postgres_tasks/opening", "PostgresError::SlowLogin,", "self.explained(deadline, io::Error::from(io::ErrorKind::TimedOut)),", "postgres for tasks: rounds that take too long: the text"),
+        ("postgres_tasks/manager", POSTGRES_TASKS_BROKEN, "        if connection.session() == Session::Idle {\n            return false;\n        }\n", "postgres for tasks: if-marked: a setting is not seen by the next caller"),
+    ],
+    # A manager that takes it for granted that each request has its answer: late ones go to others.
+    [
+        ("redis_tasks/connection", "        self.standing.is_broken = true;\n        let mut patience", "        let mut patience", "redis for tasks: an answer of a request that was given up is nobody's"),
+        ("redis_tasks/socket", QUIET_OF_REDIS, QUIET, "redis for tasks: an answer that comes twice, the second 0.1 s later"),
+        ("redis_tasks/manager", HAS_BROKEN, "{\n            let _ = connection;\n            false\n        }", "redis for tasks: an answer of a request that was given up is nobody's"),
+        ("postgres_tasks/connection", "        self.standing.session = Session::Broken;\n        let mut patience", "        let mut patience", "postgres for tasks: an answer of a request that was given up is nobody's"),
+        ("postgres_tasks/socket", QUIET_OF_REDIS.replace("Redis", "Postgres"), QUIET, "postgres for tasks: an answer that comes twice, the second 0.1 s later"),
+        ("postgres_tasks/manager", POSTGRES_TASKS_BROKEN, "        if connection.session() != Session::Broken {\n            return false;\n        }\n", "postgres for tasks: an answer of a request that was given up is nobody's"),
     ],
 ]
 
@@ -185,6 +232,8 @@ def try_refused(mine, tally):
     """Over what the proofs have kept. Each alone: what calls a function without a proof is not tried."""
     for function, old, new in REFUSED:
         crate, module = function.split("::")[:2]
+        # (what is in no module)
+        module = module if module.islower() else "lib"
         with open(source(mine, f"{crate}/{module}"), encoding="utf-8") as it:
             right = it.read()
         put_body(mine, f"{crate}/{module}", old, new)
@@ -209,7 +258,7 @@ def try_seen(place, tally):
         for file, _, _, what in bodies:
             if what.endswith(AT_TWO) and seen.skipped:
                 tally.skip(f"a wrong body of {file}, which two addresses show")
-            elif any(file.startswith(kind.NAME) for kind in kinds):
+            elif any(what.startswith(kind.NAME) for kind in kinds):
                 tally.check(f"a wrong body of {file}, which a server shows", what in seen.names, seen.names)
         shutil.rmtree(inner)
 
