@@ -44,7 +44,7 @@ fn main(rt: HostRuntime) -> Result<(), anyhow::Error> {
     let workers = runtime.task_set(&rt)?;
     workers.spawn(pool.worker()?).map_err(io::Error::from)?;
     let get = pool.get()?;
-    // From here on the `get` keeps the pool open, and then what it lends: the worker ends with it.
+    // The `get`, and then what it lends, keep the pool open: the worker ends with it.
     drop(pool);
     let found = get.map(|lent| lent.map(|connection| *connection));
     let found = runtime.block_on_with(&rt, &workers, found)??;

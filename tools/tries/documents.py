@@ -11,15 +11,16 @@ documents = set_up.module_of(os.path.join(TOP, "tools", "documents"))
 TALLY = Tally("documents")
 # A document that is not there: in two parts, since the tool reads this file too.
 NONE = os.path.join("docs", "SETTING.md")
-GUIDE, HEAD, TESTS = documents.DROPPED
+GUIDE, HEAD, TESTS, CLAUSES = documents.DROPPED
 ASSUMED, CRATES = documents.ASSUMED, {"crates.txt": "# name: libraries\none may_wait=1: two log\ntwo: log\nexamples: one anyhow\n",
                                      os.path.join("tools", "promises.txt"): "A promise\n    one::Type step\n"}
 ASSUMPTIONS = f"# Proofs\n\n{documents.BEGIN} Its checker, and `log` (`two`).\n- **Owner.** It is right.\n"
 COMMENTED = os.path.join("crates", documents.PLAIN[0], "src", "lib.rt")
 DATA, PICTURE = os.path.join("tests", "pages", "night.json"), os.path.join(documents.PICTURES, "night.png")
 REPORT, STATUS = (os.path.join("crates", "pool_reports", "src", it) for it in ("text.rt", "status.rt"))
-SOURCES = [documents.BUILDER, documents.OF_TASKS[1], documents.TUNING, TESTS, REPORT, STATUS, documents.SCHEMA]
-DROPPED = f"# Guide\n\n| {HEAD} |\n|---|---|---|\n| a drain | a closed pool | `a_drain` |\n"
+SOURCES = [documents.BUILDER, documents.OF_TASKS[1], documents.TUNING, *TESTS, *CLAUSES, REPORT, STATUS, documents.SCHEMA]
+DROPPED = (f"# Guide\n\n| {HEAD} |\n|---|---|---|\n| a drain | a closed pool | `drop_drain.book`, `drop_drain.line`, `a_drain` |\n"
+           "| a pool | nothing | `a_drain` |\n| a query | a broken one | `poll_exchange.pending`, `try_cancelled` |\n")
 CRATE_README = os.path.join("crates", "one", "README.md"), "# One\nA crate of the pool.\n"
 README = "# A pool\nSee [settings](docs/SETTINGS.md#names-elsewhere), `no [link](NONE.md)`.\n```sh\n# no heading\n```\n"
 
@@ -155,8 +156,13 @@ def try_builders():
 
 
 def try_tests():
-    finds("a test that is not there", GUIDE, "`a_drain`", "`the_drain`", [f"{GUIDE}: {TESTS} has no test `the_drain`"])
-    finds("a test of another name", TESTS, "fn a_drain(", "fn a_drain_that_is_dropped(", [f"{GUIDE}: {TESTS} has no test `a_drain`"])
+    none = f"{GUIDE}: {' and '.join(TESTS)} have no test"
+    finds("a test that is not there", GUIDE, "nothing | `a_drain`", "nothing | `the_drain`", [f"{none} `the_drain`"])
+    finds("a test of another name", TESTS[0], "fn a_drain(", "fn a_drain_that_is_dropped(", [f"{none} `a_drain`"] * 2)
+    finds("a try of another name", TESTS[1], "def try_cancelled(", "def try_it(", [f"{none} `try_cancelled`"])
+    for what, old, new in (("clause", "drop_drain.line", "drop_drain.lines"), ("function", "drop_drain.line", "drain.line")):
+        finds(f"a {what} that is not there", GUIDE, f"`{old}`", f"`{new}`", [f"{GUIDE}: no function has a clause `{new}`, or not each"])
+    finds("a clause of one adapter alone", CLAUSES[2], "ensures pending {", "ensures is {", [f"{GUIDE}: no function has a clause `poll_exchange.pending`, or not each"])
 
 
 def try_assumptions():
