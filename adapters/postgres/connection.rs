@@ -61,7 +61,8 @@ impl PostgresConnection {
     /// parameters: what is no part of the text belongs into `query_with`.
     pub fn query(&mut self, text: &str) -> Result<Vec<Row>, PostgresError>
         ensures err { self.old.standing.session ≡ Session.Broken → IsErr result }
-        ensures stays { self.old.standing.session ≡ Session.Broken → self.new.standing.session ≡ Session.Broken }
+        ensures stays { self.old.standing.session ≡ Session.Broken
+            → self.new.standing.session ≡ Session.Broken }
     {
         let query = Query::of(self.rt.alloc(), text)?;
         self.asked(query)?.rows
@@ -75,7 +76,8 @@ impl PostgresConnection {
         values: &[Option<&str>],
     ) -> Result<Vec<Row>, PostgresError>
         ensures err { self.old.standing.session ≡ Session.Broken → IsErr result }
-        ensures stays { self.old.standing.session ≡ Session.Broken → self.new.standing.session ≡ Session.Broken }
+        ensures stays { self.old.standing.session ≡ Session.Broken
+            → self.new.standing.session ≡ Session.Broken }
     {
         let query = Query::with(self.rt.alloc(), text, values)?;
         self.asked(query)?.rows
@@ -84,7 +86,8 @@ impl PostgresConnection {
     /// As `query`. How many rows its statements inserted, changed, deleted or returned, together.
     pub fn execute(&mut self, text: &str) -> Result<u64, PostgresError>
         ensures err { self.old.standing.session ≡ Session.Broken → IsErr result }
-        ensures stays { self.old.standing.session ≡ Session.Broken → self.new.standing.session ≡ Session.Broken }
+        ensures stays { self.old.standing.session ≡ Session.Broken
+            → self.new.standing.session ≡ Session.Broken }
     {
         let query = Query::of(self.rt.alloc(), text)?;
         self.counted(query)
@@ -97,7 +100,8 @@ impl PostgresConnection {
         values: &[Option<&str>],
     ) -> Result<u64, PostgresError>
         ensures err { self.old.standing.session ≡ Session.Broken → IsErr result }
-        ensures stays { self.old.standing.session ≡ Session.Broken → self.new.standing.session ≡ Session.Broken }
+        ensures stays { self.old.standing.session ≡ Session.Broken
+            → self.new.standing.session ≡ Session.Broken }
     {
         let query = Query::with(self.rt.alloc(), text, values)?;
         self.counted(query)
@@ -158,7 +162,8 @@ impl PostgresConnection {
     }
 
     fn talk(&mut self, query: Query, deadline: Deadline) -> Result<Answer, PostgresError>
-        ensures broken { self.old.standing.session ≡ Session.Broken → self.new.standing.session ≡ Session.Broken }
+        ensures broken { self.old.standing.session ≡ Session.Broken
+            → self.new.standing.session ≡ Session.Broken }
         ensures mark { IsOk result → self.new.standing.mark ≡ Mark.Plain →
             (self.old.standing.mark ≡ Mark.Plain) ⊎ (0 < self.old.standing.resetting) }
     {

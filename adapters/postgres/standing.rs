@@ -1,7 +1,7 @@
 //! How a connection stands, whoever waits for it: what the server last said, what was left on it,
 //! and what is still owed.
 
-ghost use Rattle.std.specs.Prelude.{◌≡◌, ◌≢◌, ◌<◌, ◌⊎◌, IsErr, IsOk};
+ghost use Rattle.std.specs.Prelude.{◌≡◌, ◌≢◌, ◌<◌, ◌⊎◌, IsErr, IsOk, IsTrue};
 
 use crate::answer::{Answer, Rows, Session};
 use crate::error::PostgresError;
@@ -81,27 +81,41 @@ impl Standing {
             (self.new.mark ≡ Mark.Plain) ⊎ (0 < self.new.resetting) }
         ensures always { IsOk result → reset ≡ Reset.Always → 0 < self.new.resetting }
     {
+        if self.session == Session::Broken {
+            return Err(PostgresError::Broken);
+        }
+        // Nothing was said since the last reset was sent.
+        if self.resetting > 0 {
+            return if self.session == Session::Idle {
+                Ok(Vec::new(alloc))
+            } else {
+                Err(PostgresError::Reset)
+            };
+        }
         let is_reset = match reset {
             Reset::Never => false,
             Reset::IfMarked => self.mark != Mark::Plain,
             Reset::Always => true,
         };
-        if self.session == Session::Broken {
-            return Err(PostgresError::Broken);
-        }
-        let mut requests = Vec::new(alloc);
-        // Nothing was said since the last reset was sent.
-        if self.resetting > 0 {
-            return if self.session == Session::Idle {
-                Ok(requests)
-            } else {
-                Err(PostgresError::Reset)
-            };
-        }
         if is_reset && self.mark == Mark::Lasting {
             return Err(PostgresError::Reset);
         }
-        let mut count = 0;
+        self.end(alloc, talk, is_reset)
+    }
+
+    fn end(
+        &mut self,
+        alloc: Global,
+        talk: &mut Conversation,
+        is_reset: bool,
+    ) -> Result<Vec<u8>, PostgresError>
+        ensures idle { IsOk result → self.new.session ≡ Session.Idle }
+        ensures rolled_back { IsOk result → self.old.session ≢ Session.Idle →
+            0 < self.new.resetting }
+        ensures reset { IsOk result → IsTrue is_reset → 0 < self.new.resetting }
+        ensures mark { self.new.mark ≡ self.old.mark }
+    {
+        let (mut requests, mut count) = (Vec::new(alloc), 0);
         if self.session != Session::Idle {
             ask(alloc, talk, "ROLLBACK", &mut requests)?;
             count += 1;

@@ -14,7 +14,7 @@ use postgres::{
     must_be_taken,
 };
 use postgres_codec::Mark;
-use std::alloc::Global;
+use std::alloc::{AllocError, Global};
 use std::time::Duration;
 use tokio::time;
 use tokio_socket::Patience;
@@ -88,8 +88,7 @@ impl TaskConnection {
         cx: &mut Context<'_>,
     ) -> Poll<Result<Answer, PostgresError>>
         ensures pending { OnPending result (self.new.standing.session ≡ Session.Broken) }
-        ensures failed { IfReady result (λ r. IsErr r
-            → self.new.standing.session ≡ Session.Broken) }
+        ensures failed { IfReady result (λ r. IsErr r → self.new.standing.session ≡ Session.Broken) }
         ensures sound { IfReady result (λ r. IfOk r (λ answer.
             self.new.standing.session ≡ answer.session)) }
         ensures armed { OnPending result (IsArmed cx.new) }
@@ -99,12 +98,9 @@ impl TaskConnection {
             return Poll::Ready(Err(PostgresError::Broken));
         }
         self.standing.session = Session::Broken;
-        let mut patience = match request.patience.take() {
-            Some(patience) => patience,
-            None => match Patience::new(self.rt, &self.time, request.timeout) {
-                Ok(patience) => patience,
-                Err(error) => return Poll::Ready(Err(PostgresError::Memory(error))),
-            },
+        let mut patience = match self.patience_of(request) {
+            Ok(patience) => patience,
+            Err(error) => return Poll::Ready(Err(PostgresError::Memory(error))),
         };
         let answered = match self.poll_steps(request, &patience, cx) {
             Poll::Pending if patience.poll_over(cx).is_ready() => {
@@ -126,6 +122,14 @@ impl TaskConnection {
                 request.patience = Some(patience);
                 Poll::Pending
             }
+        }
+    }
+
+    // It counts from the first poll on.
+    fn patience_of(&self, request: &mut Request) -> Result<Patience, AllocError> {
+        match request.patience.take() {
+            Some(patience) => Ok(patience),
+            None => Patience::new(self.rt, &self.time, request.timeout),
         }
     }
 

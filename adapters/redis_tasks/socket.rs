@@ -98,7 +98,7 @@ impl Socket {
         }
     }
 
-    /// Fails where an answer is owed, or bytes came that nobody asked for, or the end of the stream.
+    /// Fails where an answer is owed, or bytes came that nobody asked for, or the stream's end.
     pub fn must_be_quiet(&mut self, deadline: Deadline) -> Result<(), RedisError>
         ensures { self.new.talk ≡ self.old.talk }
     {

@@ -79,8 +79,8 @@ const CONNECTIONS: u32 = 8;
 
 const CALLERS: u32 = 12;
 
-/// How many requests there are at most, until when, and how long one waits for a connection, and for
-/// its answer before it is given up.
+/// How many requests there are at most, until when, and how long one waits for a connection, and
+/// for its answer before it is given up.
 #[derive(Clone, Copy)]
 pub struct Length {
     pub requests: u64,

@@ -4,9 +4,8 @@
 //! check nothing, wait for half a second, and do what the lines on standard input say; with `calm`
 //! in place of `postgres` they wait for ten seconds, and `postgres-salted` for fifteen.
 //! `cancel-KIND ADDRESS REQUESTS` asks a server of that kind so often, and gives up each request
-//! after three milliseconds; `serve-KIND ADDRESS MILLISECONDS` asks for so long, and
-//! `outage-KIND ADDRESS MILLISECONDS` too, but that nothing waits for longer than 300. With one word
-//! it writes itself to that place.
+//! after three milliseconds; `outage-KIND ADDRESS MILLISECONDS` asks for so long, and nothing waits
+//! for longer than 300 of them. With one word it writes itself to that place.
 #![tactic(auto)]
 
 mod callers;
@@ -56,7 +55,7 @@ fn begin<R: PoolRuntime + RandomSource + Print + Input>(
 ) -> Result<(), Fail> {
     let (what, name) = kind.split_once('-').unwrap_or((kind, ""));
     match (what, rest) {
-        ("cancel" | "serve" | "outage", [number, ..]) => {
+        ("cancel" | "outage", [number, ..]) => {
             let length = length(host, what, number.as_str().parse::<u64>()?)?;
             let timeout = Duration::from_millis(if what == "outage" { 300 } else { 5000 });
             if name == "redis" {
@@ -98,7 +97,7 @@ fn length(rt: HostRuntime, what: &str, number: u64) -> Result<Length, Fail> {
         requests: u64::MAX,
         until: Instant::now(&rt)?.checked_add(Duration::from_millis(number)),
         patience: None,
-        get: Duration::from_millis(if what == "outage" { 300 } else { 20_000 }),
+        get: Duration::from_millis(300),
     })
 }
 
