@@ -256,7 +256,7 @@ impl Dialed {
         }
     }
 
-    // Sends what is to be sent, and takes the server's next message.
+    // Sends what is to be sent, and takes what the server says.
     fn poll_next(
         &mut self,
         login: &Login,
@@ -270,9 +270,27 @@ impl Dialed {
         if let Err(error) = ready!(self.socket.poll_send(bytes, sent, deadline, cx)) {
             return Poll::Ready(Err(error));
         }
-        match ready!(self.socket.poll_receive(deadline, cx)) {
-            Ok(message) => Poll::Ready(self.greeting.answered(login, message)),
+        match self.answered(login) {
+            Ok(Next::Receive) => {}
+            next => return Poll::Ready(next),
+        }
+        match ready!(self.socket.poll_feed(deadline, cx)) {
+            Ok(()) => Poll::Ready(self.answered(login)),
             Err(error) => Poll::Ready(Err(error)),
         }
+    }
+
+    // What the messages ask for that came.
+    fn answered(&mut self, login: &Login) -> Result<Next, PostgresError> {
+        for _ in 0..u64::MAX {
+            let Some(message) = self.socket.talk.next()? else {
+                return Ok(Next::Receive);
+            };
+            match self.greeting.answered(login, message)? {
+                Next::Receive => {}
+                next => return Ok(next),
+            }
+        }
+        Err(PostgresError::Protocol)
     }
 }

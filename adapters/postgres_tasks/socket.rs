@@ -9,7 +9,7 @@ use deadline::Deadline;
 use futures::ready;
 use futures::task::{Context, Poll};
 use postgres::{Answer, Limits, PostgresError, Reading};
-use postgres_codec::{Conversation, Message};
+use postgres_codec::Conversation;
 use std::alloc::{AllocError, Global};
 use std::io;
 use std::net::SocketAddr;
@@ -61,27 +61,6 @@ impl Socket {
         }
     }
 
-    /// The next message.
-    pub fn poll_receive(
-        &mut self,
-        deadline: Deadline,
-        cx: &mut Context<'_>,
-    ) -> Poll<Result<Message, PostgresError>>
-        ensures armed { OnPending result (IsArmed cx.new) }
-        ensures kept { Keeps cx.old cx.new }
-    {
-        if let Some(message) = self.message() {
-            return Poll::Ready(message);
-        }
-        if let Err(error) = ready!(self.poll_feed(deadline, cx)) {
-            return Poll::Ready(Err(error));
-        }
-        match self.message() {
-            Some(message) => Poll::Ready(message),
-            None => cx.yield_now(),
-        }
-    }
-
     /// The next answer, of which this came so far.
     pub fn poll_answer(
         &mut self,
@@ -105,15 +84,6 @@ impl Socket {
         }
     }
 
-    // The message, once it is whole.
-    fn message(&mut self) -> Option<Result<Message, PostgresError>> {
-        match self.talk.next() {
-            Ok(Some(message)) => Some(Ok(message)),
-            Ok(None) => None,
-            Err(error) => Some(Err(PostgresError::from(error))),
-        }
-    }
-
     // The answer, once it is whole.
     fn answer(
         &mut self,
@@ -127,8 +97,8 @@ impl Socket {
         }
     }
 
-    // Reads what is there.
-    fn poll_feed(
+    /// Reads what is there.
+    pub fn poll_feed(
         &mut self,
         deadline: Deadline,
         cx: &mut Context<'_>,
