@@ -4,10 +4,14 @@
 //! do, and have no more: no check, no timer, no hook. The tasks run on one thread, by tokio.
 //!
 //! Given `tasks`, it prints the lines of `pool_bench tasks`; given `once`, a shape, how many tasks
-//! there are and how many calls they make together, it makes those calls, as for a profile.
+//! there are and how many calls they make together, it makes those calls, as for a profile. Given
+//! `serve`, an address, `read`, `value` or `write`, how many tasks there are and for how many
+//! milliseconds, they ask a PostgreSQL there, by tokio-postgres (`managed`, `server`).
 
+mod managed;
 mod notified;
 mod permits;
+mod server;
 
 use notified::Notified;
 use permits::Permits;
@@ -44,12 +48,15 @@ fn main() {
     match words[..] {
         ["tasks"] => measure(),
         ["once", shape, tasks, calls] => once(shape, number(tasks), number(calls)),
-        _ => println!("usage: peers tasks, or peers once SHAPE TASKS CALLS"),
+        ["serve", address, request, tasks, millis] => {
+            server::serve(address, request, number(tasks), number(millis));
+        }
+        _ => println!("usage: peers tasks | once SHAPE TASKS CALLS | serve ADDRESS REQUEST TASKS MS"),
     }
 }
 
 fn number(word: &str) -> u32 {
-    word.parse().expect("a number of tasks or calls")
+    word.parse().expect("a number")
 }
 
 fn once(shape: &str, tasks: u32, calls: u32) {
