@@ -5,7 +5,7 @@ use crate::app::{Call, Lent};
 use futures::task::{Context, Poll};
 use futures::{Future, ready};
 use hyper::StatusCode;
-use postgres_tasks::{Exchange, PostgresError, Queries, Row};
+use postgres_tasks::{Commands, PostgresError, Queried, Row};
 use r2d2::PoolRuntime;
 use r2d2_async::{Error, ErrorKind};
 use std::alloc::Global;
@@ -34,7 +34,7 @@ const WRITE: [Statement; 4] = [
 ];
 
 impl Statement {
-    fn sent<R: PoolRuntime>(self, lent: Lent<R>, key: &str) -> Exchange<Lent<R>> {
+    fn sent<R: PoolRuntime>(self, lent: Lent<R>, key: &str) -> Queried<Lent<R>> {
         match self {
             Statement::Ping => lent.query("SELECT 1"),
             Statement::Select => {
@@ -123,7 +123,7 @@ pub struct Answering<R: PoolRuntime> {
     // What stands for the request: an answer without the database, a call of the pool, a statement.
     known: Option<Answer>,
     call: Option<Call<R>>,
-    asked: Option<Exchange<Lent<R>>>,
+    asked: Option<Queried<Lent<R>>>,
     found: Option<String>,
 }
 

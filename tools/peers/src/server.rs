@@ -1,12 +1,9 @@
 // Tasks that ask a PostgreSQL, over `managed` and tokio-postgres: what `tests/server_bench` does over
 // our pool and adapter, by the same queries.
 use crate::managed::{Lent, Managed, Refusal};
-use std::cell::RefCell;
-use std::rc::Rc;
-use std::sync::Arc;
+use std::sync::{Arc, Mutex};
 use std::time::{Duration, Instant, SystemTime, UNIX_EPOCH};
 use tokio::runtime::Builder;
-use tokio::task::LocalSet;
 use tokio::time;
 use tokio_postgres::{Config, Error, SimpleQueryMessage};
 
@@ -64,6 +61,7 @@ fn has_row(messages: &[SimpleQueryMessage]) -> bool {
 
 /// What all tasks count.
 struct Counts {
+    begun: Instant,
     served: u64,
     failed: u64,
     /// Calls that got no connection in time.
@@ -77,6 +75,20 @@ struct Counts {
 }
 
 impl Counts {
+    fn new() -> Counts {
+        let begun = Instant::now();
+        Counts {
+            begun,
+            served: 0,
+            failed: 0,
+            timeouts: 0,
+            longest: Duration::ZERO,
+            late: Duration::ZERO,
+            last: begun,
+            gap: (begun, begun),
+        }
+    }
+
     fn serve(&mut self, begun: Instant) {
         let now = Instant::now();
         self.served += 1;
@@ -96,51 +108,46 @@ impl Counts {
             Refusal::Failed => self.failed += 1,
         }
     }
+
+    /// Tells them, with moments in milliseconds of the wall clock.
+    fn tell(&self) {
+        let since = SystemTime::now().duration_since(UNIX_EPOCH);
+        let wall = since.expect("it is after 1970") - self.begun.elapsed();
+        let moment = |it: Instant| (wall + (it - self.begun)).as_millis();
+        println!(
+            "served={} failed={} timeouts={} longest={} late={} from={} to={}",
+            self.served,
+            self.failed,
+            self.timeouts,
+            self.longest.as_micros(),
+            self.late.as_micros(),
+            moment(self.gap.0),
+            moment(self.gap.1),
+        );
+    }
 }
 
-/// Lets so many tasks ask for so many milliseconds, and tells what came of it. Moments are
-/// milliseconds of the wall clock.
+/// Lets so many tasks ask for so many milliseconds, and tells what came of it.
 pub fn serve(address: &str, request: &str, tasks: u32, millis: u32) {
     let (host, port) = address.split_once(':').expect("a host and a port");
     let mut config = Config::new();
     config.host(host).port(port.parse().expect("a port"));
     config.user("postgres").dbname("postgres");
-    let (request, pool) = (
-        Request::of(request),
-        Managed::new(MAX_SIZE, config, TIMEOUT),
-    );
+    let pool = Managed::new(MAX_SIZE, config, TIMEOUT);
+    let request = Request::of(request);
     let runtime = Builder::new_current_thread().enable_all().build();
     let runtime = runtime.expect("a runtime of one thread");
-    let begun = Instant::now();
-    let wall = SystemTime::now().duration_since(UNIX_EPOCH);
-    let wall = wall.expect("after 1970").as_millis();
-    let counts = Rc::new(RefCell::new(Counts {
-        served: 0,
-        failed: 0,
-        timeouts: 0,
-        longest: Duration::ZERO,
-        late: Duration::ZERO,
-        last: begun,
-        gap: (begun, begun),
-    }));
-    let until = begun + Duration::from_millis(u64::from(millis));
-    let callers = LocalSet::new();
-    for task in 0..tasks {
-        callers.spawn_local(call(pool.clone(), request, task, until, counts.clone()));
-    }
-    runtime.block_on(callers);
-    let counts = counts.borrow();
-    let moment = |it: Instant| wall + (it - begun).as_millis();
-    println!(
-        "served={} failed={} timeouts={} longest={} late={} from={} to={}",
-        counts.served,
-        counts.failed,
-        counts.timeouts,
-        counts.longest.as_micros(),
-        counts.late.as_micros(),
-        moment(counts.gap.0),
-        moment(counts.gap.1),
-    );
+    let counts = Arc::new(Mutex::new(Counts::new()));
+    let until = Instant::now() + Duration::from_millis(u64::from(millis));
+    let callers: Vec<_> = (0..tasks)
+        .map(|task| runtime.spawn(call(pool.clone(), request, task, until, counts.clone())))
+        .collect();
+    runtime.block_on(async {
+        for caller in callers {
+            caller.await.expect("no call panics");
+        }
+    });
+    counts.lock().expect("no step panics").tell();
 }
 
 async fn call(
@@ -148,23 +155,23 @@ async fn call(
     request: Request,
     task: u32,
     until: Instant,
-    counts: Rc<RefCell<Counts>>,
+    counts: Arc<Mutex<Counts>>,
 ) {
+    let count = || counts.lock().expect("no step panics");
     while Instant::now() < until {
         let begun = Instant::now();
-        let is_served = match Managed::get(&pool).await {
-            Ok(lent) => matches!(request.make(&lent, task).await, Ok(true)),
-            Err(refusal) => {
-                counts.borrow_mut().refuse(refusal, begun);
-                time::sleep(REST).await;
-                continue;
+        match Managed::get(&pool).await {
+            Ok(lent) => {
+                let answer = request.make(&lent, task).await;
+                drop(lent);
+                if let Ok(true) = answer {
+                    count().serve(begun);
+                    continue;
+                }
+                count().failed += 1;
             }
-        };
-        if is_served {
-            counts.borrow_mut().serve(begun);
-        } else {
-            counts.borrow_mut().failed += 1;
-            time::sleep(REST).await;
+            Err(refusal) => count().refuse(refusal, begun),
         }
+        time::sleep(REST).await;
     }
 }

@@ -1,0 +1,92 @@
+//! Tasks that ask a PostgreSQL, over the pool for tasks and `postgres_tasks` (tools/times servers):
+//! what `serve` of tools/peers does over tokio-postgres, by the same queries. Given an address,
+//! `read`, `value` or `write`, how many tasks there are and for how many milliseconds, it prints
+//! what came of it.
+#![tactic(auto)]
+
+mod caller;
+mod counts;
+
+use self::caller::Caller;
+use self::counts::Counts;
+use futures::future;
+use postgres_tasks::{PostgresConnectionManager, TaskConnectionManager};
+use r2d2::PoolRuntime;
+use r2d2_async::{Builder, Pool};
+use std::env;
+use std::io;
+use std::random::RandomSource;
+use std::sync::Arc;
+use std::test::Fail;
+use std::time::{Duration, Instant};
+use tokio::runtime::LocalRuntime;
+use tokio_timer::TokioTimer;
+
+const MAX_SIZE: u32 = 8;
+
+/// How many milliseconds a caller waits for a connection, and as many for a query.
+pub const TIMEOUT_MILLIS: u64 = 1000;
+
+/// What each task asks, again and again.
+#[derive(Clone, Copy, PartialEq, Eq)]
+pub enum Request {
+    Read,
+    Value,
+    Write,
+}
+
+fn main(rt: HostRuntime) -> Result<(), Fail> {
+    let mut words = Vec::new(rt.alloc());
+    for word in env::args(&rt)?.skip(1) {
+        words.push(word)?;
+    }
+    let [address, request, tasks, millis] = words.as_slice() else {
+        println!(rt; "usage: server_bench ADDRESS REQUEST TASKS MS")?;
+        return Ok(());
+    };
+    let request = match request.as_str() {
+        "read" => Request::Read,
+        "value" => Request::Value,
+        _ => Request::Write,
+    };
+    let timeout = Duration::from_millis(TIMEOUT_MILLIS);
+    let manager = PostgresConnectionManager::new(
+        rt, address.as_str(), "postgres", "postgres", timeout,
+    )?;
+    let (tasks, millis) = (tasks.as_str().parse::<u32>()?, millis.as_str().parse::<u64>()?);
+    serve(rt, manager, request, tasks, Duration::from_millis(millis))
+}
+
+fn serve<R: PoolRuntime + RandomSource + Print>(
+    rt: R,
+    manager: PostgresConnectionManager,
+    request: Request,
+    tasks: u32,
+    length: Duration,
+) -> Result<(), Fail> {
+    let mut runtime = LocalRuntime::new(&rt)?;
+    let manager = TaskConnectionManager::new(manager, runtime.handle())?;
+    let timer = TokioTimer::new(rt, runtime.handle())?;
+    let builder = Builder::new()
+        .max_size(MAX_SIZE)
+        .test_on_check_out(false)
+        .connection_timeout(Duration::from_millis(TIMEOUT_MILLIS))
+        .max_retry_delay(Some(Duration::from_millis(200)));
+    let pool = Pool::build(builder, rt, manager, timer)?;
+    let workers = runtime.task_set(&rt)?;
+    for _ in 0..MAX_SIZE {
+        workers.spawn(pool.worker()?).map_err(io::Error::from)?;
+    }
+    let timer = Arc::new(rt.alloc(), TokioTimer::new(rt, runtime.handle())?)?;
+    let counts = Arc::new(rt.alloc(), Counts::new(rt)?)?;
+    let until = Instant::now(&rt)?.checked_add(length);
+    let mut callers = Vec::new(rt.alloc());
+    for task in 0..tasks {
+        let (timer, counts) = (Arc::try_clone(&timer)?, Arc::try_clone(&counts)?);
+        callers.push(Caller::new(rt, pool.try_clone()?, timer, counts, request, task, until))?;
+    }
+    drop(pool);
+    let all = future::join_all(rt.alloc(), callers)?;
+    runtime.block_on_with(&rt, &workers, all)??;
+    counts.tell(&rt)
+}

@@ -1,0 +1,118 @@
+"""Tasks that ask a real PostgreSQL, for `tools/times servers`: tests/server_bench over our pool and adapter, and tools/peers over
+tokio-postgres, by the same queries, in turn."""
+import os
+import re
+import subprocess
+import sys
+import tempfile
+import threading
+from datetime import datetime, timezone
+
+import unproved
+
+sys.path.insert(0, os.path.join(os.path.dirname(os.path.realpath(__file__)), "tries"))
+from adapters import put_source
+from copies import TESTS
+from servers import HOST, Postgres
+from tally import TOP
+
+LIBRARIES = "r2d2 r2d2_async postgres_tasks tokio_timer tokio futures"
+# What is asked, by the word for it.
+REQUESTS = {"read": "a query", "value": "one with a value", "write": "a transaction of three"}
+TASKS, SECONDS = 100, 8
+# An outage: the server is killed after so many seconds, and begins anew so many later.
+BEFORE, AWAY, AFTER = 2, 5, 3
+READY = re.compile(r"^(\S+ \S+) UTC .*ready to accept connections$", re.MULTILINE)
+
+
+def ours(folder):
+    """The path of our program, compiled as a proved one is."""
+    mine, path = os.path.join(folder, "mine"), os.path.join(folder, "ours", "server_bench")
+    subprocess.run(["git", "init", "-q", mine], check=True)
+    subprocess.run([os.path.join(TOP, "vendor"), "--async", "--postgres", mine], check=True, stdout=subprocess.DEVNULL)
+    put_source(os.path.join(TESTS, "server_bench"), os.path.join(mine, "crates", "server_bench"))
+    with open(os.path.join(mine, "crates.txt"), "a", encoding="utf-8") as file:
+        file.write(f"server_bench: {LIBRARIES}\n")
+    unproved.compile_program(os.path.join(mine, "crates", "server_bench"), path, unproved.as_proved)
+    return path
+
+
+def begun(path, server, request, seconds):
+    words = [path, *PATHS_WORDS.get(os.path.basename(path), []), f"{HOST}:{server.port}", request, str(TASKS), str(seconds * 1000)]
+    return subprocess.Popen(words, stdin=subprocess.DEVNULL, stdout=subprocess.PIPE, text=True)
+
+
+PATHS_WORDS = {"peers": ["serve"]}
+
+
+def counts(process):
+    said, _ = process.communicate()
+    if process.returncode:
+        sys.exit(f"times: {process.args[0]} ended with the status {process.returncode}")
+    return {name: int(number) for name, number in re.findall(r"(\w+)=(\d+)", said)}
+
+
+def rate(path, server, request):
+    """Requests a second, and the longest of them in milliseconds. All are served."""
+    told = counts(begun(path, server, request, SECONDS))
+    if told["failed"] or told["timeouts"] or not told["served"]:
+        sys.exit(f"times: {os.path.basename(path)}, {request}: {told}")
+    return told["served"] / SECONDS, told["longest"] / 1000
+
+
+def outage(path, server):
+    """By how much a caller overran its second of waiting, and how long after the server was ready anyone was served, in milliseconds."""
+    process = begun(path, server, "read", BEFORE + AWAY + AFTER)
+    pause = threading.Event().wait
+    pause(BEFORE)
+    server.crash()
+    pause(AWAY)
+    server.start()
+    told = counts(process)
+    with open(os.path.join(server.folder, "log"), encoding="utf-8") as file:
+        ready = READY.findall(file.read())[-1]
+    moment = datetime.strptime(ready, "%Y-%m-%d %H:%M:%S.%f").replace(tzinfo=timezone.utc).timestamp() * 1000
+    return told["late"] / 1000, told["to"] - moment, told["timeouts"], told["failed"]
+
+
+def median(numbers):
+    return sorted(numbers)[len(numbers) // 2]
+
+
+def timed(theirs, folder, rounds, say):
+    programs = {"ours": ours(folder), "theirs": theirs}
+    os.chmod(folder, 0o711)
+    server = Postgres(os.path.join(folder, "postgres"))
+    try:
+        server.start().ask("CREATE TABLE noted (task int, at timestamptz DEFAULT now())")
+        start, rates = os.getloadavg()[0], {}
+        for number in range(rounds):
+            say(f"round {number + 1} of {rounds}")
+            for request in REQUESTS:
+                for who, path in programs.items():
+                    rates.setdefault((request, who), []).append(rate(path, server, request))
+        outages = {who: [outage(path, server) for _ in range(min(rounds, 3))] for who, path in programs.items()}
+        end = os.getloadavg()[0]
+    finally:
+        server.end()
+    print_rates(rates)
+    print_outages(outages)
+    print(f"\nrounds {rounds}, tasks {TASKS}, cores {len(os.sched_getaffinity(0))}, load {start:.1f} at the start and {end:.1f} at the end")
+
+
+def print_rates(rates):
+    print("| asked | ours a second | theirs | ours/theirs | longest, ms | theirs |")
+    print("|---|---:|---:|---:|---:|---:|")
+    for request, what in REQUESTS.items():
+        mine, other = ([it for it, _ in rates[request, who]] for who in ("ours", "theirs"))
+        longest = [median([it for _, it in rates[request, who]]) for who in ("ours", "theirs")]
+        ratio = median([a / b for a, b in zip(mine, other)])
+        print(f"| {what} | {median(mine):,.0f} | {median(other):,.0f} | {ratio:.2f} | {longest[0]:.0f} | {longest[1]:.0f} |")
+
+
+def print_outages(outages):
+    print("\n| a server that is away for 5 s | late by, ms | served after, ms | timeouts | failed |")
+    print("|---|---:|---:|---:|---:|")
+    for who, seen in outages.items():
+        cells = [", ".join(f"{it:,.0f}" for it in column) for column in zip(*seen)]
+        print(f"| {who} | " + " | ".join(cells) + " |")
