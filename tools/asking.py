@@ -38,11 +38,10 @@ def ours(folder):
 
 
 def begun(path, server, request, seconds):
-    words = [path, *PATHS_WORDS.get(os.path.basename(path), []), f"{HOST}:{server.port}", request, str(TASKS), str(seconds * 1000)]
+    """Either program, as it asks."""
+    kind = ["serve"] if os.path.basename(path) == "peers" else []
+    words = [path, *kind, f"{HOST}:{server.port}", request, str(TASKS), str(seconds * 1000)]
     return subprocess.Popen(words, stdin=subprocess.DEVNULL, stdout=subprocess.PIPE, text=True)
-
-
-PATHS_WORDS = {"peers": ["serve"]}
 
 
 def counts(process):

@@ -1,6 +1,6 @@
 //! Tasks that ask a PostgreSQL, over the pool for tasks and `postgres_tasks` (tools/times servers):
 //! what `serve` of tools/peers does over tokio-postgres, by the same queries. Given an address,
-//! `read`, `value` or `write`, how many tasks there are and for how many milliseconds, it prints
+//! `read`, `value` (or `text`, which is the same here) or `write`, how many tasks there are and for how many milliseconds, it prints
 //! what came of it.
 #![tactic(auto)]
 
@@ -15,6 +15,7 @@ use r2d2::PoolRuntime;
 use r2d2_async::{Builder, Pool};
 use std::env;
 use std::io;
+use std::net::Net;
 use std::random::RandomSource;
 use std::sync::Arc;
 use std::test::Fail;
@@ -46,7 +47,7 @@ fn main(rt: HostRuntime) -> Result<(), Fail> {
     };
     let request = match request.as_str() {
         "read" => Request::Read,
-        "value" => Request::Value,
+        "value" | "text" => Request::Value,
         _ => Request::Write,
     };
     let timeout = Duration::from_millis(TIMEOUT_MILLIS);
@@ -57,7 +58,7 @@ fn main(rt: HostRuntime) -> Result<(), Fail> {
     serve(rt, manager, request, tasks, Duration::from_millis(millis))
 }
 
-fn serve<R: PoolRuntime + RandomSource + Print>(
+fn serve<R: PoolRuntime + RandomSource + Net + Print>(
     rt: R,
     manager: PostgresConnectionManager,
     request: Request,

@@ -9,6 +9,7 @@ import json
 import os
 import re
 import shutil
+import socket
 import statistics
 import subprocess
 import threading
@@ -17,7 +18,7 @@ import urllib.parse
 
 import metrics
 import unproved
-from servers import HOST, SECONDS, Postgres, free_port, within
+from servers import HOST, SECONDS, Forwarder, Postgres, free_port, within
 
 # The pool's size, how many may wait, and for how long, in milliseconds.
 SIZE, WAITING, PATIENCE = 8, 64, 2000
@@ -26,6 +27,8 @@ SCHEMA = """CREATE TABLE entries (key text NOT NULL, number bigserial); CREATE I
     CREATE TABLE totals (slot int PRIMARY KEY, entries bigint NOT NULL);
     INSERT INTO totals SELECT slot, 0 FROM generate_series(0, 15) slot"""
 SCRIPT = os.path.join(os.path.dirname(os.path.realpath(__file__)), "load.lua")
+# So many writes a load acknowledges at least, also on a slow machine.
+MANY = 50
 # A refusal that is at once takes less than this, in seconds, of those that wait for PATIENCE.
 AT_ONCE = 0.25
 # After an outage the health is told anew within this.
@@ -54,9 +57,9 @@ def of_pool(name, label=""):
 class Web:
     """The service, at two ports of its own."""
 
-    def __init__(self, program, server):
+    def __init__(self, program, port):
         self.public, self.admin = free_port(), free_port()
-        words = [program, f"{HOST}:{server.port}", f"{HOST}:{self.public}", f"{HOST}:{self.admin}"]
+        words = [program, f"{HOST}:{port}", f"{HOST}:{self.public}", f"{HOST}:{self.admin}"]
         how = {"stdin": subprocess.DEVNULL, "stdout": subprocess.PIPE, "stderr": subprocess.STDOUT, "text": True}
         self.process = subprocess.Popen(words, env={**os.environ, **SETTINGS}, **how)
 
@@ -82,6 +85,29 @@ class Web:
             self.process.kill()
             said, _ = self.process.communicate()
         return self.process.returncode, said
+
+
+class Cutter(Forwarder):
+    """One before the server that loses answers: after a cut each connection is closed at the next one. What was asked is carried out,
+    and nobody hears of it."""
+
+    def __init__(self, port):
+        self.cuts = 0
+        super().__init__(port)
+
+    def pass_on(self, one, other):
+        begun = self.cuts
+        with contextlib.suppress(OSError):
+            is_answer = one.getpeername()[1] == self.target
+            while (data := one.recv(65536)) and not (is_answer and self.cuts > begun):
+                other.sendall(data)
+        for it in (one, other):
+            with contextlib.suppress(OSError):
+                it.shutdown(socket.SHUT_RDWR)
+            it.close()
+
+    def cut(self):
+        self.cuts += 1
 
 
 class Prometheus:
@@ -159,12 +185,13 @@ class Trial:
     def run(self):
         self.server.start()
         self.server.ask(SCHEMA)
-        self.web = Web(self.program, self.server)
+        self.web = Web(self.program, self.server.port)
         prometheus = Prometheus(self.folder, self.web.admin) if shutil.which("prometheus") else None
         try:
             self.check("it is healthy", within(SECONDS, self.web.is_healthy))
             self.try_pages()
             self.try_outages()
+            self.try_cuts()
             self.try_overload()
             if prometheus:
                 self.try_read(prometheus)
@@ -219,7 +246,7 @@ class Trial:
         lost = {key for key in told.acknowledged if keys[key] != 1} | {key for key, number in rows if told.acknowledged.get(key, number) != number}
         unknown = [key for key in keys if key not in told.acknowledged and key.startswith(prefix)]
         counted = int(self.server.ask("SELECT sum(entries) FROM totals"))
-        self.check(f"{what}: many writes are acknowledged", len(of_these.acknowledged) > 500, of_these.answers)
+        self.check(f"{what}: many writes are acknowledged", len(of_these.acknowledged) > MANY, of_these.answers)
         self.check(f"{what}: each write that was acknowledged is there once", not lost, sorted(lost)[:9])
         self.check(f"{what}: each other one that is there was sent", set(unknown) <= told.sent and all(keys[it] == 1 for it in unknown), unknown[:9])
         self.check(f"{what}: what is counted is there", counted == len(rows), (counted, len(rows)))
@@ -228,6 +255,24 @@ class Trial:
         all_told = ", ".join(f"{count} of {status}" for status, count in sorted(of_these.answers.items()))
         self.tell(f"{what}: {all_told}; {len(of_these.acknowledged)} writes acknowledged, {len(unknown)} more are there")
         return unknown
+
+    def try_cuts(self):
+        """Answers of the server are lost, again and again: nobody knows of what was carried out, and nothing is made twice."""
+        cutter = Cutter(self.server.port)
+        web = Web(self.program, cutter.port)
+        try:
+            within(SECONDS, web.is_healthy)
+            load = Load(self.folder, web.public, "e", 16, 5)
+            for _ in range(12):
+                time.sleep(0.35)
+                cutter.cut()
+            load.ends()
+            unknown = self.hold_against_rows("lost answers", "e")
+            self.check("lost answers: some writes are there that were not acknowledged", len(unknown) > 0, unknown)
+        finally:
+            web.process.kill()
+            web.process.wait()
+            cutter.close()
 
     def holder(self, seconds):
         """Locks the table for so long."""

@@ -5,8 +5,8 @@
 //!
 //! Given `tasks`, it prints the lines of `pool_bench tasks`; given `once`, a shape, how many tasks
 //! there are and how many calls they make together, it makes those calls, as for a profile. Given
-//! `serve`, an address, `read`, `value` or `write`, how many tasks there are and for how many
-//! milliseconds, they ask a PostgreSQL there, by tokio-postgres (`managed`, `server`).
+//! `serve`, an address, `read`, `value`, `text` or `write`, how many tasks there are and for how
+//! many milliseconds, they ask a PostgreSQL there, by tokio-postgres (`managed`, `server`).
 
 mod managed;
 mod notified;

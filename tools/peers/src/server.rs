@@ -1,11 +1,11 @@
 // Tasks that ask a PostgreSQL, over `managed` and tokio-postgres: what `tests/server_bench` does over
 // our pool and adapter, by the same queries.
-use crate::managed::{Lent, Managed, Refusal};
+use crate::managed::{Lent, Managed, Refusal, WITH_VALUE};
 use std::sync::{Arc, Mutex};
 use std::time::{Duration, Instant, SystemTime, UNIX_EPOCH};
 use tokio::runtime::Builder;
 use tokio::time;
-use tokio_postgres::{Config, Error, SimpleQueryMessage};
+use tokio_postgres::{Config, Error, Row, SimpleQueryMessage};
 
 const MAX_SIZE: usize = 8;
 
@@ -18,7 +18,9 @@ const REST: Duration = Duration::from_millis(10);
 #[derive(Clone, Copy)]
 enum Request {
     Read,
+    /// One with a value: prepared once for each connection, or each time.
     Value,
+    Text,
     Write,
 }
 
@@ -27,8 +29,9 @@ impl Request {
         match word {
             "read" => Request::Read,
             "value" => Request::Value,
+            "text" => Request::Text,
             "write" => Request::Write,
-            _ => panic!("read, value or write"),
+            _ => panic!("read, value, text or write"),
         }
     }
 
@@ -36,14 +39,15 @@ impl Request {
     async fn make(self, lent: &Lent, task: u32) -> Result<bool, Error> {
         match self {
             Request::Read => {
-                let text = format!("SELECT n FROM counts WHERE thread = {}", task % 8);
+                let text = format!("SELECT n FROM counts WHERE thread = {}", thread(task));
                 Ok(has_row(&lent.client.simple_query(&text).await?))
             }
-            Request::Value => {
-                let thread = i32::try_from(task % 8).expect("it is below 8");
-                let rows = lent.client.query(&lent.with_value, &[&thread]).await?;
-                Ok(rows.len() == 1 && rows[0].try_get::<_, i64>(0).is_ok())
-            }
+            Request::Value => Ok(has_number(
+                &lent.client.query(&lent.with_value, &[&thread(task)]).await?,
+            )),
+            Request::Text => Ok(has_number(
+                &lent.client.query(WITH_VALUE, &[&thread(task)]).await?,
+            )),
             Request::Write => {
                 lent.client.simple_query("BEGIN").await?;
                 let text = format!("INSERT INTO noted (task) VALUES ({task})");
@@ -53,6 +57,14 @@ impl Request {
             }
         }
     }
+}
+
+fn thread(task: u32) -> i32 {
+    i32::try_from(task % 8).expect("it is below 8")
+}
+
+fn has_number(rows: &[Row]) -> bool {
+    rows.len() == 1 && rows[0].try_get::<_, i64>(0).is_ok()
 }
 
 fn has_row(messages: &[SimpleQueryMessage]) -> bool {
