@@ -16,6 +16,7 @@ PACKAGES = {
     "redis-server": ["redis-server"],
     "initdb": ["postgresql"],
     "chromium": ["chromium"],
+    "wrk": ["wrk"],
 }
 OFF_THE_PATH = {"initdb": "/usr/lib/postgresql/*/bin/initdb"}
 # How apt-get asks nothing, takes no more than it has to, and gives up soon where there is no network.

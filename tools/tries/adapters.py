@@ -1,6 +1,6 @@
 """The adapters of adapters/, in a repository that `vendor` makes: a service over each is driven against a real server on
 loopback, of Debian's packages redis-server and postgresql, and one of tasks. Where a server is not installed nobody has tried that
-adapter. And scripted peers in the place of both, and the first program over tokio, which need no server."""
+adapter. And scripted peers in the place of both, and the first program over tokio, which need no server; and the service over HTTP."""
 import contextlib
 import os
 import re
@@ -15,6 +15,7 @@ import redis_peer
 import redis_sessions
 import server_tasks
 import trying
+import web_service
 from copies import Runs, TESTS
 from servers import HOST, SECONDS, Forwarder, Postgres, Redis, within
 from tally import TOP, Tally
@@ -26,6 +27,8 @@ FIRST = {
     "first_redis_tasks": "r2d2_async redis_tasks tokio_timer tokio futures anyhow",
     "first_postgres_tasks": "r2d2_async postgres_tasks tokio_timer tokio futures anyhow",
 }
+# The program over HTTP, and what it stands on.
+OVER_HTTP = ("web_service", "r2d2 r2d2_async postgres_tasks pool_metrics tokio_timer tokio futures hyper http_body_util bytes anyhow")
 # The services, each with its folder of tests and what it stands on.
 SERVICES = {
     "service": ("adapters", "r2d2 redis postgres"),
@@ -57,12 +60,12 @@ def repository(mine):
     """A repository with both pools, the adapters, the first programs and the services."""
     os.makedirs(mine)
     subprocess.run(["git", "init", "-q", mine], check=True)
-    subprocess.run([os.path.join(TOP, "vendor"), "--async", "--redis", "--postgres", mine], check=True, stdout=subprocess.DEVNULL)
+    subprocess.run([os.path.join(TOP, "vendor"), "--async", "--redis", "--postgres", "--metrics", mine], check=True, stdout=subprocess.DEVNULL)
     lines = ""
     for name, (tests, libraries) in SERVICES.items():
         put_source(os.path.join(TESTS, tests), os.path.join(mine, "crates", name))
         lines += f"{name}: {libraries}\n"
-    for name, libraries in FIRST.items():
+    for name, libraries in [*FIRST.items(), OVER_HTTP]:
         put_source(os.path.join(TOP, "adapters", name), os.path.join(mine, "crates", name))
         lines += f"{name}: {libraries}\n"
     with open(os.path.join(mine, "crates.txt"), "a", encoding="utf-8") as it:
@@ -420,4 +423,6 @@ def tried():
         repository(mine)
         try_tokio(mine, tally)
         try_servers(kinds, mine, place, tally)
+        if Postgres in kinds:
+            web_service.try_service(mine, place, tally)
     return tally
