@@ -107,7 +107,10 @@ impl Tally {
 
     /// Writes them as the metrics are written.
     pub fn write<W: fmt::Write>(&self, out: &mut W) -> fmt::Result {
-        writeln!(out, "# HELP http_answers_total Answers at the public port, by status.")?;
+        writeln!(
+            out,
+            "# HELP http_answers_total Answers at the public port, by status."
+        )?;
         writeln!(out, "# TYPE http_answers_total counter")?;
         for (status, count) in STATUSES.iter().zip(self.counts.iter()) {
             let count = count.load(Ordering::SeqCst);

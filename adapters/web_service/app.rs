@@ -3,26 +3,29 @@
 use crate::answer::{Answer, Tally};
 use crate::errand::{Answering, Errand};
 use crate::server::Ender;
+use crate::settings::Settings;
+use bytes::Bytes;
 use futures::Future;
+use http_body_util::Full;
 use hyper::body::Incoming;
 use hyper::service::Service;
 use hyper::{Method, Request, Response, StatusCode};
-use bytes::Bytes;
-use http_body_util::Full;
 use pool_metrics::{CountingErrorHandler, Metrics, Reading, write};
 use postgres_tasks::TaskConnectionManager;
 use r2d2::PoolRuntime;
-use r2d2_async::{
-    Get, Handlers, NopConnectionCustomizer, NopErrorHandler, Pool, PooledConnection,
-};
+use r2d2_async::{Builder, Get, Handlers, NopConnectionCustomizer, NopErrorHandler, Pool, PooledConnection};
 use std::alloc::{AllocError, Global};
 use std::convert::Infallible;
 use std::sync::Arc;
 use std::time::Duration;
+use tokio::runtime::Handle;
 use tokio_timer::TokioTimer;
 
-pub type Hooks<R> =
-    Handlers<CountingErrorHandler<NopErrorHandler, R>, Metrics<R>, NopConnectionCustomizer>;
+pub type Hooks<R> = Handlers<
+    CountingErrorHandler<NopErrorHandler, R>,
+    Metrics<R>,
+    NopConnectionCustomizer,
+>;
 
 pub type TaskPool<R> = Pool<TaskConnectionManager, TokioTimer<R>, Hooks<R>, R>;
 
@@ -32,6 +35,9 @@ pub type Lent<R> = PooledConnection<TaskConnectionManager, TokioTimer<R>, Hooks<
 
 /// How many milliseconds a probe of the health waits for a connection.
 const PROBE_MILLIS: u64 = 500;
+
+/// How many milliseconds pass at most between two openings that fail.
+const RETRY_MILLIS: u64 = 200;
 
 /// What all requests share.
 #[derive(Drop)]
@@ -44,6 +50,32 @@ pub struct App<R: PoolRuntime> {
 }
 
 impl<R: PoolRuntime> App<R> {
+    /// A pool that opens nothing yet.
+    pub fn new(
+        rt: R,
+        manager: TaskConnectionManager,
+        handle: &Handle,
+        settings: &Settings,
+        ender: Ender,
+    ) -> Result<App<R>, anyhow::Error> {
+        let metrics = Metrics::new(rt, settings.max_size)?;
+        let builder = Builder::new()
+            .max_size(settings.max_size)
+            .max_waiting(Some(settings.max_waiting))
+            .connection_timeout(settings.timeout)
+            .max_retry_delay(Some(Duration::from_millis(RETRY_MILLIS)))
+            .evict_idle_on_failed_check(true)
+            .error_handler(metrics.around(NopErrorHandler)?)
+            .event_handler(metrics.try_clone()?);
+        Ok(App {
+            pool: Pool::build(builder, rt, manager, TokioTimer::new(rt, handle)?)?,
+            metrics,
+            tally: Arc::new(rt.alloc(), Tally::new())?,
+            ender,
+            rt,
+        })
+    }
+
     fn alloc(&self) -> Global {
         self.rt.alloc()
     }

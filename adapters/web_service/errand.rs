@@ -95,9 +95,7 @@ fn refused(error: &Error) -> Answer {
     match error.kind() {
         ErrorKind::QueueFull => Answer::of(StatusCode::SERVICE_UNAVAILABLE, "busy\n"),
         ErrorKind::Closed => Answer::of(StatusCode::SERVICE_UNAVAILABLE, "closing\n"),
-        ErrorKind::Timeout => {
-            Answer::of(StatusCode::GATEWAY_TIMEOUT, "no connection in time\n")
-        }
+        ErrorKind::Timeout => { Answer::of(StatusCode::GATEWAY_TIMEOUT, "no connection in time\n") }
         _ => Answer::no_memory(),
     }
 }

@@ -20,8 +20,7 @@ mod errand;
 mod server;
 mod settings;
 
-use self::answer::Tally;
-use self::app::{App, Hooks, Port, Side, TaskPool};
+use self::app::{App, Hooks, Port, Side};
 use self::server::{Ending, Server, ending};
 use self::settings::Settings;
 use anyhow::bail;
@@ -30,18 +29,18 @@ use futures::task::{Context, Poll};
 use futures::{Future, ready};
 use hyper::rt;
 use hyper::server::conn::http1;
-use pool_metrics::Metrics;
 use postgres_tasks::{PostgresConnectionManager, TaskConnectionManager};
 use r2d2::PoolRuntime;
-use r2d2_async::{Builder, Drain, NopErrorHandler, Pool};
+use r2d2_async::Drain;
+use std::alloc::AllocError;
 use std::hash::RandomState;
 use std::io;
-use std::net::Net;
+use std::net::{Net, SocketAddr};
 use std::random::RandomSource;
 use std::sync::Arc;
 use std::time::Duration;
 use tokio::net::TcpListener;
-use tokio::runtime::LocalRuntime;
+use tokio::runtime::{Handle, LocalRuntime};
 use tokio_timer::TokioTimer;
 
 /// How many seconds the end waits for what is lent.
@@ -78,45 +77,30 @@ impl<R: PoolRuntime> Future for Life<R> {
 
 fn main(rt: HostRuntime) -> Result<(), anyhow::Error> {
     let settings = Settings::of(&rt)?;
-    let alloc = rt.alloc();
     let mut runtime = LocalRuntime::new(&rt)?;
-    let (user, database) = (settings.user.as_str(), settings.database.as_str());
-    let manager = PostgresConnectionManager::new(
-        rt, settings.address.as_str(), user, database, settings.timeout,
-    )?;
-    let manager = match &settings.password {
-        Some(password) => manager.with_password(password.as_str())?,
-        None => manager,
-    };
-    let metrics = Metrics::new(rt, settings.max_size)?;
-    let manager = TaskConnectionManager::new(manager, runtime.handle())?;
-    let pool = Pool::build(
-        Builder::new()
-            .max_size(settings.max_size)
-            .max_waiting(Some(settings.max_waiting))
-            .connection_timeout(settings.timeout)
-            .max_retry_delay(Some(Duration::from_millis(200)))
-            .evict_idle_on_failed_check(true)
-            .error_handler(metrics.around(NopErrorHandler)?)
-            .event_handler(metrics.try_clone()?),
-        rt,
-        manager,
-        TokioTimer::new(rt, runtime.handle())?,
-    )?;
-    let (ender, public_ending) = ending(alloc)?;
-    let app = App {
-        pool,
-        metrics,
-        tally: Arc::new(alloc, Tally::new())?,
-        ender,
-        rt,
-    };
-    let came_back = serve(rt, &mut runtime, &settings, Arc::new(alloc, app)?, &public_ending)?;
-    if !came_back {
+    let manager = TaskConnectionManager::new(manager(rt, &settings)?, runtime.handle())?;
+    if !serve(rt, &mut runtime, &settings, manager)? {
         bail!("some connections did not come back");
     }
     println!(rt; "drained")?;
     Ok(())
+}
+
+fn manager(
+    rt: HostRuntime,
+    settings: &Settings,
+) -> Result<PostgresConnectionManager, AllocError> {
+    let manager = PostgresConnectionManager::new(
+        rt,
+        settings.address.as_str(),
+        settings.user.as_str(),
+        settings.database.as_str(),
+        settings.timeout,
+    )?;
+    match &settings.password {
+        Some(password) => manager.with_password(password.as_str()),
+        None => Ok(manager),
+    }
 }
 
 // Runs until the end was told. Whether all connections came back.
@@ -124,24 +108,19 @@ fn serve<R: PoolRuntime + RandomSource + Net + Print>(
     rt: R,
     runtime: &mut LocalRuntime,
     settings: &Settings,
-    app: Arc<App<R>>,
-    public_ending: &Ending,
+    manager: TaskConnectionManager,
 ) -> Result<bool, anyhow::Error> {
-    let alloc = rt.alloc();
+    let (ender, public_ending) = ending(rt.alloc())?;
+    let (last, admin_ending) = ending(rt.alloc())?;
+    let app = App::new(rt, manager, runtime.handle(), settings, ender)?;
+    let app = Arc::new(rt.alloc(), app)?;
     let workers = runtime.task_set(&rt)?;
     for _ in 0..settings.workers() {
         workers.spawn(app.pool.worker()?).map_err(io::Error::from)?;
     }
-    let clock = rt::TokioTimer::new(rt, runtime.handle().time().clone()?);
-    let http = http1::Builder::new(alloc, RandomState::new(&rt)?).timer(clock);
-    let (last, admin_ending) = ending(alloc)?;
-    let listen = |address| TcpListener::bind(&rt, address, runtime.handle().reactor());
-    let (public, admin) = (listen(settings.public)?, listen(settings.admin)?);
-    println!(rt; "serves at {}, for its keeper at {}", public.local_addr()?, admin.local_addr()?)?;
-    let port = Port::new(Side::Public, &app)?;
-    let public = Server::new(alloc, public, http.clone()?, port, public_ending)?;
-    let port = Port::new(Side::Admin, &app)?;
-    let admin = Server::new(alloc, admin, http, port, &admin_ending)?;
+    let (public, admin) = (Port::new(Side::Public, &app)?, Port::new(Side::Admin, &app)?);
+    let public = server_at(rt, runtime.handle(), settings.public, public, &public_ending)?;
+    let admin = server_at(rt, runtime.handle(), settings.admin, admin, &admin_ending)?;
     let life = Life {
         public,
         app,
@@ -150,4 +129,19 @@ fn serve<R: PoolRuntime + RandomSource + Net + Print>(
     };
     let (came_back, ()) = runtime.block_on_with(&rt, &workers, join(life, admin))?;
     Ok(came_back)
+}
+
+// A port at an address. It says where that is.
+fn server_at<R: PoolRuntime + RandomSource + Net + Print>(
+    rt: R,
+    handle: &Handle,
+    address: SocketAddr,
+    port: Port<R>,
+    ending: &Ending,
+) -> Result<Server<R>, anyhow::Error> {
+    let listener = TcpListener::bind(&rt, address, handle.reactor())?;
+    println!(rt; "listens at {}", listener.local_addr()?)?;
+    let clock = rt::TokioTimer::new(rt, handle.time().clone()?);
+    let http = http1::Builder::new(rt.alloc(), RandomState::new(&rt)?).timer(clock);
+    Ok(Server::new(rt.alloc(), listener, http, port, ending)?)
 }

@@ -39,8 +39,14 @@ impl Settings {
             user: text(rt, "PGUSER", "postgres")?,
             database: text(rt, "PGDATABASE", "postgres")?,
             password: env::var(rt, "PGPASSWORD").ok(),
-            public: public.as_str().parse::<SocketAddr>().context("reading PUBLIC")?,
-            admin: admin.as_str().parse::<SocketAddr>().context("reading ADMIN")?,
+            public: public
+                .as_str()
+                .parse::<SocketAddr>()
+                .context("reading PUBLIC")?,
+            admin: admin
+                .as_str()
+                .parse::<SocketAddr>()
+                .context("reading ADMIN")?,
             max_size: number(rt, "POOL_MAX_SIZE", 8)?.max(1),
             max_waiting: number(rt, "POOL_MAX_WAITING", 100)?,
             timeout: Duration::from_millis(u64::from(number(rt, "POOL_TIMEOUT_MS", 2000)?.max(1))),

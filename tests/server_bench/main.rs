@@ -13,13 +13,12 @@ use futures::future;
 use postgres_tasks::{PostgresConnectionManager, TaskConnectionManager};
 use r2d2::PoolRuntime;
 use r2d2_async::{Builder, Pool};
-use std::env;
-use std::io;
 use std::net::Net;
 use std::random::RandomSource;
 use std::sync::Arc;
 use std::test::Fail;
 use std::time::{Duration, Instant};
+use std::{env, io};
 use tokio::runtime::LocalRuntime;
 use tokio_timer::TokioTimer;
 
@@ -52,9 +51,16 @@ fn main(rt: HostRuntime) -> Result<(), Fail> {
     };
     let timeout = Duration::from_millis(TIMEOUT_MILLIS);
     let manager = PostgresConnectionManager::new(
-        rt, address.as_str(), "postgres", "postgres", timeout,
+        rt,
+        address.as_str(),
+        "postgres",
+        "postgres",
+        timeout,
     )?;
-    let (tasks, millis) = (tasks.as_str().parse::<u32>()?, millis.as_str().parse::<u64>()?);
+    let (tasks, millis) = (
+        tasks.as_str().parse::<u32>()?,
+        millis.as_str().parse::<u64>()?,
+    );
     serve(rt, manager, request, tasks, Duration::from_millis(millis))
 }
 
