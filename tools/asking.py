@@ -18,7 +18,10 @@ from tally import TOP
 
 LIBRARIES = "r2d2 r2d2_async postgres_tasks tokio_timer tokio futures"
 # What is asked, by the word for it.
-REQUESTS = {"read": "a query", "value": "one with a value", "write": "a transaction of three"}
+REQUESTS = {
+    "read": "a query", "value": "one with a value, which theirs prepares once", "text": "the same, which theirs prepares each time",
+    "write": "a transaction of three", "reset": "the same, and a reset of the session",
+}
 TASKS, SECONDS = 100, 8
 # An outage: the server is killed after so many seconds, and begins anew so many later.
 BEFORE, AWAY, AFTER = 2, 5, 3
@@ -45,18 +48,23 @@ def begun(path, server, request, seconds):
 
 
 def counts(process):
-    said, _ = process.communicate()
+    """What a program tells, and the microseconds that it took of the processors."""
+    said = process.stdout.read()
+    _, status, used = os.wait4(process.pid, 0)
+    process.returncode = os.waitstatus_to_exitcode(status)
     if process.returncode:
         sys.exit(f"times: {process.args[0]} ended with the status {process.returncode}")
-    return {name: int(number) for name, number in re.findall(r"(\w+)=(\d+)", said)}
+    told = {name: int(number) for name, number in re.findall(r"(\w+)=(\d+)", said)}
+    return {**told, "used": (used.ru_utime + used.ru_stime) * 1e6}
 
 
 def rate(path, server, request):
-    """Requests a second, and the longest of them in milliseconds. All are served."""
+    """Requests a second, the longest of them in milliseconds, and what each took of the processors, in microseconds. (On a busy machine some
+    wait for too long.)"""
     told = counts(begun(path, server, request, SECONDS))
-    if told["failed"] or told["timeouts"] or not told["served"]:
+    if (told["failed"] + told["timeouts"]) * 1000 > told["served"]:
         sys.exit(f"times: {os.path.basename(path)}, {request}: {told}")
-    return told["served"] / SECONDS, told["longest"] / 1000
+    return told["served"] / SECONDS, told["longest"] / 1000, told["used"] / told["served"]
 
 
 def outage(path, server):
@@ -100,13 +108,14 @@ def timed(theirs, folder, rounds, say):
 
 
 def print_rates(rates):
-    print("| asked | ours a second | theirs | ours/theirs | longest, ms | theirs |")
-    print("|---|---:|---:|---:|---:|---:|")
+    print("| asked | ours a second | theirs | ours/theirs | longest, ms | theirs | us | theirs |")
+    print("|---|---:|---:|---:|---:|---:|---:|---:|")
     for request, what in REQUESTS.items():
-        mine, other = ([it for it, _ in rates[request, who]] for who in ("ours", "theirs"))
-        longest = [median([it for _, it in rates[request, who]]) for who in ("ours", "theirs")]
-        ratio = median([a / b for a, b in zip(mine, other)])
-        print(f"| {what} | {median(mine):,.0f} | {median(other):,.0f} | {ratio:.2f} | {longest[0]:.0f} | {longest[1]:.0f} |")
+        mine, other = (list(zip(*rates[request, who])) for who in ("ours", "theirs"))
+        ratio = median([a / b for a, b in zip(mine[0], other[0])])
+        cells = [f"{median(mine[0]):,.0f}", f"{median(other[0]):,.0f}", f"{ratio:.2f}"]
+        cells += [f"{median(it):.0f}" for place in (1, 2) for it in (mine[place], other[place])]
+        print(f"| {what} | " + " | ".join(cells) + " |")
 
 
 def print_outages(outages):

@@ -13,7 +13,9 @@ use hyper::{Method, Request, Response, StatusCode};
 use pool_metrics::{CountingErrorHandler, Metrics, Reading, write};
 use postgres_tasks::TaskConnectionManager;
 use r2d2::PoolRuntime;
-use r2d2_async::{Builder, Get, Handlers, NopConnectionCustomizer, NopErrorHandler, Pool, PooledConnection};
+use r2d2_async::{
+    Builder, Get, Handlers, NopConnectionCustomizer, NopErrorHandler, Pool, PooledConnection,
+};
 use std::alloc::{AllocError, Global};
 use std::convert::Infallible;
 use std::sync::Arc;

@@ -86,10 +86,7 @@ fn main(rt: HostRuntime) -> Result<(), anyhow::Error> {
     Ok(())
 }
 
-fn manager(
-    rt: HostRuntime,
-    settings: &Settings,
-) -> Result<PostgresConnectionManager, AllocError> {
+fn manager(rt: HostRuntime, settings: &Settings) -> Result<PostgresConnectionManager, AllocError> {
     let manager = PostgresConnectionManager::new(
         rt,
         settings.address.as_str(),
@@ -118,8 +115,17 @@ fn serve<R: PoolRuntime + RandomSource + Net + Print>(
     for _ in 0..settings.workers() {
         workers.spawn(app.pool.worker()?).map_err(io::Error::from)?;
     }
-    let (public, admin) = (Port::new(Side::Public, &app)?, Port::new(Side::Admin, &app)?);
-    let public = server_at(rt, runtime.handle(), settings.public, public, &public_ending)?;
+    let (public, admin) = (
+        Port::new(Side::Public, &app)?,
+        Port::new(Side::Admin, &app)?,
+    );
+    let public = server_at(
+        rt,
+        runtime.handle(),
+        settings.public,
+        public,
+        &public_ending,
+    )?;
     let admin = server_at(rt, runtime.handle(), settings.admin, admin, &admin_ending)?;
     let life = Life {
         public,

@@ -87,12 +87,12 @@ impl<R: PoolRuntime> Caller<R> {
                 let text = "SELECT n FROM counts WHERE thread = $1";
                 Some(lent.query_with(text, &[Some(thread.as_str())]))
             }
-            (Request::Write, 0) => Some(lent.query("BEGIN")),
-            (Request::Write, 1) => {
+            (Request::Write | Request::Reset, 0) => Some(lent.query("BEGIN")),
+            (Request::Write | Request::Reset, 1) => {
                 let text = format!(in alloc; "INSERT INTO noted (task) VALUES ({task})")?;
                 Some(lent.query(text.as_str()))
             }
-            (Request::Write, 2) => Some(lent.query("COMMIT")),
+            (Request::Write | Request::Reset, 2) => Some(lent.query("COMMIT")),
             _ => return Ok(Some(lent)),
         };
         Ok(None)
@@ -140,7 +140,7 @@ impl<R: PoolRuntime> Caller<R> {
             _ => false,
         };
         let is_right = match &rows {
-            Ok(rows) => self.request == Request::Write || is_row(rows),
+            Ok(rows) => self.request.statements() > 1 || is_row(rows),
             Err(_) => false,
         };
         self.step += 1;

@@ -1,7 +1,8 @@
 //! Tasks that ask a PostgreSQL, over the pool for tasks and `postgres_tasks` (tools/times servers):
-//! what `serve` of tools/peers does over tokio-postgres, by the same queries. Given an address,
-//! `read`, `value` (or `text`, which is the same here) or `write`, how many tasks there are and for how many milliseconds, it prints
-//! what came of it.
+//! what `serve` of tools/peers does over tokio-postgres, by the same queries. Given an address, what
+//! is asked, how many tasks there are and for how many milliseconds, it prints what came of it.
+//! `read` is a query, `value` one with a value (`text` is the same here), `write` a transaction;
+//! `reset` is one after which the session is reset.
 #![tactic(auto)]
 
 mod caller;
@@ -10,7 +11,7 @@ mod counts;
 use self::caller::Caller;
 use self::counts::Counts;
 use futures::future;
-use postgres_tasks::{PostgresConnectionManager, TaskConnectionManager};
+use postgres_tasks::{PostgresConnectionManager, Reset, TaskConnectionManager};
 use r2d2::PoolRuntime;
 use r2d2_async::{Builder, Pool};
 use std::net::Net;
@@ -33,6 +34,17 @@ pub enum Request {
     Read,
     Value,
     Write,
+    Reset,
+}
+
+impl Request {
+    /// How many statements it has.
+    pub fn statements(self) -> u32 {
+        match self {
+            Request::Read | Request::Value => 1,
+            Request::Write | Request::Reset => 3,
+        }
+    }
 }
 
 fn main(rt: HostRuntime) -> Result<(), Fail> {
@@ -47,7 +59,12 @@ fn main(rt: HostRuntime) -> Result<(), Fail> {
     let request = match request.as_str() {
         "read" => Request::Read,
         "value" | "text" => Request::Value,
-        _ => Request::Write,
+        "write" => Request::Write,
+        _ => Request::Reset,
+    };
+    let reset = match request {
+        Request::Reset => Reset::IfMarked,
+        _ => Reset::Never,
     };
     let timeout = Duration::from_millis(TIMEOUT_MILLIS);
     let manager = PostgresConnectionManager::new(
@@ -61,6 +78,7 @@ fn main(rt: HostRuntime) -> Result<(), Fail> {
         tasks.as_str().parse::<u32>()?,
         millis.as_str().parse::<u64>()?,
     );
+    let manager = manager.with_reset(reset);
     serve(rt, manager, request, tasks, Duration::from_millis(millis))
 }
 

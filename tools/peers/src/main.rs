@@ -5,8 +5,8 @@
 //!
 //! Given `tasks`, it prints the lines of `pool_bench tasks`; given `once`, a shape, how many tasks
 //! there are and how many calls they make together, it makes those calls, as for a profile. Given
-//! `serve`, an address, `read`, `value`, `text` or `write`, how many tasks there are and for how
-//! many milliseconds, they ask a PostgreSQL there, by tokio-postgres (`managed`, `server`).
+//! `serve`, an address, what is asked, how many tasks there are and for how many milliseconds, they
+//! ask a PostgreSQL there, by tokio-postgres (`managed`, `server`).
 
 mod managed;
 mod notified;
@@ -51,7 +51,9 @@ fn main() {
         ["serve", address, request, tasks, millis] => {
             server::serve(address, request, number(tasks), number(millis));
         }
-        _ => println!("usage: peers tasks | once SHAPE TASKS CALLS | serve ADDRESS REQUEST TASKS MS"),
+        _ => {
+            println!("usage: peers tasks | once SHAPE TASKS CALLS | serve ADDRESS REQUEST TASKS MS")
+        }
     }
 }
 

@@ -22,6 +22,8 @@ enum Request {
     Value,
     Text,
     Write,
+    /// The same, after which the session is reset.
+    Reset,
 }
 
 impl Request {
@@ -31,7 +33,8 @@ impl Request {
             "value" => Request::Value,
             "text" => Request::Text,
             "write" => Request::Write,
-            _ => panic!("read, value, text or write"),
+            "reset" => Request::Reset,
+            _ => panic!("read, value, text, write or reset"),
         }
     }
 
@@ -43,16 +46,22 @@ impl Request {
                 Ok(has_row(&lent.client.simple_query(&text).await?))
             }
             Request::Value => Ok(has_number(
-                &lent.client.query(&lent.with_value, &[&thread(task)]).await?,
+                &lent
+                    .client
+                    .query(&lent.with_value, &[&thread(task)])
+                    .await?,
             )),
             Request::Text => Ok(has_number(
                 &lent.client.query(WITH_VALUE, &[&thread(task)]).await?,
             )),
-            Request::Write => {
+            Request::Write | Request::Reset => {
                 lent.client.simple_query("BEGIN").await?;
                 let text = format!("INSERT INTO noted (task) VALUES ({task})");
                 lent.client.simple_query(&text).await?;
                 lent.client.simple_query("COMMIT").await?;
+                if let Request::Reset = self {
+                    lent.client.simple_query("DISCARD ALL").await?;
+                }
                 Ok(true)
             }
         }
