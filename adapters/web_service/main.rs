@@ -12,6 +12,12 @@
 //!     CREATE TABLE entries (key text NOT NULL, number bigserial);
 //!     CREATE TABLE totals (slot int PRIMARY KEY, entries bigint NOT NULL);
 //!     INSERT INTO totals SELECT slot, 0 FROM generate_series(0, 15) slot;
+//!
+//! `./vendor --async --postgres --metrics FOLDER` brings what it stands on. These files, ending in
+//! `.rt`, are its `src`, and its line of crates.txt, in one, is
+//!
+//!     web_service: r2d2 r2d2_async postgres_tasks pool_metrics tokio_timer tokio futures
+//!         hyper http_body_util bytes anyhow
 #![tactic(auto)]
 
 mod answer;

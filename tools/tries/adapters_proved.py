@@ -8,6 +8,7 @@ import tempfile
 import time
 
 import adapters
+import web_service
 from copies import Runs
 from peer import AT_TWO
 from tally import Tally
@@ -167,6 +168,20 @@ SEEN = [
     ],
 ]
 
+# The same of the service over HTTP, which is run alone.
+SEEN_OVER_HTTP = [
+    [
+        ("web_service/app", "        match app.pool.get_timeout(", "        if !app.pool.status().closed {\n            return self.known_of(StatusCode::OK, \"ok\\n\");\n        }\n        match app.pool.get_timeout(", "its health tells of an outage"),
+        ("web_service/app", ".event_handler(metrics.try_clone()?)", ".event_handler(Metrics::new(rt, settings.max_size)?)", "Prometheus: times were measured"),
+        ("web_service/errand", "        match self.errand.statement(self.step) {\n            Some(statement) => {", "        if self.errand == Errand::Write && self.step % 3 == 0 {\n            self.step += 1;\n        }\n        match self.errand.statement(self.step) {\n            Some(statement) => {", "outages: what is counted is there"),
+        ("web_service/app", ".max_waiting(Some(settings.max_waiting))", ".max_waiting(None)", "who is one too many is told so at once"),
+    ],
+    [
+        ("web_service/errand", "            let (lent, rows) = ready!(asked.poll(cx));", "            let is_last = self.errand.statement(self.step) == Some(Statement::Commit);\n            let polled = asked.poll(cx);\n            if is_last && polled.is_pending() {\n                self.asked = None;\n                let found = self.found.take();\n                return Poll::Ready(Some(self.errand.answer(self.alloc, self.key.as_str(), found)));\n            }\n            let (lent, rows) = ready!(polled);", "lost messages: each write that was acknowledged is there once"),
+        ("web_service/app", "self.app.ender.tell();", "self.app.ender.tell();\n                self.app.pool.close();", "each request under way is answered"),
+    ],
+]
+
 
 class Seen(Tally):
     """Keeps the names of the checks that fail, and what was seen."""
@@ -263,6 +278,24 @@ def try_seen(place, tally):
         shutil.rmtree(inner)
 
 
+def try_seen_over_http(place, tally):
+    for number, bodies in enumerate(SEEN_OVER_HTTP):
+        inner = os.path.join(place, f"over-http-{number}")
+        mine = os.path.join(inner, "mine")
+        adapters.repository(mine)
+        for file, old, new, _ in bodies:
+            put_body(mine, file, old, new)
+        seen = Seen()
+        with timed(f"{len(bodies)} wrong bodies over HTTP"):
+            web_service.try_service(mine, inner, seen)
+        for file, _, _, what in bodies:
+            if seen.skipped:
+                tally.skip(f"a wrong body of {file}, which wrk and Prometheus show")
+            else:
+                tally.check(f"a wrong body of {file}, which a load shows", f"web service: {what}" in seen.names, seen.names)
+        shutil.rmtree(inner)
+
+
 def tried():
     tally = Tally("adapters-proved")
     with tempfile.TemporaryDirectory(prefix="adapters-") as place:
@@ -278,4 +311,6 @@ def tried():
         os.mkdir(inner)
         adapters.try_servers(adapters.those_there(tally), mine, inner, tally)
         try_seen(place, tally)
+        if adapters.Postgres in adapters.those_there(tally):
+            try_seen_over_http(place, tally)
     return tally
