@@ -5,7 +5,7 @@ use Rattle.std.proofs.lemmas.Bool.{ltb-false, le-ltb, eq-eqb, eqb-true, ne_eqb}
 use Rattle.memchr.specs.Find.{IsFirstByte, is_byte}
 use Rattle.std.proofs.lemmas.List.{take-append-drop, take-append-le, drop-append-le, length-append, drop_at}
 use Rattle.redis_codec.specs.declared.item.Fault.TheVariants.{Malformed, TooMuch}
-use Rattle.redis_codec.specs.Resp.{Value, Nothing, Group, Read, Short, Faulty, Found, ◌>>=◌, IsReadAgain, Gives, end_at, text_len, line_at, is_null, length_in, value_of, value_at, group_at, part_of, part_at}
+use Rattle.redis_codec.specs.Resp.{Value, Nothing, Group, Read, Short, Faulty, Found, ◌>>=◌, IsReadAgain, Gives, end_at, text_len, line_at, is_null, length_in, value_of, value_at, group_at, part_of, longest_line, part_at}
 use Rattle.redis_codec.specs.Answers.{Ends}
 
 -- READ AGAIN
@@ -141,8 +141,8 @@ pub part_at-again : (room : ℕ) (bytes more : List ℕ) → IsReadAgain (behind
 unfolding part_at
 part_at-again room [] more = tt
 part_at-again room (kind ∷ bytes) more =
-    again_then (behind more) (behind more) (line_at room bytes) (line_at room (bytes ++ more)) (λ line. part_of room kind line.0 line.1) (λ line. part_of room kind line.0 line.1)
-    (line_at-again room bytes more) (λ line e. part_of-again room kind line.0 line.1 more)
+    again_then (behind more) (behind more) (line_at (longest_line room kind) bytes) (line_at (longest_line room kind) (bytes ++ more)) (λ line. part_of room kind line.0 line.1) (λ line. part_of room kind line.0 line.1)
+    (line_at-again (longest_line room kind) bytes more) (λ line e. part_of-again room kind line.0 line.1 more)
 
 -- THE REST
 
@@ -211,7 +211,7 @@ pub part_at-ends : (room : ℕ) (bytes : List ℕ) → IfFound (λ it. Ends it.1
 unfolding part_at
 part_at-ends room [] = tt
 part_at-ends room (kind ∷ bytes) =
-    found_then (AtEnd bytes) (AtEnd (kind ∷ bytes)) (line_at room bytes) (λ line. part_of room kind line.0 line.1) (line_at-ends room bytes)
+    found_then (AtEnd bytes) (AtEnd (kind ∷ bytes)) (line_at (longest_line room kind) bytes) (λ line. part_of room kind line.0 line.1) (line_at-ends (longest_line room kind) bytes)
     (λ line h. further kind line.1 bytes h (part_of room kind line.0 line.1) (part_of-ends room kind line.0 line.1))
 
 -- where the rest begins

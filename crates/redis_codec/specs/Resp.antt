@@ -135,6 +135,10 @@ part_of room kind text bytes =
     else if kind == 95 then Found (Nothing, bytes)
     else Faulty Malformed
 
+-- how long the line of a part may be: one of a length or of nothing no longer than a number below ten to the 18th, any other as there is room
+abbrev pub longest_line : ℕ → ℕ → ℕ
+longest_line room kind = if (kind == 36) || (kind == 37) || (kind == 42) || (kind == 95) || (kind == 126) then 18 else room
+
 unfoldable pub part_at : ℕ → List ℕ → Read (Part × List ℕ)
 part_at room [] = Short
-part_at room (kind ∷ bytes) = line_at room bytes >>= λ line. part_of room kind line.0 line.1
+part_at room (kind ∷ bytes) = line_at (longest_line room kind) bytes >>= λ line. part_of room kind line.0 line.1

@@ -4,7 +4,8 @@ ghost use Rattle.std.specs.Prelude.{◌≡◌, ◌<◌, ◌≤◌, true, false, 
 ghost use Rattle.std.specs.Prelude.{OnOk, OnErr, length};
 ghost use Rattle.redis_codec.specs.Resp.{seen, Short, Fails, Gives, GivesNumber};
 ghost use Rattle.redis_codec.specs.Resp.{end_at, text_len, line_at, number_in, length_in};
-ghost use Rattle.redis_codec.specs.Resp.{is_null, value_of, value_at, group_at, part_of, part_at};
+ghost use Rattle.redis_codec.specs.Resp.{is_null, value_of, value_at, group_at, part_of};
+ghost use Rattle.redis_codec.specs.Resp.{longest_line, part_at};
 ghost use Rattle.redis_codec.specs.Answers.{weight, count_of, settled, lacking_after};
 ghost use Rattle.redis_codec.specs.Answers.{is_too_deep, Follows, Begins, outcome};
 
@@ -13,6 +14,9 @@ use crate::item::{CodecError, Fault, Item};
 use memchr::memchr;
 use std::alloc::{AllocError, Global};
 use std::collections::VecDeque;
+
+/// How many digits a length has at most.
+const LENGTH: usize = 18;
 
 // The bytes after the end of a line or of a value, once it is whole.
 fn end_at(bytes: &[u8]) -> Result<Option<&[u8]>, CodecError>
@@ -164,6 +168,16 @@ fn part_of<'a>(
     }
 }
 
+// How long the line of a part may be. What says nothing in it takes no room, so it is short.
+fn longest_line(room: usize, kind: u8) -> usize
+    ensures { result ≡ longest_line room kind }
+{
+    match kind {
+        b'$' | b'*' | b'~' | b'%' | b'_' => LENGTH,
+        _ => room,
+    }
+}
+
 #[tactic(auto, unfolding(crate::specs::Resp::part_at))]
 fn part_at(alloc: Global, room: usize, bytes: &[u8]) -> Result<Option<(Item, &[u8])>, CodecError>
     ensures { Gives (λ part. (seen part.0, part.1.now)) result (part_at room bytes.now) }
@@ -171,7 +185,7 @@ fn part_at(alloc: Global, room: usize, bytes: &[u8]) -> Result<Option<(Item, &[u
     let [kind, bytes @ ..] = bytes else {
         return Ok(None);
     };
-    let Some((text, bytes)) = line_at(room, bytes)? else {
+    let Some((text, bytes)) = line_at(longest_line(room, *kind), bytes)? else {
         return Ok(None);
     };
     part_of(alloc, room, *kind, text, bytes)
