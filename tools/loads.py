@@ -1,0 +1,63 @@
+"""Commands at a real Redis on loopback, over our pool and adapter and over Rust's r2d2: `tools/times redis`."""
+import os
+import subprocess
+import sys
+import tempfile
+
+import unproved
+from copies import TESTS, TOP
+
+sys.path.append(os.path.join(TOP, "tools", "tries"))
+import adapters
+from servers import HOST, FleetingRedis
+
+# A run is short, so that some meet no other work. (r2d2 has no check after an idle time: beside that stands what it does without checks.)
+COMMANDS, RUNS = 6_000, 5
+CHECKS, THREADS = ["never", "idle", "always"], [1, 4, 16]
+# What runs, and what it is given more.
+WAYS = {"ours": [], "r2d2": ["quiet"], "r2d2, without looks": []}
+
+
+def built(folder):
+    """Our program, compiled as for a proved build."""
+    mine, path = os.path.join(folder, "mine"), os.path.join(folder, "redis_load")
+    adapters.repository(mine)
+    crate = os.path.join(mine, "crates", "redis_load")
+    adapters.put_source(os.path.join(TESTS, "redis_load"), crate)
+    with open(os.path.join(mine, "crates.txt"), "a", encoding="utf-8") as it:
+        it.write("redis_load: r2d2 redis\n")
+    with unproved.Group() as group:
+        unproved.compile_by(group, crate, path, unproved.as_proved)
+    return path
+
+
+def took(path, port, threads, checks, more):
+    """The nanoseconds for each command."""
+    words = [path, f"{HOST}:{port}", str(threads), checks, str(COMMANDS), *more]
+    return int(subprocess.run(words, stdout=subprocess.PIPE, check=True).stdout) / COMMANDS
+
+
+def time_redis(rounds, theirs, say):
+    if not FleetingRedis.is_there():
+        sys.exit(f"times: redis-server is missing: apt-get install {FleetingRedis.PACKAGE}")
+    with tempfile.TemporaryDirectory() as folder:
+        program = theirs.build(folder)
+        say("compiling ours")
+        paths, seen = {way: program for way in WAYS} | {"ours": built(folder)}, {}
+        server, start = FleetingRedis(os.path.join(folder, "server")), os.getloadavg()[0]
+        try:
+            server.start()
+            for number in range(rounds * RUNS):
+                for checks, threads, way in ((a, b, c) for a in CHECKS for b in THREADS for c in WAYS):
+                    figure = took(paths[way], server.port, threads, checks, WAYS[way])
+                    seen.setdefault((checks, threads), {}).setdefault(way, []).append(figure)
+        finally:
+            server.end()
+        end = os.getloadavg()[0]
+    print("UNPROVED: ours is compiled as for a proved build, but not proved")
+    print("| checks | threads | ours, ns | r2d2, ns | without looks, ns | of r2d2's throughput | of that without looks |")
+    print("|---|---:|---:|---:|---:|---:|---:|")
+    for (checks, threads), ways in seen.items():
+        ours, looks, bare = (min(ways[way]) for way in WAYS)
+        print(f"| {checks} | {threads} | {ours:,.0f} | {looks:,.0f} | {bare:,.0f} | {looks / ours:.2f} | {bare / ours:.2f} |")
+    print(f"\nthe least of {rounds * RUNS} runs, cores {len(os.sched_getaffinity(0))}, load {start:.1f} at the start and {end:.1f} at the end")
