@@ -14,11 +14,13 @@ PACKAGES = {
     "spin": ["spin"],
     "promtool": ["prometheus"],
     "redis-server": ["redis-server"],
+    "redis-sentinel": ["redis-sentinel"],
     "initdb": ["postgresql"],
+    "pgbouncer": ["pgbouncer"],
     "chromium": ["chromium"],
     "wrk": ["wrk"],
 }
-OFF_THE_PATH = {"initdb": "/usr/lib/postgresql/*/bin/initdb"}
+OFF_THE_PATH = {"initdb": "/usr/lib/postgresql/*/bin/initdb", "pgbouncer": "/usr/sbin/pgbouncer"}
 # How apt-get asks nothing, takes no more than it has to, and gives up soon where there is no network.
 QUICK = ["-q", "-y", "-o", "Acquire::Retries=0", "-o", "Acquire::http::Timeout=15", "-o", "Acquire::https::Timeout=15", "-o", "DPkg::Lock::Timeout=60"]
 SECONDS = 600

@@ -3,13 +3,14 @@
 ghost use Rattle.std.specs.Prelude.{◌≡◌, ◌≢◌, ◌<◌, ◌⊎◌, IfOk, IsErr, IsFalse, IsOk, IsTrue, OnOk};
 
 use crate::answer::{Answer, Limits, Row, Session};
+use crate::probe::Probe;
 use crate::error::PostgresError;
 use crate::greeting::{Begun, Greeting, Next};
 use crate::login::Login;
 use crate::query::Query;
 use crate::reset::Reset;
 use crate::settings::{Settings, Timeouts};
-use crate::standing::{CHECK, Standing};
+use crate::standing::Standing;
 use crate::wire::Wire;
 use deadline::Deadline;
 use postgres_codec::Mark;
@@ -41,14 +42,18 @@ impl PostgresConnection {
         // What the server tells of its settings here is how each session begins.
         wire.talk.take_mark();
         wire.talk.allow(settings.limits.bytes);
-        Ok(PostgresConnection {
+        let mut connection = PostgresConnection {
             rt,
             wire,
             timeouts: settings.timeouts,
             limits: settings.limits,
             standing: Standing::new(begun.session),
             key: begun.key,
-        })
+        };
+        if settings.probe == Probe::ReadWrite {
+            connection.must_pass(Probe::ReadWrite, deadline)?;
+        }
+        Ok(connection)
     }
 
     pub fn session(&self) -> Session
@@ -124,14 +129,20 @@ impl PostgresConnection {
         self.exchange(query, deadline)
     }
 
-    /// Asks for a row that has no other use.
-    pub fn check(&mut self) -> Result<(), PostgresError>
+    /// Asks for a row that has no other use, or whether transactions may write.
+    pub(crate) fn check(&mut self, probe: Probe) -> Result<(), PostgresError>
         ensures { self.old.standing.session ≡ Session.Broken → IsErr result }
     {
-        let deadline = Deadline::new(self.rt, self.timeouts.check);
-        let query = Query::of(self.rt.alloc(), CHECK)?;
+        self.must_pass(probe, Deadline::new(self.rt, self.timeouts.check))
+    }
+
+    fn must_pass(&mut self, probe: Probe, deadline: Deadline) -> Result<(), PostgresError>
+        ensures err { self.old.standing.session ≡ Session.Broken → IsErr result }
+        ensures ok { IsOk result → self.new.standing.session ≢ Session.Broken }
+    {
+        let query = Query::plain(self.rt.alloc(), probe.query())?;
         let answer = self.exchange(query, deadline)?;
-        self.standing.is_one(answer.rows)
+        self.standing.passes(probe, answer.rows)
     }
 
     // It is broken from before the query is sent until the server is ready again, so each `?`

@@ -24,6 +24,8 @@ pub enum PostgresError {
     /// A login with a password. The server's words are left out: they may have that in them.
     #[error("postgres: the login was refused (SQLSTATE {state})")]
     Login { state: String },
+    #[error("postgres: the server takes no writes")]
+    ReadOnly,
     #[error("postgres: a message that is not understood")]
     Protocol,
     #[error("postgres: an answer is larger than the limits allow")]

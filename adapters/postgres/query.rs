@@ -21,6 +21,14 @@ impl Query {
         })
     }
 
+    /// One that leaves nothing.
+    pub fn plain(alloc: Global, text: &str) -> Result<Query, PostgresError> {
+        Ok(Query {
+            request: postgres_codec::query(alloc, text)?,
+            mark: Mark::Plain,
+        })
+    }
+
     /// One with values for its parameters.
     pub fn with(
         alloc: Global,

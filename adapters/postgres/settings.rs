@@ -1,6 +1,7 @@
 //! The settings of a manager.
 
 use crate::answer::Limits;
+use crate::probe::Probe;
 use crate::login::Login;
 use crate::reset::Reset;
 use std::time::Duration;
@@ -8,10 +9,12 @@ use std::time::Duration;
 /// Where the server is, who logs in, and how long to wait.
 #[derive(Drop)]
 pub struct Settings {
-    /// A host and a port.
+    /// A host and a port, or a path.
     pub address: String,
     pub login: Login,
     pub reset: Reset,
+    /// What a check asks; and an opening, where that is for a server that takes writes.
+    pub probe: Probe,
     pub timeouts: Timeouts,
     pub limits: Limits,
 }

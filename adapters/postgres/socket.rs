@@ -1,10 +1,11 @@
 //! The socket: what waits, and for how long.
 
 use crate::error::PostgresError;
-use deadline::Deadline;
+use deadline::{Deadline, Place};
+use std::alloc::{AllocError, Global};
 use std::io;
 use std::io::{Read, Write};
-use std::net::{SocketAddr, TcpStream, ToSocketAddrs};
+use std::net::TcpStream;
 use std::time::Duration;
 
 #[derive(Drop)]
@@ -12,51 +13,52 @@ pub struct Socket {
     rt: HostRuntime,
     stream: TcpStream,
     address: String,
-    // Which of the name's addresses it is.
-    peer: SocketAddr,
+    place: Place,
     // How long a read and a write wait, as the system was told last.
     read_limit: Duration,
     write_limit: Duration,
 }
 
 impl Socket {
-    /// Connects to the first address of a name at which somebody listens. The look-up of the name
-    /// has the system's own timeout.
+    /// Connects to a path, or to the first address of a name at which somebody listens. The look-up
+    /// of the name has the system's own timeout.
     pub fn open(
         rt: HostRuntime,
         address: &str,
         deadline: Deadline,
     ) -> Result<Socket, PostgresError> {
-        match connected(rt, address, deadline) {
-            Ok((stream, peer)) => Ok(Socket {
-                rt,
-                stream,
-                address: String::from_str(rt.alloc(), address)?,
-                peer,
-                read_limit: Duration::MAX,
-                write_limit: Duration::MAX,
-            }),
+        let path = path_of(rt.alloc(), address)?;
+        match Place::connected(rt, path.as_deref().unwrap_or(address), deadline) {
+            Ok((stream, place)) => Socket::over(rt, stream, address, place),
             Err(error) => Err(PostgresError::of_socket(rt.alloc(), address, deadline, error)),
         }
     }
 
     /// Another one to the same server, not only to the same name.
     pub fn beside(&self, deadline: Deadline) -> Result<Socket, PostgresError> {
-        let opened = match deadline.left(self.rt) {
-            Ok(left) => TcpStream::connect_timeout(&self.rt, &self.peer, left),
-            Err(error) => Err(error),
-        };
-        match opened {
-            Ok(stream) => Ok(Socket {
-                rt: self.rt,
-                stream,
-                address: String::from_str(self.rt.alloc(), self.address.as_str())?,
-                peer: self.peer,
-                read_limit: Duration::MAX,
-                write_limit: Duration::MAX,
-            }),
+        match self.place.connect(self.rt, deadline) {
+            Ok(stream) => {
+                let place = self.place.try_clone(self.rt.alloc())?;
+                Socket::over(self.rt, stream, self.address.as_str(), place)
+            }
             Err(error) => Err(self.explained(deadline, error)),
         }
+    }
+
+    fn over(
+        rt: HostRuntime,
+        stream: TcpStream,
+        address: &str,
+        place: Place,
+    ) -> Result<Socket, PostgresError> {
+        Ok(Socket {
+            rt,
+            stream,
+            address: String::from_str(rt.alloc(), address)?,
+            place,
+            read_limit: Duration::MAX,
+            write_limit: Duration::MAX,
+        })
     }
 
     /// Sends all of it.
@@ -140,30 +142,14 @@ impl Socket {
     }
 }
 
-fn connected(
-    rt: HostRuntime,
-    address: &str,
-    deadline: Deadline,
-) -> io::Result<(TcpStream, SocketAddr)> {
-    let mut addresses: Vec<SocketAddr> = Vec::new(rt.alloc());
-    for address in address.to_socket_addrs(&rt)? {
-        addresses.push(address)?;
-    }
-    let mut last = io::Error::from(io::ErrorKind::NotFound);
-    let mut others = u32::try_from(addresses.len()).unwrap_or(u32::MAX);
-    for address in addresses.as_slice() {
-        // What is left is shared by the addresses that are left.
-        let share = deadline.left(rt)? / others.max(1);
-        others = others.saturating_sub(1);
-        match TcpStream::connect_timeout(&rt, address, share) {
-            Ok(stream) => {
-                stream.set_nodelay(true)?;
-                return Ok((stream, *address));
-            }
-            Err(error) => last = error,
+// The path of a socket that is named by its folder and its port, as libpq has it.
+fn path_of(alloc: Global, address: &str) -> Result<Option<String>, AllocError> {
+    match address.rsplit_once(':') {
+        Some((folder, port)) if folder.starts_with('/') && port.parse::<u16>().is_ok() => {
+            Ok(Some(format!(in alloc; "{folder}/.s.PGSQL.{port}")?))
         }
+        _ => Ok(None),
     }
-    Err(last)
 }
 
 // Whether a read or a write may succeed when it is tried again, if there is time.

@@ -4,13 +4,11 @@
 ghost use Rattle.std.specs.Prelude.{◌≡◌, ◌≢◌, ◌<◌, ◌⊎◌, IsErr, IsOk, IsTrue};
 
 use crate::answer::{Answer, Rows, Session};
+use crate::probe::Probe;
 use crate::error::PostgresError;
 use crate::reset::Reset;
 use postgres_codec::{Conversation, Mark};
 use std::alloc::Global;
-
-/// What asks for a row that has no other use.
-pub const CHECK: &str = "SELECT 1";
 
 #[derive(Clone, Copy)]
 pub struct Standing {
@@ -52,14 +50,14 @@ impl Standing {
     }
 
     /// The answer to a check.
-    pub fn is_one(&mut self, rows: Rows) -> Result<(), PostgresError>
+    pub fn passes(&mut self, probe: Probe, rows: Rows) -> Result<(), PostgresError>
         ensures { IsOk result → self.new.session ≡ self.old.session }
     {
         match rows?.as_slice() {
-            [row] if row.get(0) == Some("1") => Ok(()),
+            [row] if row.get(0) == Some(probe.answer()) => Ok(()),
             _ => {
                 self.session = Session::Broken;
-                Err(PostgresError::Protocol)
+                Err(probe.otherwise())
             }
         }
     }

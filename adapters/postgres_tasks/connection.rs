@@ -10,7 +10,7 @@ use deadline::Deadline;
 use futures::ready;
 use futures::task::{Context, Poll};
 use postgres::{
-    Answer, Limits, PostgresError, Query, Reading, Reset, Session, Standing, Timeouts,
+    Answer, Limits, PostgresError, Probe, Query, Reading, Reset, Session, Standing, Timeouts,
     must_be_taken,
 };
 use postgres_codec::Mark;
@@ -27,6 +27,7 @@ pub struct TaskConnection {
     pub(crate) socket: Socket,
     pub(crate) timeouts: Timeouts,
     pub(crate) limits: Limits,
+    pub(crate) probe: Probe,
     pub(crate) standing: Standing,
     // What a cancel names this connection by.
     pub(crate) key: Option<Vec<u8>>,

@@ -7,7 +7,7 @@ ghost use Rattle.futures.specs.Poll.{IfReady, OnPending};
 use crate::connection::{Request, TaskConnection};
 use futures::task::{Context, Poll};
 use futures::{Future, ready};
-use postgres::{Answer, CHECK, PostgresError, Query, Row, Session};
+use postgres::{Answer, PostgresError, Query, Row, Session};
 use std::ops::DerefMut;
 
 /// Queries over a lent connection, which their futures give back with what came of them. Nothing is
@@ -166,7 +166,7 @@ impl Check {
         ensures { IsSome result.connection }
     {
         let (alloc, timeout) = (connection.alloc(), connection.timeouts.check);
-        let request = match Query::of(alloc, CHECK) {
+        let request = match Query::plain(alloc, connection.probe.query()) {
             Ok(query) => Ok(Request::of(alloc, query, timeout)),
             Err(error) => Err(Some(error)),
         };
@@ -185,7 +185,7 @@ impl Future for Check {
     fn poll(&mut self, cx: &mut Context<'_>) -> Poll<(TaskConnection, Result<(), PostgresError>)> {
         let connection = self.connection.as_mut().unwrap();
         let verdict = match ready!(poll_answer(connection, &mut self.request, cx)) {
-            Ok(answer) => connection.standing.is_one(answer.rows),
+            Ok(answer) => connection.standing.passes(connection.probe, answer.rows),
             Err(error) => Err(error),
         };
         Poll::Ready((self.connection.take().unwrap(), verdict))

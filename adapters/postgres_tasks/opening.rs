@@ -223,6 +223,7 @@ impl Opening {
             socket: dialed.socket,
             timeouts: settings.timeouts,
             limits: settings.limits,
+            probe: settings.probe,
             standing: Standing::new(begun.session),
             key: begun.key,
             is_left: false,

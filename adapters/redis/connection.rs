@@ -37,6 +37,9 @@ impl RedisConnection {
             standing: Standing::new(),
         };
         connection.begin(&settings.login, settings.reset, deadline)?;
+        if settings.primary_only {
+            connection.must_be_primary(deadline)?;
+        }
         Ok(connection)
     }
 
@@ -86,6 +89,20 @@ impl RedisConnection {
         let deadline = Deadline::new(self.rt, self.timeouts.check);
         let items = self.quiet_exchange(&[b"PING"], deadline)?;
         self.standing.is_pong(self.rt.alloc(), items)
+    }
+
+    /// Asks for a reply, or where a replica is refused, for the server's role.
+    pub(crate) fn check(&mut self, primary_only: bool) -> Result<(), RedisError> {
+        if primary_only {
+            self.must_be_primary(Deadline::new(self.rt, self.timeouts.check))
+        } else {
+            self.ping()
+        }
+    }
+
+    fn must_be_primary(&mut self, deadline: Deadline) -> Result<(), RedisError> {
+        let items = self.quiet_exchange(&[b"ROLE"], deadline)?;
+        self.standing.is_primary(self.rt.alloc(), items)
     }
 
     // An exchange with a server that has said nothing since it answered last.

@@ -23,6 +23,8 @@ pub enum RedisError {
     /// they may have the password in them.
     #[error("redis: the login was refused ({0})")]
     Login(String),
+    #[error("redis: the server is no primary")]
+    Replica,
     #[error("redis: a reply that is not understood")]
     Protocol,
     #[error("redis: a reply is larger than the limits allow")]

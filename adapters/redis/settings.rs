@@ -7,12 +7,14 @@ use std::time::Duration;
 /// Where the server is, who logs in, and how long to wait.
 #[derive(Drop)]
 pub struct Settings {
-    /// A host and a port.
+    /// A host and a port, or a path.
     pub address: String,
     pub login: Login,
     pub reset: Reset,
     pub timeouts: Timeouts,
     pub limits: Limits,
+    /// Whether a replica is refused, at an opening and at a check.
+    pub primary_only: bool,
 }
 
 /// How long a call may take, from its beginning to its end.

@@ -1,10 +1,10 @@
 //! The socket: what waits, and for how long.
 
 use crate::error::RedisError;
-use deadline::Deadline;
+use deadline::{Deadline, Place};
 use std::io;
 use std::io::{Read, Write};
-use std::net::{SocketAddr, TcpStream, ToSocketAddrs};
+use std::net::TcpStream;
 use std::time::Duration;
 
 #[derive(Drop)]
@@ -18,11 +18,11 @@ pub struct Socket {
 }
 
 impl Socket {
-    /// Connects to the first address of a name at which somebody listens. The look-up of the name
-    /// has the system's own timeout.
+    /// Connects to a path, or to the first address of a name at which somebody listens. The look-up
+    /// of the name has the system's own timeout.
     pub fn open(rt: HostRuntime, address: &str, deadline: Deadline) -> Result<Socket, RedisError> {
-        match connected(rt, address, deadline) {
-            Ok(stream) => Ok(Socket {
+        match Place::connected(rt, address, deadline) {
+            Ok((stream, _)) => Ok(Socket {
                 rt,
                 stream,
                 address: String::from_str(rt.alloc(), address)?,
@@ -108,28 +108,6 @@ impl Socket {
     fn explained(&self, deadline: Deadline, error: io::Error) -> RedisError {
         RedisError::of_socket(self.rt.alloc(), self.address.as_str(), deadline, error)
     }
-}
-
-fn connected(rt: HostRuntime, address: &str, deadline: Deadline) -> io::Result<TcpStream> {
-    let mut addresses: Vec<SocketAddr> = Vec::new(rt.alloc());
-    for address in address.to_socket_addrs(&rt)? {
-        addresses.push(address)?;
-    }
-    let mut last = io::Error::from(io::ErrorKind::NotFound);
-    let mut others = u32::try_from(addresses.len()).unwrap_or(u32::MAX);
-    for address in addresses.as_slice() {
-        // What is left is shared by the addresses that are left.
-        let share = deadline.left(rt)? / others.max(1);
-        others = others.saturating_sub(1);
-        match TcpStream::connect_timeout(&rt, address, share) {
-            Ok(stream) => {
-                stream.set_nodelay(true)?;
-                return Ok(stream);
-            }
-            Err(error) => last = error,
-        }
-    }
-    Err(last)
 }
 
 // Whether a read or a write may succeed when it is tried again, if there is time.

@@ -65,6 +65,21 @@ impl Standing {
         }
     }
 
+    /// The answer to a ROLE.
+    pub fn is_primary(&mut self, alloc: Global, items: Vec<Item>) -> Result<(), RedisError>
+        ensures ok { IsOk result → self.new.is_broken ≡ self.old.is_broken }
+    {
+        let error = match items.as_slice() {
+            [Item::List(_), Item::Value(role), ..] if role.as_slice() == b"master".as_slice() => {
+                return Ok(());
+            }
+            [Item::Refusal(text)] => RedisError::Refused(escaped(alloc, text.as_slice())?),
+            _ => RedisError::Replica,
+        };
+        self.is_broken = true;
+        Err(error)
+    }
+
     /// The answer to a RESET, which shows whether the server has it, as those since 6.2 have.
     pub fn find_reset(&mut self, alloc: Global, items: Vec<Item>) -> Result<(), RedisError> {
         self.has_reset = match items.as_slice() {

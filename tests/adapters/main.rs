@@ -5,7 +5,8 @@
 //! one of what came back within it; `redis-never`, `redis-if-marked` and `redis-always` reset at a
 //! return as they say, have one connection, check nothing, and wait for half a second; so do those
 //! of `postgres`, which take 100 rows and 64 KiB. `postgres-eight` has eight connections, and waits
-//! for a second; `postgres-salted` waits for fifteen; `postgres-lenient` takes a server that asks
+//! for a second; `redis-primary` and `postgres-primary` refuse a replica, and close what is idle
+//! where one is met; `postgres-salted` waits for fifteen; `postgres-lenient` takes a server that asks
 //! for no password, `postgres-md5` one that asks for it by MD5. In place of `postgres`, `calm`
 //! waits for ten seconds.
 #![tactic(auto)]
@@ -105,6 +106,7 @@ impl Settings {
             "if-marked" => (Checks::Never, Mode::IfMarked, 500, 1, 3),
             "always" => (Checks::Never, Mode::Always, 500, 1, 3),
             "eight" => (Checks::Always, Mode::IfMarked, 1000, 8, 20),
+            "primary" => (Checks::AndEvict, Mode::IfMarked, 2000, 4, 5),
             "salted" => (Checks::Never, Mode::IfMarked, 15_000, 4, 14),
             _ => (Checks::Always, Mode::IfMarked, 10_000, 4, 20),
         };
@@ -120,6 +122,10 @@ impl Settings {
     }
 
     fn of_redis(&self, manager: RedisConnectionManager) -> RedisConnectionManager {
+        let manager = match self.lending.checks {
+            Checks::AndEvict => manager.with_primary_only(),
+            _ => manager,
+        };
         manager.with_reset(match self.mode {
             Mode::Never => redis::Reset::Never,
             Mode::IfMarked => redis::Reset::IfMarked,
@@ -128,6 +134,10 @@ impl Settings {
     }
 
     fn of_postgres(&self, manager: PostgresConnectionManager) -> PostgresConnectionManager {
+        let manager = match self.lending.checks {
+            Checks::AndEvict => manager.with_primary_only(),
+            _ => manager,
+        };
         let manager = manager.with_reset(match self.mode {
             Mode::Never => postgres::Reset::Never,
             Mode::IfMarked => postgres::Reset::IfMarked,

@@ -189,6 +189,8 @@ fn add_one(count: &AtomicU64) {
 #[derive(Clone, Copy)]
 pub enum Checks {
     Always,
+    /// And where one fails, the others that are idle are closed.
+    AndEvict,
     /// Where it was idle for an hour.
     AfterAnHour,
     Never,
@@ -221,6 +223,7 @@ where
         let pool = Builder::new()
             .max_size(lending.size)
             .test_on_check_out(!matches!(checks, Checks::Never))
+            .evict_idle_on_failed_check(matches!(checks, Checks::AndEvict))
             .test_if_idle_for(matches!(checks, Checks::AfterAnHour).then_some(hour))
             .connection_timeout(lending.patience)
             .max_retry_delay(Some(Duration::from_millis(200)))

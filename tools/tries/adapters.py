@@ -9,6 +9,9 @@ import subprocess
 import tempfile
 import threading
 
+import between
+import drawn_peer
+import local_sockets
 import postgres_peer
 import postgres_sessions
 import redis_peer
@@ -40,7 +43,7 @@ IS_CALM = False
 # What a caller of Redis may leave to the next one.
 LEFT = ["multi", "watch", "subscribe", "monitor"]
 # The service's checks read no memory that has ended; it keeps what its threads have, which is no leak.
-SETTINGS = {"ASAN_OPTIONS": "detect_leaks=0"}
+SETTINGS = {"ASAN_OPTIONS": "detect_leaks=0:quarantine_size_mb=1"}
 
 
 def write(text, *path):
@@ -80,15 +83,17 @@ def built(name, mine, aside, tally):
     is_built = os.path.exists(program)
     tally.check(f"the {name} is built".replace("_", " "), is_built, said[-3000:])
     if is_built:
-        os.chmod(program, 0o700)
+        # (who may not open a socket may run it)
+        os.chmod(program, 0o755)
     return program if is_built else None
 
 
 class Service:
-    """The service at a port, of this machine or of a name, and what runs it."""
+    """The service at a port, of this machine or of a name, or at a path, and what runs it."""
 
     def __init__(self, program, kind, port, *words, name=HOST, runner=()):
-        words, how = [*runner, program, kind, f"{name}:{port}", *words], {"text": True, "env": SETTINGS, "bufsize": 1}
+        address = port if isinstance(port, str) else f"{name}:{port}"
+        words, how = [*runner, program, kind, address, *words], {"text": True, "env": SETTINGS, "bufsize": 1}
         self.process = subprocess.Popen(words, stdin=subprocess.PIPE, stdout=subprocess.PIPE, stderr=subprocess.STDOUT, **how)
         self.said, self.asked = [], 0
 
@@ -162,7 +167,10 @@ class Trial:
         self.tally.check(f"{self.kind.NAME}: {what}", holds, seen)
 
     def service(self, port, *words):
-        service = Service(self.program, self.kind.NAME, port, *(words or self.words))
+        return self.at(port, self.kind.NAME, *(words or self.words))
+
+    def at(self, port, kind, *words, runner=()):
+        service = Service(self.program, kind, port, *(words or self.words), runner=runner)
         self.running.append(service)
         return service
 
@@ -182,16 +190,20 @@ class Trial:
             self.try_crash(service)
             self.try_move(service)
             self.try_drain(service)
+            local_sockets.try_local(self)
             if self.kind is Postgres:
                 self.try_logins()
                 self.try_values()
                 postgres_sessions.try_sessions(self)
+                between.try_bouncers(self)
+                between.try_read_only(self)
                 if IS_CALM:
                     self.try_locked()
             else:
                 for what in LEFT:
                     self.try_left_unchecked(what)
                 redis_sessions.try_sessions(self)
+                between.try_sentinel(self)
                 self.try_silence()
                 self.try_password()
         finally:
@@ -376,7 +388,9 @@ def try_servers(kinds, mine, place, tally):
     program = built("service", mine, aside, tally)
     if program:
         redis_peer.try_peer(Peers(program, tally, "redis"))
+        drawn_peer.try_redis(Peers(program, tally, "redis"))
         postgres_peer.try_peer(Peers(program, tally, "postgres"))
+        drawn_peer.try_postgres(Peers(program, tally, "postgres"))
         try_tasks_of(kinds, mine, aside, place, tally)
     for kind in kinds if program else []:
         folder = os.path.join(place, f"with_{kind.NAME}")

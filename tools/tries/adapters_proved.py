@@ -63,7 +63,7 @@ QUIET = """        match self.socket.is_quiet() {
 """
 # A check of a connection for tasks, and one that asks nothing.
 CHECKED = """        let verdict = match ready!(poll_answer(connection, &mut self.request, cx)) {
-            Ok(answer) => connection.standing.is_one(answer.rows),
+            Ok(answer) => connection.standing.passes(connection.probe, answer.rows),
             Err(error) => Err(error),
         };
 """
@@ -128,9 +128,12 @@ SEEN = [
         ("postgres_tasks/opening", "let address = self.settings.address.as_str();\n        PostgresError", "let address = self.settings.address.as_str();\n        let address = self.settings.login.password.as_deref().unwrap_or(address);\n        PostgresError", "postgres for tasks: a login that is not answered: nobody is told the password"),
     ],
     [
-        ("redis/socket", "deadline.left(rt)? / others.max(1)", "deadline.left(rt)?", "redis, a scripted peer: a name at whose first address nobody answers"),
         ("tokio_socket/dialing", "deadline.left(self.rt)? / addresses.max(1)", "deadline.left(self.rt)?", "redis for tasks: a name at whose first address nobody answers"),
-        ("postgres/socket", "deadline.left(rt)? / others.max(1)", "deadline.left(rt)?", "postgres, a scripted peer: a name at whose first address nobody answers"),
+        ("deadline/place", "deadline.left(rt)? / others.max(1)", "deadline.left(rt)?", "postgres, a scripted peer: a name at whose first address nobody answers"),
+        ("deadline/place", "Err(error) if error.kind() == io::ErrorKind::WouldBlock => {", "Err(error) if error.kind() == io::ErrorKind::NotFound => {", "redis: a path whose queue is full"),
+        ("redis/standing", 'if role.as_slice() == b"master".as_slice() => {', "if !role.is_empty() => {", "redis: where that is set nobody is refused by it"),
+        ("postgres/socket", '{folder}/.s.PGSQL.{port}', '{folder}/{port}', "postgres: a folder and a port"),
+        ("postgres/connection", 'self.must_pass(probe, Deadline', '{\n            let _ = probe;\n        }\n        self.must_pass(Probe::Alive, Deadline', "postgres: a server that takes no writes is left"),
         ("redis/wire", "self.socket.must_be_quiet(deadline)", "{\n            let _ = deadline;\n            Ok(())\n        }", "redis, a scripted peer: an answer that comes twice, the second 0.1 s later"),
         ("redis/standing", 'text.starts_with(b"READONLY")', 'text.starts_with(b"LOADING")', "redis, a scripted peer: a demoted server is left"),
         ("redis/reset", "String::from_str(alloc, word)", "String::from_str(alloc, text.as_str())", "redis, a scripted peer: a password of 200 letters, behind 'ERR no ' in the answer to AUTH: no error has it"),

@@ -76,7 +76,12 @@ class Redis(Server):
         return shutil.which("redis-server") is not None
 
     def words(self):
-        return ["redis-server", "--port", str(self.port), "--bind", HOST, "--save", "", "--appendonly", "yes", "--appendfsync", "always"]
+        listens = ["--port", str(self.port), "--bind", HOST, "--unixsocket", self.path()]
+        return ["redis-server", *listens, "--save", "", "--appendonly", "yes", "--appendfsync", "always"]
+
+    def path(self):
+        """Its socket of this machine."""
+        return os.path.join(self.folder, "socket")
 
     def ask(self, *words):
         """The reply to a command, as bytes."""
@@ -136,6 +141,7 @@ class Postgres(Server):
         subprocess.run(words, cwd=self.folder, check=True, stdout=subprocess.DEVNULL, **self.user)
         with open(os.path.join(self.data, "pg_hba.conf"), "w") as it:
             it.write("".join(f"host all {user} {HOST}/32 {how}\n" for user, how in self.USERS.items()))
+            it.write("".join(f"local all {user} {how}\n" for user, how in self.USERS.items()))
             it.write(f"host all postgres {HOST}/32 trust\n")
 
     @staticmethod
@@ -150,8 +156,12 @@ class Postgres(Server):
         return is_user and all(Postgres.program(name) for name in ("initdb", "postgres", "psql"))
 
     def words(self):
-        settings = ["listen_addresses=" + HOST, "unix_socket_directories=", "fsync=off", "max_connections=40"]
+        settings = ["listen_addresses=" + HOST, "unix_socket_directories=" + self.folder, "fsync=off", "max_connections=40"]
         return [self.program("postgres"), "-D", self.data, "-p", str(self.port), *(word for it in settings for word in ("-c", it))]
+
+    def path(self):
+        """Its socket of this machine."""
+        return os.path.join(self.folder, f".s.PGSQL.{self.port}")
 
     def how(self):
         return self.user
