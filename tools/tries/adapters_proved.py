@@ -158,7 +158,6 @@ SEEN = [
         ("postgres_tasks/connection", "            key: self.key.take()?,", "            key: self.key.take().map(|mut key| {\n                key.as_mut_slice().reverse();\n                key\n            })?,", "postgres for tasks: a query that is dropped is cancelled"),
         ("postgres_tasks/exchange", CHECKED, UNCHECKED, "postgres for tasks: at a silent server: the deadline of each check"),
         ("postgres_tasks/opening", "PostgresError::SlowLogin,", "self.explained(deadline, io::Error::from(io::ErrorKind::TimedOut)),", "postgres for tasks: rounds that take too long: the text"),
-        ("postgres_tasks/manager", POSTGRES_TASKS_BROKEN, "        if connection.session() == Session::Idle {\n            return false;\n        }\n", "postgres for tasks: if-marked: a setting is not seen by the next caller"),
     ],
     # A manager that takes it for granted that each request has its answer: late ones go to others.
     [
@@ -167,7 +166,7 @@ SEEN = [
         ("redis_tasks/manager", HAS_BROKEN, "{\n            let _ = connection;\n            false\n        }", "redis for tasks: an answer of a request that was given up is nobody's"),
         ("postgres_tasks/connection", "        self.standing.session = Session::Broken;\n        let mut patience", "        let mut patience", "postgres for tasks: an answer of a request that was given up is nobody's"),
         ("postgres_tasks/socket", QUIET_OF_REDIS.replace("Redis", "Postgres"), QUIET, "postgres for tasks: an answer that comes twice, the second 0.1 s later"),
-        ("postgres_tasks/manager", POSTGRES_TASKS_BROKEN, "        if connection.session() != Session::Broken {\n            return false;\n        }\n", "postgres for tasks: an answer of a request that was given up is nobody's"),
+        ("postgres_tasks/manager", POSTGRES_TASKS_BROKEN, "        if connection.session() != Session::Broken {\n            return false;\n        }\n", "postgres for tasks: if-marked: a setting is not seen by the next caller"),
     ],
 ]
 
