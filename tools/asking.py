@@ -24,7 +24,7 @@ REQUESTS = {
 }
 TASKS, SECONDS = 100, 8
 # An outage: the server is killed after so many seconds, and begins anew so many later.
-BEFORE, AWAY, AFTER = 2, 5, 3
+BEFORE, AWAY, AFTER = 2, 5, 8
 READY = re.compile(r"^(\S+ \S+) UTC .*ready to accept connections$", re.MULTILINE)
 
 
@@ -79,6 +79,8 @@ def outage(path, server):
     with open(os.path.join(server.folder, "log"), encoding="utf-8") as file:
         ready = READY.findall(file.read())[-1]
     moment = datetime.strptime(ready, "%Y-%m-%d %H:%M:%S.%f").replace(tzinfo=timezone.utc).timestamp() * 1000
+    if told["to"] < moment:
+        sys.exit(f"times: {os.path.basename(path)} was not served after an outage: {told}")
     return told["late"] / 1000, told["to"] - moment, told["timeouts"], told["failed"]
 
 
