@@ -112,6 +112,31 @@ impl PostgresConnection {
         self.counted(query)
     }
 
+    /// Hands over each row of a query that has no parameters and is a single SELECT or VALUES, in
+    /// order, and holds a hundred at most: so the limits are those of a hundred rows, as is the
+    /// timeout. It reads by a cursor, in a transaction of its own where none is open. After an error
+    /// the transaction is open, and has failed: roll it back, or let the connection go.
+    pub fn each_row<F: FnMut(Row)>(&mut self, query: &str, mut each: F) -> Result<(), PostgresError>
+        requires { F.IsAlwaysCallable each }
+    {
+        let is_within = self.session() == Session::InTransaction;
+        if !is_within {
+            self.execute("BEGIN")?;
+        }
+        let declare = format!(in self.rt.alloc(); "DECLARE each_row NO SCROLL CURSOR FOR {query}")?;
+        // (with values it takes no second statement)
+        self.execute_with(declare.as_str(), &[])?;
+        for _ in 0..u64::MAX {
+            let rows = self.query("FETCH 100 FROM each_row")?;
+            if rows.is_empty() {
+                break;
+            }
+            rows.into_iter().for_each(&mut each);
+        }
+        self.execute(if is_within { "CLOSE each_row" } else { "COMMIT" })?;
+        Ok(())
+    }
+
     fn counted(&mut self, query: Query) -> Result<u64, PostgresError>
         ensures stays { self.old.standing.session ≡ Session.Broken →
             IsErr result × (self.new.standing.session ≡ Session.Broken) }

@@ -121,13 +121,23 @@ impl Counting for PostgresConnection {
     }
 }
 
-// A query behind a `#` tells how many rows it was about. Its values stand behind a ` <- `.
+// A query behind a `#` tells how many rows it was about, and one behind a `>` how many came one by
+// one, and the last. Its values stand behind a ` <- `.
 fn tell(
     connection: &mut PostgresConnection,
     alloc: Global,
     request: &str,
     told: &mut String,
 ) -> Result<(), PostgresError> {
+    if let Some(text) = request.strip_prefix(">") {
+        let (mut count, mut last) = (0_u64, None);
+        connection.each_row(text, |row| {
+            count = count.saturating_add(1);
+            last = Some(row);
+        })?;
+        write!(told, "{count} one by one, the last {:?} | ", last.as_ref().map(Row::columns))?;
+        return Ok(());
+    }
     let (request, is_counted) = match request.strip_prefix("#") {
         Some(request) => (request, true),
         None => (request, false),

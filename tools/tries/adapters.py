@@ -344,6 +344,12 @@ class Trial:
             ("a value too few", "SELECT $1::int, $2::int <- 1", "SQLSTATE 08P01"),
             ("two statements with values", "SELECT 1; SELECT 2 <- 1", "SQLSTATE 42601"),
             ("a query like it again", "SELECT $1::int <- 7", '[Some("7")]'),
+            ("more rows than are allowed", "SELECT generate_series(1, 100001)", "! postgres: an answer is larger than the limits allow"),
+            ("the same one by one", "> SELECT generate_series(1, 100001)", '100001 one by one, the last Some([Some("100001")])'),
+            ("none one by one", "> SELECT 1 WHERE false", "0 one by one, the last None"),
+            ("a hundred one by one", "> SELECT generate_series(1, 100)", '100 one by one, the last Some([Some("100")])'),
+            ("two statements one by one", "> SELECT 1; SELECT 2 ;; SELECT 3", "SQLSTATE 42601"),
+            ("one by one within a transaction", "BEGIN ;; > VALUES (7), (8) ;; > VALUES (9) ;; COMMIT", '2 one by one, the last Some([Some("8")]) | 1 one by one, the last Some([Some("9")])'),
         ]:
             told = service.ask(f"run {line}")
             self.check(what, wanted in told, told)
