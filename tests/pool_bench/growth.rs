@@ -124,12 +124,19 @@ fn longest<R: PoolRuntime>(
         let begun = Instant::now(&rt)?;
         work.is_done(pool)?;
         longest = longest.max(begun.elapsed(&rt)?);
-        // What was evicted is opened anew.
-        while pool.state().connections < size.min(pool.max_size()) {
-            thread::sleep(&rt, Duration::from_millis(PAUSE));
-        }
+        refill(rt, pool, size);
     }
     Ok(longest)
+}
+
+// Waits until what was evicted is opened anew.
+fn refill<R: PoolRuntime>(rt: R, pool: &PlainPool<Nothings, R>, size: u32) {
+    for _ in 0..u64::MAX {
+        if pool.state().connections >= size.min(pool.max_size()) {
+            break;
+        }
+        thread::sleep(&rt, Duration::from_millis(PAUSE));
+    }
 }
 
 /// Calls until it is over.

@@ -19,6 +19,7 @@ pub struct Load {
     pub held_us: u32,
     /// How many calls each caller makes.
     pub calls: u32,
+    pub ghost has_callers: { 0 < callers },
     pub ghost has_size: { 0 < max_size },
 }
 
@@ -48,7 +49,8 @@ pub fn long() -> [Load; 3] {
 
 impl Load {
     fn new(callers: u32, max_size: u32, held_us: u32, calls: u32) -> Load
-        requires { 0 < max_size }
+        requires callers { 0 < callers }
+        requires size { 0 < max_size }
     {
         Load {
             callers,
