@@ -154,7 +154,7 @@ SEEN = [
         ("postgres/mark", '["--", "/*", "&\\""]', '["--", "--", "&\\""]', "postgres: if-marked: a lock behind a comment is not seen by the next caller"),
         ("postgres/mark", '"default", "insert"', '"default", "merge"', "postgres: if-marked: the number of WITH it AS (INSERT INTO noted SELECT 1 RETURNING 1) SELECT 1"),
         ("postgres/mark", 'b"pg_temp"', 'b"no_temp"', "postgres: if-marked: a table among the temporary ones is not seen by the next caller"),
-        ("postgres_tasks/connection", "        self.standing.session = Session::Broken;\n        let mut patience", "        if request.stage == Stage::Sending {\n            self.standing.session = Session::Broken;\n        }\n        let mut patience", "postgres for tasks: a reset that is not answered"),
+        ("postgres_tasks/connection", "        self.standing.session = Session::Broken;\n        let mut patience", "        if request.stage == Stage::Sending {\n            self.standing.session = Session::Broken;\n        }\n        let mut patience", "postgres for tasks: after it another connection is lent"),
         ("postgres_tasks/connection", "            key: self.key.take()?,", "            key: self.key.take().map(|mut key| {\n                key.as_mut_slice().reverse();\n                key\n            })?,", "postgres for tasks: a query that is dropped is cancelled"),
         ("postgres_tasks/exchange", CHECKED, UNCHECKED, "postgres for tasks: at a silent server: the deadline of each check"),
         ("postgres_tasks/opening", "PostgresError::SlowLogin,", "self.explained(deadline, io::Error::from(io::ErrorKind::TimedOut)),", "postgres for tasks: rounds that take too long: the text"),
