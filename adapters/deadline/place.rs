@@ -1,5 +1,5 @@
-//! Where a server is, and how to connect to it. The system's calls for a stream are the same whether
-//! it is one of this machine's sockets.
+//! Where a server is, and how to connect to it. The system's calls for a stream are the same
+//! whether it is one of this machine's sockets.
 
 use crate::Deadline;
 use mio::net::UnixStream;
@@ -20,8 +20,8 @@ pub enum Place {
 }
 
 impl Place {
-    /// Connects to a path, or to the first address of a name at which somebody listens, and says where
-    /// that is. The look-up of a name has the system's own timeout.
+    /// Connects to a path, or to the first address of a name at which somebody listens, and says
+    /// where that is. The look-up of a name has the system's own timeout.
     pub fn connected(
         rt: HostRuntime,
         address: &str,
@@ -72,11 +72,7 @@ fn at_path(rt: HostRuntime, path: &str, deadline: Deadline) -> io::Result<TcpStr
     Err(io::Error::from(io::ErrorKind::TimedOut))
 }
 
-fn at_name(
-    rt: HostRuntime,
-    name: &str,
-    deadline: Deadline,
-) -> io::Result<(TcpStream, Place)> {
+fn at_name(rt: HostRuntime, name: &str, deadline: Deadline) -> io::Result<(TcpStream, Place)> {
     let mut addresses: Vec<SocketAddr> = Vec::new(rt.alloc());
     for address in name.to_socket_addrs(&rt)? {
         addresses.push(address)?;

@@ -3,10 +3,10 @@
 ghost use Rattle.std.specs.Prelude.{◌≡◌, ◌≢◌, ◌<◌, ◌⊎◌, IfOk, IsErr, IsFalse, IsOk, IsTrue, OnOk};
 
 use crate::answer::{Answer, Limits, Row, Session};
-use crate::probe::Probe;
 use crate::error::PostgresError;
 use crate::greeting::{Begun, Greeting, Next};
 use crate::login::Login;
+use crate::probe::Probe;
 use crate::query::Query;
 use crate::reset::Reset;
 use crate::settings::{Settings, Timeouts};
@@ -114,8 +114,8 @@ impl PostgresConnection {
 
     /// Hands over each row of a query that has no parameters and is a single SELECT or VALUES, in
     /// order, and holds a hundred at most: so the limits are those of a hundred rows, as is the
-    /// timeout. It reads by a cursor, in a transaction of its own where none is open. After an error
-    /// the transaction is open, and has failed: roll it back, or let the connection go.
+    /// timeout. It reads by a cursor, in a transaction of its own where none is open. After an
+    /// error the transaction is open, and has failed: roll it back, or let the connection go.
     pub fn each_row<F: FnMut(Row)>(&mut self, query: &str, mut each: F) -> Result<(), PostgresError>
         requires { F.IsAlwaysCallable each }
     {
@@ -133,7 +133,11 @@ impl PostgresConnection {
             }
             rows.into_iter().for_each(&mut each);
         }
-        self.execute(if is_within { "CLOSE each_row" } else { "COMMIT" })?;
+        self.execute(if is_within {
+            "CLOSE each_row"
+        } else {
+            "COMMIT"
+        })?;
         Ok(())
     }
 

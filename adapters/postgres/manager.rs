@@ -4,10 +4,10 @@ ghost use Rattle.std.specs.Prelude.{◌≡◌, ◌<◌, ◌⊎◌, IsFalse, IsTr
 ghost use Rattle.std.specs.Duration.{as_nanos};
 
 use crate::answer::{Limits, Session};
-use crate::probe::Probe;
 use crate::connection::PostgresConnection;
 use crate::error::PostgresError;
 use crate::login::Login;
+use crate::probe::Probe;
 use crate::reset::Reset;
 use crate::settings::{Settings, Timeouts};
 use postgres_codec::Mark;
@@ -24,11 +24,11 @@ pub struct PostgresConnectionManager {
 }
 
 impl PostgresConnectionManager {
-    /// `address` is a host and a port, as `127.0.0.1:5432`, or the path of a socket of this machine,
-    /// as `/run/postgresql/.s.PGSQL.5432`, or `/run/postgresql:5432` for that. A name is looked up
-    /// at each opening, so that a server is found where it has moved to; the look-up has the
-    /// system's own timeout. `timeout` is that of an opening with its login, of a check and of a
-    /// query, each from its beginning to its end. A query that takes longer fails; the server is
+    /// `address` is a host and a port, as `127.0.0.1:5432`, or the path of a socket of this
+    /// machine, as `/run/postgresql/.s.PGSQL.5432`, or `/run/postgresql:5432` for that. A name is
+    /// looked up at each opening, so that a server is found where it has moved to; the look-up has
+    /// the system's own timeout. `timeout` is that of an opening with its login, of a check and of
+    /// a query, each from its beginning to its end. A query that takes longer fails; the server is
     /// asked to cancel it, and its connection is closed.
     pub fn new(
         rt: HostRuntime,
@@ -85,8 +85,8 @@ impl PostgresConnectionManager {
         self
     }
 
-    /// An opening and a check fail at a server that takes no writes. So where the primary moves, the
-    /// setting `evict_idle_on_failed_check` of the pool closes all that were opened before. Of
+    /// An opening and a check fail at a server that takes no writes. So where the primary moves,
+    /// the setting `evict_idle_on_failed_check` of the pool closes all that were opened before. Of
     /// connections for tasks a check alone does.
     pub fn with_primary_only(mut self) -> Self {
         self.settings.probe = Probe::ReadWrite;

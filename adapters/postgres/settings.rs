@@ -1,8 +1,8 @@
 //! The settings of a manager.
 
 use crate::answer::Limits;
-use crate::probe::Probe;
 use crate::login::Login;
+use crate::probe::Probe;
 use crate::reset::Reset;
 use std::time::Duration;
 

@@ -4,8 +4,8 @@
 ghost use Rattle.std.specs.Prelude.{◌≡◌, ◌≢◌, ◌<◌, ◌⊎◌, IsErr, IsOk, IsTrue};
 
 use crate::answer::{Answer, Rows, Session};
-use crate::probe::Probe;
 use crate::error::PostgresError;
+use crate::probe::Probe;
 use crate::reset::Reset;
 use postgres_codec::{Conversation, Mark};
 use std::alloc::Global;

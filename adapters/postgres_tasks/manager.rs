@@ -27,8 +27,8 @@ impl TaskConnectionManager {
     /// With the settings of a manager for threads. The runtime that has this handle is the one that
     /// has to poll the pool's futures. The address is best one of numbers: a name is looked up at
     /// each opening, for which the system may block the thread. A query that was dropped, or took
-    /// too long, is cancelled at the server before the next opening, unless 64 others are to be. The
-    /// error is lack of memory.
+    /// too long, is cancelled at the server before the next opening, unless 64 others are to be.
+    /// The error is lack of memory.
     pub fn new(manager: PostgresConnectionManager, handle: &Handle) -> Result<Self, AllocError> {
         let (rt, settings) = manager.into_settings();
         Ok(TaskConnectionManager {

@@ -22,10 +22,10 @@ pub struct RedisConnectionManager {
 }
 
 impl RedisConnectionManager {
-    /// `address` is a host and a port, as `127.0.0.1:6379`, or the path of a socket of this machine,
-    /// as `/run/redis/redis.sock`. A name is looked up at each opening, so that a server is found
-    /// where it has moved to; the look-up has the system's own timeout. `timeout` is that of an
-    /// opening, of a check and of a command, each from its beginning to its end.
+    /// `address` is a host and a port, as `127.0.0.1:6379`, or the path of a socket of this
+    /// machine, as `/run/redis/redis.sock`. A name is looked up at each opening, so that a server
+    /// is found where it has moved to; the look-up has the system's own timeout. `timeout` is that
+    /// of an opening, of a check and of a command, each from its beginning to its end.
     pub fn new(rt: HostRuntime, address: &str, timeout: Duration) -> Result<Self, AllocError>
         requires { 0 < as_nanos timeout }
     {
@@ -94,9 +94,9 @@ impl RedisConnectionManager {
         self
     }
 
-    /// An opening and a check fail at a server that is a replica, by ROLE. So where the primary moves,
-    /// the setting `evict_idle_on_failed_check` of the pool closes all that were opened before. For
-    /// connections of threads alone.
+    /// An opening and a check fail at a server that is a replica, by ROLE. So where the primary
+    /// moves, the setting `evict_idle_on_failed_check` of the pool closes all that were opened
+    /// before. For connections of threads alone.
     pub fn with_primary_only(mut self) -> Self {
         self.settings.primary_only = true;
         self

@@ -135,7 +135,11 @@ fn tell(
             count = count.saturating_add(1);
             last = Some(row);
         })?;
-        write!(told, "{count} one by one, the last {:?} | ", last.as_ref().map(Row::columns))?;
+        write!(
+            told,
+            "{count} one by one, the last {:?} | ",
+            last.as_ref().map(Row::columns)
+        )?;
         return Ok(());
     }
     let (request, is_counted) = match request.strip_prefix("#") {

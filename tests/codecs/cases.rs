@@ -20,8 +20,7 @@ const LONGEST: u64 = 10;
 const OVER: u64 = u64::MAX;
 
 /// What the cases need of the runtime.
-pub(crate) trait Host:
-    AllocGlobal
+pub(crate) trait Host: AllocGlobal
     + Abort
     + Clock
     + Env
@@ -32,11 +31,10 @@ pub(crate) trait Host:
     + Wait
     + Copy
     + Send
-    + 'static
-{
-}
+    + 'static {}
 
-impl<R> Host for R where
+impl<R> Host for R
+where
     R: AllocGlobal
         + Abort
         + Clock
@@ -48,9 +46,8 @@ impl<R> Host for R where
         + Wait
         + Copy
         + Send
-        + 'static
-{
-}
+        + 'static,
+{}
 
 /// Plays cases from a first seed on, which is drawn and told: `CODECS_SEED` plays those from it
 /// again.
@@ -70,7 +67,10 @@ pub(crate) fn play_each<R: Host, F: Fn(u64) -> Result<(), Fail>>(
         let seed = first + number;
         play(seed)?;
         let taken = most_taken(rt)? - before;
-        assert!(rt; !is_measured || taken < MOST, "seed {seed} takes {taken} bytes");
+        assert!(rt;
+            !is_measured || taken < MOST,
+            "seed {seed} takes {taken} bytes"
+        );
     }
     playing.store(OVER, Ordering::SeqCst);
     watch.join(&rt);

@@ -76,7 +76,11 @@ fn is_query_with(words: &str, values: &[Option<&str>], bytes: &[u8]) -> Option<b
 fn drawn_values(draw: &mut Draw) -> Result<Vec<Option<String>>, AllocError> {
     let mut values = Vec::new(draw.alloc);
     for _ in 0..draw.below(6) {
-        values.push(if draw.one_in(4) { None } else { Some(draw.text(20)?) })?;
+        values.push(if draw.one_in(4) {
+            None
+        } else {
+            Some(draw.text(20)?)
+        })?;
     }
     Ok(values)
 }

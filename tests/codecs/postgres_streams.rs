@@ -3,7 +3,9 @@
 use crate::cases::{Host, play_each};
 use crate::drawing::Draw;
 use crate::reading::{End, PIECE, Pieces, Reader, read, taken};
-use postgres_codec::{Asked, CodecError, Conversation, Done, Fault, Mark, Message, Refusal, Status};
+use postgres_codec::{
+    Asked, CodecError, Conversation, Done, Fault, Mark, Message, Refusal, Status,
+};
 use std::alloc::AllocError;
 use std::mem;
 use std::test::Fail;
@@ -95,7 +97,11 @@ impl Script {
             _ => {
                 let kind = draw.of_these(&[b"T", b"I", b"1", b"2"]);
                 let body = draw.bytes(6)?;
-                self.push(kind.first().copied().unwrap_or(b'I'), body.as_slice(), Message::Passed)
+                self.push(
+                    kind.first().copied().unwrap_or(b'I'),
+                    body.as_slice(),
+                    Message::Passed,
+                )
             }
         }
     }
@@ -111,7 +117,8 @@ impl Script {
     fn push(&mut self, kind: u8, body: &[u8], message: Message) -> Result<(), AllocError> {
         self.bytes.push(kind)?;
         self.lengths.push((self.bytes.len(), 4))?;
-        self.bytes.extend_from_slice(&(body.len() as u32 + 4).to_be_bytes())?;
+        self.bytes
+            .extend_from_slice(&(body.len() as u32 + 4).to_be_bytes())?;
         self.bytes.extend_from_slice(body)?;
         self.cost += HEAD + body.len();
         self.messages.push(message)?;
@@ -132,7 +139,11 @@ impl Script {
                 values.push(None)?;
                 continue;
             }
-            let value = if draw.one_in(2) { draw.bytes(20)? } else { draw.text(9)?.into_bytes() };
+            let value = if draw.one_in(2) {
+                draw.bytes(20)?
+            } else {
+                draw.text(9)?.into_bytes()
+            };
             body.extend_from_slice(&(value.len() as u32).to_be_bytes())?;
             body.extend_from_slice(value.as_slice())?;
             values.push(Some(value))?;
@@ -143,10 +154,17 @@ impl Script {
 
     fn complete(&mut self, draw: &mut Draw) -> Result<(), AllocError> {
         let place = draw.below(DONE.len());
-        let (tag, rows, mark) = DONE.get(place).copied().unwrap_or((b"SET", 0, Mark::Marked));
+        let (tag, rows, mark) = DONE
+            .get(place)
+            .copied()
+            .unwrap_or((b"SET", 0, Mark::Marked));
         let mut body = Vec::from_slice(draw.alloc, tag)?;
         body.push(0)?;
-        self.push(b'C', body.as_slice(), Message::Complete(Done { rows, mark }))
+        self.push(
+            b'C',
+            body.as_slice(),
+            Message::Complete(Done { rows, mark }),
+        )
     }
 
     // Fields in any order, among others; the severity is the one that has no language.
@@ -154,7 +172,12 @@ impl Script {
         let (severity, state) = (draw.bytes_without(0, 6)?, draw.bytes_without(0, 5)?);
         let (text, other) = (draw.bytes_without(0, 20)?, draw.bytes_without(0, 20)?);
         let mut body = Vec::new(draw.alloc);
-        let fields = [(b'V', &severity), (b'C', &state), (b'M', &text), (b'S', &other)];
+        let fields = [
+            (b'V', &severity),
+            (b'C', &state),
+            (b'M', &text),
+            (b'S', &other),
+        ];
         let first = draw.below(fields.len());
         for number in 0..fields.len() {
             if let Some((letter, field)) = fields.get((first + number) % fields.len()) {
@@ -164,7 +187,15 @@ impl Script {
             }
         }
         body.push(0)?;
-        self.push(b'E', body.as_slice(), Message::Refusal(Refusal { severity, state, text }))
+        self.push(
+            b'E',
+            body.as_slice(),
+            Message::Refusal(Refusal {
+                severity,
+                state,
+                text,
+            }),
+        )
     }
 
     fn login(&mut self, draw: &mut Draw) -> Result<(), AllocError> {
@@ -229,11 +260,19 @@ fn read_in_two_ways<R: Host>(
 ) -> Result<(Caller, End), Fail> {
     let mut whole = caller(draw, limit, count);
     let (end, _) = read(&mut whole, bytes, Pieces::Whole, draw)?;
-    let how = if draw.one_in(2) { Pieces::EachByte } else { Pieces::Drawn };
+    let how = if draw.one_in(2) {
+        Pieces::EachByte
+    } else {
+        Pieces::Drawn
+    };
     let mut pieced = caller(draw, limit, count);
     let (again, _) = read(&mut pieced, bytes, how, draw)?;
     draw.must(rt, "it ends alike in pieces", again == end);
-    draw.must(rt, "the messages are the same in pieces", whole.messages == pieced.messages);
+    draw.must(
+        rt,
+        "the messages are the same in pieces",
+        whole.messages == pieced.messages,
+    );
     let are_alike = whole.talk.take_mark() == pieced.talk.take_mark();
     draw.must(rt, "the mark is the same in pieces", are_alike);
     Ok((whole, end))
@@ -244,13 +283,26 @@ fn read_in_two_ways<R: Host>(
 fn sound<R: Host>(rt: R, draw: &mut Draw) -> Result<(), Fail> {
     let count = 1 + draw.below(3);
     let script = Script::of(draw, count)?;
-    let (mut caller, end) =
-        read_in_two_ways(rt, draw, script.most, count, script.bytes.as_slice())?;
+    let (mut caller, end) = read_in_two_ways(
+        rt,
+        draw,
+        script.most,
+        count,
+        script.bytes.as_slice(),
+    )?;
     draw.must(rt, "a sound server is understood", end == End::Quiet);
-    draw.must(rt, "the messages are what was meant", caller.messages == script.messages);
+    draw.must(
+        rt,
+        "the messages are what was meant",
+        caller.messages == script.messages,
+    );
     draw.must(rt, "nothing is owed", caller.talk.is_settled());
     caller.feed(b"N")?;
-    draw.must(rt, "a byte more is unasked", taken(&mut caller) == End::Unasked);
+    draw.must(
+        rt,
+        "a byte more is unasked",
+        taken(&mut caller) == End::Unasked,
+    );
     Ok(())
 }
 
@@ -282,7 +334,11 @@ fn endless<R: Host>(rt: R, draw: &mut Draw) -> Result<(), Fail> {
         bytes.resize(2 * limit, b'x')?;
     }
     let mut caller = caller(draw, limit, 1);
-    let how = if draw.one_in(2) { Pieces::EachByte } else { Pieces::Drawn };
+    let how = if draw.one_in(2) {
+        Pieces::EachByte
+    } else {
+        Pieces::Drawn
+    };
     let (end, came) = read(&mut caller, bytes.as_slice(), how, draw)?;
     draw.must(rt, "it is refused", end == End::TooMuch);
     draw.must(rt, "it is refused in time", came <= limit + HEAD + PIECE);
@@ -296,14 +352,22 @@ fn lying<R: Host>(rt: R, draw: &mut Draw) -> Result<(), Fail> {
     let lengths = mem::replace(&mut script.lengths, Vec::new(draw.alloc));
     let place = draw.below(lengths.len());
     let (at, size) = lengths.as_slice().get(place).copied().unwrap_or((1, 4));
-    let lie = LIES.get(draw.below(LIES.len())).copied().unwrap_or(0).to_be_bytes();
+    let lie = LIES
+        .get(draw.below(LIES.len()))
+        .copied()
+        .unwrap_or(0)
+        .to_be_bytes();
     let lie = lie.get(4 - size..).unwrap_or(b"");
     let is_count = size == 2 && script.bytes.as_slice().get(at..at + 2) != Some(lie);
     let bytes = draw.spliced(script.bytes.as_slice(), at, size, lie)?;
     let limit = if draw.one_in(2) { WIDE } else { script.most };
     let (_, end) = read_in_two_ways(rt, draw, limit, count, bytes.as_slice())?;
     let is_refused = matches!(end, End::Malformed | End::TooMuch);
-    draw.must(rt, "a row has as many values as it says", !is_count || is_refused);
+    draw.must(
+        rt,
+        "a row has as many values as it says",
+        !is_count || is_refused,
+    );
     Ok(())
 }
 

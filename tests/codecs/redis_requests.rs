@@ -10,7 +10,10 @@ use std::test::Fail;
 fn number_at(kind: u8, bytes: &[u8]) -> Option<(usize, &[u8])> {
     let bytes = bytes.strip_prefix(&[kind])?;
     let end = bytes.iter().position(|byte| *byte == b'\r')?;
-    let number = str::from_utf8(bytes.get(..end)?).ok()?.parse::<usize>().ok()?;
+    let number = str::from_utf8(bytes.get(..end)?)
+        .ok()?
+        .parse::<usize>()
+        .ok()?;
     Some((number, bytes.get(end..)?.strip_prefix(b"\r\n")?))
 }
 
@@ -60,7 +63,11 @@ fn drawn_requests(rt: HostRuntime) -> Result<(), Fail> {
         let draw = &mut Draw::of(rt.alloc(), seed);
         let words = drawn_words(draw)?;
         let bytes = made(rt.alloc(), words.as_slice())?;
-        draw.must(rt, "it is read back", is_of(words.as_slice(), bytes.as_slice()));
+        draw.must(
+            rt,
+            "it is read back",
+            is_of(words.as_slice(), bytes.as_slice()),
+        );
         Ok(())
     })
 }

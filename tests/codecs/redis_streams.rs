@@ -50,8 +50,14 @@ const ENDLESS: [(&[u8], &[u8]); 16] = [
     (b"*2\r\n$1000000\r\n", b"\r\n"),
     (b"_", b"_"),
     // (each part is short, but for what says nothing)
-    (b"*1000\r\n", b"$00000000000000000000000000000000000000000000000000000000000000\r\n\r\n"),
-    (b"*1000\r\n", b"_all of this stands for nothing, and so does all that comes later\r\n"),
+    (
+        b"*1000\r\n",
+        b"$00000000000000000000000000000000000000000000000000000000000000\r\n\r\n",
+    ),
+    (
+        b"*1000\r\n",
+        b"_all of this stands for nothing, and so does all that comes later\r\n",
+    ),
 ];
 /// What a part takes at most beside its text.
 const PART: usize = 32;
@@ -82,7 +88,11 @@ impl Script {
             bytes: Vec::new(draw.alloc),
             answers: Vec::new(draw.alloc),
             lengths: Vec::new(draw.alloc),
-            most: Limits { bytes: 0, parts: 0, depth: 0 },
+            most: Limits {
+                bytes: 0,
+                parts: 0,
+                depth: 0,
+            },
         };
         for _ in 0..count {
             let mut answer = Answer {
@@ -102,20 +112,14 @@ impl Script {
     }
 
     // An answer, within so many lists and one.
-    fn answer(&mut self, draw: &mut Draw, answer: &mut Answer, level: usize) -> Result<(), AllocError> {
+    fn answer(
+        &mut self,
+        draw: &mut Draw,
+        answer: &mut Answer,
+        level: usize,
+    ) -> Result<(), AllocError> {
         match draw.below(if level < 6 { 10 } else { 7 }) {
-            0 => {
-                let text = draw.bytes_without(b'\r', 12)?;
-                self.line(b'+', text.as_slice())?;
-                answer.weight += text.len();
-                answer.items.push(Item::Word(text))?;
-            }
-            1 => {
-                let text = draw.bytes_without(b'\r', 12)?;
-                self.line(b'-', text.as_slice())?;
-                answer.weight += text.len();
-                answer.items.push(Item::Refusal(text))?;
-            }
+            0 | 1 => self.words(draw, answer)?,
             2 => {
                 let sign = if draw.one_in(2) { "-" } else { "" };
                 let text = format!(in draw.alloc; "{sign}{}", draw.number() / 2)?.into_bytes();
@@ -124,7 +128,8 @@ impl Script {
                 answer.items.push(Item::Number(text))?;
             }
             3 => {
-                self.bytes.extend_from_slice(draw.of_these(&[b"$-1\r\n", b"*-1\r\n", b"_\r\n"]))?;
+                self.bytes
+                    .extend_from_slice(draw.of_these(&[b"$-1\r\n", b"*-1\r\n", b"_\r\n"]))?;
                 answer.items.push(Item::Nothing)?;
             }
             4 => {
@@ -140,7 +145,26 @@ impl Script {
         Ok(())
     }
 
-    fn value(&mut self, draw: &Draw, answer: &mut Answer, bytes: Vec<u8>) -> Result<(), AllocError> {
+    // A word, or a refusal.
+    fn words(&mut self, draw: &mut Draw, answer: &mut Answer) -> Result<(), AllocError> {
+        let text = draw.bytes_without(b'\r', 12)?;
+        let is_refused = draw.one_in(2);
+        self.line(if is_refused { b'-' } else { b'+' }, text.as_slice())?;
+        answer.weight += text.len();
+        answer.items.push(if is_refused {
+            Item::Refusal(text)
+        } else {
+            Item::Word(text)
+        })?;
+        Ok(())
+    }
+
+    fn value(
+        &mut self,
+        draw: &Draw,
+        answer: &mut Answer,
+        bytes: Vec<u8>,
+    ) -> Result<(), AllocError> {
         self.length(draw, b'$', bytes.len())?;
         self.bytes.extend_from_slice(bytes.as_slice())?;
         self.bytes.extend_from_slice(b"\r\n")?;
@@ -149,7 +173,12 @@ impl Script {
         Ok(())
     }
 
-    fn list(&mut self, draw: &mut Draw, answer: &mut Answer, level: usize) -> Result<(), AllocError> {
+    fn list(
+        &mut self,
+        draw: &mut Draw,
+        answer: &mut Answer,
+        level: usize,
+    ) -> Result<(), AllocError> {
         let count = draw.below(4);
         let (kind, answers) = match draw.below(3) {
             0 => (b'*', count),
@@ -227,11 +256,19 @@ fn read_in_two_ways<R: Host>(
 ) -> Result<(Caller, End), Fail> {
     let mut whole = caller(draw, limits, count)?;
     let (end, _) = read(&mut whole, bytes, Pieces::Whole, draw)?;
-    let how = if draw.one_in(2) { Pieces::EachByte } else { Pieces::Drawn };
+    let how = if draw.one_in(2) {
+        Pieces::EachByte
+    } else {
+        Pieces::Drawn
+    };
     let mut pieced = caller(draw, limits, count)?;
     let (again, _) = read(&mut pieced, bytes, how, draw)?;
     draw.must(rt, "it ends alike in pieces", again == end);
-    draw.must(rt, "the answers are the same in pieces", whole.answers == pieced.answers);
+    draw.must(
+        rt,
+        "the answers are the same in pieces",
+        whole.answers == pieced.answers,
+    );
     let are_alike = whole.talk.session() == pieced.talk.session();
     draw.must(rt, "the session is the same in pieces", are_alike);
     Ok((whole, end))
@@ -243,13 +280,24 @@ fn sound<R: Host>(rt: R, draw: &mut Draw) -> Result<(), Fail> {
     let count = 1 + draw.below(4);
     let script = Script::of(draw, count)?;
     // (what announces a length is within the limits too)
-    let limits = Limits { bytes: script.most.bytes + 64, ..script.most };
+    let limits = Limits {
+        bytes: script.most.bytes + 64,
+        ..script.most
+    };
     let (mut caller, end) = read_in_two_ways(rt, draw, limits, count, script.bytes.as_slice())?;
     draw.must(rt, "a sound server is understood", end == End::Quiet);
-    draw.must(rt, "the answers are what was meant", caller.answers == script.answers);
+    draw.must(
+        rt,
+        "the answers are what was meant",
+        caller.answers == script.answers,
+    );
     draw.must(rt, "nothing is owed", caller.talk.is_settled());
     caller.feed(b"+")?;
-    draw.must(rt, "a byte more is unasked", taken(&mut caller) == End::Unasked);
+    draw.must(
+        rt,
+        "a byte more is unasked",
+        taken(&mut caller) == End::Unasked,
+    );
     Ok(())
 }
 
@@ -257,11 +305,23 @@ fn sound<R: Host>(rt: R, draw: &mut Draw) -> Result<(), Fail> {
 fn one_too_many<R: Host>(rt: R, draw: &mut Draw) -> Result<(), Fail> {
     let count = 1 + draw.below(4);
     let script = Script::of(draw, count)?;
-    let most = Limits { bytes: script.most.bytes + 64, ..script.most };
+    let most = Limits {
+        bytes: script.most.bytes + 64,
+        ..script.most
+    };
     let limits = match draw.below(3) {
-        0 if script.most.bytes > 0 => Limits { bytes: script.most.bytes - 1, ..most },
-        1 if script.most.depth > 0 => Limits { depth: script.most.depth - 1, ..most },
-        _ => Limits { parts: script.most.parts - 1, ..most },
+        0 if script.most.bytes > 0 => Limits {
+            bytes: script.most.bytes - 1,
+            ..most
+        },
+        1 if script.most.depth > 0 => Limits {
+            depth: script.most.depth - 1,
+            ..most
+        },
+        _ => Limits {
+            parts: script.most.parts - 1,
+            ..most
+        },
     };
     let (_, end) = read_in_two_ways(rt, draw, limits, count, script.bytes.as_slice())?;
     draw.must(rt, "one too many is refused", end == End::TooMuch);
@@ -283,9 +343,17 @@ fn endless<R: Host>(rt: R, draw: &mut Draw) -> Result<(), Fail> {
         bytes.extend_from_slice(piece)?;
     }
     let mut caller = caller(draw, limits, 1)?;
-    let how = if draw.one_in(2) { Pieces::EachByte } else { Pieces::Drawn };
+    let how = if draw.one_in(2) {
+        Pieces::EachByte
+    } else {
+        Pieces::Drawn
+    };
     let (end, came) = read(&mut caller, bytes.as_slice(), how, draw)?;
-    draw.must(rt, "it is refused", end != End::Quiet && caller.answers.is_empty());
+    draw.must(
+        rt,
+        "it is refused",
+        end != End::Quiet && caller.answers.is_empty(),
+    );
     let is_within = came <= allowed + piece.len() + PIECE;
     draw.must(rt, "it is refused in time", is_within);
     Ok(())

@@ -5,10 +5,9 @@
 
 use r2d2::{Builder, PlainPool, PoolRuntime};
 use redis::RedisConnectionManager;
-use std::env;
 use std::test::Fail;
-use std::thread;
 use std::time::{Duration, Instant};
+use std::{env, thread};
 
 type Connections<R> = PlainPool<RedisConnectionManager, R>;
 
@@ -37,12 +36,7 @@ fn main(rt: HostRuntime) -> Result<(), Fail> {
     Ok(())
 }
 
-fn load<R: PoolRuntime>(
-    rt: R,
-    pool: &Connections<R>,
-    threads: u32,
-    each: u32,
-) -> Result<(), Fail> {
+fn load<R: PoolRuntime>(rt: R, pool: &Connections<R>, threads: u32, each: u32) -> Result<(), Fail> {
     let mut running = Vec::new(rt.alloc());
     for _ in 0..threads {
         let pool = pool.try_clone()?;
