@@ -88,7 +88,12 @@ where
             ensure!(false, "a call was not served");
             return Ok(());
         };
-        println!(rt; "{} {size} {} {}", work.name(), took.as_micros(), waited / 1_000)?;
+        println!(rt;
+            "{} {size} {} {}",
+            work.name(),
+            took.as_micros(),
+            waited / 1_000
+        )?;
     }
     Ok(())
 }

@@ -30,7 +30,7 @@ use r2d2::PoolRuntime;
 use scenario::{Case, Scenario, is_chosen};
 use std::random::RandomSource;
 use std::{env, thread};
-use waits::{Load, waited};
+use waits::waited;
 
 /// Calls of a scenario of one thread, in one run.
 const CALLS: u32 = 2_000;
@@ -41,14 +41,9 @@ fn main(rt: HostRuntime) -> Result<(), anyhow::Error> {
     // The only scenario to run, or all.
     let word = words.next();
     let only = word.as_deref();
-    let (short, long) = (waits::short(), waits::long());
-    let loads: &[Load] = match what.as_deref() {
-        Some("waits") => &short,
-        Some("long_waits") => &long,
-        _ => &[],
-    };
+    let loads = waits::named(rt.alloc(), what.as_deref())?;
     if !loads.is_empty() {
-        return waits::measure(rt, loads, |pool, gate, load| {
+        return waits::measure(rt, loads.as_slice(), |pool, gate, load| {
             let calls = move || waited(rt, pool, gate, load);
             Ok(thread::spawn(&rt, calls)?)
         });
@@ -94,7 +89,8 @@ fn without_threads<R: PoolRuntime + RandomSource + Print>(
         Some("once") => crowds::once(rt, chosen),
         Some("build") => growth::build(rt, crowds::number(chosen[0])),
         _ => {
-            let modes = "waits, long_waits, growth, build SIZE, tasks, or once SCENARIO TASKS CALLS";
+            let modes =
+                "waits, long_waits, growth, build SIZE, tasks, or once SCENARIO TASKS CALLS";
             println!(rt; "usage: pool_bench bench [SCENARIO], {modes}")?;
             Ok(())
         }

@@ -235,13 +235,21 @@ pub fn get_drop<R: PoolRuntime + RandomSource>(
 /// The same by tasks that share the calls and wait in line for a few connections, each of which is
 /// held until its task is polled again.
 pub fn tasks<R: PoolRuntime + RandomSource>(rt: R, case: Case) -> Result<Duration, anyhow::Error> {
-    let pool = open_pool(rt, case.max_size, case.threads, NoTime)?;
     let served = Arc::new(rt.alloc(), AtomicU32::new(0))?;
-    let worker = pool.worker()?;
-    let took = run_all(rt, worker, pool, case, &served)?;
+    let took = serve_all(rt, case, &served)?;
     let count = served.load(Ordering::Relaxed);
     ensure!(count == case.operations, "a call was not served");
     Ok(took)
+}
+
+fn serve_all<R: PoolRuntime + RandomSource>(
+    rt: R,
+    case: Case,
+    served: &Arc<AtomicU32>,
+) -> Result<Duration, anyhow::Error> {
+    let pool = open_pool(rt, case.max_size, case.threads, NoTime)?;
+    let worker = pool.worker()?;
+    run_all(rt, worker, pool, case, served)
 }
 
 // How long the callers of a pool take together, beside a worker.

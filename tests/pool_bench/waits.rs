@@ -6,6 +6,7 @@ use crate::gate;
 use crate::pools::Nothings;
 use anyhow::ensure;
 use r2d2::{Builder, PlainPool, PoolRuntime};
+use std::alloc::{AllocError, Global};
 use std::sync::{Arc, Barrier};
 use std::thread::{self, JoinHandle};
 use std::time::{Duration, Instant};
@@ -26,8 +27,17 @@ pub struct Load {
 /// How long each call of a caller waited, in nanoseconds; None where one was not served.
 pub type Waits = Option<Vec<u64>>;
 
-/// Loads of two seconds at most.
-pub fn short() -> [Load; 6] {
+/// The loads of this name; none where there are none of it.
+pub fn named(alloc: Global, what: Option<&str>) -> Result<Vec<Load>, AllocError> {
+    match what {
+        Some("waits") => Vec::from_slice(alloc, &short()),
+        Some("long_waits") => Vec::from_slice(alloc, &long()),
+        _ => Ok(Vec::new(alloc)),
+    }
+}
+
+// Loads of two seconds at most.
+fn short() -> [Load; 6] {
     [
         Load::new(8, 1, 0, 10_000),
         Load::new(8, 1, 20, 2_000),
@@ -38,8 +48,8 @@ pub fn short() -> [Load; 6] {
     ]
 }
 
-/// Loads of some ten seconds, in which who is not served for long is seen.
-pub fn long() -> [Load; 3] {
+// Loads of some ten seconds, in which who is not served for long is seen.
+fn long() -> [Load; 3] {
     [
         Load::new(8, 1, 50, 22_000),
         Load::new(8, 1, 1_000, 1_180),
@@ -73,10 +83,14 @@ where
 {
     println!(rt; "way callers max_size held_us calls ns_for_each p50_us p99_9_us longest_us")?;
     for &load in loads {
-        let builder = Builder::new().max_size(load.max_size).test_on_check_out(false);
+        let builder = Builder::new()
+            .max_size(load.max_size)
+            .test_on_check_out(false);
         let pool = builder.build(rt, Nothings)?;
         print(rt, "any", load, &pool, &start)?;
-        let builder = Builder::new().max_size(load.max_size).test_on_check_out(false);
+        let builder = Builder::new()
+            .max_size(load.max_size)
+            .test_on_check_out(false);
         let pool = builder.fair_queue(Some(load.callers)).build(rt, Nothings)?;
         print(rt, "line", load, &pool, &start)?;
     }
