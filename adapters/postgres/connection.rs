@@ -158,8 +158,15 @@ impl PostgresConnection {
         self.exchange(query, deadline)
     }
 
-    /// Asks for a row that has no other use, or whether transactions may write.
-    pub(crate) fn check(&mut self, probe: Probe) -> Result<(), PostgresError>
+    /// Asks for a row that has no other use.
+    pub fn check(&mut self) -> Result<(), PostgresError>
+        ensures { self.old.standing.session ≡ Session.Broken → IsErr result }
+    {
+        self.check_by(Probe::Alive)
+    }
+
+    /// Asks for that, or whether transactions may write.
+    pub(crate) fn check_by(&mut self, probe: Probe) -> Result<(), PostgresError>
         ensures { self.old.standing.session ≡ Session.Broken → IsErr result }
     {
         self.must_pass(probe, Deadline::new(self.rt, self.timeouts.check))
@@ -217,6 +224,7 @@ impl PostgresConnection {
     // Reads the answers to a reset.
     fn end_reset(&mut self, deadline: Deadline) -> Result<(), PostgresError>
         ensures session { self.new.standing.session ≡ self.old.standing.session }
+        ensures ok { OnOk result (self.new.standing.resetting ≡ 0) }
         ensures mark { self.new.standing.mark ≡ Mark.Plain →
             (self.old.standing.mark ≡ Mark.Plain) ⊎ (0 < self.old.standing.resetting) }
     {

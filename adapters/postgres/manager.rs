@@ -135,7 +135,7 @@ impl ManageConnection for PostgresConnectionManager {
     }
 
     fn is_valid(&self, connection: &mut PostgresConnection) -> Result<(), PostgresError> {
-        connection.check(self.settings.probe)
+        connection.check_by(self.settings.probe)
     }
 
     /// A connection is closed, and not lent on, that is broken, that the server said something on
