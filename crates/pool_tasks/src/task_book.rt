@@ -237,6 +237,7 @@ impl<P: Drop> TaskBook<P> {
     }
 
     // Passes the first of them, and wakes the one who is notified instead. Whether there was one.
+    #[inline(always)]
     fn pass_one(&mut self, search: &mut LateSearch, now: Duration) -> bool
         requires { AreSearches (as_nanos now) self.old.ends.items search.old
             self.old.guarded.places }

@@ -178,6 +178,7 @@ impl Line {
 
     /// The first one that was notified and whose time is over, before all that were not notified:
     /// there the search stops. Each one's end stands at its slot.
+    #[inline(always)]
     pub fn first_late(&self, search: &mut Search, now: Duration, ends: &[Duration]) -> Option<u32>
         requires { IsLateSearch (as_nanos now) ends.now search.old (places_in self.now.ring) }
         ensures late { result ≡ first_late (as_nanos now) ends.now (places_in self.now.ring) }

@@ -125,6 +125,7 @@ impl<P, C: TakeTotal> PoolState<P, C> {
     /// first that was not notified is notified. It keeps its place until it looks or leaves. Each
     /// one's end stands at its slot. None if nobody is late. The next call with the same search,
     /// moment and ends goes on from there.
+    #[inline(always)]
     pub fn pass_late(
         &mut self,
         search: &mut LateSearch,
