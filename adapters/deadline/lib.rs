@@ -1,12 +1,14 @@
-//! By when a call to a server is over, however many reads and writes it takes, and how a connection
-//! is opened by then. This copy is yours, to be changed.
+//! By when a call to a server is over, however many reads and writes it takes; how a connection is
+//! opened by then, and looked at before it is used. This copy is yours, to be changed.
 #![tactic(auto)]
 
 ghost use Rattle.std.specs.Prelude.{◌<◌, ◌≤◌, IfOk};
 ghost use Rattle.std.specs.Duration.{as_nanos};
 
+mod look;
 mod place;
 
+pub use look::is_quiet;
 pub use place::Place;
 use std::io;
 use std::time::{Duration, Instant};

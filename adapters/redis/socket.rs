@@ -1,7 +1,7 @@
 //! The socket: what waits, and for how long.
 
 use crate::error::RedisError;
-use deadline::{Deadline, Place};
+use deadline::{Deadline, Place, is_quiet};
 use std::io;
 use std::io::{Read, Write};
 use std::net::TcpStream;
@@ -51,20 +51,11 @@ impl Socket {
 
     /// Looks whether bytes came, or the end of the stream, and waits for neither.
     pub fn must_be_quiet(&mut self, deadline: Deadline) -> Result<(), RedisError> {
-        match self.peeked() {
-            Err(error) if error.kind() == io::ErrorKind::WouldBlock => Ok(()),
+        match is_quiet(&self.stream) {
+            Ok(true) => Ok(()),
+            Ok(false) => Err(RedisError::Unasked),
             Err(error) => Err(self.explained(deadline, error)),
-            Ok(0) => Err(self.explained(deadline, io::Error::from(io::ErrorKind::UnexpectedEof))),
-            Ok(_) => Err(RedisError::Unasked),
         }
-    }
-
-    fn peeked(&mut self) -> io::Result<usize> {
-        let mut byte = [0; 1];
-        self.stream.set_nonblocking(true)?;
-        let seen = self.stream.peek(&mut byte);
-        self.stream.set_nonblocking(false)?;
-        seen
     }
 
     // A read waits for no longer than is left, but for a tenth of the whole: so the system need not
