@@ -17,7 +17,8 @@ use redis_codec::{Item, Session};
 #[derive(Drop)]
 pub struct RedisConnection {
     rt: HostRuntime,
-    wire: Wire,
+    // (boxed, as each lending and each return moves a connection)
+    wire: Box<Wire>,
     timeouts: Timeouts,
     standing: Standing,
 }
@@ -30,9 +31,10 @@ impl RedisConnection {
     ) -> Result<RedisConnection, RedisError> {
         let deadline = Deadline::new(rt, settings.timeouts.connect);
         let address = settings.address.as_str();
+        let wire = Wire::open(rt, address, settings.limits, deadline)?;
         let mut connection = RedisConnection {
             rt,
-            wire: Wire::open(rt, address, settings.limits, deadline)?,
+            wire: Box::new(rt.alloc(), wire)?,
             timeouts: settings.timeouts,
             standing: Standing::new(),
         };
@@ -53,7 +55,7 @@ impl RedisConnection {
     /// How what was sent so far has left the session at the server. A reset that is not over yet
     /// has not changed it.
     pub fn session(&self) -> Session
-        ensures { result ≡ self.now.wire.talk.session }
+        ensures { result ≡ self.now.wire.value.talk.session }
     {
         self.wire.talk.session()
     }
@@ -159,12 +161,12 @@ impl RedisConnection {
     pub(crate) fn come_back(&mut self, reset: Reset, login: &Login) -> bool
         ensures broken { IsTrue self.old.standing.is_broken → IsFalse result }
         ensures never { IsTrue result → self.old.standing.resetting ≡ 0 → reset ≡ Reset.Never →
-            IsFalse self.old.wire.talk.session.transaction
-            × IsFalse self.old.wire.talk.session.watch
-            × IsFalse self.old.wire.talk.session.subscriptions
-            × IsFalse self.old.wire.talk.session.monitor }
+            IsFalse self.old.wire.value.talk.session.transaction
+            × IsFalse self.old.wire.value.talk.session.watch
+            × IsFalse self.old.wire.value.talk.session.subscriptions
+            × IsFalse self.old.wire.value.talk.session.monitor }
         ensures marked { IsTrue result → reset ≡ Reset.IfMarked →
-            (self.new.wire.talk.session ≡ plain) ⊎ (0 < self.new.standing.resetting) }
+            (self.new.wire.value.talk.session ≡ plain) ⊎ (0 < self.new.standing.resetting) }
         ensures always { IsTrue result → reset ≡ Reset.Always → 0 < self.new.standing.resetting }
     {
         let is_kept = self.end_session(reset, login).is_ok();
@@ -175,12 +177,12 @@ impl RedisConnection {
     fn end_session(&mut self, reset: Reset, login: &Login) -> Result<(), RedisError>
         ensures broken { IsTrue self.old.standing.is_broken → IsErr result }
         ensures never { IsOk result → self.old.standing.resetting ≡ 0 → reset ≡ Reset.Never →
-            IsFalse self.old.wire.talk.session.transaction
-            × IsFalse self.old.wire.talk.session.watch
-            × IsFalse self.old.wire.talk.session.subscriptions
-            × IsFalse self.old.wire.talk.session.monitor }
+            IsFalse self.old.wire.value.talk.session.transaction
+            × IsFalse self.old.wire.value.talk.session.watch
+            × IsFalse self.old.wire.value.talk.session.subscriptions
+            × IsFalse self.old.wire.value.talk.session.monitor }
         ensures marked { IsOk result → reset ≡ Reset.IfMarked →
-            (self.new.wire.talk.session ≡ plain) ⊎ (0 < self.new.standing.resetting) }
+            (self.new.wire.value.talk.session ≡ plain) ⊎ (0 < self.new.standing.resetting) }
         ensures always { IsOk result → reset ≡ Reset.Always → 0 < self.new.standing.resetting }
     {
         let deadline = Deadline::new(self.rt, self.timeouts.check);

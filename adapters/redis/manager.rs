@@ -128,7 +128,8 @@ impl ManageConnection for RedisConnectionManager {
     fn has_broken(&self, connection: &mut RedisConnection) -> bool
         ensures broken { IsTrue connection.old.standing.is_broken → IsTrue result }
         ensures marked { IsFalse result → self.now.settings.reset ≡ Reset.IfMarked →
-            (connection.new.wire.talk.session ≡ plain) ⊎ (0 < connection.new.standing.resetting) }
+            (connection.new.wire.value.talk.session ≡ plain)
+            ⊎ (0 < connection.new.standing.resetting) }
         ensures always { IsFalse result → self.now.settings.reset ≡ Reset.Always →
             0 < connection.new.standing.resetting }
     {
