@@ -5,6 +5,7 @@ ghost use Rattle.redis_codec.specs.Sessions.{plain};
 
 use crate::error::RedisError;
 use crate::greeting::Greeting;
+use crate::probe::Probe;
 use crate::reply::Reply;
 use crate::reset::{Login, Reset};
 use crate::settings::{Settings, Timeouts};
@@ -38,10 +39,7 @@ impl RedisConnection {
             timeouts: settings.timeouts,
             standing: Standing::new(),
         };
-        connection.begin(&settings.login, settings.reset, deadline)?;
-        if settings.primary_only {
-            connection.must_be_primary(deadline)?;
-        }
+        connection.begin(settings, deadline)?;
         Ok(connection)
     }
 
@@ -88,23 +86,16 @@ impl RedisConnection {
     pub fn ping(&mut self) -> Result<(), RedisError>
         ensures ok { IsOk result → IsFalse self.new.standing.is_broken }
     {
+        self.check(Probe::Alive)
+    }
+
+    /// Asks what a check asks.
+    pub(crate) fn check(&mut self, probe: Probe) -> Result<(), RedisError>
+        ensures ok { IsOk result → IsFalse self.new.standing.is_broken }
+    {
         let deadline = Deadline::new(self.rt, self.timeouts.check);
-        let items = self.quiet_exchange(&[b"PING"], deadline)?;
-        self.standing.is_pong(self.rt.alloc(), items)
-    }
-
-    /// Asks for a reply, or where a replica is refused, for the server's role.
-    pub(crate) fn check(&mut self, primary_only: bool) -> Result<(), RedisError> {
-        if primary_only {
-            self.must_be_primary(Deadline::new(self.rt, self.timeouts.check))
-        } else {
-            self.ping()
-        }
-    }
-
-    fn must_be_primary(&mut self, deadline: Deadline) -> Result<(), RedisError> {
-        let items = self.quiet_exchange(&[b"ROLE"], deadline)?;
-        self.standing.is_primary(self.rt.alloc(), items)
+        let items = self.quiet_exchange(&[probe.word()], deadline)?;
+        self.standing.passes(self.rt.alloc(), probe, items)
     }
 
     // An exchange with a server that has said nothing since it answered last.
@@ -139,17 +130,17 @@ impl RedisConnection {
         Ok(items)
     }
 
-    fn begin(&mut self, login: &Login, reset: Reset, deadline: Deadline) -> Result<(), RedisError> {
+    fn begin(&mut self, settings: &Settings, deadline: Deadline) -> Result<(), RedisError> {
         let alloc = self.rt.alloc();
-        let mut requests = Vec::new(alloc);
-        let mut greeting = Greeting::ask(alloc, login, reset, &mut self.wire.talk, &mut requests)?;
+        let (talk, mut requests) = (&mut self.wire.talk, Vec::new(alloc));
+        let mut greeting = Greeting::ask(alloc, settings, talk, &mut requests)?;
         self.wire.send(requests.as_slice(), deadline)?;
         for _ in 0..u64::MAX {
             if greeting.is_over() {
                 break;
             }
             let items = self.wire.receive(deadline)?;
-            greeting.answered(alloc, login, &mut self.standing, items)?;
+            greeting.answered(alloc, &settings.login, &mut self.standing, items)?;
         }
         // What was said here is how each session begins.
         self.wire.talk.begin();

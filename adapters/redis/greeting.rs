@@ -2,7 +2,9 @@
 //! never answer: so an answer is waited for.
 
 use crate::error::RedisError;
+use crate::probe::Probe;
 use crate::reset::{Login, Reset};
+use crate::settings::Settings;
 use crate::standing::Standing;
 use redis_codec::{Conversation, Item};
 use std::alloc::{AllocError, Global};
@@ -12,36 +14,35 @@ use std::alloc::{AllocError, Global};
 pub struct Greeting {
     finds_reset: bool,
     logins: usize,
-    pings: usize,
+    probe: Option<Probe>,
 }
 
 impl Greeting {
     /// Asks them: they are appended to these bytes.
     pub fn ask(
         alloc: Global,
-        login: &Login,
-        reset: Reset,
+        settings: &Settings,
         talk: &mut Conversation,
         bytes: &mut Vec<u8>,
     ) -> Result<Greeting, AllocError> {
-        let finds_reset = reset != Reset::Never;
+        let finds_reset = settings.reset != Reset::Never;
         if finds_reset {
             let request = talk.ask(&[b"RESET"])?;
             bytes.extend_from_slice(request.as_slice())?;
         }
-        let logins = login.ask(alloc, talk, bytes)?;
-        let request = talk.ask(&[b"PING"])?;
+        let logins = settings.login.ask(alloc, talk, bytes)?;
+        let request = talk.ask(&[settings.probe.word()])?;
         bytes.extend_from_slice(request.as_slice())?;
         Ok(Greeting {
             finds_reset,
             logins,
-            pings: 1,
+            probe: Some(settings.probe),
         })
     }
 
     /// Whether all of them are answered.
     pub fn is_over(&self) -> bool {
-        self.pings == 0
+        self.probe.is_none()
     }
 
     /// The next answer. With the last one the session has begun.
@@ -73,7 +74,9 @@ impl Greeting {
             self.logins -= 1;
             return login.must_be_taken(alloc, items);
         }
-        self.pings = 0;
-        standing.is_pong(alloc, items)
+        match self.probe.take() {
+            Some(probe) => standing.passes(alloc, probe, items),
+            None => Err(RedisError::Unasked),
+        }
     }
 }

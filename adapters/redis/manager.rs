@@ -6,6 +6,7 @@ ghost use Rattle.redis_codec.specs.Sessions.{plain};
 
 use crate::connection::RedisConnection;
 use crate::error::RedisError;
+use crate::probe::Probe;
 use crate::reset::{Login, Reset};
 use crate::settings::{Settings, Timeouts};
 use r2d2::ManageConnection;
@@ -47,7 +48,7 @@ impl RedisConnectionManager {
                 parts: 1024 * 1024,
                 depth: 32,
             },
-            primary_only: false,
+            probe: Probe::Alive,
         };
         Ok(RedisConnectionManager { rt, settings })
     }
@@ -96,9 +97,9 @@ impl RedisConnectionManager {
 
     /// An opening and a check fail at a server that is a replica, by ROLE. So where the primary
     /// moves, the setting `evict_idle_on_failed_check` of the pool closes all that were opened
-    /// before. For connections of threads alone.
+    /// before.
     pub fn with_primary_only(mut self) -> Self {
-        self.settings.primary_only = true;
+        self.settings.probe = Probe::Primary;
         self
     }
 
@@ -120,7 +121,7 @@ impl ManageConnection for RedisConnectionManager {
     }
 
     fn is_valid(&self, connection: &mut RedisConnection) -> Result<(), RedisError> {
-        connection.check(self.settings.primary_only)
+        connection.check(self.settings.probe)
     }
 
     /// A connection is closed, and not lent on, that is broken, that the server said something on

@@ -1,5 +1,6 @@
 //! The settings of a manager.
 
+use crate::probe::Probe;
 use crate::reset::{Login, Reset};
 use redis_codec::Limits;
 use std::time::Duration;
@@ -13,8 +14,8 @@ pub struct Settings {
     pub reset: Reset,
     pub timeouts: Timeouts,
     pub limits: Limits,
-    /// Whether a replica is refused, at an opening and at a check.
-    pub primary_only: bool,
+    /// What is asked at an opening and at a check.
+    pub probe: Probe,
 }
 
 /// How long a call may take, from its beginning to its end.

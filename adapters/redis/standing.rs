@@ -4,6 +4,7 @@ ghost use Rattle.std.specs.Prelude.{◌≡◌, ◌<◌, ◌⊎◌, IsErr, IsFals
 ghost use Rattle.redis_codec.specs.Sessions.{plain};
 
 use crate::error::RedisError;
+use crate::probe::Probe;
 use crate::reply::{Reply, escaped};
 use crate::reset::{Login, Reset, is_lasting, is_left_open};
 use redis_codec::{Conversation, Item, Session};
@@ -51,8 +52,25 @@ impl Standing {
         }
     }
 
-    /// The answer to a PING.
-    pub fn is_pong(&mut self, alloc: Global, items: Vec<Item>) -> Result<(), RedisError>
+    /// The answer to what was asked. One that is refused is broken, but where it refuses a PING.
+    pub fn passes(
+        &mut self,
+        alloc: Global,
+        probe: Probe,
+        items: Vec<Item>,
+    ) -> Result<(), RedisError>
+        ensures ok { IsOk result → self.new.is_broken ≡ self.old.is_broken }
+        ensures ok_sound { IsFalse self.old.is_broken → IsOk result → IsFalse self.new.is_broken }
+        ensures replica { probe ≡ Probe.Primary → IsErr result → IsTrue self.new.is_broken }
+    {
+        match probe {
+            Probe::Alive => self.is_pong(alloc, items),
+            Probe::Primary => self.is_primary(alloc, items),
+        }
+    }
+
+    // The answer to a PING.
+    fn is_pong(&mut self, alloc: Global, items: Vec<Item>) -> Result<(), RedisError>
         ensures ok { IsOk result → self.new.is_broken ≡ self.old.is_broken }
         ensures ok_sound { IsFalse self.old.is_broken → IsOk result → IsFalse self.new.is_broken }
     {
@@ -65,19 +83,21 @@ impl Standing {
         }
     }
 
-    /// The answer to a ROLE.
-    pub fn is_primary(&mut self, alloc: Global, items: Vec<Item>) -> Result<(), RedisError>
+    // The answer to a ROLE.
+    fn is_primary(&mut self, alloc: Global, items: Vec<Item>) -> Result<(), RedisError>
         ensures ok { IsOk result → self.new.is_broken ≡ self.old.is_broken }
+        ensures err { IsErr result → IsTrue self.new.is_broken }
     {
-        let error = match items.as_slice() {
+        match items.as_slice() {
             [Item::List(_), Item::Value(role), ..] if role.as_slice() == b"master".as_slice() => {
                 return Ok(());
             }
-            [Item::Refusal(text)] => RedisError::Refused(escaped(alloc, text.as_slice())?),
-            _ => RedisError::Replica,
-        };
-        self.is_broken = true;
-        Err(error)
+            _ => self.is_broken = true,
+        }
+        match items.as_slice() {
+            [Item::Refusal(text)] => Err(RedisError::Refused(escaped(alloc, text.as_slice())?)),
+            _ => Err(RedisError::Replica),
+        }
     }
 
     /// The answer to a RESET, which shows whether the server has it, as those since 6.2 have.

@@ -1,13 +1,13 @@
 //! The futures of a command and of a check.
 
-ghost use Rattle.std.specs.Prelude.{IsFalse, IsOk, IsSome, IsTrue};
+ghost use Rattle.std.specs.Prelude.{◌≡◌, IsFalse, IsOk, IsSome, IsTrue};
 ghost use Rattle.futures.specs.Task.{IsArmed, Keeps};
 ghost use Rattle.futures.specs.Poll.{IfReady, OnPending};
 
 use crate::connection::{Request, TaskConnection};
 use futures::task::{Context, Poll};
 use futures::{Future, ready};
-use redis::{RedisError, Reply};
+use redis::{Probe, RedisError, Reply};
 use redis_codec::Item;
 use std::alloc::{AllocError, Global};
 use std::ops::DerefMut;
@@ -115,21 +115,25 @@ fn poll_items(
     }
 }
 
-/// The future of a check: a PING, and its answer.
+/// The future of a check: what it asks, and the answer.
 #[derive(Drop)]
 pub struct Check {
     // None once it was ready.
     connection: Option<TaskConnection>,
+    probe: Probe,
     request: Result<Request, AllocError>,
 }
 
 impl Check {
-    pub(crate) fn of(connection: TaskConnection) -> Check
-        ensures { IsSome result.connection }
+    pub(crate) fn of(connection: TaskConnection, probe: Probe) -> Check
+        ensures connection { IsSome result.connection }
+        ensures probe { result.probe ≡ probe }
     {
-        let request = Request::of(connection.alloc(), &[b"PING"], connection.timeouts.check);
+        let timeout = connection.timeouts.check;
+        let request = Request::of(connection.alloc(), &[probe.word()], timeout);
         Check {
             connection: Some(connection),
+            probe,
             request,
         }
     }
@@ -145,7 +149,7 @@ impl Future for Check {
         let verdict = match ready!(poll_items(connection, &mut self.request, cx)) {
             Ok(items) => {
                 let alloc = connection.alloc();
-                connection.standing.is_pong(alloc, items)
+                connection.standing.passes(alloc, self.probe, items)
             }
             Err(error) => Err(error),
         };

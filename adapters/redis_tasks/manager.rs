@@ -51,7 +51,7 @@ impl ManageConnection for TaskConnectionManager {
     }
 
     fn check(&self, connection: TaskConnection) -> Check {
-        Check::of(connection)
+        Check::of(connection, self.settings.probe)
     }
 
     /// A connection is closed, and not lent on, that is broken, that the server said something on

@@ -157,8 +157,7 @@ impl Opening {
         let address = settings.address.as_str();
         let mut socket = Socket::new(alloc, stream, address, settings.limits)?;
         let mut requests = Vec::new(alloc);
-        let (login, talk) = (&settings.login, &mut socket.talk);
-        let greeting = Greeting::ask(alloc, login, settings.reset, talk, &mut requests)?;
+        let greeting = Greeting::ask(alloc, settings, &mut socket.talk, &mut requests)?;
         Ok(Dialed {
             socket,
             standing: Standing::new(),

@@ -3,6 +3,7 @@
 //! `postgres-MODE ADDRESS USER [PASSWORD]` have one connection, reset at a return as the mode says,
 //! check nothing, wait for half a second, and do what the lines on standard input say; with `calm`
 //! in place of `postgres` they wait for ten seconds, and `postgres-salted` for fifteen.
+//! `redis-primary` checks, and takes no replica.
 //! `cancel-KIND ADDRESS REQUESTS` asks a server of that kind so often, and gives up each request
 //! after three milliseconds; `outage-KIND ADDRESS MILLISECONDS` asks for so long, and nothing waits
 //! for longer than 300 of them. With one word it writes itself to that place.
@@ -13,7 +14,7 @@ mod service;
 mod talks;
 
 use self::callers::{Length, throng};
-use self::service::{Lent, Service};
+use self::service::{Lending, Lent, Service};
 use self::talks::Talks;
 use postgres_tasks::PostgresConnectionManager;
 use r2d2::PoolRuntime;
@@ -72,14 +73,20 @@ fn begin<R: PoolRuntime + RandomSource + Print + Input>(
         ("redis", login) => {
             let ours = of_redis(host, name, address, login, &runtime)?;
             let other = of_redis(host, name, address, login, &runtime)?;
-            let patience = Duration::from_secs(3);
-            serve(rt, Service::new(rt, runtime, ours, other, patience)?)
+            let lending = Lending {
+                checks: name == "primary",
+                patience: Duration::from_secs(3),
+            };
+            serve(rt, Service::new(rt, runtime, ours, other, lending)?)
         }
         (_, login) => {
             let ours = of_postgres(host, kind, address, login, &runtime)?;
             let other = of_postgres(host, kind, address, login, &runtime)?;
-            let patience = Duration::from_secs(if waits_long(kind) { 14 } else { 3 });
-            serve(rt, Service::new(rt, runtime, ours, other, patience)?)
+            let lending = Lending {
+                checks: false,
+                patience: Duration::from_secs(if waits_long(kind) { 14 } else { 3 }),
+            };
+            serve(rt, Service::new(rt, runtime, ours, other, lending)?)
         }
     }
 }
@@ -115,6 +122,10 @@ fn of_redis(
     };
     let manager = RedisConnectionManager::new(rt, address, Duration::from_millis(500))?;
     let manager = manager.with_reset(reset);
+    let manager = match mode {
+        "primary" => manager.with_primary_only(),
+        _ => manager,
+    };
     let manager = match login {
         [] => manager,
         [password] => manager.with_password(password.as_str())?,

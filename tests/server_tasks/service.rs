@@ -38,6 +38,13 @@ impl<F: Future, M: Server, R: PoolRuntime> Future for Beside<'_, F, M, R> {
     }
 }
 
+/// Whether a connection is checked before it is lent, and how long a `get` waits.
+#[derive(Clone, Copy)]
+pub struct Lending {
+    pub checks: bool,
+    pub patience: Duration,
+}
+
 /// A pool of one connection, and what runs it.
 #[derive(Drop)]
 pub struct Service<M: Server, R: PoolRuntime> {
@@ -50,19 +57,19 @@ pub struct Service<M: Server, R: PoolRuntime> {
 }
 
 impl<M: Talks<Lent<M, R>>, R: PoolRuntime + RandomSource + Print> Service<M, R> {
-    /// Two managers of the same; a `get` waits for so long.
+    /// Two managers of the same.
     pub fn new(
         rt: R,
         runtime: LocalRuntime,
         ours: M,
         other: M,
-        patience: Duration,
+        lending: Lending,
     ) -> Result<Service<M, R>, Fail> {
         let timer = TokioTimer::new(rt, runtime.handle())?;
         let builder = Builder::new()
             .max_size(1)
-            .test_on_check_out(false)
-            .connection_timeout(patience)
+            .test_on_check_out(lending.checks)
+            .connection_timeout(lending.patience)
             .max_retry_delay(Some(Duration::from_millis(200)));
         let pool = Pool::build(builder, rt, ours, timer)?;
         Ok(Service {

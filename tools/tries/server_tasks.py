@@ -267,6 +267,28 @@ class RedisTrial(TaskTrial):
 
     def try_sessions(self):
         redis_sessions.try_sessions(self)
+        self.try_primary()
+
+    def try_primary(self):
+        """A server that becomes a replica is left at a check where that is set, and none is opened to it."""
+        primary = SlowRedis(os.path.join(os.path.dirname(self.server.folder), "primary"))
+        service = self.service_of("redis-primary")
+        try:
+            primary.start()
+            told = service.ask("run INCR primaries")
+            self.check("a primary is served by", told == "Number(1) |", told)
+            self.server.ask("REPLICAOF", HOST, str(primary.port))
+            told = service.ask("late opening")
+            self.check("no connection to a replica is opened", told.startswith("failed=8 "), told)
+            told = service.ask("run GET primaries")
+            self.check("a replica is left at a check", "the server is no primary" in told, told)
+            told = self.service_of("redis-never").ask("get")
+            self.check("where that is not set it is not", told == "lent", told)
+            self.server.ask("REPLICAOF", "NO", "ONE")
+            told = service.ask("run INCR primaries")
+            self.check("once it is a primary again it serves", told == "Number(1) |" or told == "Number(2) |", told)
+        finally:
+            primary.end()
 
     def try_first(self, mine):
         """A hundred tasks count, each once."""
