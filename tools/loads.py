@@ -3,17 +3,19 @@ import os
 import subprocess
 import sys
 import tempfile
+from statistics import median
 
 import unproved
 from copies import TESTS, TOP
+from priority import go_first, may_go_first
 
 sys.path.append(os.path.join(TOP, "tools", "tries"))
 import adapters
 from servers import HOST, FleetingRedis
 
 # A run is short, so that some meet no other work. (r2d2 has no check after an idle time: beside that stands what it does without checks.)
-COMMANDS, RUNS = 6_000, 5
-CHECKS, THREADS = ["never", "idle", "always"], [1, 4, 16]
+COMMANDS, RUNS = 4_000, 5
+CHECKS, THREADS = ["never", "idle", "always"], [1, 4, 8, 16]
 # What runs, and what it is given more.
 WAYS = {"ours": [], "r2d2": ["quiet"], "r2d2, without looks": []}
 
@@ -31,10 +33,26 @@ def built(folder):
     return path
 
 
-def took(path, port, threads, checks, more):
+def took(path, port, threads, checks, more, is_first):
     """The nanoseconds for each command."""
     words = [path, f"{HOST}:{port}", str(threads), checks, str(COMMANDS), *more]
-    return int(subprocess.run(words, stdout=subprocess.PIPE, check=True).stdout) / COMMANDS
+    done = subprocess.run(words, stdout=subprocess.PIPE, check=True, preexec_fn=go_first if is_first else None)
+    return int(done.stdout) / COMMANDS
+
+
+def seen_at(server, paths, rounds):
+    """The figures of each way, for each kind of checks and number of threads."""
+    is_first, seen = may_go_first(), {}
+    server.start()
+    if is_first:
+        go_first(server.process.pid)
+    for number in range(rounds * RUNS):
+        # (what runs first meets what others left)
+        ways = list(WAYS)[:: -1 if number % 2 else 1]
+        for checks, threads, way in ((a, b, c) for a in CHECKS for b in THREADS for c in ways):
+            figure = took(paths[way], server.port, threads, checks, WAYS[way], is_first)
+            seen.setdefault((checks, threads), {}).setdefault(way, []).append(figure)
+    return seen, is_first
 
 
 def time_redis(rounds, theirs, say):
@@ -43,14 +61,10 @@ def time_redis(rounds, theirs, say):
     with tempfile.TemporaryDirectory() as folder:
         program = theirs.build(folder)
         say("compiling ours")
-        paths, seen = {way: program for way in WAYS} | {"ours": built(folder)}, {}
+        paths = {way: program for way in WAYS} | {"ours": built(folder)}
         server, start = FleetingRedis(os.path.join(folder, "server")), os.getloadavg()[0]
         try:
-            server.start()
-            for number in range(rounds * RUNS):
-                for checks, threads, way in ((a, b, c) for a in CHECKS for b in THREADS for c in WAYS):
-                    figure = took(paths[way], server.port, threads, checks, WAYS[way])
-                    seen.setdefault((checks, threads), {}).setdefault(way, []).append(figure)
+            seen, is_first = seen_at(server, paths, rounds)
         finally:
             server.end()
         end = os.getloadavg()[0]
@@ -58,6 +72,8 @@ def time_redis(rounds, theirs, say):
     print("| checks | threads | ours, ns | r2d2, ns | without looks, ns | of r2d2's throughput | of that without looks |")
     print("|---|---:|---:|---:|---:|---:|---:|")
     for (checks, threads), ways in seen.items():
-        ours, looks, bare = (min(ways[way]) for way in WAYS)
-        print(f"| {checks} | {threads} | {ours:,.0f} | {looks:,.0f} | {bare:,.0f} | {looks / ours:.2f} | {bare / ours:.2f} |")
-    print(f"\nthe least of {rounds * RUNS} runs, cores {len(os.sched_getaffinity(0))}, load {start:.1f} at the start and {end:.1f} at the end")
+        ours, looks, bare = (median(ways[way]) for way in WAYS)
+        each = " | ".join(f"{min(ways[way]):,.0f}/{median(ways[way]):,.0f}" for way in WAYS)
+        print(f"| {checks} | {threads} | {each} | {looks / ours:.2f} | {bare / ours:.2f} |")
+    how = "at a real-time priority" if is_first else "at no priority of their own"
+    print(f"\nthe least and the median of {rounds * RUNS} runs, {how}, cores {len(os.sched_getaffinity(0))}, load {start:.1f} at the start and {end:.1f} at the end")

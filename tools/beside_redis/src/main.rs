@@ -2,12 +2,21 @@
 //! each call, requests and replies by RESP 2, and with `quiet` as a fifth word a look before each
 //! request and at each return whether bytes came that nobody asked for.
 
+use std::ffi::{c_int, c_void};
 use std::io::{Error, ErrorKind, Read, Result, Write};
 use std::net::TcpStream;
+use std::os::fd::AsRawFd;
 use std::sync::atomic::{AtomicU64, Ordering};
 use std::time::{Duration, Instant};
 
 const PIECE: usize = 16 * 1024;
+// Of Linux: to read without taking, and without waiting.
+const MSG_PEEK: c_int = 2;
+const MSG_DONTWAIT: c_int = 0x40;
+
+extern "C" {
+    fn recv(socket: c_int, bytes: *mut c_void, length: usize, flags: c_int) -> isize;
+}
 
 #[derive(Debug)]
 enum Reply {
@@ -84,11 +93,10 @@ impl Connection {
         if !self.is_quiet {
             return Ok(());
         }
-        self.stream.set_nonblocking(true)?;
-        let seen = self.stream.peek(&mut [0]);
-        self.stream.set_nonblocking(false)?;
-        match seen {
-            Err(error) if error.kind() == ErrorKind::WouldBlock => Ok(()),
+        let (mut byte, flags) = ([0u8; 1], MSG_PEEK | MSG_DONTWAIT);
+        let seen = unsafe { recv(self.stream.as_raw_fd(), byte.as_mut_ptr().cast(), 1, flags) };
+        match Error::last_os_error() {
+            error if seen < 0 && error.kind() == ErrorKind::WouldBlock => Ok(()),
             _ => Err(Error::from(ErrorKind::InvalidData)),
         }
     }
