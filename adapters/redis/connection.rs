@@ -5,6 +5,7 @@ ghost use Rattle.redis_codec.specs.Sessions.{plain};
 
 use crate::error::RedisError;
 use crate::greeting::Greeting;
+use crate::pipeline::Pipeline;
 use crate::probe::Probe;
 use crate::reply::Reply;
 use crate::reset::{Login, Reset};
@@ -82,6 +83,25 @@ impl RedisConnection {
         self.standing.replied(self.rt.alloc(), items)
     }
 
+    /// Sends the commands of a pipeline in one write, and reads their replies: one for each, in the
+    /// same order, and `Reply::Refused` for one that was refused. All together have the time of a
+    /// command; the limits are those of each answer. After an error some, or all, may have been
+    /// carried out.
+    pub fn run_all(&mut self, pipeline: &Pipeline) -> Result<Vec<Reply>, RedisError>
+        ensures err { IsErr result → IsTrue self.new.standing.is_broken }
+        ensures stays { IsTrue self.old.standing.is_broken →
+            IsErr result × IsTrue self.new.standing.is_broken }
+    {
+        let deadline = Deadline::new(self.rt, self.timeouts.command);
+        self.must_be_quiet(deadline)?;
+        self.wire.ask_all(pipeline, deadline)?;
+        let answers = self
+            .wire
+            .receive_all(self.rt.alloc(), pipeline.len(), deadline)?;
+        self.standing.is_broken = false;
+        self.standing.replied_all(self.rt.alloc(), answers)
+    }
+
     /// Asks for a reply that has no other use.
     pub fn ping(&mut self) -> Result<(), RedisError>
         ensures ok { IsOk result → IsFalse self.new.standing.is_broken }
@@ -107,14 +127,23 @@ impl RedisConnection {
         ensures broken { IsErr result ↔ IsTrue self.new.standing.is_broken }
         ensures stays { IsTrue self.old.standing.is_broken → IsErr result }
     {
+        self.must_be_quiet(deadline)?;
+        self.exchange(words, deadline)
+    }
+
+    // The server has said nothing since it answered last. From here on it is broken, until the
+    // answer is there to what is asked now.
+    fn must_be_quiet(&mut self, deadline: Deadline) -> Result<(), RedisError>
+        ensures broken { IsTrue self.new.standing.is_broken }
+        ensures stays { IsTrue self.old.standing.is_broken → IsErr result }
+    {
         if self.standing.is_broken {
             return Err(RedisError::Broken);
         }
         self.standing.is_broken = true;
         self.wire.end_reset(self.standing.resetting, deadline)?;
         self.standing.resetting = 0;
-        self.wire.must_be_quiet(deadline)?;
-        self.exchange(words, deadline)
+        self.wire.must_be_quiet(deadline)
     }
 
     // It is broken from before the command is sent until its answer is there, so each `?` leaves it

@@ -31,12 +31,13 @@ impl Greeting {
             bytes.extend_from_slice(request.as_slice())?;
         }
         let logins = settings.login.ask(alloc, talk, bytes)?;
-        let request = talk.ask(&[settings.probe.word()])?;
+        let probe = settings.probe;
+        let request = talk.ask(&[probe.word()])?;
         bytes.extend_from_slice(request.as_slice())?;
         Ok(Greeting {
             finds_reset,
             logins,
-            probe: Some(settings.probe),
+            probe: Some(probe),
         })
     }
 

@@ -1,6 +1,6 @@
 //! Opens connections to Redis, and checks them.
 
-ghost use Rattle.std.specs.Prelude.{◌≡◌, ◌<◌, ◌⊎◌, IsFalse, IsTrue};
+ghost use Rattle.std.specs.Prelude.{◌≡◌, ◌<◌, ◌⊎◌, IsFalse, IsOk, IsTrue};
 ghost use Rattle.std.specs.Duration.{as_nanos};
 ghost use Rattle.redis_codec.specs.Sessions.{plain};
 
@@ -66,20 +66,30 @@ impl RedisConnectionManager {
     }
 
     /// Each session begins at this database.
-    pub fn with_database(mut self, database: u32) -> Self {
+    pub fn with_database(mut self, database: u32) -> Self
+        ensures { result.settings ≡ record self.settings {
+          login = record self.settings.login { database = database };
+        } }
+    {
         self.settings.login.database = database;
         self
     }
 
     /// When a connection that comes back is reset: where its session differs from how it began,
     /// until another mode is set.
-    pub fn with_reset(mut self, reset: Reset) -> Self {
+    pub fn with_reset(mut self, reset: Reset) -> Self
+        ensures { result.settings ≡ record self.settings { reset = reset } }
+    {
         self.settings.reset = reset;
         self
     }
 
     /// How long an opening, a check and a command may take.
-    pub fn with_timeouts(mut self, connect: Duration, check: Duration, command: Duration) -> Self {
+    pub fn with_timeouts(mut self, connect: Duration, check: Duration, command: Duration) -> Self
+        ensures { result.settings ≡ record self.settings {
+          timeouts = record { connect = connect; check = check; command = command };
+        } }
+    {
         self.settings.timeouts = Timeouts {
             connect,
             check,
@@ -90,7 +100,9 @@ impl RedisConnectionManager {
 
     /// How much one answer may take: 16 MiB in texts and values, 1,048,576 parts, and 32 lists
     /// within one another, until another limit is set.
-    pub fn with_limits(mut self, limits: Limits) -> Self {
+    pub fn with_limits(mut self, limits: Limits) -> Self
+        ensures { result.settings ≡ record self.settings { limits = limits } }
+    {
         self.settings.limits = limits;
         self
     }
@@ -98,13 +110,17 @@ impl RedisConnectionManager {
     /// An opening and a check fail at a server that is a replica, by ROLE. So where the primary
     /// moves, the setting `evict_idle_on_failed_check` of the pool closes all that were opened
     /// before.
-    pub fn with_primary_only(mut self) -> Self {
+    pub fn with_primary_only(mut self) -> Self
+        ensures { result.settings ≡ record self.settings { probe = Probe.Primary } }
+    {
         self.settings.probe = Probe::Primary;
         self
     }
 
     /// What was set, for a manager of connections that wait in another way, and the runtime.
-    pub fn into_settings(self) -> (HostRuntime, Settings) {
+    pub fn into_settings(self) -> (HostRuntime, Settings)
+        ensures { result.1 ≡ self.settings }
+    {
         (self.rt, self.settings)
     }
 }
@@ -120,7 +136,9 @@ impl ManageConnection for RedisConnectionManager {
         RedisConnection::open(self.rt, &self.settings)
     }
 
-    fn is_valid(&self, connection: &mut RedisConnection) -> Result<(), RedisError> {
+    fn is_valid(&self, connection: &mut RedisConnection) -> Result<(), RedisError>
+        ensures { IsOk result → IsFalse connection.new.standing.is_broken }
+    {
         connection.check(self.settings.probe)
     }
 

@@ -38,7 +38,7 @@ impl Standing {
         ensures ok { IsOk result → self.new.is_broken ≡ self.old.is_broken }
     {
         if let [Item::Refusal(text), ..] = items.as_slice() {
-            if text.starts_with(b"READONLY") {
+            if is_of_replica(items.as_slice()) {
                 self.is_broken = true;
             }
             return Err(RedisError::Refused(escaped(alloc, text.as_slice())?));
@@ -50,6 +50,24 @@ impl Standing {
                 Err(error)
             }
         }
+    }
+
+    /// The replies of these answers, in their order: one that was refused is `Reply::Refused`. A
+    /// server that may not write any more is none to stay at.
+    pub fn replied_all(
+        &mut self,
+        alloc: Global,
+        answers: Vec<Vec<Item>>,
+    ) -> Result<Vec<Reply>, RedisError>
+        ensures broken { IsTrue self.old.is_broken → IsTrue self.new.is_broken }
+        ensures err { IsErr result → IsTrue self.new.is_broken }
+    {
+        let was_broken = self.is_broken;
+        self.is_broken = true;
+        let is_left = answers.iter().any(|items| is_of_replica(items.as_slice()));
+        let replies = all_of(alloc, answers)?;
+        self.is_broken = was_broken || is_left;
+        Ok(replies)
     }
 
     /// The answer to what was asked. One that is refused is broken, but where it refuses a PING.
@@ -178,6 +196,19 @@ impl Standing {
         self.resetting = count;
         Ok(requests)
     }
+}
+
+// Whether it is the refusal of a server that may not write any more.
+fn is_of_replica(items: &[Item]) -> bool {
+    matches!(items, [Item::Refusal(text), ..] if text.starts_with(b"READONLY"))
+}
+
+fn all_of(alloc: Global, answers: Vec<Vec<Item>>) -> Result<Vec<Reply>, RedisError> {
+    let mut replies = Vec::new(alloc);
+    for items in answers {
+        replies.push(Reply::of(alloc, items)?)?;
+    }
+    Ok(replies)
 }
 
 /// An answer to a reset.

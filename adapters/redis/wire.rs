@@ -4,10 +4,12 @@ ghost use Rattle.std.specs.Prelude.{◌≡◌, ◌<◌, OnOk};
 ghost use Rattle.redis_codec.specs.Sessions.{plain};
 
 use crate::error::RedisError;
+use crate::pipeline::Pipeline;
 use crate::socket::Socket;
 use crate::standing::must_be_a_word;
 use deadline::Deadline;
 use redis_codec::{Conversation, Item, Limits};
+use std::alloc::Global;
 
 const PIECE: usize = 16 * 1024;
 
@@ -41,6 +43,12 @@ impl Wire {
         self.socket.send(request.as_slice(), deadline)
     }
 
+    /// Sends the requests of a pipeline.
+    pub fn ask_all(&mut self, pipeline: &Pipeline, deadline: Deadline) -> Result<(), RedisError> {
+        pipeline.expect_by(&mut self.talk)?;
+        self.socket.send(pipeline.bytes(), deadline)
+    }
+
     /// Sends requests that were asked.
     pub fn send(&mut self, requests: &[u8], deadline: Deadline) -> Result<(), RedisError>
         ensures { self.new.talk ≡ self.old.talk }
@@ -59,6 +67,20 @@ impl Wire {
             self.talk.feed(came.ok_or(RedisError::Protocol)?)?;
         }
         Err(RedisError::Protocol)
+    }
+
+    /// Waits for so many answers.
+    pub fn receive_all(
+        &mut self,
+        alloc: Global,
+        count: usize,
+        deadline: Deadline,
+    ) -> Result<Vec<Vec<Item>>, RedisError> {
+        let mut answers = Vec::new(alloc);
+        for _ in 0..count {
+            answers.push(self.receive(deadline)?)?;
+        }
+        Ok(answers)
     }
 
     /// Reads the answers to a reset, which are so many words.

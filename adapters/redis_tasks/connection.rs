@@ -9,8 +9,8 @@ use crate::socket::Socket;
 use deadline::Deadline;
 use futures::ready;
 use futures::task::{Context, Poll};
-use redis::{Login, RedisError, Reset, Session, Standing, Timeouts, must_be_a_word};
-use redis_codec::{Command, Item};
+use redis::{Login, Pipeline, RedisError, Reset, Session, Standing, Timeouts, must_be_a_word};
+use redis_codec::Item;
 use std::alloc::{AllocError, Global};
 use std::time::Duration;
 use tokio::time;
@@ -26,12 +26,15 @@ pub struct TaskConnection {
     pub(crate) standing: Standing,
 }
 
-/// A request, how far it has come, and how long its answer is waited for.
+/// A request, or several that go out together: how far they have come, and how long their answers
+/// are waited for.
 #[derive(Drop)]
 pub(crate) struct Request {
-    command: Command,
-    bytes: Vec<u8>,
+    pipeline: Pipeline,
     sent: usize,
+    // How many answers are lacking, and those that came.
+    left: usize,
+    pub answers: Vec<Vec<Item>>,
     stage: Stage,
     timeout: Duration,
     // Since its first poll.
@@ -49,14 +52,35 @@ enum Stage {
 impl Request {
     /// The request of these words.
     pub fn of(alloc: Global, words: &[&[u8]], timeout: Duration) -> Result<Request, AllocError> {
-        Ok(Request {
-            command: Command::of(words),
-            bytes: redis_codec::request(alloc, words)?,
+        let mut pipeline = Pipeline::new(alloc);
+        pipeline.call(words)?;
+        Ok(Request::all_of(alloc, pipeline, timeout))
+    }
+
+    /// Those of a pipeline.
+    pub fn all_of(alloc: Global, pipeline: Pipeline, timeout: Duration) -> Request {
+        let left = pipeline.len();
+        Request {
+            pipeline,
             sent: 0,
+            left,
+            answers: Vec::new(alloc),
             stage: Stage::New,
             timeout,
             patience: None,
-        })
+        }
+    }
+
+    /// The answer to a request of one command.
+    pub fn answer(&mut self) -> Result<Vec<Item>, RedisError> {
+        self.answers.pop().ok_or(RedisError::Protocol)
+    }
+
+    // The next answer came.
+    fn take(&mut self, items: Vec<Item>) -> Result<(), RedisError> {
+        self.answers.push(items)?;
+        self.left = self.left.saturating_sub(1);
+        Ok(())
     }
 }
 
@@ -96,13 +120,14 @@ impl TaskConnection {
         self.rt.alloc()
     }
 
-    /// The answer to a request, or why there is none by the deadline, which counts from here on. It
-    /// is broken until the answer is there: so who drops the request leaves its answer to nobody.
+    /// Ready once a request has all its answers, or with why it has not by the deadline, which
+    /// counts from here on. It is broken until they are there: so who drops the request leaves them
+    /// to nobody.
     pub(crate) fn poll_exchange(
         &mut self,
         request: &mut Request,
         cx: &mut Context<'_>,
-    ) -> Poll<Result<Vec<Item>, RedisError>>
+    ) -> Poll<Result<(), RedisError>>
         ensures pending { OnPending result (IsTrue self.new.standing.is_broken) }
         ensures failed { IfReady result (λ r. IsErr r → IsTrue self.new.standing.is_broken) }
         ensures sound { IfReady result (λ r. IsOk r → IsFalse self.new.standing.is_broken) }
@@ -127,9 +152,9 @@ impl TaskConnection {
             answered => answered,
         };
         match answered {
-            Poll::Ready(Ok(items)) => {
+            Poll::Ready(Ok(())) => {
                 self.standing.is_broken = false;
-                Poll::Ready(Ok(items))
+                Poll::Ready(Ok(()))
             }
             Poll::Ready(Err(error)) => Poll::Ready(Err(error)),
             Poll::Pending => {
@@ -144,7 +169,7 @@ impl TaskConnection {
         request: &mut Request,
         patience: &Patience,
         cx: &mut Context<'_>,
-    ) -> Poll<Result<Vec<Item>, RedisError>>
+    ) -> Poll<Result<(), RedisError>>
         ensures same { self.new.standing.is_broken ≡ self.old.standing.is_broken }
         ensures armed { OnPending result (IsArmed cx.new) }
         ensures kept { Keeps cx.old cx.new }
@@ -159,16 +184,40 @@ impl TaskConnection {
             if let Err(error) = ready!(self.poll_reset(deadline, cx)) {
                 return Poll::Ready(Err(error));
             }
-            if let Err(error) = self.begin(request.command, deadline) {
+            if let Err(error) = self.begin(&request.pipeline, deadline) {
                 return Poll::Ready(Err(error));
             }
             request.stage = Stage::Sending;
         }
-        let (bytes, sent) = (request.bytes.as_slice(), &mut request.sent);
+        let (bytes, sent) = (request.pipeline.bytes(), &mut request.sent);
         if let Err(error) = ready!(self.socket.poll_send(bytes, sent, deadline, cx)) {
             return Poll::Ready(Err(error));
         }
-        self.socket.poll_receive(deadline, cx)
+        self.poll_answer(request, deadline, cx)
+    }
+
+    // Reads an answer, if one is lacking. Ready once none is.
+    fn poll_answer(
+        &mut self,
+        request: &mut Request,
+        deadline: Deadline,
+        cx: &mut Context<'_>,
+    ) -> Poll<Result<(), RedisError>>
+        ensures same { self.new.standing.is_broken ≡ self.old.standing.is_broken }
+        ensures armed { OnPending result (IsArmed cx.new) }
+        ensures kept { Keeps cx.old cx.new }
+    {
+        if request.left == 0 {
+            return Poll::Ready(Ok(()));
+        }
+        let answered = match ready!(self.socket.poll_receive(deadline, cx)) {
+            Ok(items) => request.take(items),
+            Err(error) => Err(error),
+        };
+        match answered {
+            Ok(()) if request.left > 0 => cx.yield_now(),
+            answered => Poll::Ready(answered),
+        }
     }
 
     // Reads the answers to the reset of an earlier caller.
@@ -200,11 +249,11 @@ impl TaskConnection {
     }
 
     // The server has said nothing since it answered last: so what comes now is the answer.
-    fn begin(&mut self, command: Command, deadline: Deadline) -> Result<(), RedisError>
+    fn begin(&mut self, pipeline: &Pipeline, deadline: Deadline) -> Result<(), RedisError>
         ensures { self.new.standing ≡ self.old.standing }
     {
         self.socket.must_be_quiet(deadline)?;
-        self.socket.talk.expect(command)?;
+        pipeline.expect_by(&mut self.socket.talk)?;
         Ok(())
     }
 

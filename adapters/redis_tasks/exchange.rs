@@ -1,15 +1,16 @@
-//! The futures of a command and of a check.
+//! The futures of a command, of a pipeline, and of a check.
 
-ghost use Rattle.std.specs.Prelude.{◌≡◌, IsFalse, IsOk, IsSome, IsTrue};
+ghost use Rattle.std.specs.Prelude.{◌≡◌, IsErr, IsFalse, IsOk, IsSome, IsTrue};
 ghost use Rattle.futures.specs.Task.{IsArmed, Keeps};
 ghost use Rattle.futures.specs.Poll.{IfReady, OnPending};
 
 use crate::connection::{Request, TaskConnection};
 use futures::task::{Context, Poll};
 use futures::{Future, ready};
-use redis::{Probe, RedisError, Reply};
+use redis::{Pipeline, Probe, RedisError, Reply};
 use redis_codec::Item;
 use std::alloc::{AllocError, Global};
+use std::mem;
 use std::ops::DerefMut;
 
 /// Commands over a lent connection, which their futures give back with the reply. Nothing is sent
@@ -41,6 +42,21 @@ pub trait Commands: DerefMut<Target = TaskConnection> + Drop + Sized {
         Exchange {
             lent: Some(self),
             request,
+        }
+    }
+
+    /// Sends the commands of a pipeline together, and reads their replies: one for each, in the
+    /// same order, and `Reply::Refused` for one that was refused. All together have the time of a
+    /// command; the limits are those of each answer. After an error some, or all, may have been
+    /// carried out.
+    final fn run_all(self, pipeline: Pipeline) -> ExchangeOfAll<Self>
+        ensures { IsSome result.lent }
+    {
+        let connection: &TaskConnection = &self;
+        let (alloc, timeout) = (connection.alloc(), connection.timeouts.command);
+        ExchangeOfAll {
+            lent: Some(self),
+            request: Request::all_of(alloc, pipeline, timeout),
         }
     }
 }
@@ -110,8 +126,56 @@ fn poll_items(
     ensures kept { Keeps cx.old cx.new }
 {
     match request {
-        Ok(request) => connection.poll_exchange(request, cx),
+        Ok(request) => match ready!(connection.poll_exchange(request, cx)) {
+            Ok(()) => Poll::Ready(request.answer()),
+            Err(error) => Poll::Ready(Err(error)),
+        },
         Err(_) => Poll::Ready(Err(RedisError::Memory(AllocError))),
+    }
+}
+
+/// The future of a pipeline: it gives back what was lent, and the replies.
+#[derive(Drop)]
+pub struct ExchangeOfAll<L> {
+    // None once it was ready.
+    lent: Option<L>,
+    request: Request,
+}
+
+impl<L: DerefMut<Target = TaskConnection> + Drop> Future for ExchangeOfAll<L> {
+    type Output = (L, Result<Vec<Reply>, RedisError>);
+
+    ghost can_poll = { λ exchange. IsSome exchange.lent };
+
+    fn poll(&mut self, cx: &mut Context<'_>) -> Poll<(L, Result<Vec<Reply>, RedisError>)> {
+        let mut lent = self.lent.take().unwrap();
+        match poll_replies(&mut lent, &mut self.request, cx) {
+            Poll::Ready(replies) => Poll::Ready((lent, replies)),
+            Poll::Pending => {
+                self.lent = Some(lent);
+                Poll::Pending
+            }
+        }
+    }
+}
+
+fn poll_replies(
+    connection: &mut TaskConnection,
+    request: &mut Request,
+    cx: &mut Context<'_>,
+) -> Poll<Result<Vec<Reply>, RedisError>>
+    ensures pending { OnPending result (IsTrue connection.new.standing.is_broken) }
+    ensures failed { IfReady result (λ r. IsErr r → IsTrue connection.new.standing.is_broken) }
+    ensures armed { OnPending result (IsArmed cx.new) }
+    ensures kept { Keeps cx.old cx.new }
+{
+    match ready!(connection.poll_exchange(request, cx)) {
+        Ok(()) => {
+            let alloc = connection.alloc();
+            let answers = mem::replace(&mut request.answers, Vec::new(alloc));
+            Poll::Ready(connection.standing.replied_all(alloc, answers))
+        }
+        Err(error) => Poll::Ready(Err(error)),
     }
 }
 

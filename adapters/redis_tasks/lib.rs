@@ -10,7 +10,7 @@ mod opening;
 mod socket;
 
 pub use connection::TaskConnection;
-pub use exchange::{Check, Commands, Exchange};
+pub use exchange::{Check, Commands, Exchange, ExchangeOfAll};
 pub use manager::TaskConnectionManager;
 pub use opening::Connect;
-pub use redis::{Limits, RedisConnectionManager, RedisError, Reply, Reset, Session};
+pub use redis::{Limits, Pipeline, RedisConnectionManager, RedisError, Reply, Reset, Session};

@@ -1,6 +1,6 @@
 //! Opens connections to Redis, and checks them, by futures.
 
-ghost use Rattle.std.specs.Prelude.{◌≡◌, ◌<◌, ◌⊎◌, IsFalse, IsTrue};
+ghost use Rattle.std.specs.Prelude.{◌≡◌, ◌<◌, ◌⊎◌, IsFalse, IsSome, IsTrue};
 ghost use Rattle.std.specs.Arc.{arc_value};
 ghost use Rattle.redis_codec.specs.Sessions.{plain};
 
@@ -50,7 +50,10 @@ impl ManageConnection for TaskConnectionManager {
         Connect::begin(self.rt, &self.settings, &self.handle)
     }
 
-    fn check(&self, connection: TaskConnection) -> Check {
+    fn check(&self, connection: TaskConnection) -> Check
+        ensures can_poll { IsSome result.connection }
+        ensures probe { result.probe ≡ (arc_value self.now.settings).probe }
+    {
         Check::of(connection, self.settings.probe)
     }
 

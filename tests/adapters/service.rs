@@ -2,7 +2,7 @@
 
 use postgres::{PostgresConnection, PostgresError, Row, Session};
 use r2d2::{Builder, ErrorKind, ManageConnection, PlainPool, PoolRuntime};
-use redis::{RedisConnection, RedisError, Reply};
+use redis::{Pipeline, RedisConnection, RedisError, Reply};
 use std::alloc::{AllocError, Global};
 use std::sync::Arc;
 use std::sync::atomic::{AtomicU64, Ordering};
@@ -69,19 +69,50 @@ impl Counting for RedisConnection {
     fn run(&mut self, alloc: Global, requests: &str) -> Result<String, AllocError> {
         let mut told = String::new(alloc);
         for request in requests.split(';') {
-            let mut words = Vec::new(alloc);
-            for word in request.split_whitespace() {
-                words.push(word)?;
+            // Commands behind a `&`, with a `,` between them, are a pipeline.
+            if let Some(commands) = request.trim().strip_prefix("&") {
+                let pipeline = pipeline_of(alloc, commands)?;
+                match self.run_all(&pipeline) {
+                    Ok(replies) => {
+                        for reply in replies.as_slice() {
+                            tell_reply(reply, &mut told)?;
+                        }
+                    }
+                    Err(error) => write!(told, "! {error} | ")?,
+                }
+                continue;
             }
+            let words = words_of(alloc, request)?;
             match self.command(words.as_slice()) {
-                Ok(reply) => match reply.as_text() {
-                    Some(text) => write!(told, "{} | ", text.trim())?,
-                    None => write!(told, "{reply:?} | ")?,
-                },
+                Ok(reply) => tell_reply(&reply, &mut told)?,
                 Err(error) => write!(told, "! {error} | ")?,
             }
         }
         Ok(told)
+    }
+}
+
+fn words_of<'a>(alloc: Global, request: &'a str) -> Result<Vec<&'a str>, AllocError> {
+    let mut words: Vec<&'a str> = Vec::new(alloc);
+    for word in request.split_whitespace() {
+        words.push(word)?;
+    }
+    Ok(words)
+}
+
+fn pipeline_of(alloc: Global, commands: &str) -> Result<Pipeline, AllocError> {
+    let mut pipeline = Pipeline::new(alloc);
+    for command in commands.split(',') {
+        let words = words_of(alloc, command)?;
+        pipeline.command(words.as_slice())?;
+    }
+    Ok(pipeline)
+}
+
+fn tell_reply(reply: &Reply, told: &mut String) -> Result<(), AllocError> {
+    match reply.as_text() {
+        Some(text) => write!(told, "{} | ", text.trim()),
+        None => write!(told, "{reply:?} | "),
     }
 }
 

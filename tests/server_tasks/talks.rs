@@ -4,7 +4,7 @@ use futures::task::{Context, Poll};
 use futures::{Future, ready};
 use postgres_tasks::{Commands as Queries, Executed, PostgresError, Queried, Row, Session};
 use r2d2_async::ManageConnection;
-use redis_tasks::{Commands, Exchange, RedisError, Reply};
+use redis_tasks::{Commands, Exchange, ExchangeOfAll, Pipeline, RedisError, Reply};
 use std::alloc::{AllocError, Global};
 use std::ops::{Deref, DerefMut};
 
@@ -90,40 +90,89 @@ impl<L: DerefMut<Target = redis_tasks::TaskConnection> + Drop> Talks<L>
 }
 
 #[derive(Drop)]
+enum AskedOfRedis<L> {
+    One(Exchange<L>),
+    All(ExchangeOfAll<L>),
+}
+
+#[derive(Drop)]
 pub struct RedisTold<L> {
     alloc: Global,
-    exchange: Exchange<L>,
+    asked: AskedOfRedis<L>,
 }
 
 impl<L: DerefMut<Target = redis_tasks::TaskConnection> + Drop> RedisTold<L> {
+    // Commands behind a `&`, with a `,` between them, are a pipeline.
     fn of(alloc: Global, lent: L, request: &str) -> Result<RedisTold<L>, AllocError> {
-        let mut words = Vec::new(alloc);
-        for word in request.split_whitespace() {
-            words.push(word)?;
-        }
-        Ok(RedisTold {
-            alloc,
-            exchange: lent.command(words.as_slice()),
-        })
+        let asked = match request.trim().strip_prefix("&") {
+            Some(commands) => AskedOfRedis::All(lent.run_all(pipeline_of(alloc, commands)?)),
+            None => AskedOfRedis::One(lent.command(words_of(alloc, request)?.as_slice())),
+        };
+        Ok(RedisTold { alloc, asked })
     }
+}
+
+fn words_of<'a>(alloc: Global, request: &'a str) -> Result<Vec<&'a str>, AllocError> {
+    let mut words: Vec<&'a str> = Vec::new(alloc);
+    for word in request.split_whitespace() {
+        words.push(word)?;
+    }
+    Ok(words)
+}
+
+fn pipeline_of(alloc: Global, commands: &str) -> Result<Pipeline, AllocError> {
+    let mut pipeline = Pipeline::new(alloc);
+    for command in commands.split(',') {
+        pipeline.command(words_of(alloc, command)?.as_slice())?;
+    }
+    Ok(pipeline)
 }
 
 impl<L: DerefMut<Target = redis_tasks::TaskConnection> + Drop> Future for RedisTold<L> {
     type Output = (L, Result<String, AllocError>);
 
     fn poll(&mut self, cx: &mut Context<'_>) -> Poll<Self::Output> {
-        let (lent, reply) = ready!(self.exchange.poll(cx));
-        Poll::Ready((lent, told_of_redis(self.alloc, reply)))
+        match &mut self.asked {
+            AskedOfRedis::One(exchange) => {
+                let (lent, reply) = ready!(exchange.poll(cx));
+                Poll::Ready((lent, told_of_redis(self.alloc, reply)))
+            }
+            AskedOfRedis::All(exchange) => {
+                let (lent, replies) = ready!(exchange.poll(cx));
+                Poll::Ready((lent, told_of_all(self.alloc, replies)))
+            }
+        }
     }
 }
 
 fn told_of_redis(alloc: Global, reply: Result<Reply, RedisError>) -> Result<String, AllocError> {
     match reply {
-        Ok(reply) => match reply.as_text() {
-            Some(text) => String::from_str(alloc, text.trim()),
-            None => format!(in alloc; "{reply:?}"),
-        },
+        Ok(reply) => told_of_reply(alloc, &reply),
         Err(error) => format!(in alloc; "! {error}"),
+    }
+}
+
+fn told_of_all(
+    alloc: Global,
+    replies: Result<Vec<Reply>, RedisError>,
+) -> Result<String, AllocError> {
+    let mut told = String::new(alloc);
+    match replies {
+        Ok(replies) => {
+            for (place, reply) in replies.as_slice().iter().enumerate() {
+                let gap = if place > 0 { " | " } else { "" };
+                write!(told, "{gap}{}", told_of_reply(alloc, reply)?)?;
+            }
+        }
+        Err(error) => write!(told, "! {error}")?,
+    }
+    Ok(told)
+}
+
+fn told_of_reply(alloc: Global, reply: &Reply) -> Result<String, AllocError> {
+    match reply.as_text() {
+        Some(text) => String::from_str(alloc, text.trim()),
+        None => format!(in alloc; "{reply:?}"),
     }
 }
 

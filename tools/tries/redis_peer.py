@@ -158,6 +158,41 @@ def try_secrets(trial):
                 trial.check(f"a password of {what}, behind {begin.decode()!r} in the answer to {at.decode()}: no error has it", is_so, (told, service.said))
 
 
+def try_pipelines(trial):
+    """Commands go out together, and their answers are read as they come: in that order, and all of them."""
+    def play(connection, words, number):
+        # (who waits for the first answer before the third command is sent gets none)
+        if words[1] == b"three":
+            connection.sendall(b"+one\r\n$3\r\ntwo\r\n:3\r\n")
+    with at_peer(trial, play) as (peer, service):
+        told = service.ask("run & GET one , GET two , GET three")
+        asked = [words[1] for words in peer.asked if words != [b"PING"]]
+        trial.check("together: the answers of three commands", told == "one | two | Number(3) |" and asked == [b"one", b"two", b"three"], (told, asked))
+
+    def one_short(connection, words, number):
+        connection.sendall(b"" if words[1] == b"two" else b"+%s\r\n" % words[1])
+    with at_peer(trial, one_short) as (peer, service):
+        told = service.ask("run & GET one , GET two , GET three")
+        trial.check("together: an answer too few", re.search(LATE, told), told)
+        told = service.ask("run GET next")
+        trial.check("together: after it another connection is lent", told == "next |" and peer.count == 2, (told, peer.count))
+
+    def one_more(connection, words, number):
+        connection.sendall(b"+%s\r\n" % words[1] * (2 if words[1] == b"two" else 1))
+    with at_peer(trial, one_more) as (peer, service):
+        service.ask("run & GET one , GET two")
+        told = service.ask("run GET next")
+        trial.check("together: an answer too many is nobody's", told == "next |" and peer.count == 2, (told, peer.count))
+
+    def demoted(connection, words, number):
+        is_told = number == 1 and words[1] == b"two"
+        connection.sendall(b"-READONLY it is a replica\r\n" if is_told else b"+OK\r\n")
+    with at_peer(trial, demoted) as (peer, service):
+        told = [service.ask("run & SET one 1 , SET two 2 , SET three 3"), service.ask("run SET two 2")]
+        is_so = told == ['OK | Refused("READONLY it is a replica") | OK |', "OK |"] and peer.count == 2
+        trial.check("together: a demoted server is left", is_so, (told, peer.count))
+
+
 def try_openings(trial):
     """Who accepts and does not answer, or goes away."""
     with at_peer(trial, sends(), greeting=b"") as (_, service):
@@ -171,4 +206,4 @@ def try_openings(trial):
 
 
 def try_peer(trial):
-    try_each(trial, (try_answers, try_doubled, try_reset_in_time, try_parts, try_demoted, try_secrets, try_openings))
+    try_each(trial, (try_answers, try_doubled, try_reset_in_time, try_parts, try_demoted, try_secrets, try_pipelines, try_openings))

@@ -39,6 +39,37 @@ def session_of(told):
     return seen
 
 
+# Commands that go out together, and what the caller is told.
+TOGETHER = [
+    ("replies in the order of their commands", "SET one 1 , INCR one , GET one , LPUSH list a b , LRANGE list 0 -1", 'OK | Number(2) | 2 | Number(2) | List([Value([98]), Value([97])]) |'),
+    ("a refusal in its place", "SET two 1 , NONE , INCR two", "OK | Refused(\"ERR unknown command 'NONE', with args beginning with: \") | Number(2) |"),
+    ("a transaction", "MULTI , INCR three , INCR three , EXEC", "OK | QUEUED | QUEUED | List([Number(1), Number(2)]) |"),
+    ("one command", "ECHO it", "it |"),
+]
+
+
+def try_pipelines(trial):
+    """Commands of a pipeline are answered in their order, and leave nothing to the next caller."""
+    others, service = trial.server.names(), trial.service_of("redis-if-marked")
+    service.ask("run ECHO first")
+    # (and who asks for them)
+    names = trial.server.names() - others
+    for what, together, wanted in TOGETHER:
+        told = service.ask(f"run & {together}")
+        trial.check(f"together: {what}", told == wanted, told)
+        told = service.ask("run ECHO next")
+        trial.check(f"together: after {what} the next caller's answer", told == "next |", told)
+    count = 50
+    told = service.ask("run & " + " , ".join(f"ECHO {number}" for number in range(count)))
+    trial.check("together: fifty", told == " | ".join(map(str, range(count))) + " |", told[:300])
+    now = trial.server.names()
+    trial.check("together: they close nothing", len(names & now) == 1, (names, now))
+    told = service.ask("run & SELECT 3 , CLIENT SETNAME mine , MULTI")
+    seen = session_of(service.ask(f"run {PROBE}"))
+    trial.check("together: what it leaves is not seen by the next caller", told == "OK | OK | OK |" and not seen, (told, seen))
+    trial.check("together: the service ends", service.end() == 0)
+
+
 def try_sessions(trial):
     """At a server that has RESET."""
     trial.server.ask("ACL", "SETUSER", "other", "on", ">secret", "~*", "&*", "+@all")
@@ -55,6 +86,7 @@ def try_sessions(trial):
             service.ask("evict")
         trial.check(f"{mode}: the service ends", service.end() == 0)
     try_begun(trial)
+    try_pipelines(trial)
 
 
 def try_begun(trial):
