@@ -55,6 +55,11 @@ def seen_at(server, paths, rounds):
     return seen, is_first
 
 
+def share(ours, theirs):
+    """The throughput of ours beside theirs, by pairs of runs that met the same other work."""
+    return median(other / own for own, other in zip(ours, theirs))
+
+
 def time_redis(rounds, theirs, say):
     if not FleetingRedis.is_there():
         sys.exit(f"times: redis-server is missing: apt-get install {FleetingRedis.PACKAGE}")
@@ -72,8 +77,8 @@ def time_redis(rounds, theirs, say):
     print("| checks | threads | ours, ns | r2d2, ns | without looks, ns | of r2d2's throughput | of that without looks |")
     print("|---|---:|---:|---:|---:|---:|---:|")
     for (checks, threads), ways in seen.items():
-        ours, looks, bare = (median(ways[way]) for way in WAYS)
+        looks, bare = (share(ways["ours"], ways[way]) for way in list(WAYS)[1:])
         each = " | ".join(f"{min(ways[way]):,.0f}/{median(ways[way]):,.0f}" for way in WAYS)
-        print(f"| {checks} | {threads} | {each} | {looks / ours:.2f} | {bare / ours:.2f} |")
+        print(f"| {checks} | {threads} | {each} | {looks:.2f} | {bare:.2f} |")
     how = "at a real-time priority" if is_first else "at no priority of their own"
     print(f"\nthe least and the median of {rounds * RUNS} runs, {how}, cores {len(os.sched_getaffinity(0))}, load {start:.1f} at the start and {end:.1f} at the end")
