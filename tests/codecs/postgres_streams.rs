@@ -95,7 +95,7 @@ impl Script {
                 }
             }
             _ => {
-                let kind = draw.of_these(&[b"T", b"I", b"1", b"2"]);
+                let kind = draw.of_these(&[b"T", b"I", b"1", b"2", b"3"]);
                 let body = draw.bytes(6)?;
                 self.push(
                     kind.first().copied().unwrap_or(b'I'),

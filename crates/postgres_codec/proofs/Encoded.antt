@@ -6,7 +6,7 @@ use Rattle.std.specs.Borrow.{Bor}
 use Rattle.std.proofs.lemmas.Bool.{lt-ltb, le-ltb, ltb-true}
 use Rattle.postgres_codec.specs.declared.requests.RequestError.{RequestError}
 use Rattle.postgres_codec.specs.declared.requests.RequestError.TheVariants as error
-use Rattle.postgres_codec.specs.Requests.{Made, Bytes, Refused, longest, is_long, text, value, all_values, bytes_of_value, bytes_of, sasl_body, message, login_made, has_zero, parse_body, bind_body, statement, statement_made, query_with_made, IsWhy, Makes}
+use Rattle.postgres_codec.specs.Requests.{Made, Bytes, Refused, longest, is_long, text, value, all_values, bytes_of_value, bytes_of, sasl_body, message, login_made, has_zero, parse_body, bind_body, bound, bound_made, statement, statement_made, named_made, prepared_made, IsWhy, Makes}
 
 pub long_if : (body : List ℕ) → longest < length body → is_long body ≡ true
 long_if body h = lt-ltb longest (length body) h
@@ -41,17 +41,33 @@ pub statement_long : (parse bind : List ℕ) → is_long bind ≡ true → state
 unfolding statement_made
 statement_long parse bind e = by_parse (is_long parse) (is_long bind) parse bind e
 
-pub made_many : (words : List ℕ) (values : List (Option (List ℕ))) → has_zero words ≡ false → 65_535 < length values → query_with_made words values ≡ Refused error.TooManyValues
-unfolding query_with_made
-made_many words values z h = rw (z, lt-ltb 65_535 (length values) h) refl
+pub made_many : (name words : List ℕ) (values : List (Option (List ℕ))) → has_zero words ≡ false → 65_535 < length values → named_made name words values ≡ Refused error.TooManyValues
+unfolding named_made
+made_many name words values z h = rw (z, lt-ltb 65_535 (length values) h) refl
 
-pub made_few : (words : List ℕ) (values : List (Option (List ℕ))) → has_zero words ≡ false → length values ≤ 65_535 → query_with_made words values ≡ statement_made (parse_body words) (bind_body values)
-unfolding query_with_made
-made_few words values z h = rw (z, le-ltb 65_535 (length values) h) refl
+pub made_few : (name words : List ℕ) (values : List (Option (List ℕ))) → has_zero words ≡ false → length values ≤ 65_535 → named_made name words values ≡ statement_made (parse_body name words) (bind_body name values)
+unfolding named_made
+made_few name words values z h = rw (z, le-ltb 65_535 (length values) h) refl
 
-pub made_zero : (words : List ℕ) (values : List (Option (List ℕ))) → has_zero words ≡ true → query_with_made words values ≡ Refused error.ZeroByte
-unfolding query_with_made
-made_zero words values z = rw z refl
+pub made_zero : (name words : List ℕ) (values : List (Option (List ℕ))) → has_zero words ≡ true → named_made name words values ≡ Refused error.ZeroByte
+unfolding named_made
+made_zero name words values z = rw z refl
+
+pub bound_long : (bind : List ℕ) → is_long bind ≡ true → bound_made bind ≡ Refused error.TooMuch
+unfolding bound_made
+bound_long bind e = ap (λ (t : Bool). if t then Refused error.TooMuch else Bytes (bound bind)) e
+
+pub prepared_many : (name : List ℕ) (values : List (Option (List ℕ))) → has_zero name ≡ false → 65_535 < length values → prepared_made name values ≡ Refused error.TooManyValues
+unfolding prepared_made
+prepared_many name values z h = rw (z, lt-ltb 65_535 (length values) h) refl
+
+pub prepared_few : (name : List ℕ) (values : List (Option (List ℕ))) → has_zero name ≡ false → length values ≤ 65_535 → prepared_made name values ≡ bound_made (bind_body name values)
+unfolding prepared_made
+prepared_few name values z h = rw (z, le-ltb 65_535 (length values) h) refl
+
+pub prepared_zero : (name : List ℕ) (values : List (Option (List ℕ))) → has_zero name ≡ true → prepared_made name values ≡ Refused error.ZeroByte
+unfolding prepared_made
+prepared_zero name values z = rw z refl
 
 -- A body that is long makes no request.
 pub makes_why : (why : RequestError) (made : Made) (long : Bool) → (long ≡ true → made ≡ Refused error.TooMuch) → IsWhy why long → Makes (Err why) made

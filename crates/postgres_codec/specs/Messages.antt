@@ -139,7 +139,7 @@ unfoldable pub login_of : List ℕ → Read Said
 login_of (a ∷ b ∷ c ∷ d ∷ text) = Found (Login (asked_of (number4 a b c d)) text)
 login_of _ = Faulty Malformed
 
--- by the kind: Z D C E R K S A N, and T I 1 2
+-- by the kind: Z D C E R K S A N, and T I 1 2 3
 unfoldable pub message_of : ℕ → ℕ → List ℕ → Read Said
 message_of room kind body =
     if kind == 90 then ready_of body
@@ -151,7 +151,7 @@ message_of room kind body =
     else if kind == 83 then Found Setting
     else if kind == 65 then Found Notification
     else if kind == 78 then Found Notice
-    else if (kind == 84) || (kind == 73) || (kind == 49) || (kind == 50) then Found Passed
+    else if (kind == 84) || (kind == 73) || (kind == 49) || (kind == 50) || (kind == 51) then Found Passed
     else Faulty Malformed
 
 -- THE MESSAGE at the front of bytes, read, and the bytes after it

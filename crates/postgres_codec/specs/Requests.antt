@@ -21,9 +21,9 @@ text bytes = bytes ++ 0 ∷ []
 abbrev pub query : List ℕ → List ℕ
 query words = message 81 (text words)
 
--- a statement without a name, whose parameters have no types
-abbrev pub parse_body : List ℕ → List ℕ
-parse_body words = text [] ++ text words ++ 0 ∷ 0 ∷ []
+-- a statement of a name, whose parameters have no types
+abbrev pub parse_body : List ℕ → List ℕ → List ℕ
+parse_body name words = text name ++ text words ++ 0 ∷ 0 ∷ []
 
 -- a length of 255 each stands for NULL
 abbrev pub value : Option (List ℕ) → List ℕ
@@ -34,17 +34,25 @@ abbrev pub all_values : List (Option (List ℕ)) → List ℕ
 all_values [] = []
 all_values (v ∷ vs) = value v ++ all_values vs
 
--- no names and no formats, so that all is text; how many values, and those; and text is wanted
-abbrev pub bind_body : List (Option (List ℕ)) → List ℕ
-bind_body values = 0 ∷ 0 ∷ 0 ∷ 0 ∷ [] ++ to_be_bytes w16 (length values) ++ all_values values ++ 0 ∷ 0 ∷ []
+-- no name of its own, that of the statement, and no formats, so that all is text; how many values, and those; and text is wanted
+abbrev pub bind_body : List ℕ → List (Option (List ℕ)) → List ℕ
+bind_body name values = text [] ++ text name ++ 0 ∷ 0 ∷ [] ++ to_be_bytes w16 (length values) ++ all_values values ++ 0 ∷ 0 ∷ []
 
 -- no name, and all rows
 abbrev pub execute_body : List ℕ
 execute_body = 0 ∷ 0 ∷ 0 ∷ 0 ∷ 0 ∷ []
 
+-- B, E and S, by the body of the first
+abbrev pub bound : List ℕ → List ℕ
+bound bind = message 66 bind ++ message 69 execute_body ++ message 83 []
+
 -- P, B, E and S, by the bodies of the first two
 abbrev pub statement : List ℕ → List ℕ → List ℕ
-statement parse bind = message 80 parse ++ message 66 bind ++ message 69 execute_body ++ message 83 []
+statement parse bind = message 80 parse ++ bound bind
+
+-- S and the name of a statement, which is to be forgotten
+abbrev pub close_body : List ℕ → List ℕ
+close_body name = 83 ∷ text name
 
 -- a name and its value
 unfoldable pub setting : List ℕ → List ℕ → List ℕ
@@ -105,11 +113,34 @@ query_made words = if has_zero words then Refused ZeroByte else if is_long (text
 unfoldable pub statement_made : List ℕ → List ℕ → Made
 statement_made parse bind = if is_long parse then Refused TooMuch else if is_long bind then Refused TooMuch else Bytes (statement parse bind)
 
-unfoldable pub query_with_made : List ℕ → List (Option (List ℕ)) → Made
-query_with_made words values =
+unfoldable pub named_made : List ℕ → List ℕ → List (Option (List ℕ)) → Made
+named_made name words values =
     if has_zero words then Refused ZeroByte
     else if nat_lt 65_535 (length values) then Refused TooManyValues
-    else statement_made (parse_body words) (bind_body values)
+    else statement_made (parse_body name words) (bind_body name values)
+
+-- that of no name
+abbrev pub query_with_made : List ℕ → List (Option (List ℕ)) → Made
+query_with_made words values = named_made [] words values
+
+unfoldable pub prepare_made : List ℕ → List ℕ → List (Option (List ℕ)) → Made
+prepare_made name words values = if has_zero name then Refused ZeroByte else named_made name words values
+
+unfoldable pub bound_made : List ℕ → Made
+bound_made bind = if is_long bind then Refused TooMuch else Bytes (bound bind)
+
+unfoldable pub prepared_made : List ℕ → List (Option (List ℕ)) → Made
+prepared_made name values =
+    if has_zero name then Refused ZeroByte
+    else if nat_lt 65_535 (length values) then Refused TooManyValues
+    else bound_made (bind_body name values)
+
+-- C
+unfoldable pub close_made : List ℕ → Made
+close_made name =
+    if has_zero name then Refused ZeroByte
+    else if is_long (close_body name) then Refused TooMuch
+    else Bytes (message 67 (close_body name))
 
 unfoldable pub start_made : List ℕ → List ℕ → Made
 start_made user database =

@@ -18,5 +18,6 @@ pub use error::{CodecError, Fault};
 pub use mark::Mark;
 pub use message::{Asked, Done, Message, Refusal, Status};
 pub use requests::{
-    RequestError, cancel, password, query, query_with, sasl_first, sasl_next, start,
+    RequestError, cancel, close, password, prepare, prepared, query, query_with, sasl_first,
+    sasl_next, start,
 };

@@ -86,6 +86,7 @@ pub enum Message {
     /// Somebody notifies this listener.
     Notification,
     Notice,
-    /// Which columns follow, that a query was empty, that it or its values were taken.
+    /// Which columns follow, that a query was empty, that it or its values were taken, or that a
+    /// statement was forgotten.
     Passed,
 }

@@ -96,7 +96,7 @@ fn message_of(alloc: Global, room: usize, kind: u8, body: &[u8]) -> Result<Messa
         b'S' => Ok(Message::Setting),
         b'A' => Ok(Message::Notification),
         b'N' => Ok(Message::Notice),
-        b'T' | b'I' | b'1' | b'2' => Ok(Message::Passed),
+        b'T' | b'I' | b'1' | b'2' | b'3' => Ok(Message::Passed),
         // As for COPY, where it waits for the client.
         _ => Err(CodecError::Fault(Fault::Malformed)),
     }

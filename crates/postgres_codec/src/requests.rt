@@ -6,7 +6,9 @@ ghost use Rattle.postgres_codec.specs.Requests.{Makes, message, first_message, t
 ghost use Rattle.postgres_codec.specs.Requests.{all_values, bytes_of, bytes_of_value, has_zero};
 ghost use Rattle.postgres_codec.specs.Requests.{is_long, parse_body, bind_body, start_body};
 ghost use Rattle.postgres_codec.specs.Requests.{sasl_body, query_made};
-ghost use Rattle.postgres_codec.specs.Requests.{statement_made, query_with_made, start_made, cancel_made};
+ghost use Rattle.postgres_codec.specs.Requests.{bound, bound_made, statement_made, named_made};
+ghost use Rattle.postgres_codec.specs.Requests.{query_with_made, prepare_made, prepared_made, close_made};
+ghost use Rattle.postgres_codec.specs.Requests.{start_made, cancel_made};
 ghost use Rattle.postgres_codec.specs.Requests.{login_made, setting, IsWhy};
 
 use std::alloc::{AllocError, AllocFailed, Global};
@@ -140,43 +142,75 @@ fn push_values(body: &mut Vec<u8>, values: &[Option<&str>]) -> Result<(), Reques
     Ok(())
 }
 
-// What binds values to the statement without a name.
-fn bind_body(alloc: Global, values: &[Option<&str>]) -> Result<Vec<u8>, RequestError>
+// What binds values to the statement of a name.
+fn bind_body(alloc: Global, name: &[u8], values: &[Option<&str>]) -> Result<Vec<u8>, RequestError>
     requires { length values.now ≤ 65535 }
-    ensures ok { IfOk result (λ body. body.items ≡ bind_body (bytes_of values.now)) }
-    ensures why { IfErr result (λ why. IsWhy why (is_long (bind_body (bytes_of values.now)))) }
+    ensures ok { IfOk result (λ body. body.items ≡ bind_body name.now (bytes_of values.now)) }
+    ensures why { IfErr result (λ why.
+        IsWhy why (is_long (bind_body name.now (bytes_of values.now)))) }
 {
     let count = values.len() as u16;
     let mut body = Vec::new(alloc);
-    body.extend_from_slice(&[0; 4])?;
+    push_text(&mut body, b"")?;
+    push_text(&mut body, name)?;
+    body.extend_from_slice(&[0; 2])?;
     body.extend_from_slice(&count.to_be_bytes())?;
     push_values(&mut body, values)?;
     body.extend_from_slice(&[0; 2])?;
     Ok(body)
 }
 
-// A statement without a name.
-fn parse_body(alloc: Global, words: &str) -> Result<Vec<u8>, AllocError>
-    ensures { IfOk result (λ body. body.items ≡ parse_body words.now) }
+// A statement of a name.
+fn parse_body(alloc: Global, name: &[u8], words: &str) -> Result<Vec<u8>, AllocError>
+    ensures { IfOk result (λ body. body.items ≡ parse_body name.now words.now) }
 {
     let mut body = Vec::new(alloc);
-    push_text(&mut body, b"")?;
+    push_text(&mut body, name)?;
     push_text(&mut body, words.as_bytes())?;
     body.extend_from_slice(&[0; 2])?;
     Ok(body)
 }
 
-// The statement without a name, and its values, to be answered as one.
+// Values for a statement, to be answered as one with what stands before.
+fn push_bound(messages: &mut Vec<u8>, bind: &[u8]) -> Result<(), RequestError>
+    ensures ok { OnOk result (messages.new.items ≡ messages.old.items ++ bound bind.now) }
+    ensures fits { OnOk result (IsFalse (is_long bind.now)) }
+    ensures why { IfErr result (λ why. IsWhy why (is_long bind.now)) }
+{
+    push_message(messages, b'B', bind)?;
+    push_message(messages, b'E', &[0; 5])?;
+    push_message(messages, b'S', &[])?;
+    Ok(())
+}
+
+// A statement, and its values.
 #[tactic(auto, unfolding(crate::specs::Requests::statement_made))]
 fn statement(alloc: Global, parse: &[u8], bind: &[u8]) -> Result<Vec<u8>, RequestError>
     ensures { Makes result (statement_made parse.now bind.now) }
 {
     let mut messages = Vec::new(alloc);
     push_message(&mut messages, b'P', parse)?;
-    push_message(&mut messages, b'B', bind)?;
-    push_message(&mut messages, b'E', &[0; 5])?;
-    push_message(&mut messages, b'S', &[])?;
+    push_bound(&mut messages, bind)?;
     Ok(messages)
+}
+
+fn named(
+    alloc: Global,
+    name: &[u8],
+    words: &str,
+    values: &[Option<&str>],
+) -> Result<Vec<u8>, RequestError>
+    ensures { Makes result (named_made name.now words.now (bytes_of values.now)) }
+{
+    if has_zero(words) {
+        return Err(RequestError::ZeroByte);
+    }
+    if values.len() > MOST {
+        return Err(RequestError::TooManyValues);
+    }
+    let parse = parse_body(alloc, name, words)?;
+    let bind = bind_body(alloc, name, values)?;
+    statement(alloc, parse.as_slice(), bind.as_slice())
 }
 
 /// The bytes of one query, with values for `$1`, `$2` and so on: each as text, or None for NULL. The
@@ -188,15 +222,64 @@ pub fn query_with(
 ) -> Result<Vec<u8>, RequestError>
     ensures { Makes result (query_with_made words.now (bytes_of values.now)) }
 {
-    if has_zero(words) {
+    named(alloc, b"", words, values)
+}
+
+/// The same; and the server keeps the statement under a name, which no other has there, for
+/// `prepared`. An error, or that of the server, leaves open whether it does.
+#[tactic(auto, unfolding(crate::specs::Requests::prepare_made))]
+pub fn prepare(
+    alloc: Global,
+    name: &str,
+    words: &str,
+    values: &[Option<&str>],
+) -> Result<Vec<u8>, RequestError>
+    ensures { Makes result (prepare_made name.now words.now (bytes_of values.now)) }
+{
+    if has_zero(name) {
+        return Err(RequestError::ZeroByte);
+    }
+    named(alloc, name.as_bytes(), words, values)
+}
+
+#[tactic(auto, unfolding(crate::specs::Requests::bound_made))]
+fn bound(alloc: Global, bind: &[u8]) -> Result<Vec<u8>, RequestError>
+    ensures { Makes result (bound_made bind.now) }
+{
+    let mut messages = Vec::new(alloc);
+    push_bound(&mut messages, bind)?;
+    Ok(messages)
+}
+
+/// The bytes of a query whose statement the server keeps under a name, with its values.
+pub fn prepared(alloc: Global, name: &str, values: &[Option<&str>]) -> Result<Vec<u8>, RequestError>
+    ensures { Makes result (prepared_made name.now (bytes_of values.now)) }
+{
+    if has_zero(name) {
         return Err(RequestError::ZeroByte);
     }
     if values.len() > MOST {
         return Err(RequestError::TooManyValues);
     }
-    let parse = parse_body(alloc, words)?;
-    let bind = bind_body(alloc, values)?;
-    statement(alloc, parse.as_slice(), bind.as_slice())
+    let bind = bind_body(alloc, name.as_bytes(), values)?;
+    bound(alloc, bind.as_slice())
+}
+
+/// What lets the server forget the statement that it keeps under a name, if there is one. It stands
+/// before a query, and has no end of its own.
+#[tactic(auto, unfolding(crate::specs::Requests::close_made))]
+pub fn close(alloc: Global, name: &str) -> Result<Vec<u8>, RequestError>
+    ensures { Makes result (close_made name.now) }
+{
+    if has_zero(name) {
+        return Err(RequestError::ZeroByte);
+    }
+    let mut body = Vec::new(alloc);
+    body.push(b'S')?;
+    push_text(&mut body, name.as_bytes())?;
+    let mut messages = Vec::new(alloc);
+    push_message(&mut messages, b'C', body.as_slice())?;
+    Ok(messages)
 }
 
 /// What begins a connection, for a user and a database.
