@@ -19,7 +19,7 @@ from tally import TOP
 LIBRARIES = "r2d2 r2d2_async postgres_tasks tokio_timer tokio futures"
 # What is asked, by the word for it.
 REQUESTS = {
-    "read": "a query", "value": "one with a value, which theirs prepares once", "text": "the same, which theirs prepares each time",
+    "read": "a query", "value": "one with a value, prepared once", "text": "the same, prepared each time",
     "write": "a transaction of three", "reset": "the same, and a reset of the session",
 }
 TASKS, SECONDS = 100, 8

@@ -2,7 +2,7 @@
 //! opened by then, and looked at before it is used. This copy is yours, to be changed.
 #![tactic(auto)]
 
-ghost use Rattle.std.specs.Prelude.{◌<◌, ◌≤◌, IfOk};
+ghost use Rattle.std.specs.Prelude.{◌≡◌, ◌<◌, ◌≤◌, IfOk};
 ghost use Rattle.std.specs.Duration.{as_nanos};
 
 mod look;
@@ -48,7 +48,14 @@ impl Deadline {
         self.length / 10
     }
 
-    /// How long it is.
+    /// How long it is, from its beginning.
+    pub fn length(&self) -> Duration
+        ensures { result ≡ self.now.length }
+    {
+        self.length
+    }
+
+    /// The same, in milliseconds.
     pub fn millis(&self) -> u128 {
         self.length.as_millis()
     }

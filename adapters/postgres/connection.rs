@@ -11,6 +11,7 @@ use crate::query::Query;
 use crate::reset::Reset;
 use crate::settings::{Settings, Timeouts};
 use crate::standing::Standing;
+use crate::statements::Statements;
 use crate::wire::Wire;
 use deadline::Deadline;
 use postgres_codec::Mark;
@@ -24,6 +25,7 @@ pub struct PostgresConnection {
     timeouts: Timeouts,
     limits: Limits,
     standing: Standing,
+    statements: Statements,
     // What a cancel names this connection by.
     key: Option<Vec<u8>>,
 }
@@ -48,6 +50,7 @@ impl PostgresConnection {
             timeouts: settings.timeouts,
             limits: settings.limits,
             standing: Standing::new(begun.session),
+            statements: Statements::new(rt.alloc(), settings.statements),
             key: begun.key,
         };
         if settings.probe == Probe::ReadWrite {
@@ -84,7 +87,7 @@ impl PostgresConnection {
         ensures stays { self.old.standing.session ≡ Session.Broken
             → self.new.standing.session ≡ Session.Broken }
     {
-        let query = Query::with(self.rt.alloc(), text, values)?;
+        let query = self.statements.ask(text, values)?;
         self.asked(query)?.rows
     }
 
@@ -108,7 +111,7 @@ impl PostgresConnection {
         ensures stays { self.old.standing.session ≡ Session.Broken
             → self.new.standing.session ≡ Session.Broken }
     {
-        let query = Query::with(self.rt.alloc(), text, values)?;
+        let query = self.statements.ask(text, values)?;
         self.counted(query)
     }
 
@@ -125,7 +128,8 @@ impl PostgresConnection {
         }
         let declare = format!(in self.rt.alloc(); "DECLARE each_row NO SCROLL CURSOR FOR {query}")?;
         // (with values it takes no second statement)
-        self.execute_with(declare.as_str(), &[])?;
+        let declare = Query::with(self.rt.alloc(), declare.as_str(), &[])?;
+        self.counted(declare)?;
         for _ in 0..u64::MAX {
             let rows = self.query("FETCH 100 FROM each_row")?;
             if rows.is_empty() {
@@ -194,8 +198,10 @@ impl PostgresConnection {
             return Err(PostgresError::Broken);
         }
         self.standing.session = Session::Broken;
-        match self.talk(query, deadline) {
+        let mut query = query;
+        match self.talk(&mut query, deadline) {
             Ok(answer) => {
+                self.statements.answered(&query, &answer);
                 self.standing.answered(&answer);
                 Ok(answer)
             }
@@ -208,7 +214,7 @@ impl PostgresConnection {
         }
     }
 
-    fn talk(&mut self, query: Query, deadline: Deadline) -> Result<Answer, PostgresError>
+    fn talk(&mut self, query: &mut Query, deadline: Deadline) -> Result<Answer, PostgresError>
         ensures broken { self.old.standing.session ≡ Session.Broken
             → self.new.standing.session ≡ Session.Broken }
         ensures mark { IsOk result → self.new.standing.mark ≡ Mark.Plain →
@@ -217,6 +223,7 @@ impl PostgresConnection {
         self.end_reset(deadline)?;
         self.wire.must_be_quiet(deadline)?;
         self.standing.mark = self.standing.mark.and(query.mark);
+        self.statements.send(query)?;
         self.wire.ask(query.request.as_slice(), deadline)?;
         self.wire.answer(self.limits, deadline)
     }
@@ -278,6 +285,9 @@ impl PostgresConnection {
         // (What comes of a reset is read by the next query.)
         if self.standing.resetting == 0 {
             self.wire.must_be_quiet(deadline)?;
+        }
+        if self.standing.is_due(reset) {
+            self.statements.forget();
         }
         let (alloc, talk) = (self.rt.alloc(), &mut self.wire.talk);
         let requests = self.standing.come_back(alloc, talk, reset)?;

@@ -16,6 +16,7 @@ mod scram;
 mod settings;
 mod socket;
 mod standing;
+mod statements;
 mod wire;
 
 pub use answer::{Answer, Limits, Reading, Row, Rows, Session};
@@ -29,3 +30,4 @@ pub use query::Query;
 pub use reset::Reset;
 pub use settings::{Settings, Timeouts};
 pub use standing::{Standing, must_be_taken};
+pub use statements::{Asked, Statement, Statements};

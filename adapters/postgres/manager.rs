@@ -59,6 +59,7 @@ impl PostgresConnectionManager {
                 bytes: 16 * 1024 * 1024,
                 rows: 1024 * 1024,
             },
+            statements: 0,
         };
         Ok(PostgresConnectionManager { rt, settings })
     }
@@ -114,6 +115,18 @@ impl PostgresConnectionManager {
     /// How much one answer may have: 16 MiB, and 1,048,576 rows, until another limit is set.
     pub fn with_limits(mut self, limits: Limits) -> Self {
         self.settings.limits = limits;
+        self
+    }
+
+    /// The server keeps so many statements for each connection, those of `query_with` and
+    /// `execute_with` whose texts were sent last: it takes new values for them, and need not read
+    /// the texts again. None until a number is set. A reset ends them; and one that is refused, as
+    /// once where its tables were changed, is read again the next time. Where connections share
+    /// those of a server by transactions, as behind PgBouncer, leave it.
+    pub fn with_statements(mut self, count: usize) -> Self
+        ensures { result.settings ≡ record self.settings { statements = count } }
+    {
+        self.settings.statements = count;
         self
     }
 

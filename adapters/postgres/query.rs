@@ -2,6 +2,7 @@
 
 use crate::error::PostgresError;
 use crate::mark;
+use crate::statements::Asked;
 use postgres_codec::Mark;
 use std::alloc::Global;
 
@@ -10,14 +11,26 @@ use std::alloc::Global;
 pub struct Query {
     pub request: Vec<u8>,
     pub mark: Mark,
+    /// What `Statements` knows it by.
+    pub asked: Option<Asked>,
 }
 
 impl Query {
+    /// Nothing, before anything is asked.
+    pub fn none(alloc: Global) -> Query {
+        Query {
+            request: Vec::new(alloc),
+            mark: Mark::Plain,
+            asked: None,
+        }
+    }
+
     /// One of these words, or several with `;` between them.
     pub fn of(alloc: Global, text: &str) -> Result<Query, PostgresError> {
         Ok(Query {
             request: postgres_codec::query(alloc, text)?,
             mark: mark::of_query(text),
+            asked: None,
         })
     }
 
@@ -26,10 +39,12 @@ impl Query {
         Ok(Query {
             request: postgres_codec::query(alloc, text)?,
             mark: Mark::Plain,
+            asked: None,
         })
     }
 
-    /// One with values for its parameters.
+    /// One with values for its parameters. Refused is a zero byte in the text, more than 65,535
+    /// values, and what is longer than a server takes.
     pub fn with(
         alloc: Global,
         text: &str,
@@ -38,6 +53,7 @@ impl Query {
         Ok(Query {
             request: postgres_codec::query_with(alloc, text, values)?,
             mark: mark::of_query(text),
+            asked: None,
         })
     }
 }

@@ -17,6 +17,8 @@ pub struct Settings {
     pub probe: Probe,
     pub timeouts: Timeouts,
     pub limits: Limits,
+    /// How many statements with values the server keeps for a connection.
+    pub statements: usize,
 }
 
 /// How long a call may take, from its beginning to its end.

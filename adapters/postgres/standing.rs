@@ -1,7 +1,7 @@
 //! How a connection stands, whoever waits for it: what the server last said, what was left on it,
 //! and what is still owed.
 
-ghost use Rattle.std.specs.Prelude.{◌≡◌, ◌≢◌, ◌<◌, ◌⊎◌, IsErr, IsOk, IsTrue};
+ghost use Rattle.std.specs.Prelude.{◌≡◌, ◌≢◌, ◌<◌, ◌⊎◌, IsErr, IsFalse, IsOk, IsTrue};
 
 use crate::answer::{Answer, Rows, Session};
 use crate::error::PostgresError;
@@ -62,6 +62,19 @@ impl Standing {
         }
     }
 
+    /// Whether the session is to be reset.
+    pub fn is_due(&self, reset: Reset) -> bool
+        ensures never { reset ≡ Reset.Never → IsFalse result }
+        ensures marked { reset ≡ Reset.IfMarked → IsFalse result → self.now.mark ≡ Mark.Plain }
+        ensures always { reset ≡ Reset.Always → IsTrue result }
+    {
+        match reset {
+            Reset::Never => false,
+            Reset::IfMarked => self.mark != Mark::Plain,
+            Reset::Always => true,
+        }
+    }
+
     /// Comes back from a caller: the requests that end the session, to be sent at once, which are
     /// none where it is as it began. After an error it can't be lent on. Nothing may have come that
     /// nobody asked for, but for answers to a reset.
@@ -90,11 +103,7 @@ impl Standing {
                 Err(PostgresError::Reset)
             };
         }
-        let is_reset = match reset {
-            Reset::Never => false,
-            Reset::IfMarked => self.mark != Mark::Plain,
-            Reset::Always => true,
-        };
+        let is_reset = self.is_due(reset);
         if is_reset && self.mark == Mark::Lasting {
             return Err(PostgresError::Reset);
         }

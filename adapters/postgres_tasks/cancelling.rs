@@ -138,7 +138,7 @@ impl Asking {
         if self.socket.is_none() {
             let dialed = ready!(self.dialing.poll_dial(deadline, cx));
             self.socket = match dialed {
-                Ok(stream) => Socket::new(rt.alloc(), stream).ok(),
+                Ok(stream) => Socket::new(rt, stream).ok(),
                 Err(_) => return Poll::Ready(()),
             };
         }

@@ -6,15 +6,14 @@ ghost use Rattle.futures.specs.Poll.{IfReady, OnPending};
 
 use crate::cancelling::Cancel;
 use crate::socket::Socket;
-use deadline::Deadline;
 use futures::ready;
 use futures::task::{Context, Poll};
 use postgres::{
-    Answer, Limits, PostgresError, Probe, Query, Reading, Reset, Session, Standing, Timeouts,
-    must_be_taken,
+    Answer, Begun, Limits, PostgresError, Probe, Query, Reading, Reset, Session, Settings,
+    Standing, Statements, Timeouts, must_be_taken,
 };
 use postgres_codec::Mark;
-use std::alloc::{AllocError, Global};
+use std::alloc::Global;
 use std::time::Duration;
 use tokio::time;
 use tokio_socket::Patience;
@@ -22,29 +21,39 @@ use tokio_socket::Patience;
 /// A connection to PostgreSQL, whose queries are futures: those of the trait `Commands`.
 #[derive(Drop)]
 pub struct TaskConnection {
-    pub(crate) rt: HostRuntime,
-    pub(crate) time: time::Handle,
-    pub(crate) socket: Socket,
-    pub(crate) timeouts: Timeouts,
-    pub(crate) limits: Limits,
-    pub(crate) probe: Probe,
     pub(crate) standing: Standing,
-    // What a cancel names this connection by.
-    pub(crate) key: Option<Vec<u8>>,
-    // Whether the server may be at a query whose answer nobody waits for.
-    pub(crate) is_left: bool,
+    // All else stays where it is: a connection is moved at each loan, poll and return.
+    pub(crate) inner: Box<Inner>,
 }
 
-/// A request, how far it has come, and how long its answer is waited for.
+/// What a connection has beside how it stands, for as long as it is open.
 #[derive(Drop)]
-pub(crate) struct Request {
+pub(crate) struct Inner {
+    rt: HostRuntime,
+    socket: Socket,
+    pub timeouts: Timeouts,
+    limits: Limits,
+    pub probe: Probe,
+    pub statements: Statements,
+    // What is asked, or why it is not sent; what came of its answer, and for how long that is
+    // waited for.
+    request: Request,
+    refused: Option<PostgresError>,
+    reading: Reading,
+    patience: Patience,
+    // What a cancel names this connection by.
+    key: Option<Vec<u8>>,
+    // Whether the server may be at a query whose answer nobody waits for.
+    is_left: bool,
+}
+
+// A request, how far it has come, and how long its answer is waited for.
+#[derive(Drop)]
+struct Request {
     query: Query,
     sent: usize,
     stage: Stage,
-    reading: Reading,
     timeout: Duration,
-    // Since its first poll.
-    patience: Option<Patience>,
 }
 
 #[derive(Clone, Copy, PartialEq, Eq)]
@@ -56,20 +65,46 @@ enum Stage {
 }
 
 impl Request {
-    /// The request of this query.
-    pub fn of(alloc: Global, query: Query, timeout: Duration) -> Request {
+    fn of(query: Query, timeout: Duration) -> Request {
         Request {
             query,
             sent: 0,
             stage: Stage::New,
-            reading: Reading::new(alloc),
             timeout,
-            patience: None,
         }
     }
 }
 
 impl TaskConnection {
+    /// One over a socket, at which a session has begun.
+    pub(crate) fn over(
+        rt: HostRuntime,
+        time: &time::Handle,
+        settings: &Settings,
+        socket: Socket,
+        begun: Begun,
+    ) -> Result<TaskConnection, PostgresError> {
+        let timeouts = settings.timeouts;
+        let inner = Inner {
+            rt,
+            socket,
+            timeouts,
+            limits: settings.limits,
+            probe: settings.probe,
+            statements: Statements::new(rt.alloc(), settings.statements),
+            request: Request::of(Query::none(rt.alloc()), timeouts.command),
+            refused: None,
+            reading: Reading::new(rt.alloc()),
+            patience: Patience::new(rt, time, timeouts.command)?,
+            key: begun.key,
+            is_left: false,
+        };
+        Ok(TaskConnection {
+            standing: Standing::new(begun.session),
+            inner: Box::new(rt.alloc(), inner)?,
+        })
+    }
+
     /// What the server last said of it.
     pub fn session(&self) -> Session
         ensures { result ≡ self.now.standing.session }
@@ -78,14 +113,34 @@ impl TaskConnection {
     }
 
     pub(crate) fn alloc(&self) -> Global {
-        self.rt.alloc()
+        self.inner.rt.alloc()
     }
 
-    /// The answer to a request, or why there is none by the deadline, which counts from here on. It
-    /// is broken until the answer is there: so who drops the request leaves its answer to nobody.
+    /// What is asked next, or why it can't be, and for how long its answer is waited for. Nothing is
+    /// sent yet.
+    pub(crate) fn ask(&mut self, query: Result<Query, PostgresError>, timeout: Duration)
+        ensures { self.new.standing ≡ self.old.standing }
+    {
+        let inner = &mut *self.inner;
+        inner.refused = None;
+        match query {
+            Ok(query) => inner.request = Request::of(query, timeout),
+            Err(error) => inner.refused = Some(error),
+        }
+    }
+
+    /// Why what was asked last can't be, which is told once.
+    pub(crate) fn refusal(&mut self) -> Option<PostgresError>
+        ensures { self.new.standing ≡ self.old.standing }
+    {
+        self.inner.refused.take()
+    }
+
+    /// The answer to what was asked last, or why there is none by the deadline, which counts from
+    /// the first poll on. It is broken until the answer is there: so who gives up leaves its answer
+    /// to nobody.
     pub(crate) fn poll_exchange(
         &mut self,
-        request: &mut Request,
         cx: &mut Context<'_>,
     ) -> Poll<Result<Answer, PostgresError>>
         ensures pending { OnPending result (self.new.standing.session ≡ Session.Broken) }
@@ -95,85 +150,57 @@ impl TaskConnection {
         ensures armed { OnPending result (IsArmed cx.new) }
         ensures kept { Keeps cx.old cx.new }
     {
-        if self.standing.session == Session::Broken && request.stage == Stage::New {
-            return Poll::Ready(Err(PostgresError::Broken));
+        if self.inner.request.stage == Stage::New {
+            if self.standing.session == Session::Broken {
+                return Poll::Ready(Err(PostgresError::Broken));
+            }
+            self.inner.begin();
         }
         self.standing.session = Session::Broken;
-        let mut patience = match self.patience_of(request) {
-            Ok(patience) => patience,
-            Err(error) => return Poll::Ready(Err(PostgresError::Memory(error))),
-        };
-        let answered = match self.poll_steps(request, &patience, cx) {
-            Poll::Pending if patience.poll_over(cx).is_ready() => {
-                Poll::Ready(Err(self.socket.late(patience.deadline)))
+        let answered = match self.poll_steps(cx) {
+            Poll::Pending if self.inner.patience.poll_over(cx).is_ready() => {
+                Poll::Ready(Err(self.inner.late()))
             }
             answered => answered,
         };
         match answered {
             Poll::Ready(Ok(answer)) => {
-                self.is_left = false;
+                self.inner.answered(&answer);
                 self.standing.answered(&answer);
                 Poll::Ready(Ok(answer))
             }
             Poll::Ready(Err(error)) => {
-                self.is_left &= matches!(error, PostgresError::Timeout { .. });
+                self.inner.is_left &= matches!(error, PostgresError::Timeout { .. });
                 Poll::Ready(Err(error))
             }
-            Poll::Pending => {
-                request.patience = Some(patience);
-                Poll::Pending
-            }
+            Poll::Pending => Poll::Pending,
         }
     }
 
-    // It counts from the first poll on.
-    fn patience_of(&self, request: &mut Request) -> Result<Patience, AllocError> {
-        match request.patience.take() {
-            Some(patience) => Ok(patience),
-            None => Patience::new(self.rt, &self.time, request.timeout),
-        }
-    }
-
-    fn poll_steps(
-        &mut self,
-        request: &mut Request,
-        patience: &Patience,
-        cx: &mut Context<'_>,
-    ) -> Poll<Result<Answer, PostgresError>>
+    fn poll_steps(&mut self, cx: &mut Context<'_>) -> Poll<Result<Answer, PostgresError>>
         ensures same { self.new.standing.session ≡ self.old.standing.session }
         ensures armed { OnPending result (IsArmed cx.new) }
         ensures kept { Keeps cx.old cx.new }
     {
-        let deadline = patience.deadline;
         // (Who sends for ever keeps no caller for ever.)
-        if patience.is_over() {
-            return Poll::Ready(Err(self.socket.late(deadline)));
+        if self.inner.request.stage != Stage::New && self.inner.patience.is_over() {
+            return Poll::Ready(Err(self.inner.late()));
         }
-        if request.stage != Stage::Sending {
-            request.stage = Stage::Resetting;
-            if let Err(error) = ready!(self.poll_reset(&mut request.reading, deadline, cx)) {
+        if self.inner.request.stage != Stage::Sending {
+            self.inner.request.stage = Stage::Resetting;
+            if let Err(error) = ready!(self.poll_reset(cx)) {
                 return Poll::Ready(Err(error));
             }
-            if let Err(error) = self.begin(request.query.mark, deadline) {
+            if let Err(error) = self.begin(cx) {
                 return Poll::Ready(Err(error));
             }
-            request.stage = Stage::Sending;
+            self.inner.request.stage = Stage::Sending;
         }
-        let (bytes, sent) = (request.query.request.as_slice(), &mut request.sent);
-        if let Err(error) = ready!(self.socket.poll_send(bytes, sent, deadline, cx)) {
-            return Poll::Ready(Err(error));
-        }
-        let (reading, limits) = (&mut request.reading, self.limits);
-        self.socket.poll_answer(reading, limits, deadline, cx)
+        self.inner.poll_asked(cx)
     }
 
     // Reads the answers to the reset of an earlier caller.
-    fn poll_reset(
-        &mut self,
-        reading: &mut Reading,
-        deadline: Deadline,
-        cx: &mut Context<'_>,
-    ) -> Poll<Result<(), PostgresError>>
+    fn poll_reset(&mut self, cx: &mut Context<'_>) -> Poll<Result<(), PostgresError>>
         ensures same { self.new.standing.session ≡ self.old.standing.session }
         ensures armed { OnPending result (IsArmed cx.new) }
         ensures kept { Keeps cx.old cx.new }
@@ -181,8 +208,7 @@ impl TaskConnection {
         if self.standing.resetting == 0 {
             return Poll::Ready(Ok(()));
         }
-        let limits = self.limits;
-        let answered = match ready!(self.socket.poll_answer(reading, limits, deadline, cx)) {
+        let answered = match ready!(self.inner.poll_answer(cx)) {
             Ok(answer) => must_be_taken(answer),
             Err(error) => Err(error),
         };
@@ -197,25 +223,38 @@ impl TaskConnection {
         Poll::Ready(Ok(()))
     }
 
-    // The server has said nothing since it answered last: so what comes now is the answer.
-    fn begin(&mut self, mark: Mark, deadline: Deadline) -> Result<(), PostgresError>
-        ensures { self.new.standing.session ≡ self.old.standing.session }
+    // The server has said nothing since it answered last: so what comes now is the answer. (What
+    // came within the last millisecond, and the runtime does not know of yet, is taken for it too.)
+    fn begin(&mut self, cx: &mut Context<'_>) -> Result<(), PostgresError>
+        ensures same { self.new.standing.session ≡ self.old.standing.session }
+        ensures kept { Keeps cx.old cx.new }
     {
-        self.socket.must_be_quiet(deadline)?;
-        self.standing.mark = self.standing.mark.and(mark);
-        self.socket.talk.expect();
-        self.is_left = true;
+        let inner = &mut *self.inner;
+        inner.socket.must_be_quiet_by(inner.patience.deadline, cx)?;
+        self.standing.mark = self.standing.mark.and(inner.request.query.mark);
+        inner.statements.send(&mut inner.request.query)?;
+        inner.socket.talk.expect();
+        inner.is_left = true;
         Ok(())
+    }
+
+    /// Whether the answer to a check is the right one.
+    pub(crate) fn passes(&mut self, answer: Answer) -> Result<(), PostgresError>
+        ensures { IsOk result → self.new.standing.session ≡ self.old.standing.session }
+    {
+        let probe = self.inner.probe;
+        self.standing.passes(probe, answer.rows)
     }
 
     /// What asks the server to end the query that was left on it.
     pub(crate) fn cancel(&mut self) -> Option<Cancel> {
-        if !self.is_left {
+        let inner = &mut *self.inner;
+        if !inner.is_left {
             return None;
         }
         Some(Cancel {
-            peer: self.socket.peer()?,
-            key: self.key.take()?,
+            peer: inner.socket.peer()?,
+            key: inner.key.take()?,
         })
     }
 
@@ -249,16 +288,61 @@ impl TaskConnection {
         ensures always { IsOk result → reset ≡ Reset.Always →
             0 < self.new.standing.resetting }
     {
-        let deadline = Deadline::new(self.rt, self.timeouts.check);
+        let inner = &mut *self.inner;
+        let (alloc, deadline) = (inner.rt.alloc(), inner.patience.deadline);
         // (What comes of a reset is read by the next query.)
         if self.standing.resetting == 0 {
-            self.socket.must_be_quiet(deadline)?;
+            inner.socket.must_be_quiet(deadline)?;
         }
-        let (alloc, talk) = (self.rt.alloc(), &mut self.socket.talk);
+        if self.standing.is_due(reset) {
+            inner.statements.forget();
+        }
+        let talk = &mut inner.socket.talk;
         let requests = self.standing.come_back(alloc, talk, reset)?;
         if requests.is_empty() {
             return Ok(());
         }
-        self.socket.send_now(requests.as_slice(), deadline)
+        inner.socket.send_now(requests.as_slice(), deadline)
+    }
+}
+
+impl Inner {
+    // The time for a request begins.
+    fn begin(&mut self) {
+        self.patience.begin(self.request.timeout);
+    }
+
+    // Sends what of the request was not sent yet, and reads its answer.
+    fn poll_asked(&mut self, cx: &mut Context<'_>) -> Poll<Result<Answer, PostgresError>>
+        ensures armed { OnPending result (IsArmed cx.new) }
+        ensures kept { Keeps cx.old cx.new }
+    {
+        let deadline = self.patience.deadline;
+        let request = &mut self.request;
+        let (bytes, sent) = (request.query.request.as_slice(), &mut request.sent);
+        if let Err(error) = ready!(self.socket.poll_send(bytes, sent, deadline, cx)) {
+            return Poll::Ready(Err(error));
+        }
+        self.poll_answer(cx)
+    }
+
+    fn poll_answer(&mut self, cx: &mut Context<'_>) -> Poll<Result<Answer, PostgresError>>
+        ensures armed { OnPending result (IsArmed cx.new) }
+        ensures kept { Keeps cx.old cx.new }
+    {
+        let (limits, deadline) = (self.limits, self.patience.deadline);
+        self.socket
+            .poll_answer(&mut self.reading, limits, deadline, cx)
+    }
+
+    // Nobody waits for more, and the request may go.
+    fn answered(&mut self, answer: &Answer) {
+        self.is_left = false;
+        self.statements.answered(&self.request.query, answer);
+        self.request.query = Query::none(self.rt.alloc());
+    }
+
+    fn late(&self) -> PostgresError {
+        self.socket.late(self.patience.deadline)
     }
 }

@@ -4,7 +4,7 @@ ghost use Rattle.std.specs.Prelude.{◌≡◌, IfOk, IsSome};
 ghost use Rattle.futures.specs.Task.{IsArmed, Keeps};
 ghost use Rattle.futures.specs.Poll.{IfReady, OnPending};
 
-use crate::connection::{Request, TaskConnection};
+use crate::connection::TaskConnection;
 use futures::task::{Context, Poll};
 use futures::{Future, ready};
 use postgres::{Answer, PostgresError, Query, Row, Session};
@@ -31,7 +31,7 @@ pub trait Commands: DerefMut<Target = TaskConnection> + Drop + Sized {
         ensures { IsSome result.0.lent }
     {
         let connection: &TaskConnection = &self;
-        let query = Query::with(connection.alloc(), text, values);
+        let query = connection.inner.statements.ask(text, values);
         Queried(Exchange::of(self, query))
     }
 
@@ -49,38 +49,29 @@ pub trait Commands: DerefMut<Target = TaskConnection> + Drop + Sized {
         ensures { IsSome result.0.lent }
     {
         let connection: &TaskConnection = &self;
-        let query = Query::with(connection.alloc(), text, values);
+        let query = connection.inner.statements.ask(text, values);
         Executed(Exchange::of(self, query))
     }
 }
 
 impl<L: DerefMut<Target = TaskConnection> + Drop> Commands for L {}
 
-// A request, or why there is none: None once that was told.
-type Asked = Result<Request, Option<PostgresError>>;
-
-// What was lent, and what is asked over it.
+// What was lent, over which something is asked.
 #[derive(Drop)]
 struct Exchange<L> {
     // None once it was ready.
     lent: Option<L>,
-    request: Asked,
 }
 
 impl<L: DerefMut<Target = TaskConnection> + Drop> Exchange<L> {
     fn of(lent: L, query: Result<Query, PostgresError>) -> Exchange<L>
         ensures { IsSome result.lent }
     {
-        let connection: &TaskConnection = &lent;
-        let timeout = connection.timeouts.command;
-        let request = match query {
-            Ok(query) => Ok(Request::of(connection.alloc(), query, timeout)),
-            Err(error) => Err(Some(error)),
-        };
-        Exchange {
-            lent: Some(lent),
-            request,
-        }
+        let mut lent = lent;
+        let connection: &mut TaskConnection = &mut lent;
+        let timeout = connection.inner.timeouts.command;
+        connection.ask(query, timeout);
+        Exchange { lent: Some(lent) }
     }
 
     fn poll_answer(&mut self, cx: &mut Context<'_>) -> Poll<(L, Result<Answer, PostgresError>)>
@@ -90,7 +81,7 @@ impl<L: DerefMut<Target = TaskConnection> + Drop> Exchange<L> {
         ensures kept { Keeps cx.old cx.new }
     {
         let mut lent = self.lent.take().unwrap();
-        match poll_answer(&mut lent, &mut self.request, cx) {
+        match poll_answer(&mut lent, cx) {
             Poll::Ready(answer) => Poll::Ready((lent, answer)),
             Poll::Pending => {
                 self.lent = Some(lent);
@@ -102,7 +93,6 @@ impl<L: DerefMut<Target = TaskConnection> + Drop> Exchange<L> {
 
 fn poll_answer(
     connection: &mut TaskConnection,
-    request: &mut Asked,
     cx: &mut Context<'_>,
 ) -> Poll<Result<Answer, PostgresError>>
     ensures pending { OnPending result (connection.new.standing.session ≡ Session.Broken) }
@@ -111,9 +101,9 @@ fn poll_answer(
     ensures armed { OnPending result (IsArmed cx.new) }
     ensures kept { Keeps cx.old cx.new }
 {
-    match request {
-        Ok(request) => connection.poll_exchange(request, cx),
-        Err(error) => Poll::Ready(Err(error.take().unwrap_or(PostgresError::Broken))),
+    match connection.refusal() {
+        Some(error) => Poll::Ready(Err(error)),
+        None => connection.poll_exchange(cx),
     }
 }
 
@@ -158,21 +148,18 @@ impl<L: DerefMut<Target = TaskConnection> + Drop> Future for Executed<L> {
 pub struct Check {
     // None once it was ready.
     connection: Option<TaskConnection>,
-    request: Asked,
 }
 
 impl Check {
     pub(crate) fn of(connection: TaskConnection) -> Check
         ensures { IsSome result.connection }
     {
-        let (alloc, timeout) = (connection.alloc(), connection.timeouts.check);
-        let request = match Query::plain(alloc, connection.probe.query()) {
-            Ok(query) => Ok(Request::of(alloc, query, timeout)),
-            Err(error) => Err(Some(error)),
-        };
+        let mut connection = connection;
+        let (probe, timeout) = (connection.inner.probe, connection.inner.timeouts.check);
+        let query = Query::plain(connection.alloc(), probe.query());
+        connection.ask(query, timeout);
         Check {
             connection: Some(connection),
-            request,
         }
     }
 }
@@ -184,8 +171,8 @@ impl Future for Check {
 
     fn poll(&mut self, cx: &mut Context<'_>) -> Poll<(TaskConnection, Result<(), PostgresError>)> {
         let connection = self.connection.as_mut().unwrap();
-        let verdict = match ready!(poll_answer(connection, &mut self.request, cx)) {
-            Ok(answer) => connection.standing.passes(connection.probe, answer.rows),
+        let verdict = match ready!(poll_answer(connection, cx)) {
+            Ok(answer) => connection.passes(answer),
             Err(error) => Err(error),
         };
         Poll::Ready((self.connection.take().unwrap(), verdict))

@@ -61,7 +61,8 @@ impl ManageConnection for TaskConnectionManager {
 
     /// A connection is closed, and not lent on, that is broken, that the server said something on
     /// unasked, or whose session can't be brought back as the mode says. A transaction that a
-    /// caller left open is rolled back.
+    /// caller left open is rolled back. (What the server says within a millisecond of its answer
+    /// may show at the next query, which fails.)
     fn has_broken(&self, connection: &mut TaskConnection) -> bool
         ensures broken { connection.old.standing.session ≡ Session.Broken → IsTrue result }
         ensures idle { IsFalse result → connection.new.standing.session ≡ Session.Idle }

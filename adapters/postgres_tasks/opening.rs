@@ -9,7 +9,7 @@ use crate::socket::Socket;
 use deadline::Deadline;
 use futures::task::{Context, Poll};
 use futures::{Future, ready};
-use postgres::{Begun, Greeting, Login, Next, PostgresError, Settings, Standing};
+use postgres::{Begun, Greeting, Login, Next, PostgresError, Settings};
 use std::alloc::AllocError;
 use std::io;
 use std::sync::Arc;
@@ -21,7 +21,8 @@ use tokio_socket::{Dialing, Patience};
 /// its end, it closes the socket.
 #[derive(Drop)]
 pub struct Connect {
-    made: Result<Opening, AllocError>,
+    // (a worker, which has it, is moved at each of its polls)
+    made: Result<Box<Opening>, AllocError>,
 }
 
 impl Connect {
@@ -76,8 +77,8 @@ impl Opening {
         settings: &Arc<Settings>,
         handle: &Handle,
         cancels: &Arc<Cancels>,
-    ) -> Result<Opening, AllocError> {
-        Ok(Opening {
+    ) -> Result<Box<Opening>, AllocError> {
+        let opening = Opening {
             rt,
             settings: Arc::try_clone(settings)?,
             handle: handle.clone()?,
@@ -86,7 +87,8 @@ impl Opening {
             cancelling: None,
             dialing: None,
             dialed: None,
-        })
+        };
+        Ok(Box::new(rt.alloc(), opening)?)
     }
 
     fn poll_open(&mut self, cx: &mut Context<'_>) -> Poll<Result<TaskConnection, PostgresError>>
@@ -169,9 +171,9 @@ impl Opening {
 
     // What is sent first.
     fn greet(&self, stream: TcpStream) -> Result<Dialed, PostgresError> {
-        let (alloc, settings) = (self.rt.alloc(), &*self.settings);
+        let settings = &*self.settings;
         let address = settings.address.as_str();
-        let mut socket = Socket::new(alloc, stream, address, Greeting::MOST)?;
+        let mut socket = Socket::new(self.rt, stream, address, Greeting::MOST)?;
         let (greeting, request) = Greeting::ask(self.rt, &settings.login)?;
         socket.talk.expect();
         Ok(Dialed {
@@ -217,17 +219,7 @@ impl Opening {
         let settings = &*self.settings;
         dialed.socket.talk.take_mark();
         dialed.socket.talk.allow(settings.limits.bytes);
-        Ok(TaskConnection {
-            rt: self.rt,
-            time: self.handle.time().clone()?,
-            socket: dialed.socket,
-            timeouts: settings.timeouts,
-            limits: settings.limits,
-            probe: settings.probe,
-            standing: Standing::new(begun.session),
-            key: begun.key,
-            is_left: false,
-        })
+        TaskConnection::over(self.rt, self.handle.time(), settings, dialed.socket, begun)
     }
 
     fn late(&self, deadline: Deadline) -> PostgresError {

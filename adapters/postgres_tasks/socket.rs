@@ -26,14 +26,15 @@ pub struct Socket {
 impl Socket {
     /// An answer may have so many bytes.
     pub fn new(
-        alloc: Global,
+        rt: HostRuntime,
         stream: TcpStream,
         address: &str,
         limit: usize,
     ) -> Result<Socket, AllocError> {
+        let alloc = rt.alloc();
         Ok(Socket {
             alloc,
-            socket: tokio_socket::Socket::new(alloc, stream)?,
+            socket: tokio_socket::Socket::new(rt, stream)?,
             address: String::from_str(alloc, address)?,
             talk: Conversation::new(alloc, limit),
         })
@@ -125,16 +126,32 @@ impl Socket {
         }
     }
 
-    /// Fails where an answer is owed, or bytes came that nobody asked for, or the stream's end.
+    /// Fails where an answer is owed, or bytes came that nobody asked for, or the stream's end. It
+    /// does not look at the socket within a millisecond of what it read there last.
     pub fn must_be_quiet(&mut self, deadline: Deadline) -> Result<(), PostgresError>
         ensures { self.new.talk ≡ self.old.talk }
     {
-        if !self.talk.is_settled() {
-            return Err(PostgresError::Unasked);
-        }
-        match self.socket.is_quiet() {
-            Ok(true) => Ok(()),
-            Ok(false) => Err(PostgresError::Unasked),
+        let seen = self.socket.is_still_quiet();
+        self.quiet(seen, deadline)
+    }
+
+    /// The same, and where the runtime knows that bytes came.
+    pub fn must_be_quiet_by(
+        &mut self,
+        deadline: Deadline,
+        cx: &mut Context<'_>,
+    ) -> Result<(), PostgresError>
+        ensures same { self.new.talk ≡ self.old.talk }
+        ensures kept { Keeps cx.old cx.new }
+    {
+        let seen = self.socket.is_quiet_by(cx);
+        self.quiet(seen, deadline)
+    }
+
+    fn quiet(&self, seen: io::Result<bool>, deadline: Deadline) -> Result<(), PostgresError> {
+        match seen {
+            Ok(true) if self.talk.is_settled() => Ok(()),
+            Ok(_) => Err(PostgresError::Unasked),
             Err(error) => Err(self.explained(deadline, error)),
         }
     }

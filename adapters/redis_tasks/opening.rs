@@ -155,7 +155,7 @@ impl Opening {
     fn greet(&self, stream: TcpStream) -> Result<Dialed, RedisError> {
         let (alloc, settings) = (self.rt.alloc(), &*self.settings);
         let address = settings.address.as_str();
-        let mut socket = Socket::new(alloc, stream, address, settings.limits)?;
+        let mut socket = Socket::new(self.rt, stream, address, settings.limits)?;
         let mut requests = Vec::new(alloc);
         let greeting = Greeting::ask(alloc, settings, &mut socket.talk, &mut requests)?;
         Ok(Dialed {

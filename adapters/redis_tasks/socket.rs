@@ -24,14 +24,15 @@ pub struct Socket {
 
 impl Socket {
     pub fn new(
-        alloc: Global,
+        rt: HostRuntime,
         stream: TcpStream,
         address: &str,
         limits: Limits,
     ) -> Result<Socket, AllocError> {
+        let alloc = rt.alloc();
         Ok(Socket {
             alloc,
-            socket: tokio_socket::Socket::new(alloc, stream)?,
+            socket: tokio_socket::Socket::new(rt, stream)?,
             address: String::from_str(alloc, address)?,
             talk: Conversation::new(alloc, limits)?,
         })

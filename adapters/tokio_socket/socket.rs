@@ -6,26 +6,37 @@ ghost use Rattle.futures.specs.Poll.{OnPending};
 
 use futures::ready;
 use futures::task::{Context, Poll};
-use std::alloc::{AllocError, Global};
+use std::alloc::AllocError;
 use std::io;
 use std::net::SocketAddr;
+use std::time::{Duration, Instant};
 use tokio::io::{AsyncRead, AsyncWrite};
 use tokio::net::TcpStream;
 
 const PIECE: usize = 16 * 1024;
+/// For so many milliseconds what was seen of a socket is taken for what is to be seen.
+const MOMENT: u64 = 1;
 
 #[derive(Drop)]
 pub struct Socket {
+    rt: HostRuntime,
     stream: TcpStream,
     // What a read writes to.
     piece: Vec<u8>,
+    // When all was read that had come; None where more may be there.
+    emptied: Option<Instant>,
 }
 
 impl Socket {
-    pub fn new(alloc: Global, stream: TcpStream) -> Result<Socket, AllocError> {
-        let mut piece = Vec::new(alloc);
+    pub fn new(rt: HostRuntime, stream: TcpStream) -> Result<Socket, AllocError> {
+        let mut piece = Vec::new(rt.alloc());
         piece.resize(PIECE, 0)?;
-        Ok(Socket { stream, piece })
+        Ok(Socket {
+            rt,
+            stream,
+            piece,
+            emptied: None,
+        })
     }
 
     /// The server's address, not only its name.
@@ -66,7 +77,13 @@ impl Socket {
         ensures armed { OnPending result (IsArmed cx.new) }
         ensures kept { Keeps cx.old cx.new }
     {
-        match ready!(self.stream.poll_read(cx, self.piece.as_mut_slice())) {
+        let done = ready!(self.stream.poll_read(cx, self.piece.as_mut_slice()));
+        // (a read that is not filled has taken all)
+        self.emptied = match done {
+            Ok(count) if count > 0 && count < PIECE => Instant::now(&self.rt).ok(),
+            _ => None,
+        };
+        match done {
             Ok(0) => Poll::Ready(Err(io::Error::from(io::ErrorKind::UnexpectedEof))),
             Err(error) if error.kind() == io::ErrorKind::Interrupted => Poll::Ready(Ok(0)),
             done => Poll::Ready(done),
@@ -87,14 +104,48 @@ impl Socket {
         }
     }
 
-    /// Whether no bytes came; the end of the stream is an error.
+    /// Looks whether no bytes came; the end of the stream is an error.
     pub fn is_quiet(&mut self) -> io::Result<bool> {
         let mut byte = [0; 1];
+        self.emptied = None;
         match self.stream.try_read(&mut byte) {
-            Err(error) if error.kind() == io::ErrorKind::WouldBlock => Ok(true),
+            Err(error) if error.kind() == io::ErrorKind::WouldBlock => {
+                self.emptied = Instant::now(&self.rt).ok();
+                Ok(true)
+            }
             Err(error) => Err(error),
             Ok(0) => Err(io::Error::from(io::ErrorKind::UnexpectedEof)),
             Ok(_) => Ok(false),
+        }
+    }
+
+    /// The same, but that it does not look where all was read within the last millisecond.
+    pub fn is_still_quiet(&mut self) -> io::Result<bool> {
+        if self.was_emptied() {
+            return Ok(true);
+        }
+        self.is_quiet()
+    }
+
+    /// The same again, and nothing came that the runtime knows of, which has looked since.
+    pub fn is_quiet_by(&mut self, cx: &mut Context<'_>) -> io::Result<bool>
+        ensures { Keeps cx.old cx.new }
+    {
+        match self.poll_read(cx) {
+            Poll::Ready(Ok(count)) if count > 0 => Ok(false),
+            Poll::Ready(Err(error)) => Err(error),
+            _ => self.is_still_quiet(),
+        }
+    }
+
+    // A moment ago. (With a clock that fails nobody knows.)
+    fn was_emptied(&self) -> bool {
+        let Some(emptied) = self.emptied else {
+            return false;
+        };
+        match emptied.elapsed(&self.rt) {
+            Ok(length) => length < Duration::from_millis(MOMENT),
+            Err(_) => false,
         }
     }
 }

@@ -8,7 +8,7 @@
 //! for a second; `redis-primary` and `postgres-primary` refuse a replica, and close what is idle
 //! where one is met; `postgres-salted` waits for fifteen; `postgres-lenient` takes a server that asks
 //! for no password, `postgres-md5` one that asks for it by MD5. In place of `postgres`, `calm`
-//! waits for ten seconds.
+//! waits for ten seconds, as does `kept`, whose server keeps two statements for a connection.
 #![tactic(auto)]
 
 mod service;
@@ -85,6 +85,8 @@ struct Settings {
     lending: Lending,
     mode: Mode,
     timeout: Duration,
+    // How many statements a server keeps for a connection.
+    statements: usize,
 }
 
 /// When it resets.
@@ -117,7 +119,11 @@ impl Settings {
                 size,
             },
             mode,
-            timeout: Duration::from_millis(if name == "calm" { 10_000 } else { timeout }),
+            timeout: Duration::from_millis(match name {
+                "calm" | "kept" => 10_000,
+                _ => timeout,
+            }),
+            statements: if name == "kept" { 2 } else { 0 },
         }
     }
 
@@ -138,6 +144,7 @@ impl Settings {
             Checks::AndEvict => manager.with_primary_only(),
             _ => manager,
         };
+        let manager = manager.with_statements(self.statements);
         let manager = manager.with_reset(match self.mode {
             Mode::Never => postgres::Reset::Never,
             Mode::IfMarked => postgres::Reset::IfMarked,

@@ -82,7 +82,7 @@ impl<R: PoolRuntime> Caller<R> {
                 let text = format!(in alloc; "SELECT n FROM counts WHERE thread = {}", task % 8)?;
                 Some(lent.query(text.as_str()))
             }
-            (Request::Value, 0) => {
+            (Request::Value | Request::Text, 0) => {
                 let thread = format!(in alloc; "{}", task % 8)?;
                 let text = "SELECT n FROM counts WHERE thread = $1";
                 Some(lent.query_with(text, &[Some(thread.as_str())]))

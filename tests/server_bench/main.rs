@@ -1,8 +1,8 @@
 //! Tasks that ask a PostgreSQL, over the pool for tasks and `postgres_tasks` (tools/times servers):
 //! what `serve` of tools/peers does over tokio-postgres, by the same queries. Given an address, what
 //! is asked, how many tasks there are and for how many milliseconds, it prints what came of it.
-//! `read` is a query, `value` one with a value (`text` is the same here), `write` a transaction;
-//! `reset` is one after which the session is reset.
+//! `read` is a query, `value` one with a value whose statement the server keeps, `text` the same with
+//! none kept, `write` a transaction; `reset` is one after which the session is reset.
 #![tactic(auto)]
 
 mod caller;
@@ -25,6 +25,8 @@ use tokio_timer::TokioTimer;
 
 const MAX_SIZE: u32 = 8;
 
+const STATEMENTS: usize = 32;
+
 /// How many milliseconds a caller waits for a connection, and as many for a query.
 pub const TIMEOUT_MILLIS: u64 = 1000;
 
@@ -33,15 +35,41 @@ pub const TIMEOUT_MILLIS: u64 = 1000;
 pub enum Request {
     Read,
     Value,
+    Text,
     Write,
     Reset,
 }
 
 impl Request {
+    fn of(word: &str) -> Request {
+        match word {
+            "read" => Request::Read,
+            "value" => Request::Value,
+            "text" => Request::Text,
+            "write" => Request::Write,
+            _ => Request::Reset,
+        }
+    }
+
+    fn reset(self) -> Reset {
+        match self {
+            Request::Reset => Reset::IfMarked,
+            _ => Reset::Never,
+        }
+    }
+
+    // How many statements the server keeps for a connection.
+    fn kept(self) -> usize {
+        match self {
+            Request::Value => STATEMENTS,
+            _ => 0,
+        }
+    }
+
     /// How many statements it has.
     pub fn statements(self) -> u32 {
         match self {
-            Request::Read | Request::Value => 1,
+            Request::Read | Request::Value | Request::Text => 1,
             Request::Write | Request::Reset => 3,
         }
     }
@@ -56,16 +84,7 @@ fn main(rt: HostRuntime) -> Result<(), Fail> {
         println!(rt; "usage: server_bench ADDRESS REQUEST TASKS MS")?;
         return Ok(());
     };
-    let request = match request.as_str() {
-        "read" => Request::Read,
-        "value" | "text" => Request::Value,
-        "write" => Request::Write,
-        _ => Request::Reset,
-    };
-    let reset = match request {
-        Request::Reset => Reset::IfMarked,
-        _ => Reset::Never,
-    };
+    let request = Request::of(request.as_str());
     let timeout = Duration::from_millis(TIMEOUT_MILLIS);
     let manager = PostgresConnectionManager::new(
         rt,
@@ -78,7 +97,9 @@ fn main(rt: HostRuntime) -> Result<(), Fail> {
         tasks.as_str().parse::<u32>()?,
         millis.as_str().parse::<u64>()?,
     );
-    let manager = manager.with_reset(reset);
+    let manager = manager
+        .with_reset(request.reset())
+        .with_statements(request.kept());
     serve(rt, manager, request, tasks, Duration::from_millis(millis))
 }
 

@@ -2,8 +2,9 @@
 //! adapters). `redis-MODE ADDRESS [[USER] PASSWORD]`, with a user at database 2, and
 //! `postgres-MODE ADDRESS USER [PASSWORD]` have one connection, reset at a return as the mode says,
 //! check nothing, wait for half a second, and do what the lines on standard input say; with `calm`
-//! in place of `postgres` they wait for ten seconds, and `postgres-salted` for fifteen.
-//! `redis-primary` checks, and takes no replica.
+//! in place of `postgres` they wait for ten seconds, with `kept` too, but for a check, where
+//! the server keeps two statements, and `postgres-salted` for fifteen. `redis-primary` checks, and
+//! takes no replica.
 //! `cancel-KIND ADDRESS REQUESTS` asks a server of that kind so often, and gives up each request
 //! after three milliseconds; `outage-KIND ADDRESS MILLISECONDS` asks for so long, and nothing waits
 //! for longer than 300 of them. With one word it writes itself to that place.
@@ -141,6 +142,14 @@ fn waits_long(kind: &str) -> bool {
     kind == "postgres-salted" || !kind.starts_with("postgres-")
 }
 
+fn reset_of(mode: &str) -> postgres_tasks::Reset {
+    match mode {
+        "never" => postgres_tasks::Reset::Never,
+        "always" => postgres_tasks::Reset::Always,
+        _ => postgres_tasks::Reset::IfMarked,
+    }
+}
+
 fn of_postgres(
     rt: HostRuntime,
     kind: &str,
@@ -148,12 +157,7 @@ fn of_postgres(
     login: &[String],
     runtime: &LocalRuntime,
 ) -> Result<postgres_tasks::TaskConnectionManager, Fail> {
-    let (_, mode) = kind.split_once('-').unwrap_or((kind, ""));
-    let reset = match mode {
-        "never" => postgres_tasks::Reset::Never,
-        "always" => postgres_tasks::Reset::Always,
-        _ => postgres_tasks::Reset::IfMarked,
-    };
+    let (name, mode) = kind.split_once('-').unwrap_or((kind, ""));
     let timeout = match kind {
         "postgres-salted" => 15_000,
         "postgres-never" | "postgres-if-marked" | "postgres-always" => 500,
@@ -162,8 +166,16 @@ fn of_postgres(
     let user = login.first().map_or("somebody", |user| user.as_str());
     let timeout = Duration::from_millis(timeout);
     let manager = PostgresConnectionManager::new(rt, address, user, "postgres", timeout)?;
+    let manager = if name == "kept" {
+        let check = Duration::from_millis(500);
+        manager
+            .with_statements(2)
+            .with_timeouts(timeout, check, timeout)
+    } else {
+        manager
+    };
     let manager = manager
-        .with_reset(reset)
+        .with_reset(reset_of(mode))
         .with_limits(postgres_tasks::Limits {
             bytes: 64 * 1024,
             rows: 100,

@@ -1,11 +1,14 @@
 //! What the lines say.
 
-use crate::talks::{Server, Talks};
+use crate::talks::{Owned, Server, Talks};
 use futures::future::Either;
 use futures::task::{Context, Poll};
 use futures::{Future, future};
 use r2d2::PoolRuntime;
-use r2d2_async::{Builder, NoHandlers, PlainPool, Pool, PooledConnection, Timer, Worker};
+use r2d2_async::{
+    Builder, ManageConnection, NoHandlers, PlainPool, Pool, PooledConnection, Timer, Worker,
+};
+use std::alloc::AllocError;
 use std::io;
 use std::random::RandomSource;
 use std::test::Fail;
@@ -18,6 +21,11 @@ pub type TaskPool<M, R> = PlainPool<M, TokioTimer<R>, R>;
 pub type Lent<M, R> = PooledConnection<M, TokioTimer<R>, NoHandlers, R>;
 
 type Opener<M, R> = Worker<M, TokioTimer<R>, NoHandlers, R>;
+
+type ToldBy<M> = (
+    Owned<<M as ManageConnection>::Connection>,
+    Result<String, AllocError>,
+);
 
 /// How many calls are late at once.
 const CALLS: u32 = 8;
@@ -165,7 +173,10 @@ impl<M: Talks<Lent<M, R>>, R: PoolRuntime + RandomSource + Print> Service<M, R> 
                 Err(_) => failed += 1,
             }
         }
-        if what == "check" {
+        if what == "check" || what == "check-after-command" {
+            if what == "check-after-command" {
+                connections = self.answered(connections)?;
+            }
             begun = Instant::now(&self.rt)?;
             failed = self.fail_checks(connections)?;
         } else if what == "command" {
@@ -193,6 +204,24 @@ impl<M: Talks<Lent<M, R>>, R: PoolRuntime + RandomSource + Print> Service<M, R> 
     }
 
     fn fail_commands(&mut self, connections: Vec<M::Connection>) -> Result<u32, Fail> {
+        let mut failed = 0;
+        for (owned, answer) in self.told(connections)? {
+            failed += u32::from(answer?.as_str().starts_with("! ") && M::is_broken(&owned.0));
+        }
+        Ok(failed)
+    }
+
+    fn answered(&mut self, connections: Vec<M::Connection>) -> Result<Vec<M::Connection>, Fail> {
+        let mut answered = Vec::new(self.rt.alloc());
+        for (owned, answer) in self.told(connections)? {
+            answer?;
+            answered.push(owned.0)?;
+        }
+        Ok(answered)
+    }
+
+    // What each answers to a request.
+    fn told(&mut self, connections: Vec<M::Connection>) -> Result<Vec<ToldBy<M>>, Fail> {
         let (request, _) = M::echo(self.rt.alloc(), 7)?;
         let mut commands = Vec::new(self.rt.alloc());
         for connection in connections {
@@ -200,10 +229,6 @@ impl<M: Talks<Lent<M, R>>, R: PoolRuntime + RandomSource + Print> Service<M, R> 
             commands.push(told)?;
         }
         let all = future::join_all(self.rt.alloc(), commands)?;
-        let mut failed = 0;
-        for (owned, answer) in self.wait(all)?? {
-            failed += u32::from(answer?.as_str().starts_with("! ") && M::is_broken(&owned.0));
-        }
-        Ok(failed)
+        Ok(self.wait(all)??)
     }
 }

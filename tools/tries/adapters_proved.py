@@ -61,9 +61,12 @@ QUIET_OF_REDIS = """        if !self.talk.is_settled() {
 QUIET = """        match self.socket.is_quiet() {
             Ok(_) => Ok(()),
 """
+QUIET_OF_POSTGRES = """            Ok(true) if self.talk.is_settled() => Ok(()),
+            Ok(_) => Err(PostgresError::Unasked),
+"""
 # A check of a connection for tasks, and one that asks nothing.
-CHECKED = """        let verdict = match ready!(poll_answer(connection, &mut self.request, cx)) {
-            Ok(answer) => connection.standing.passes(connection.probe, answer.rows),
+CHECKED = """        let verdict = match ready!(poll_answer(connection, cx)) {
+            Ok(answer) => connection.passes(answer),
             Err(error) => Err(error),
         };
 """
@@ -97,13 +100,15 @@ REFUSED = [
     ("postgres::standing::Standing::is_reset", "        self.resetting = 0;\n        self.mark", "        self.mark"),
     ("postgres::standing::Standing::come_back", "        if self.session == Session::Broken {\n            return Err(PostgresError::Broken);\n        }\n", ""),
     ("postgres::standing::Standing::end", 'ask(alloc, talk, "ROLLBACK", &mut requests)?;\n            count += 1;', "{}"),
-    ("postgres::standing::Standing::come_back", "Reset::IfMarked => self.mark != Mark::Plain,", "Reset::IfMarked => false,"),
+    ("postgres::standing::Standing::is_due", "Reset::IfMarked => self.mark != Mark::Plain,", "Reset::IfMarked => false,"),
     ("postgres::standing::Standing::end", "        self.resetting = count;\n", ""),
+    ("postgres::statements::Statements::forget", "self.kept = Vec::new(self.alloc);", "self.sent = 0;"),
+    ("postgres::manager::PostgresConnectionManager::with_statements", "self.settings.statements = count;", "let _ = count;"),
     ("postgres::login::Login::step", "(Asked::Md5, Stage::Begun) if self.takes_md5 =>", "(Asked::Md5, Stage::Begun) if self.takes_md5 || self.password.is_some() =>"),
     ("postgres::login::Login::step", "if self.password.is_none() || self.is_lenient =>", "if self.password.is_none() || !self.is_lenient =>"),
-    ("postgres_tasks::connection::TaskConnection::poll_exchange", "        self.standing.session = Session::Broken;\n        let mut patience", "        let mut patience"),
-    ("postgres_tasks::connection::TaskConnection::poll_exchange", "            Poll::Pending => {\n                request.patience", "            Poll::Pending => {\n                self.standing.session = Session::Idle;\n                request.patience"),
-    ("postgres_tasks::connection::TaskConnection::poll_steps", "            request.stage = Stage::Sending;\n", "            request.stage = Stage::Sending;\n            self.standing.session = Session::Idle;\n"),
+    ("postgres_tasks::connection::TaskConnection::poll_exchange", "        self.standing.session = Session::Broken;\n        let answered", "        let answered"),
+    ("postgres_tasks::connection::TaskConnection::poll_exchange", "            Poll::Pending => Poll::Pending,\n", "            Poll::Pending => {\n                self.standing.session = Session::Idle;\n                Poll::Pending\n            }\n"),
+    ("postgres_tasks::connection::TaskConnection::poll_steps", "            self.inner.request.stage = Stage::Sending;\n", "            self.inner.request.stage = Stage::Sending;\n            self.standing.session = Session::Idle;\n"),
     ("postgres_tasks::manager::TaskConnectionManagerManageConnection::has_broken", POSTGRES_TASKS_BROKEN, "        if connection.session() != Session::Broken {\n            return false;\n        }\n"),
     ("postgres::manager::PostgresConnectionManagerManageConnection::has_broken", POSTGRES_BROKEN, "connection.session() == crate::answer::Session::Broken"),
 ]
@@ -128,9 +133,13 @@ SEEN = [
         ("postgres/connection", "self.wire.cancel(key.as_slice(), asking, answer).ok();", "let _ = (key, asking, answer);", "postgres: a locked table leaves the server with no more than two connections for each"),
         ("postgres/refusal", "if letter.is_control() {", "if letter == '\\r' {", "postgres, a scripted peer: a refusal with control characters: the text"),
         ("postgres/answer", "                None => None,\n", "                None => Some(String::new(alloc)),\n", "postgres, a scripted peer: an answer byte by byte: the text"),
-        ("postgres_tasks/connection", "        self.standing.session = Session::Broken;\n        let mut patience", "        let mut patience", "postgres for tasks: after it another connection is lent"),
-        ("postgres_tasks/connection", "            key: self.key.take()?,", "            key: self.key.take().filter(|key| key.is_empty())?,", "postgres for tasks: a query that is late is cancelled"),
-        ("postgres_tasks/connection", "        self.socket.must_be_quiet(deadline)?;\n        self.standing.mark", "        let _ = deadline;\n        self.standing.mark", "postgres for tasks: an answer that comes twice, the second 0.1 s later"),
+        ("postgres_tasks/connection", "        self.standing.session = Session::Broken;\n        let answered", "        let answered", "postgres for tasks: after it another connection is lent"),
+        ("postgres_tasks/connection", "            key: inner.key.take()?,", "            key: inner.key.take().filter(|key| key.is_empty())?,", "postgres for tasks: a query that is late is cancelled"),
+        ("postgres_tasks/connection", "        inner.socket.must_be_quiet_by(inner.patience.deadline, cx)?;\n", "        let _ = cx;\n", "postgres for tasks: an answer that comes twice, the second 0.1 s later"),
+        ("postgres/connection", "            self.statements.forget();\n", "", "postgres, a scripted peer: a reset ends the statements"),
+        ("postgres_tasks/connection", "            inner.statements.forget();\n", "", "postgres for tasks: a reset ends the statements"),
+        ("postgres/statements", "it.is_kept = rows.is_ok();", "it.is_kept = true;", "postgres, a scripted peer: a statement that is refused with 0A000 is prepared anew"),
+        ("tokio_socket/patience", "        self.sleep = match self.deadline.left(self.rt) {\n", "        if self.sleep.is_some() {\n            return Poll::Ready(());\n        }\n        self.sleep = match self.deadline.left(self.rt) {\n", "postgres for tasks: each query has its own time"),
         ("postgres_tasks/opening", "let timeout = self.settings.timeouts.connect;", "let timeout = self.settings.timeouts.connect.saturating_mul(4);", "postgres for tasks: at a silent server: the deadline of each opening"),
         ("postgres_tasks/opening", "let address = self.settings.address.as_str();\n        PostgresError", "let address = self.settings.address.as_str();\n        let address = self.settings.login.password.as_deref().unwrap_or(address);\n        PostgresError", "postgres for tasks: a login that is not answered: nobody is told the password"),
     ],
@@ -164,8 +173,12 @@ SEEN = [
         ("postgres/mark", '["--", "/*", "&\\""]', '["--", "--", "&\\""]', "postgres: if-marked: a lock behind a comment is not seen by the next caller"),
         ("postgres/mark", '"default", "insert"', '"default", "merge"', "postgres: if-marked: the number of WITH it AS (INSERT INTO noted SELECT 1 RETURNING 1) SELECT 1"),
         ("postgres/mark", 'b"pg_temp"', 'b"no_temp"', "postgres: if-marked: a table among the temporary ones is not seen by the next caller"),
-        ("postgres_tasks/connection", "        self.standing.session = Session::Broken;\n        let mut patience", "        if request.stage == Stage::Sending {\n            self.standing.session = Session::Broken;\n        }\n        let mut patience", "postgres for tasks: after it another connection is lent"),
-        ("postgres_tasks/connection", "            key: self.key.take()?,", "            key: self.key.take().map(|mut key| {\n                key.as_mut_slice().reverse();\n                key\n            })?,", "postgres for tasks: a query that is dropped is cancelled"),
+        ("postgres_tasks/connection", "        self.standing.session = Session::Broken;\n        let answered", "        if self.inner.request.stage == Stage::Sending {\n            self.standing.session = Session::Broken;\n        }\n        let answered", "postgres for tasks: after it another connection is lent"),
+        ("postgres_tasks/connection", "            key: inner.key.take()?,", "            key: inner.key.take().map(|mut key| {\n                key.as_mut_slice().reverse();\n                key\n            })?,", "postgres for tasks: a query that is dropped is cancelled"),
+        ("tokio_socket/patience", "        if length < self.deadline.length() {\n            self.sleep = None;\n        }\n", "", "postgres for tasks: at a silent server: the deadline of a check after a longer command's"),
+        ("postgres/statements", "if is_full && it.last < last {", "if is_full && last == u64::MAX {", "postgres, a scripted peer: those that were asked for last are kept"),
+        ("postgres/statements", "if let Some(former) = former {\n            let other", "if let Some(former) = former.filter(|it| it.text.as_str() == text) {\n            let other", "postgres for tasks: kept statements: no more than there is room for"),
+        ("postgres/statements", "error.state() == Some(UNKNOWN)", "error.state() == Some(\"\")", "postgres, a scripted peer: a statement that is refused with 26000 is prepared anew"),
         ("postgres_tasks/exchange", CHECKED, UNCHECKED, "postgres for tasks: at a silent server: the deadline of each check"),
         ("postgres_tasks/opening", "PostgresError::SlowLogin,", "self.explained(deadline, io::Error::from(io::ErrorKind::TimedOut)),", "postgres for tasks: rounds that take too long: the text"),
     ],
@@ -174,8 +187,8 @@ SEEN = [
         ("redis_tasks/connection", "        self.standing.is_broken = true;\n        let mut patience", "        let mut patience", "redis for tasks: an answer of a request that was given up is nobody's"),
         ("redis_tasks/socket", QUIET_OF_REDIS, QUIET, "redis for tasks: an answer that comes twice, the second 0.1 s later"),
         ("redis_tasks/manager", HAS_BROKEN, "{\n            let _ = connection;\n            false\n        }", "redis for tasks: an answer of a request that was given up is nobody's"),
-        ("postgres_tasks/connection", "        self.standing.session = Session::Broken;\n        let mut patience", "        let mut patience", "postgres for tasks: an answer of a request that was given up is nobody's"),
-        ("postgres_tasks/socket", QUIET_OF_REDIS.replace("Redis", "Postgres"), QUIET, "postgres for tasks: an answer that comes twice, the second 0.1 s later"),
+        ("postgres_tasks/connection", "        self.standing.session = Session::Broken;\n        let answered", "        let answered", "postgres for tasks: an answer of a request that was given up is nobody's"),
+        ("postgres_tasks/socket", QUIET_OF_POSTGRES, "            Ok(_) => Ok(()),\n", "postgres for tasks: an answer that comes twice, the second 0.1 s later"),
         ("postgres_tasks/manager", POSTGRES_TASKS_BROKEN, "        if connection.session() != Session::Broken {\n            return false;\n        }\n", "postgres for tasks: if-marked: a setting is not seen by the next caller"),
     ],
 ]

@@ -62,15 +62,30 @@ def message_of(stream, kind=b""):
     return body_of(stream, head[1:])
 
 
-def query_of(stream):
-    """The next query, with what was bound to it; the end is none."""
-    begin = stream.peek(1)[:1]
-    if begin != b"P":
-        return message_of(stream, b"Q" if begin == b"Q" else b"X")[:-1], None
-    parse, bind = message_of(stream, b"P"), message_of(stream, b"B")
-    if (parse[:1], parse[-3:], bind[:4], bind[-2:], message_of(stream, b"E"), message_of(stream, b"S")) != (b"\0", b"\0" * 3, b"\0" * 4, b"\0" * 2, b"\0" * 5, b""):
-        raise ValueError(bind)
-    return parse[1:-3], values_in(bind[4:-2])
+def query_of(stream, kept):
+    """The next query, with what was bound to it; the end is none. Before the text of a statement that is kept by a name there is a `+`, or a
+    `=` where it was before, and before that the texts of those that are forgotten, each behind a `-`."""
+    begin, words = stream.peek(1)[:1], []
+    if begin not in (b"C", b"P", b"B"):
+        query = message_of(stream, b"Q" if begin == b"Q" else b"X")[:-1]
+        if query == b"DISCARD ALL":
+            kept.clear()
+        return query, None
+    while stream.peek(1)[:1] == b"C":
+        words += [b"-" + text for text in [kept.pop(message_of(stream, b"C")[1:-1], None)] if text]
+    how = b"="
+    if stream.peek(1)[:1] == b"P":
+        name, text, types = message_of(stream, b"P").split(b"\0", 2)
+        how = b"+" if name else b""
+        if types != b"\0\0" or name in kept:
+            raise ValueError(name)
+        kept[name] = text
+    portal, name, bound = message_of(stream, b"B").split(b"\0", 2)
+    ends = (portal, bound[:2], bound[-2:], message_of(stream, b"E"), message_of(stream, b"S"))
+    if ends != (b"", b"\0" * 2, b"\0" * 2, b"\0" * 5, b"") or name not in kept:
+        raise ValueError(name, bound)
+    words.append(how + (kept[name] if name else kept.pop(name)))
+    return b" ".join(words), values_in(bound[2:-2])
 
 
 def values_in(bound):
@@ -108,7 +123,8 @@ class PostgresPeer(Peer):
             self.login(self, connection, stream, number)
         connection.sendall(BEGUN + SETTING + message(b"K", key) + ready())
         try:
-            while (asked := query_of(stream))[0]:
+            kept = {}
+            while (asked := query_of(stream, kept))[0]:
                 query, values = asked
                 self.asked.append(query if values is None else asked)
                 self.play(connection, query, number)
@@ -430,6 +446,7 @@ BOUND = [
     ("\u00e9\u20ac,\U0001f600", ["\u00e9\u20ac".encode(), "\U0001f600".encode()]), (",".join(["x"] * 65535), [b"x"] * 65535),
 ]
 TAKEN = message(b"1") + message(b"2")
+KEPT = message(b"3") + TAKEN + ONE
 
 
 def try_values(trial):
@@ -457,6 +474,48 @@ def try_values(trial):
         trial.check("a query with values marks as its words do", asked == [b"SELECT max($1)", b"SELECT mine($1)", b"DISCARD ALL", b"SELECT max($1)"], asked)
 
 
+def try_statements(trial):
+    """The peer keeps two statements, those that were asked for last, which are found by their texts."""
+    one, two, three = ("SELECT $1", "SELECT $1, 2", "SELECT $1, 3")
+    with at_peer(trial, sends(KEPT), kind="kept-never", login=takes) as (peer, service):
+        for text in (one, one, two, one, three, two, three):
+            service.ask(f"run {text} <- 1")
+        wanted = [f"+{one}", f"={one}", f"+{two}", f"={one}", f"-{two} +{three}", f"-{one} +{two}", f"={three}"]
+        trial.check("those that were asked for last are kept", [it.decode() for it, _ in peer.asked] == wanted, peer.asked)
+        trial.check("each has its values", all(values == [b"1"] for _, values in peer.asked) and peer.count == 1, peer.asked)
+    for state, others in ((b"0A000", "="), (b"22012", "="), (b"26000", f"-{two} +")):
+        def play(connection, query, number, state=state):
+            connection.sendall(message(b"2") + refusal(state, b"no") + ready() if query == b"=" + one.encode() else KEPT)
+        with at_peer(trial, play, kind="kept-never", login=takes) as (peer, service):
+            told = [service.ask(f"run {text} <- 1") for text in (one, two, one, one, two)]
+            asked = [it.decode() for it, _ in peer.asked]
+            is_so = asked == [f"+{one}", f"+{two}", f"={one}", f"-{one} +{one}", f"{others}{two}"] and "SQLSTATE" in told[2] and "SQLSTATE" not in told[3]
+            trial.check(f"a statement that is refused with {state.decode()} is prepared anew", is_so, (asked, told))
+    with at_peer(trial, sends(TAKEN + refusal(b"22012", b"no") + ready()), kind="kept-never", login=takes) as (peer, service):
+        for text in (one, one, two, three):
+            service.ask(f"run {text} <- 1")
+        asked = [it.decode() for it, _ in peer.asked]
+        trial.check("what was refused at first takes its place", asked == [f"+{one}", f"-{one} +{one}", f"+{two}", f"-{one} +{three}"], asked)
+    with at_peer(trial, lambda connection, query, number: connection.sendall(RESET.get(query, KEPT)), kind="kept-if-marked", login=takes) as (peer, service):
+        for line in (f"{one} <- 1", f"{one} <- 2", "SELECT mine($1) <- 1", f"{one} <- 3"):
+            service.ask(f"run {line}")
+        asked = [it if isinstance(it, bytes) else it[0] for it in peer.asked]
+        trial.check("a reset ends the statements", asked == [b"+SELECT $1", b"=SELECT $1", b"+SELECT mine($1)", b"DISCARD ALL", b"+SELECT $1"], asked)
+
+
+def try_patience(trial):
+    """Each query has its own time: that of the one before does not end it."""
+    def plays(connection, query, number):
+        time.sleep(0.6 * DEADLINE)
+        connection.sendall(ONE)
+    for _ in range(4):
+        with at_peer(trial, plays) as (peer, service):
+            told = service.ask("run SELECT 1;; SELECT 1;; SELECT 1")
+        if told == '[Some("1")] | ' * 2 + '[Some("1")] |':
+            break
+    trial.check("each query has its own time", told == '[Some("1")] | ' * 2 + '[Some("1")] |', told)
+
+
 def try_ends(trial):
     """Who goes away, and what is no query."""
     with at_peer(trial, lambda connection, query, number: connection.shutdown(socket.SHUT_RDWR)) as (_, service):
@@ -471,7 +530,7 @@ def try_ends(trial):
 
 
 # What is tried with each adapter.
-OF_BOTH = (try_answers, try_doubled, try_reset_in_time, try_marks, try_states, try_logins, try_values, try_ends)
+OF_BOTH = (try_answers, try_doubled, try_reset_in_time, try_marks, try_states, try_logins, try_values, try_statements, try_patience, try_ends)
 
 
 def try_peer(trial):

@@ -83,6 +83,37 @@ def try_sessions(trial):
         try_numbers(trial, mode, service)
         try_library(trial, mode, service)
         trial.check(f"{mode}: the service ends", service.end() == 0)
+    try_statements(trial)
+
+
+# How many statements the server has, and a query of a table that changes.
+COUNT, STAR = "SELECT count(*) FROM pg_prepared_statements", "SELECT * FROM changing WHERE n = $1 <- 1"
+
+
+def try_statements(trial):
+    """The server keeps two statements for a connection. Whatever becomes of them, each answer is that of its text and values."""
+    trial.server.ask("CREATE TABLE changing (n int); INSERT INTO changing VALUES (1)")
+    service = trial.service_of("kept-never", "postgres")
+    told = [service.ask(f"run SELECT {factor} * $1::int <- {value}") for value in range(3) for factor in (10, 20, 30, 10)]
+    wanted = [f'[Some("{factor * value}")] |' for value in range(3) for factor in (10, 20, 30, 10)]
+    trial.check("kept statements: each answer is that of its text and values", told == wanted, told)
+    told = service.ask(f"run {COUNT}")
+    trial.check("kept statements: no more than there is room for", told == '[Some("2")] |', told)
+    told = [service.ask(f"run {STAR}")]
+    trial.server.ask("ALTER TABLE changing ADD m int DEFAULT 7")
+    told += [service.ask(f"run {STAR}") for _ in range(2)]
+    is_so = told[0] == '[Some("1")] |' and "(SQLSTATE 0A000)" in told[1] and told[2] == '[Some("1"), Some("7")] |'
+    trial.check("kept statements: a table that was changed refuses one once", is_so, told)
+    told = [service.ask(f"run {line}") for line in (f"DEALLOCATE ALL;; {STAR}", STAR)]
+    trial.check("kept statements: those that a caller ended are refused once", "(SQLSTATE 26000)" in told[0] and told[1] == '[Some("1"), Some("7")] |', told)
+    told = [service.ask(f"run {line}") for line in ("BEGIN;; SELECT 9 + $1::int <- 1", "SELECT 9 + $1::int <- 2", COUNT)]
+    trial.check("kept statements: they outlive a transaction", told == ['| [Some("10")] |', '[Some("11")] |', '[Some("2")] |'], told)
+    trial.check("kept statements: the service ends", service.end() == 0)
+    service = trial.service_of("kept-if-marked", "postgres")
+    told = [service.ask(f"run {line}") for line in (STAR, COUNT, "SET statement_timeout = 12345", COUNT, STAR)]
+    row = '[Some("1"), Some("7")] |'
+    trial.check("kept statements: a reset ends them", told == [row, '[Some("1")] |', "|", '[Some("0")] |', row], told)
+    trial.check("kept statements: that service ends", service.end() == 0)
 
 
 def try_left(mode, service, fresh, what, left, is_seen, trial):

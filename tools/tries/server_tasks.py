@@ -123,7 +123,7 @@ class QuietPostgres(Peer):
             if (left or not self.answers) and not self.is_quiet.is_set():
                 connection.sendall(answer)
                 left -= 1
-            asked = peer.query_of(stream)[0]
+            asked = peer.query_of(stream, {})[0]
             answer = peer.row(asked.split()[-1] if asked else b"") + peer.done(b"SELECT 1") + peer.ready()
 
 
@@ -307,6 +307,20 @@ class RedisTrial(TaskTrial):
 
 class PostgresTrial(TaskTrial):
     NAME, SERVER, QUIET, USER = "postgres", SlowPostgres, QuietPostgres, ["somebody"]
+
+    def try_deadlines(self):
+        super().try_deadlines()
+        peer, told = QuietPostgres(answers=2), []
+        service = self.at(peer.port, "kept-never", *self.USER)
+        for _ in range(TRIES):
+            told.append(service.ask("late check-after-command"))
+            failed, millis = map(int, re.findall(r"=(\d+)", told[-1]))
+            if failed == 8 and DEADLINE <= millis <= DEADLINE + LATE or millis > 4 * DEADLINE:
+                break
+        is_so = failed == 8 and DEADLINE <= millis <= DEADLINE + LATE
+        self.check("at a silent server: the deadline of a check after a longer command's", is_so, told)
+        service.end()
+        peer.close()
 
     def try_peer(self):
         postgres_peer.try_tasks_peer(self)
