@@ -197,8 +197,8 @@ impl PostgresConnection {
         if self.standing.session == Session::Broken {
             return Err(PostgresError::Broken);
         }
-        self.standing.session = Session::Broken;
         let mut query = query;
+        self.standing.session = Session::Broken;
         match self.talk(&mut query, deadline) {
             Ok(answer) => {
                 self.statements.answered(&query, &answer);

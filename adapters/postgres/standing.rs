@@ -51,10 +51,12 @@ impl Standing {
 
     /// The answer to a check.
     pub fn passes(&mut self, probe: Probe, rows: Rows) -> Result<(), PostgresError>
-        ensures { IsOk result → self.new.session ≡ self.old.session }
+        ensures same { IsOk result → self.new.session ≡ self.old.session }
+        ensures sound { IsOk result → self.new.session ≢ Session.Broken }
     {
+        let is_sound = self.session != Session::Broken;
         match rows?.as_slice() {
-            [row] if row.get(0) == Some(probe.answer()) => Ok(()),
+            [row] if is_sound && row.get(0) == Some(probe.answer()) => Ok(()),
             _ => {
                 self.session = Session::Broken;
                 Err(probe.otherwise())
