@@ -191,7 +191,7 @@ impl TaskConnection {
             if let Err(error) = ready!(self.poll_reset(cx)) {
                 return Poll::Ready(Err(error));
             }
-            if let Err(error) = self.begin(cx) {
+            if let Err(error) = self.begin() {
                 return Poll::Ready(Err(error));
             }
             self.inner.request.stage = Stage::Sending;
@@ -223,14 +223,12 @@ impl TaskConnection {
         Poll::Ready(Ok(()))
     }
 
-    // The server has said nothing since it answered last: so what comes now is the answer. (What
-    // came within the last millisecond, and the runtime does not know of yet, is taken for it too.)
-    fn begin(&mut self, cx: &mut Context<'_>) -> Result<(), PostgresError>
+    // The server has said nothing since it answered last: so what comes now is the answer.
+    fn begin(&mut self) -> Result<(), PostgresError>
         ensures same { self.new.standing.session ≡ self.old.standing.session }
-        ensures kept { Keeps cx.old cx.new }
     {
         let inner = &mut *self.inner;
-        inner.socket.must_be_quiet_by(inner.patience.deadline, cx)?;
+        inner.socket.must_be_quiet(inner.patience.deadline)?;
         self.standing.mark = self.standing.mark.and(inner.request.query.mark);
         inner.statements.send(&mut inner.request.query)?;
         inner.socket.talk.expect();
@@ -292,7 +290,7 @@ impl TaskConnection {
         let (alloc, deadline) = (inner.rt.alloc(), inner.patience.deadline);
         // (What comes of a reset is read by the next query.)
         if self.standing.resetting == 0 {
-            inner.socket.must_be_quiet(deadline)?;
+            inner.socket.must_be_still_quiet(deadline)?;
         }
         if self.standing.is_due(reset) {
             inner.statements.forget();

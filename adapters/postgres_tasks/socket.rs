@@ -126,25 +126,20 @@ impl Socket {
         }
     }
 
-    /// Fails where an answer is owed, or bytes came that nobody asked for, or the stream's end. It
-    /// does not look at the socket within a millisecond of what it read there last.
+    /// Fails where an answer is owed, or bytes came that nobody asked for, or the stream's end.
     pub fn must_be_quiet(&mut self, deadline: Deadline) -> Result<(), PostgresError>
         ensures { self.new.talk ≡ self.old.talk }
     {
-        let seen = self.socket.is_still_quiet();
+        let seen = self.socket.is_quiet();
         self.quiet(seen, deadline)
     }
 
-    /// The same, and where the runtime knows that bytes came.
-    pub fn must_be_quiet_by(
-        &mut self,
-        deadline: Deadline,
-        cx: &mut Context<'_>,
-    ) -> Result<(), PostgresError>
-        ensures same { self.new.talk ≡ self.old.talk }
-        ensures kept { Keeps cx.old cx.new }
+    /// The same, but that it does not look at the socket within a millisecond of what it read there
+    /// last: who is to send next looks.
+    pub fn must_be_still_quiet(&mut self, deadline: Deadline) -> Result<(), PostgresError>
+        ensures { self.new.talk ≡ self.old.talk }
     {
-        let seen = self.socket.is_quiet_by(cx);
+        let seen = self.socket.is_still_quiet();
         self.quiet(seen, deadline)
     }
 

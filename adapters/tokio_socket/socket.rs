@@ -127,17 +127,6 @@ impl Socket {
         self.is_quiet()
     }
 
-    /// The same again, and nothing came that the runtime knows of, which has looked since.
-    pub fn is_quiet_by(&mut self, cx: &mut Context<'_>) -> io::Result<bool>
-        ensures { Keeps cx.old cx.new }
-    {
-        match self.poll_read(cx) {
-            Poll::Ready(Ok(count)) if count > 0 => Ok(false),
-            Poll::Ready(Err(error)) => Err(error),
-            _ => self.is_still_quiet(),
-        }
-    }
-
     // A moment ago. (With a clock that fails nobody knows.)
     fn was_emptied(&self) -> bool {
         let Some(emptied) = self.emptied else {
