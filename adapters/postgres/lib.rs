@@ -17,6 +17,7 @@ mod settings;
 mod socket;
 mod standing;
 mod statements;
+mod url;
 mod wire;
 
 pub use answer::{Answer, Limits, Reading, Row, Rows, Session};
@@ -28,6 +29,7 @@ pub use manager::PostgresConnectionManager;
 pub use probe::Probe;
 pub use query::Query;
 pub use reset::Reset;
+pub use server_url::UrlError;
 pub use settings::{Settings, Timeouts};
 pub use standing::{Standing, must_be_taken};
 pub use statements::{Asked, Statement, Statements};

@@ -12,6 +12,7 @@ mod reset;
 mod settings;
 mod socket;
 mod standing;
+mod url;
 mod wire;
 
 pub use connection::RedisConnection;
@@ -23,5 +24,6 @@ pub use probe::Probe;
 pub use redis_codec::{Limits, Session};
 pub use reply::Reply;
 pub use reset::{Login, Reset};
+pub use server_url::UrlError;
 pub use settings::{Settings, Timeouts};
 pub use standing::{Standing, must_be_a_word};

@@ -9,6 +9,7 @@
 //! where one is met; `postgres-salted` waits for fifteen; `postgres-lenient` takes a server that asks
 //! for no password, `postgres-md5` one that asks for it by MD5. In place of `postgres`, `calm`
 //! waits for ten seconds, as does `kept`, whose server keeps two statements for a connection.
+//! `redis-url` and `postgres-url` take a URL alone, and say what they refuse.
 #![tactic(auto)]
 
 mod service;
@@ -34,6 +35,20 @@ fn main(rt: HostRuntime) -> Result<(), Fail> {
             let program = fs::read(&rt, "program")?;
             fs::write(&rt, place.as_str(), program.as_slice())?;
             Ok(())
+        }
+        [kind, url] if kind.as_str() == "redis-url" => {
+            let settings = Settings::of(kind.as_str());
+            match RedisConnectionManager::from_url(rt, url.as_str(), settings.timeout) {
+                Ok(manager) => serve(rt, manager, settings.lending),
+                Err(error) => Ok(println!(rt; "= {error}")?),
+            }
+        }
+        [kind, url] if kind.as_str() == "postgres-url" => {
+            let settings = Settings::of(kind.as_str());
+            match PostgresConnectionManager::from_url(rt, url.as_str(), settings.timeout) {
+                Ok(manager) => serve(rt, manager, settings.lending),
+                Err(error) => Ok(println!(rt; "= {error}")?),
+            }
         }
         [kind, address, rest @ ..] if kind.as_str().starts_with("redis") => {
             let settings = Settings::of(kind.as_str());
@@ -109,7 +124,7 @@ impl Settings {
             "always" => (Checks::Never, Mode::Always, 500, 1, 3),
             "eight" => (Checks::Always, Mode::IfMarked, 1000, 8, 20),
             "primary" => (Checks::AndEvict, Mode::IfMarked, 2000, 4, 5),
-            "salted" => (Checks::Never, Mode::IfMarked, 15_000, 4, 14),
+            "salted" | "url" => (Checks::Never, Mode::IfMarked, 15_000, 4, 14),
             _ => (Checks::Always, Mode::IfMarked, 10_000, 4, 20),
         };
         Settings {

@@ -18,6 +18,7 @@ import redis_peer
 import redis_sessions
 import server_tasks
 import trying
+import urls
 import web_service
 from copies import Runs, TESTS
 from servers import HOST, SECONDS, Forwarder, Postgres, Redis, within
@@ -179,6 +180,11 @@ class Trial:
         self.running.append(service)
         return service
 
+    def at_url(self, url):
+        service = Service(self.program, f"{self.kind.NAME}-url", url)
+        self.running.append(service)
+        return service
+
     def run(self):
         try:
             self.server.start()
@@ -193,6 +199,7 @@ class Trial:
             local_sockets.try_local(self)
             if self.kind is Postgres:
                 self.try_logins()
+                urls.try_postgres(self)
                 self.try_values()
                 postgres_sessions.try_sessions(self)
                 between.try_bouncers(self)
@@ -206,6 +213,7 @@ class Trial:
                 between.try_sentinel(self)
                 self.try_silence()
                 self.try_password()
+                urls.try_redis(self)
         finally:
             for it in self.running:
                 it.process.kill()

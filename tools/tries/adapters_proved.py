@@ -15,7 +15,7 @@ from tally import Tally
 
 # (the first programs of tasks over a server are run alone: that each of their hundred tasks may be polled is a loop's invariant, and they
 # have no ghost line)
-CRATES = ["deadline", "redis", "postgres", "tokio_timer", "tokio_socket", "redis_tasks", "postgres_tasks", "first_redis", "first_postgres", "first_tokio"]
+CRATES = ["deadline", "server_url", "redis", "postgres", "tokio_timer", "tokio_socket", "redis_tasks", "postgres_tasks", "first_redis", "first_postgres", "first_tokio"]
 # What they stand on, whose proofs this repository may have kept.
 BELOW = ["pool_machine", "r2d2_core", "pool_state", "r2d2", "pool_tasks", "r2d2_async", "redis_codec", "postgres_codec"]
 # What the redis manager asks at a return.

@@ -147,7 +147,7 @@ def try_metrics(measured):
 
 def try_options(place):
     """With all that there is beside the pool."""
-    mine, crates = os.path.join(place, "all"), ["pool_tasks", "r2d2_async", "tokio_timer", "loop_timer", "pool_metrics", "pool_reports", "deadline", "redis_codec", "redis",
+    mine, crates = os.path.join(place, "all"), ["pool_tasks", "r2d2_async", "tokio_timer", "loop_timer", "pool_metrics", "pool_reports", "deadline", "server_url", "redis_codec", "redis",
                                                  "postgres_codec", "postgres", "tokio_socket", "redis_tasks", "postgres_tasks"]
     os.mkdir(mine)
     words = ["--postgres", "--async", "--redis", "--reports", mine, "--metrics"]
@@ -170,7 +170,7 @@ def try_later(place):
     write("Handles allowed: Threads, Wait, Net.\n", mine, "HANDLES")
     before = files(mine)
     for what, option, added in [
-        ("tasks", "--async", ["pool_tasks", "r2d2_async", "tokio_timer", "loop_timer"]), ("Redis for them", "--redis", ["redis_codec", "deadline", "redis", "tokio_socket", "redis_tasks"]),
+        ("tasks", "--async", ["pool_tasks", "r2d2_async", "tokio_timer", "loop_timer"]), ("Redis for them", "--redis", ["redis_codec", "deadline", "server_url", "redis", "tokio_socket", "redis_tasks"]),
         ("reports", "--reports", ["pool_reports"]),
     ]:
         if option == "--redis":
@@ -185,7 +185,7 @@ def try_later(place):
         check(f"its lines stay before {what}", now["crates.txt"].startswith(before["crates.txt"]), now["crates.txt"])
         before = now
     listed = [line.partition(":")[0].split()[0] for line in read(mine, "crates.txt").splitlines()]
-    check("each has one line at last", len(listed) == len(set(listed)) == 14, listed)
+    check("each has one line at last", len(listed) == len(set(listed)) == 15, listed)
     first = os.path.join(TOP, "adapters", "first_postgres_tasks", "main.rs")
     answers("a program of its owner's stays", 0, f"    cp {first} crates/hello_postgres_tasks/src/main.rt", "--async", "--postgres", mine)
     for crate in ("postgres_codec", "postgres", "postgres_tasks"):
