@@ -5,7 +5,7 @@ use Rattle.postgres_codec.specs.declared.error.Fault.TheVariants.{Malformed, Too
 use Rattle.postgres_codec.specs.declared.message.Status.TheVariants.{InTransaction}
 use Rattle.postgres_codec.specs.declared.mark.Mark.TheVariants.{Plain, Marked, Lasting}
 use Rattle.postgres_codec.specs.Frames.{Short, Faulty, Found, body_at, frame_at}
-use Rattle.postgres_codec.specs.Messages.{Ready, Row, Complete, Refusal, bytes_at, value_at, values_after, row_of, until, field_from, number_with, number_after, is_plain, mark_of, done_of, complete_of, ready_of, message_of, message_at}
+use Rattle.postgres_codec.specs.Messages.{Ready, Row, Complete, Refusal, bytes_at, value_at, values_after, row_of, line_of, until, field_from, number_with, number_after, is_plain, mark_of, done_of, complete_of, ready_of, message_of, message_at}
 use Rattle.postgres_codec.specs.Talks.{told}
 use Rattle.postgres_codec.specs.Requests.{Bytes, query_made}
 
@@ -37,6 +37,11 @@ fitting = refl
 row : message_at 200 (68 ∷ 0 ∷ 0 ∷ 0 ∷ 19 ∷ 0 ∷ 3 ∷ 0 ∷ 0 ∷ 0 ∷ 1 ∷ 97 ∷ 255 ∷ 255 ∷ 255 ∷ 255 ∷ 0 ∷ 0 ∷ 0 ∷ 0 ∷ []) ≡ Found (Row (Some (codes "a") ∷ None ∷ Some [] ∷ []), [])
 unfolding message_at frame_at body_at message_of row_of values_after value_at bytes_at
 row = refl
+
+-- a line of a COPY
+line : message_at 200 (100 ∷ 0 ∷ 0 ∷ 0 ∷ 8 ∷ 49 ∷ 9 ∷ 97 ∷ 10 ∷ []) ≡ Found (Row (Some (49 ∷ 9 ∷ 97 ∷ 10 ∷ []) ∷ []), [])
+unfolding message_at frame_at body_at message_of line_of
+line = refl
 
 -- what three statements told or changed, and leave
 selected : complete_of (codes "SELECT 12" ++ 0 ∷ []) ≡ Found (Complete (record { rows = 12; mark = Plain }))

@@ -73,6 +73,10 @@ unfoldable pub row_of : ℕ → List ℕ → Read (List (Option (List ℕ)))
 row_of room (a ∷ b ∷ bytes) = if nat_lt room (32 * number2 a b) then Faulty TooMuch else values_after [] (number2 a b) bytes
 row_of room _ = Faulty Malformed
 
+-- a line of a COPY: a row of one value
+unfoldable pub line_of : ℕ → List ℕ → Read (List (Option (List ℕ)))
+line_of room body = if nat_lt room 32 then Faulty TooMuch else Found (Some body ∷ [])
+
 -- TEXTS
 
 abbrev pub is_between : ℕ → ℕ → ℕ → Bool
@@ -139,11 +143,12 @@ unfoldable pub login_of : List ℕ → Read Said
 login_of (a ∷ b ∷ c ∷ d ∷ text) = Found (Login (asked_of (number4 a b c d)) text)
 login_of _ = Faulty Malformed
 
--- by the kind: Z D C E R K S A N, and T I 1 2 3
+-- by the kind: Z D d C E R K S A N, and T I 1 2 3 H c
 unfoldable pub message_of : ℕ → ℕ → List ℕ → Read Said
 message_of room kind body =
     if kind == 90 then ready_of body
     else if kind == 68 then (row_of room body >>= λ values. Found (Row values))
+    else if kind == 100 then (line_of room body >>= λ values. Found (Row values))
     else if kind == 67 then complete_of body
     else if kind == 69 then Found (Refusal (field 86 body) (field 67 body) (field 77 body))
     else if kind == 82 then login_of body
@@ -151,7 +156,7 @@ message_of room kind body =
     else if kind == 83 then Found Setting
     else if kind == 65 then Found Notification
     else if kind == 78 then Found Notice
-    else if (kind == 84) || (kind == 73) || (kind == 49) || (kind == 50) || (kind == 51) then Found Passed
+    else if (kind == 84) || (kind == 73) || (kind == 49) || (kind == 50) || (kind == 51) || (kind == 72) || (kind == 99) then Found Passed
     else Faulty Malformed
 
 -- THE MESSAGE at the front of bytes, read, and the bytes after it

@@ -73,7 +73,7 @@ impl Refusal {
 pub enum Message {
     /// The request that waited for the longest is done.
     Ready(Status),
-    /// A row: the bytes of each value, or None for NULL.
+    /// A row: the bytes of each value, or None for NULL. A line of a COPY is one of one value.
     Row(Vec<Option<Vec<u8>>>),
     Complete(Done),
     Refusal(Refusal),
@@ -86,7 +86,7 @@ pub enum Message {
     /// Somebody notifies this listener.
     Notification,
     Notice,
-    /// Which columns follow, that a query was empty, that it or its values were taken, or that a
-    /// statement was forgotten.
+    /// Which columns follow, that lines follow or have ended, that a query was empty, that it or its
+    /// values were taken, or that a statement was forgotten.
     Passed,
 }

@@ -9,7 +9,7 @@ use crate::error::{CodecError, Fault};
 use crate::frame::frame_at;
 use crate::mark::Mark;
 use crate::message::{Asked, Done, Message, Refusal, Status};
-use crate::row::row_of;
+use crate::row::{line_of, row_of};
 use crate::text::{field, is, last_number, until};
 use std::alloc::{AllocError, Global};
 
@@ -89,6 +89,7 @@ fn message_of(alloc: Global, room: usize, kind: u8, body: &[u8]) -> Result<Messa
     match kind {
         b'Z' => ready_of(body),
         b'D' => Ok(Message::Row(row_of(alloc, room, body)?)),
+        b'd' => Ok(Message::Row(line_of(alloc, room, body)?)),
         b'C' => complete_of(body),
         b'E' => Ok(Message::Refusal(refusal_of(alloc, body)?)),
         b'R' => login_of(alloc, body),
@@ -96,8 +97,8 @@ fn message_of(alloc: Global, room: usize, kind: u8, body: &[u8]) -> Result<Messa
         b'S' => Ok(Message::Setting),
         b'A' => Ok(Message::Notification),
         b'N' => Ok(Message::Notice),
-        b'T' | b'I' | b'1' | b'2' | b'3' => Ok(Message::Passed),
-        // As for COPY, where it waits for the client.
+        b'T' | b'I' | b'1' | b'2' | b'3' | b'H' | b'c' => Ok(Message::Passed),
+        // As where a COPY waits for the client's lines.
         _ => Err(CodecError::Fault(Fault::Malformed)),
     }
 }

@@ -3,7 +3,7 @@
 ghost use Rattle.std.specs.Prelude.{[]};
 ghost use Rattle.postgres_codec.specs.Frames.{GivesWhole};
 ghost use Rattle.postgres_codec.specs.Messages.{seen_value, seen_values};
-ghost use Rattle.postgres_codec.specs.Messages.{bytes_at, value_at, values_after, row_of};
+ghost use Rattle.postgres_codec.specs.Messages.{bytes_at, value_at, values_after, row_of, line_of};
 
 use crate::error::{CodecError, Fault};
 use std::alloc::Global;
@@ -77,4 +77,21 @@ pub(crate) fn row_of(
         return Err(CodecError::Fault(Fault::TooMuch));
     }
     values_in(alloc, count, values)
+}
+
+/// A line of a COPY, where room is left for so many bytes: the only value of a row.
+#[tactic(auto, unfolding(crate::specs::Messages::line_of))]
+pub(crate) fn line_of(
+    alloc: Global,
+    room: usize,
+    body: &[u8],
+) -> Result<Vec<Option<Vec<u8>>>, CodecError>
+    ensures { GivesWhole (λ values. seen_values values.items) result (line_of room body.now) }
+{
+    if VALUE > room {
+        return Err(CodecError::Fault(Fault::TooMuch));
+    }
+    let mut values = Vec::new(alloc);
+    values.push(Some(Vec::from_slice(alloc, body)?))?;
+    Ok(values)
 }
