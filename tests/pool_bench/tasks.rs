@@ -118,23 +118,35 @@ impl<L: Lender> Future for Calls<L> {
 struct Caller<L: Lender> {
     lender: L,
     calls: u32,
+    // How many of them it has not begun.
+    left: u32,
     get: Option<L::Get>,
     lent: Option<L::Lent>,
+    // The calls of all who were served each time.
     served: Arc<AtomicU32>,
 }
 
 impl<L: Lender> Caller<L> {
-    // The call that it is in, or the next one; None where it has made all, or is refused memory.
-    fn call(&mut self) -> Option<L::Get>
-        requires { IfSome self.old.get L.Get.can_poll }
-        ensures { IfSome result L.Get.can_poll }
+    // Gives back what it holds, and begins the next call; false where it has made all, or is
+    // refused memory.
+    #[inline(never)]
+    fn call(&mut self) -> bool
+        ensures { IfSome self.new.get L.Get.can_poll }
     {
-        if let Some(get) = self.get.take() {
-            return Some(get);
-        }
         self.lent = None;
-        self.calls = self.calls.checked_sub(1)?;
-        self.lender.call().ok()
+        self.get = None;
+        let Some(left) = self.left.checked_sub(1) else {
+            self.served.fetch_add(self.calls, Ordering::Relaxed);
+            return false;
+        };
+        self.left = left;
+        match self.lender.call() {
+            Ok(get) => {
+                self.get = Some(get);
+                true
+            }
+            Err(_) => false,
+        }
     }
 }
 
@@ -144,22 +156,49 @@ impl<L: Lender> Future for Caller<L> {
     ghost can_poll = { λ c. IfSome c.get L.Get.can_poll };
 
     fn poll(&mut self, cx: &mut Context<'_>) -> Poll<()> {
-        let Some(mut get) = self.call() else {
+        if self.get.is_none() && !self.call() {
+            return Poll::Ready(());
+        }
+        let Some(get) = &mut self.get else {
             return Poll::Ready(());
         };
         match get.poll(cx) {
-            Poll::Pending => {
-                self.get = Some(get);
-                Poll::Pending
-            }
+            Poll::Pending => Poll::Pending,
             Poll::Ready(Ok(lent)) => {
-                self.served.fetch_add(1, Ordering::Relaxed);
-                self.lent = Some(lent);
                 self.get = None;
+                self.lent = Some(lent);
                 cx.yield_now()
             }
             Poll::Ready(Err(_)) => Poll::Ready(()),
         }
+    }
+}
+
+// A future in a box: a set of tasks moves each future that it polls.
+#[derive(Drop)]
+struct Boxed<F: Future> {
+    inner: Box<F>,
+}
+
+fn in_box<R: PoolRuntime, F: Future>(rt: R, future: F) -> Result<Boxed<F>, AllocError>
+    requires { F.can_poll future }
+    ensures { IfOk result (λ boxed. F.can_poll boxed.inner.value) }
+{
+    let inner = Box::new(rt.alloc(), future)?;
+    Ok(Boxed { inner })
+}
+
+impl<F: Future> Future for Boxed<F> {
+    type Output = F::Output;
+
+    ghost can_poll = { λ b. F.can_poll b.inner.value };
+
+    ghost needs = { λ b s. F.needs b.inner.value s };
+
+    ghost gives = { λ b r. F.gives b.inner.value r };
+
+    fn poll(&mut self, cx: &mut Context<'_>) -> Poll<F::Output> {
+        self.inner.poll(cx)
     }
 }
 
@@ -263,16 +302,20 @@ fn run_all<R: PoolRuntime + RandomSource, W: Future<Output = ()>, L: Lender>(
     requires { W.can_poll worker }
 {
     let set = TaskSet::new(&rt, Doorbell::parking(), 1)?;
-    set.spawn(Either::Left(worker)).map_err(io::Error::from)?;
+    set.spawn(in_box(rt, Either::Left(worker))?)
+        .map_err(io::Error::from)?;
     for _ in 0..case.threads {
+        let calls = case.operations / case.threads;
         let caller = Caller {
             lender: lender.another()?,
-            calls: case.operations / case.threads,
+            calls,
+            left: calls,
             get: None,
             lent: None,
             served: Arc::try_clone(served)?,
         };
-        set.spawn(Either::Right(caller)).map_err(io::Error::from)?;
+        set.spawn(in_box(rt, Either::Right(caller))?)
+            .map_err(io::Error::from)?;
     }
     // The worker ends with the last pool.
     drop(lender);
