@@ -25,7 +25,7 @@ const REST_MILLIS: u64 = 10;
 const STEPS: u32 = 8;
 
 #[derive(Drop)]
-pub struct Caller<R: PoolRuntime> {
+struct Asking<R: PoolRuntime> {
     rt: R,
     pool: TaskPool<R>,
     timer: Arc<TokioTimer<R>>,
@@ -41,6 +41,12 @@ pub struct Caller<R: PoolRuntime> {
     rest: Option<TokioSleep>,
 }
 
+/// What asks, in a box: a set of tasks moves each future that it polls.
+#[derive(Drop)]
+pub struct Caller<R: PoolRuntime> {
+    asking: Box<Asking<R>>,
+}
+
 impl<R: PoolRuntime> Caller<R> {
     pub fn new(
         rt: R,
@@ -50,8 +56,8 @@ impl<R: PoolRuntime> Caller<R> {
         request: Request,
         task: u32,
         until: Option<Instant>,
-    ) -> Caller<R> {
-        Caller {
+    ) -> Result<Caller<R>, AllocError> {
+        let asking = Asking {
             rt,
             pool,
             timer,
@@ -64,9 +70,13 @@ impl<R: PoolRuntime> Caller<R> {
             call: None,
             asked: None,
             rest: None,
-        }
+        };
+        let asking = Box::new(rt.alloc(), asking)?;
+        Ok(Caller { asking })
     }
+}
 
+impl<R: PoolRuntime> Asking<R> {
     fn is_over(&self) -> bool {
         match (Instant::now(&self.rt), &self.until) {
             (Ok(now), Some(until)) => now >= *until,
@@ -177,14 +187,17 @@ impl<R: PoolRuntime> Caller<R> {
 }
 
 impl<R: PoolRuntime> Future for Caller<R> {
-    type Output = Result<(), AllocError>;
+    type Output = ();
 
-    fn poll(&mut self, cx: &mut Context<'_>) -> Poll<Result<(), AllocError>> {
+    fn poll(&mut self, cx: &mut Context<'_>) -> Poll<()> {
         for _ in 0..STEPS {
-            match ready!(self.poll_step(cx)) {
+            match ready!(self.asking.poll_step(cx)) {
                 Ok(true) => {}
-                Ok(false) => return Poll::Ready(Ok(())),
-                Err(error) => return Poll::Ready(Err(error)),
+                Ok(false) => return Poll::Ready(()),
+                Err(AllocError) => {
+                    self.asking.counts.fail();
+                    return Poll::Ready(());
+                }
             }
         }
         cx.yield_now()

@@ -119,20 +119,23 @@ fn serve<R: PoolRuntime + RandomSource + Net + Print>(
         .connection_timeout(Duration::from_millis(TIMEOUT_MILLIS))
         .max_retry_delay(Some(Duration::from_millis(200)));
     let pool = Pool::build(builder, rt, manager, timer)?;
-    let workers = runtime.task_set(&rt)?;
+    let mut workers = Vec::new(rt.alloc());
     for _ in 0..MAX_SIZE {
-        workers.spawn(pool.worker()?).map_err(io::Error::from)?;
+        workers.push(pool.worker()?)?;
     }
     let timer = Arc::new(rt.alloc(), TokioTimer::new(rt, runtime.handle())?)?;
     let counts = Arc::new(rt.alloc(), Counts::new(rt)?)?;
     let until = Instant::now(&rt)?.checked_add(length);
-    let mut callers = Vec::new(rt.alloc());
+    let callers = runtime.task_set(&rt)?;
     for task in 0..tasks {
         let (timer, counts) = (Arc::try_clone(&timer)?, Arc::try_clone(&counts)?);
-        callers.push(Caller::new(rt, pool.try_clone()?, timer, counts, request, task, until))?;
+        let pool = pool.try_clone()?;
+        let caller = Caller::new(rt, pool, timer, counts, request, task, until)?;
+        callers.spawn(caller).map_err(io::Error::from)?;
     }
+    // They end with the last pool, which the last caller has.
     drop(pool);
-    let all = future::join_all(rt.alloc(), callers)?;
-    runtime.block_on_with(&rt, &workers, all)??;
+    let workers = future::join_all(rt.alloc(), workers)?;
+    runtime.block_on_with(&rt, &callers, workers)??;
     counts.tell(&rt)
 }
