@@ -3,3 +3,4 @@ pub mod Wholes
 pub mod Numbers
 pub mod Bounds
 pub mod Words
+pub mod Kept

@@ -1,5 +1,5 @@
 -- An answer: its parts up to the one after which none is lacking, within limits.
-use Rattle.std.specs.Prelude.{◌≡◌, ℕ, zero, suc, ◌+◌, ◌-◌, ◌≤◌, Bool, nat_lt, ◌&&◌, if◌then◌else◌, List, [], ◌∷◌, ◌++◌, length, drop, Option, None, Some}
+use Rattle.std.specs.Prelude.{◌≡◌, ℕ, zero, suc, ◌+◌, ◌*◌, ◌-◌, ◌≤◌, Bool, nat_lt, ◌&&◌, if◌then◌else◌, List, [], ◌∷◌, ◌++◌, length, drop, Option, None, Some}
 use Rattle.redis_codec.specs.declared.item.Fault.TheVariants.{TooMuch}
 use Rattle.redis_codec.specs.declared.decoder.Limits.{Limits}
 use Rattle.redis_codec.specs.declared.reading.Progress.{Progress}
@@ -77,6 +77,11 @@ unfoldable pub answer_at : Limits → List ℕ → Read (List Part × List ℕ)
 answer_at limits bytes = whole limits.depth limits.parts (begin limits bytes)
 
 -- THE REST, AND THE LIMITS
+
+-- how many bytes may be there of an answer that is not whole: beside its texts and values, each part has a kind, the digits of a length,
+-- the end of its line, and that of its value
+abbrev pub most_kept : Limits → ℕ
+most_kept limits = limits.bytes + 23 * limits.parts
 
 -- the bytes are the rest of others
 abbrev pub Ends : List ℕ → List ℕ → Type 0

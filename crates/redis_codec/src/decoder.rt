@@ -1,8 +1,9 @@
 //! Bytes into answers, in whatever pieces they come.
 
-ghost use Rattle.std.specs.Prelude.{◌≡◌, ◌↔◌, ◌++◌, ℕ, List, [], IsTrue, IfOk, IfSome, IfErr, OnOk, OnErr};
+ghost use Rattle.std.specs.Prelude.{◌≡◌, ◌↔◌, ◌++◌, ℕ, List, [], IsTrue, IfOk, IfSome, IfNone, IfErr};
+ghost use Rattle.std.specs.Prelude.{OnOk, OnErr, ◌≤◌, length};
 ghost use Rattle.redis_codec.specs.Resp.{seen_all, Gives, Lasts};
-ghost use Rattle.redis_codec.specs.Answers.{answer_at, IsWithin, Took};
+ghost use Rattle.redis_codec.specs.Answers.{answer_at, IsWithin, Took, most_kept};
 
 use crate::item::{CodecError, Item};
 use crate::reading::Progress;
@@ -78,6 +79,9 @@ impl Decoder {
             (answer_at self.old.limits self.old.bytes) }
         ensures within { IfOk result (λ found. IfSome found (λ items.
             IsWithin self.old.limits (seen_all items.items) self.new.bytes self.old.bytes)) }
+        // No more is waited for than the limits allow, whatever lengths were announced.
+        ensures bounded { IfOk result (λ found. IfNone found
+            (length self.new.bytes ≤ most_kept self.old.limits)) }
         ensures limits { self.new.limits ≡ self.old.limits }
         ensures kept { IfOk result (Took self.old self.new) }
         ensures err { OnErr result (self.new ≡ self.old) }

@@ -1,9 +1,10 @@
-use Rattle.std.proofs.Common.{◌≡◌, ◌∙◌, ap, sym, subst, Ok, drop}
+use Rattle.std.proofs.Common.{◌≡◌, ◌≤◌, ◌∙◌, ap, sym, subst, Ok, drop, length}
 use Rattle.std.proofs.lemmas.Result.{err_from_is_err_and}
 use Rattle.redis_codec.specs.Resp.{Fails, Found, seen_all}
-use Rattle.redis_codec.specs.Answers.{answer_at, Stream}
+use Rattle.redis_codec.specs.Answers.{answer_at, Stream, most_kept}
 use Rattle.redis_codec.proofs.Wholes.{next_fails, next_short, next_whole, leads_first}
 use Rattle.redis_codec.proofs.Bounds.{answer_at-within}
+use Rattle.redis_codec.proofs.Kept.{answer_at-kept}
 use Rattle.redis_codec.proofs.decoder.Decoder.next.Goals as goal
 
 pub returns-in_err-read_on-clause-exact : goal.returns-in_err-read_on-clause-exact
@@ -32,3 +33,8 @@ returns-clause-exact c =
 pub returns-clause-within : goal.returns-clause-within
 returns-clause-within c =
     answer_at-within c.args.self.now.limits c.args.self.now.bytes (seen_all c.replace-whole.result.items.items) c.in_ok-rest.rest.items (returns-clause-exact c)
+
+pub returns-then-not-branch-clause-bounded : goal.returns-then-not-branch-clause-bounded
+returns-then-not-branch-clause-bounded c =
+    subst (λ (s : Stream). length s.bytes ≤ most_kept c.args.self.now.limits) (sym c.self.view_is)
+    (answer_at-kept c.args.self.now.limits c.args.self.now.bytes (returns-then-not-branch-clause-exact c))
