@@ -199,7 +199,7 @@ class TaskTrial:
     def try_outage(self, outage):
         """A server goes away for a while. Callers are told in time, and served soon after."""
         what, told = outage.__doc__, []
-        for _ in range(4):
+        for _ in range(8):
             down, up, counts = outage()
             since, until = counts.get("from", 0) / 1000, counts.get("to", 0) / 1000
             late = max(counts.get("longest_get", 0) - 2 * PATIENCE, counts.get("longest_request", 0) - PATIENCE)
