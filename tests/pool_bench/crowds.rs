@@ -4,6 +4,7 @@ ghost use Rattle.std.specs.Prelude.{◌<◌};
 use crate::scenario::{Case, Scenario};
 use anyhow::ensure;
 use r2d2::PoolRuntime;
+use std::net::Net;
 use std::random::RandomSource;
 
 /// So many tasks at eight connections, and so many calls of all of them.
@@ -19,7 +20,7 @@ pub fn of(tasks: u32, calls: u32) -> Case
 }
 
 /// Times each number of tasks in each scenario, and prints the lines.
-pub fn measure<R: PoolRuntime + RandomSource + Print>(rt: R) -> Result<(), anyhow::Error> {
+pub fn measure<R: PoolRuntime + RandomSource + Net + Print>(rt: R) -> Result<(), anyhow::Error> {
     println!(rt; "scenario tasks max_size ops least_ns median_ns")?;
     for &scenario in &[
         Scenario::Tasks,
@@ -31,7 +32,7 @@ pub fn measure<R: PoolRuntime + RandomSource + Print>(rt: R) -> Result<(), anyho
     Ok(())
 }
 
-fn measure_each<R: PoolRuntime + RandomSource + Print>(
+fn measure_each<R: PoolRuntime + RandomSource + Net + Print>(
     rt: R,
     scenario: Scenario,
 ) -> Result<(), anyhow::Error> {
@@ -47,7 +48,7 @@ fn measure_each<R: PoolRuntime + RandomSource + Print>(
 }
 
 /// Makes the calls of one run, of a scenario with so many tasks and calls, and prints nothing.
-pub fn once<R: PoolRuntime + RandomSource>(
+pub fn once<R: PoolRuntime + RandomSource + Net>(
     rt: R,
     [name, tasks, calls]: [Option<&str>; 3],
 ) -> Result<(), anyhow::Error> {

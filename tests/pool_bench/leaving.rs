@@ -3,7 +3,7 @@ ghost use Rattle.std.specs.Prelude.{◌<◌, IfSome};
 ghost use Rattle.futures.specs.Task.{Keeps};
 
 use crate::scenario::Case;
-use crate::tasks::{Lender, open_pool, worked};
+use crate::tasks::{Lender, open_pool};
 use anyhow::ensure;
 use futures::Future;
 use futures::executor::{TaskSet, block_on};
@@ -15,7 +15,7 @@ use std::io;
 use std::random::RandomSource;
 use std::sync::Arc;
 use std::sync::atomic::{AtomicU32, Ordering};
-use std::time::Duration;
+use std::time::{Duration, Instant};
 
 /// How a call ends that is not served.
 #[derive(Clone, Copy)]
@@ -183,7 +183,9 @@ fn leave_in_turn<R: PoolRuntime + RandomSource, L: Lender>(
         };
         set.spawn(leaver).map_err(io::Error::from)?;
     }
-    let took = worked(rt, &set)?;
+    let start = Instant::now(&rt)?;
+    set.work(&rt, 0);
+    let took = start.elapsed(&rt)?;
     let count = left.load(Ordering::Relaxed);
     ensure!(count == case.operations, "a call went on");
     Ok(took)

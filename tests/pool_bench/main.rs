@@ -28,6 +28,7 @@ use growing::{BATCH, BATCHES};
 use growth::longest_wait;
 use r2d2::PoolRuntime;
 use scenario::{Case, Scenario, is_chosen};
+use std::net::Net;
 use std::random::RandomSource;
 use std::{env, thread};
 use waits::waited;
@@ -79,7 +80,7 @@ fn main(rt: HostRuntime) -> Result<(), anyhow::Error> {
 }
 
 // What needs no thread.
-fn without_threads<R: PoolRuntime + RandomSource + Print>(
+fn without_threads<R: PoolRuntime + RandomSource + Net + Print>(
     rt: R,
     what: Option<&str>,
     chosen: [Option<&str>; 3],
@@ -108,7 +109,7 @@ fn one_thread(max_size: u32, operations: u32) -> Case
     }
 }
 
-fn measure_alone<R: PoolRuntime + RandomSource + Print>(
+fn measure_alone<R: PoolRuntime + RandomSource + Net + Print>(
     rt: R,
     only: Option<&str>,
 ) -> Result<(), anyhow::Error> {
@@ -128,7 +129,7 @@ fn measure_alone<R: PoolRuntime + RandomSource + Print>(
 }
 
 // Tasks, on one thread.
-fn measure_tasks<R: PoolRuntime + RandomSource + Print>(
+fn measure_tasks<R: PoolRuntime + RandomSource + Net + Print>(
     rt: R,
     only: Option<&str>,
 ) -> Result<(), anyhow::Error> {
@@ -136,7 +137,7 @@ fn measure_tasks<R: PoolRuntime + RandomSource + Print>(
     Scenario::Tasks.measure(rt, only, crowds::of(1_000, 10_000))
 }
 
-fn measure_growing<R: PoolRuntime + RandomSource + Print>(
+fn measure_growing<R: PoolRuntime + RandomSource + Net + Print>(
     rt: R,
     only: Option<&str>,
 ) -> Result<(), anyhow::Error> {

@@ -7,6 +7,7 @@ use crate::leaving::{self, End};
 use crate::{alone, growing, tasks};
 use r2d2::PoolRuntime;
 use std::alloc::{AllocError, Global};
+use std::net::Net;
 use std::random::RandomSource;
 use std::time::Duration;
 
@@ -164,7 +165,7 @@ impl Scenario {
     }
 
     /// How long the operations of one run took.
-    pub fn run<R: PoolRuntime + RandomSource>(
+    pub fn run<R: PoolRuntime + RandomSource + Net>(
         self,
         rt: R,
         case: Case,
@@ -190,7 +191,7 @@ impl Scenario {
     }
 
     /// Runs it a few times, and prints its line; nothing where `only` names another one.
-    pub fn measure<R: PoolRuntime + RandomSource + Print>(
+    pub fn measure<R: PoolRuntime + RandomSource + Net + Print>(
         self,
         rt: R,
         only: Option<&str>,

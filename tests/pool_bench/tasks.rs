@@ -4,20 +4,21 @@ ghost use Rattle.std.specs.Prelude.{◌<◌, IfOk, IfSome};
 use crate::pools::Nothings;
 use crate::scenario::Case;
 use anyhow::ensure;
-use futures::Future;
-use futures::executor::{TaskSet, block_on};
+use futures::executor::block_on;
 use futures::future::{Either, Pending, Ready, pending, ready};
-use futures::task::{Context, Doorbell, Poll};
+use futures::task::{Context, Poll};
+use futures::{Future, stream};
 use r2d2::{Error, NopConnectionCustomizer, NopErrorHandler, NopEventHandler, PoolRuntime};
 use r2d2_async::{
     AsyncRuntime, Builder, Get, Handlers, ManageConnection, Pool, PooledConnection, Timer,
 };
 use std::alloc::AllocError;
-use std::io;
+use std::net::Net;
 use std::random::RandomSource;
 use std::sync::Arc;
 use std::sync::atomic::{AtomicU32, Ordering};
 use std::time::{Duration, Instant};
+use tokio::runtime::LocalRuntime;
 
 impl ManageConnection for Nothings {
     type Connection = ();
@@ -90,18 +91,18 @@ impl<T: Timer, R: AsyncRuntime> Lender for TaskPool<T, R> {
 
 // Makes all of its calls in one poll: each finds an idle connection, and gives it back at once.
 #[derive(Drop)]
-struct Calls<L: Lender> {
-    lender: L,
+struct Calls<T: Timer, R: AsyncRuntime> {
+    pool: TaskPool<T, R>,
     calls: u32,
 }
 
-impl<L: Lender> Future for Calls<L> {
+impl<T: Timer, R: AsyncRuntime> Future for Calls<T, R> {
     /// Whether each was served.
     type Output = bool;
 
     fn poll(&mut self, cx: &mut Context<'_>) -> Poll<bool> {
         for _ in 0..self.calls {
-            let Ok(mut get) = self.lender.call() else {
+            let Ok(mut get) = self.pool.get() else {
                 return Poll::Ready(false);
             };
             match get.poll(cx) {
@@ -116,6 +117,8 @@ impl<L: Lender> Future for Calls<L> {
 // Makes its calls one after the other. Other tasks are polled while it holds a connection.
 #[derive(Drop)]
 struct Caller<L: Lender> {
+    // The last caller holds all connections until it waits, so that all others wait by then.
+    held: Option<Vec<L::Lent>>,
     lender: L,
     calls: u32,
     // How many of them it has not begun.
@@ -163,7 +166,10 @@ impl<L: Lender> Future for Caller<L> {
             return Poll::Ready(());
         };
         match get.poll(cx) {
-            Poll::Pending => Poll::Pending,
+            Poll::Pending => {
+                self.held = None;
+                Poll::Pending
+            }
             Poll::Ready(Ok(lent)) => {
                 self.get = None;
                 self.lent = Some(lent);
@@ -171,34 +177,6 @@ impl<L: Lender> Future for Caller<L> {
             }
             Poll::Ready(Err(_)) => Poll::Ready(()),
         }
-    }
-}
-
-// A future in a box: a set of tasks moves each future that it polls.
-#[derive(Drop)]
-struct Boxed<F: Future> {
-    inner: Box<F>,
-}
-
-fn in_box<R: PoolRuntime, F: Future>(rt: R, future: F) -> Result<Boxed<F>, AllocError>
-    requires { F.can_poll future }
-    ensures { IfOk result (λ boxed. F.can_poll boxed.inner.value) }
-{
-    let inner = Box::new(rt.alloc(), future)?;
-    Ok(Boxed { inner })
-}
-
-impl<F: Future> Future for Boxed<F> {
-    type Output = F::Output;
-
-    ghost can_poll = { λ b. F.can_poll b.inner.value };
-
-    ghost needs = { λ b s. F.needs b.inner.value s };
-
-    ghost gives = { λ b r. F.gives b.inner.value r };
-
-    fn poll(&mut self, cx: &mut Context<'_>) -> Poll<F::Output> {
-        self.inner.poll(cx)
     }
 }
 
@@ -261,7 +239,7 @@ pub fn get_drop<R: PoolRuntime + RandomSource>(
     case: Case,
 ) -> Result<Duration, anyhow::Error> {
     let calls = Calls {
-        lender: open_pool(rt, case.max_size, 1, NoTime)?,
+        pool: open_pool(rt, case.max_size, 1, NoTime)?,
         calls: case.operations,
     };
     let start = Instant::now(&rt)?;
@@ -273,7 +251,10 @@ pub fn get_drop<R: PoolRuntime + RandomSource>(
 
 /// The same by tasks that share the calls and wait in line for a few connections, each of which is
 /// held until its task is polled again.
-pub fn tasks<R: PoolRuntime + RandomSource>(rt: R, case: Case) -> Result<Duration, anyhow::Error> {
+pub fn tasks<R: PoolRuntime + RandomSource + Net>(
+    rt: R,
+    case: Case,
+) -> Result<Duration, anyhow::Error> {
     let served = Arc::new(rt.alloc(), AtomicU32::new(0))?;
     let took = serve_all(rt, case, &served)?;
     let count = served.load(Ordering::Relaxed);
@@ -281,53 +262,52 @@ pub fn tasks<R: PoolRuntime + RandomSource>(rt: R, case: Case) -> Result<Duratio
     Ok(took)
 }
 
-fn serve_all<R: PoolRuntime + RandomSource>(
+fn serve_all<R: PoolRuntime + RandomSource + Net>(
     rt: R,
     case: Case,
     served: &Arc<AtomicU32>,
 ) -> Result<Duration, anyhow::Error> {
     let pool = open_pool(rt, case.max_size, case.threads, NoTime)?;
+    let mut held = Vec::with_capacity(rt.alloc(), case.max_size as usize)?;
+    for _ in 0..case.max_size {
+        if let Some(lent) = pool.try_get()? {
+            held.push(lent)?;
+        }
+    }
     let worker = pool.worker()?;
-    run_all(rt, worker, pool, case, served)
+    run_all(rt, worker, pool, held, case, served)
 }
 
 // How long the callers of a pool take together, beside a worker.
-fn run_all<R: PoolRuntime + RandomSource, W: Future<Output = ()>, L: Lender>(
+fn run_all<R: PoolRuntime + RandomSource + Net, W: Future<Output = ()>, L: Lender>(
     rt: R,
     worker: W,
     lender: L,
+    held: Vec<L::Lent>,
     case: Case,
     served: &Arc<AtomicU32>,
 ) -> Result<Duration, anyhow::Error>
     requires { W.can_poll worker }
 {
-    let set = TaskSet::new(&rt, Doorbell::parking(), 1)?;
-    set.spawn(in_box(rt, Either::Left(worker))?)
-        .map_err(io::Error::from)?;
-    for _ in 0..case.threads {
+    let mut held = Some(held);
+    let mut tasks = Vec::with_capacity(rt.alloc(), case.threads as usize + 1)?;
+    tasks.push(Either::Left(worker))?;
+    for number in 1..=case.threads {
         let calls = case.operations / case.threads;
-        let caller = Caller {
+        tasks.push(Either::Right(Caller {
+            held: held.take_if(|_| number == case.threads),
             lender: lender.another()?,
             calls,
             left: calls,
             get: None,
             lent: None,
             served: Arc::try_clone(served)?,
-        };
-        set.spawn(in_box(rt, Either::Right(caller))?)
-            .map_err(io::Error::from)?;
+        }))?;
     }
     // The worker ends with the last pool.
     drop(lender);
-    worked(rt, &set)
-}
-
-/// How long the tasks of a set take together, on this thread.
-pub fn worked<R: PoolRuntime, F: Future<Output = ()>>(
-    rt: R,
-    set: &TaskSet<F>,
-) -> Result<Duration, anyhow::Error> {
+    let mut runtime = LocalRuntime::new(&rt)?;
     let start = Instant::now(&rt)?;
-    set.work(&rt, 0);
+    runtime.run_all(&rt, stream::iter(tasks))?;
     Ok(start.elapsed(&rt)?)
 }
