@@ -1,5 +1,5 @@
 -- What is read of bytes is read of those bytes and more, and what comes after it is the rest of them.
-use Rattle.std.proofs.Common.{◌≡◌, ℕ, suc, ◌+◌, ◌-◌, ◌≤◌, Bool, true, false, cond, List, [], ◌∷◌, ◌++◌, length, take, drop, Option, Some, Ok, refl, sym, ap, subst, ◌∙◌, arith, length-append}
+use Rattle.std.proofs.Common.{◌≡◌, ℕ, suc, ◌+◌, ◌-◌, ◌≤◌, Bool, true, false, cond, List, [], ◌∷◌, ◌++◌, length, take, drop, Option, None, Some, Ok, refl, sym, ap, subst, ◌∙◌, arith, length-append}
 use Rattle.std.specs.Global.{Vec}
 use Rattle.std.specs.Prelude.{nat_lt}
 use Rattle.std.proofs.lemmas.Bool.{ltb-false, le-ltb}
@@ -15,6 +15,9 @@ seen_values-length (v ∷ values) = ap suc (seen_values-length values)
 
 pub gives_some : {X Y : Type 0} (view : X → Y) (found : Option X) (x : X) (read : Read Y) → Gives view (Ok found) read → found ≡ Some x → read ≡ Found (view x)
 gives_some {X} view found x read h e = subst (λ (o : Option X). Gives view (Ok o) read) e h
+
+pub gives_none : {X Y : Type 0} (view : X → Y) (found : Option X) (read : Read Y) → Gives view (Ok found) read → found ≡ None → read ≡ Short
+gives_none {X} view found read h e = subst (λ (o : Option X). Gives view (Ok o) read) e h
 
 -- READ AGAIN
 

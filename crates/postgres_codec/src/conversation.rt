@@ -1,7 +1,7 @@
 //! Requests and what comes of them: each end is that of its own request.
 
 ghost use Rattle.std.specs.Prelude.{◌≡◌, ◌≢◌, ◌↔◌, ◌<◌, ◌++◌, [], Err, IsTrue, IfOk, IfSome, IfNone};
-ghost use Rattle.std.specs.Prelude.{OnOk, OnErr, ◌-◌, ◌*◌};
+ghost use Rattle.std.specs.Prelude.{OnOk, OnErr, ◌+◌, ◌-◌, ◌*◌, ◌≤◌, length, max};
 ghost use Rattle.postgres_codec.specs.declared.error.CodecError.TheVariants.{Unasked};
 ghost use Rattle.postgres_codec.specs.Frames.{Gives, Lasts};
 ghost use Rattle.postgres_codec.specs.Messages.{seen, message_at};
@@ -96,7 +96,14 @@ impl Conversation {
             result (message_at self.old.room self.old.bytes) }
         ensures some { IfOk result (λ found. IfSome found (λ message.
             (0 < self.old.owed) × (self.new ≡ read (seen message) self.new.bytes self.old))) }
+        // An answer takes no more than there is room for: its bytes, and 32 for each value in it.
+        ensures within { IfOk result (λ found. IfSome found (λ message.
+            length self.old.bytes - length self.new.bytes + 32 * count_in (seen message)
+            ≤ self.old.room)) }
         ensures none { IfOk result (λ found. IfNone found (self.new ≡ self.old)) }
+        // What is waited with is less than that, whatever length was announced.
+        ensures bounded { IfOk result (λ found. IfNone found
+            (length self.new.bytes < max self.old.room 5)) }
         ensures err { OnErr result (self.new ≡ self.old) }
         ensures unasked { (result ≡ Err Unasked)
             ↔ ((self.old.owed ≡ 0) × (self.old.bytes ≢ [])) }

@@ -1,8 +1,9 @@
-use Rattle.std.proofs.Common.{◌≡◌, ◌-◌, ℕ, List, length, drop, sym, ap, ◌∙◌}
+use Rattle.std.proofs.Common.{◌≡◌, ◌<◌, ◌-◌, ℕ, List, length, drop, sym, ap, subst, ◌∙◌, arith}
 use Rattle.postgres_codec.specs.Frames.{Found}
 use Rattle.postgres_codec.specs.Messages.{seen, message_at}
 use Rattle.postgres_codec.specs.Talks.{Talk}
-use Rattle.postgres_codec.proofs.Again.{gives_some, message_left, told_bytes}
+use Rattle.postgres_codec.proofs.Again.{gives_none, gives_some, message_left, told_bytes}
+use Rattle.postgres_codec.proofs.Kept.{message_at-kept, message_at-within}
 use Rattle.postgres_codec.proofs.conversation.Conversation.next.Goals as goal
 
 pub overflow_sub-size : goal.overflow_sub-size
@@ -19,3 +20,12 @@ returns-clause-exact c = λ some.
     ∙ ap (λ (z : List ℕ). drop (length c.unread-unread.result.now - length c.in-Some.rest.now) z) (sym c.unread-unread.ensures) ∙ left in
     sym (ap (λ (t : Talk). message_at t.room t.bytes) c.self.view_is)
     ∙ ap (λ (z : List ℕ). message_at c.self.inside.room z) (sym c.unread-unread.ensures) ∙ found ∙ ap (λ (z : List ℕ). Found (seen c.in-Some.message, z)) (sym bytes)
+
+pub returns-clause-within : goal.returns-clause-within
+returns-clause-within c = message_at-within c.args.self.now.room c.args.self.now.bytes (seen c.in-Some.message) c.told.new.self.bytes
+    (returns-clause-exact c (omega (arith, c.if-self-eq0.false, ap (λ (t : Talk). t.owed) c.self.view_is)))
+
+pub returns-in_default-clause-bounded : goal.returns-in_default-clause-bounded
+returns-in_default-clause-bounded c =
+    message_at-kept c.args.self.now.room c.args.self.now.bytes (sym (ap (λ (t : Talk). message_at t.room t.bytes) c.self.view_is)
+    ∙ ap (λ (z : List ℕ). message_at c.self.inside.room z) (sym c.unread-unread.ensures) ∙ gives_none _ c.in_ok-message.field-0 _ c.in_ok-message.ensures c.in_default.is)
