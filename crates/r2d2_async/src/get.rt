@@ -69,6 +69,7 @@ pub struct Get<M: ManageConnection, T: Timer, K: Hooks<M>, R: AsyncRuntime> {
 }
 
 impl<M: ManageConnection, T: Timer, K: Hooks<M>, R: AsyncRuntime> Get<M, T, K, R> {
+    #[inline(always)]
     pub(crate) fn new(closer: Arc<CloserOf<M, T, K, R>>, timeout: Duration) -> Get<M, T, K, R>
         ensures closer { result.closer ≡ Some closer }
         ensures checking { result.checking ≡ None }
@@ -190,31 +191,7 @@ impl<M: ManageConnection, T: Timer, K: Hooks<M>, R: AsyncRuntime> Get<M, T, K, R
         }
     }
 
-    // One look for a connection: what to lend. None where it is to be checked first, or where it
-    // has to look again.
-    #[inline(always)]
-    fn poll_line(
-        &mut self,
-        cx: &mut Context<'_>,
-    ) -> Poll<Result<Option<Found<PayloadOf<M>>>, Error>>
-        requires closer { IsSome self.old.closer }
-        requires checking { self.old.checking ≡ None }
-        ensures checks { IfSome self.new.checking (λ c. M.Check.can_poll c.check) }
-        ensures sleep { self.new.sleep ≡ self.old.sleep }
-        ensures closer { self.new.closer ≡ self.old.closer }
-        ensures pending { OnPending result (self.new.checking ≡ None) }
-        ensures refused { IfReady result (λ r. IfErr r IsOfAGet) }
-        ensures heard { OnPending result (IsArmed cx.new
-            × IfSome self.new.closer (λ closer. Hears cx.new (told_of closer))) }
-        ensures kept { Keeps cx.old cx.new }
-    {
-        match ready!(self.look(cx)) {
-            Ok(taken) => Poll::Ready(Ok(self.if_unchecked(taken))),
-            Err(error) => Poll::Ready(Err(error)),
-        }
-    }
-
-    // The same under the lock: what it takes.
+    // One look under the lock: what it takes.
     #[inline(always)]
     fn look(&mut self, cx: &mut Context<'_>) -> Poll<Result<Taken<PayloadOf<M>>, Error>>
         requires closer { IsSome self.old.closer }
@@ -316,10 +293,12 @@ impl<M: ManageConnection, T: Timer, K: Hooks<M>, R: AsyncRuntime> Get<M, T, K, R
                 return Poll::Ready(Ok(found));
             }
         }
-        match ready!(self.poll_line(cx)) {
-            Ok(Some(found)) => return Poll::Ready(Ok(found)),
-            Ok(None) => {}
+        let taken = match ready!(self.look(cx)) {
+            Ok(taken) => taken,
             Err(error) => return Poll::Ready(Err(error)),
+        };
+        if let Some(found) = self.if_unchecked(taken) {
+            return Poll::Ready(Ok(found));
         }
         match ready!(self.poll_check(cx)) {
             Some(found) => Poll::Ready(Ok(found)),
@@ -509,6 +488,7 @@ impl<M: ManageConnection, T: Timer, K: Hooks<M>, R: AsyncRuntime> Future for Get
 }
 
 impl<M: ManageConnection, T: Timer, K: Hooks<M>, R: AsyncRuntime> Drop for Get<M, T, K, R> {
+    #[inline(always)]
     fn drop(self) {
         let Get {
             closer,

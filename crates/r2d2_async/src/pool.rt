@@ -54,6 +54,7 @@ impl<M: ManageConnection, T: Timer, K: Hooks<M>, R: AsyncRuntime> Pool<M, T, K, 
 
     /// Lends an idle connection, and waits for one as long as the setting `connection_timeout`
     /// says. See `get_timeout`.
+    #[inline(always)]
     pub fn get(&self) -> Result<Get<M, T, K, R>, Error>
         ensures settings { IfOk result (λ get. settings_of get.closer ≡ Some self.now) }
         ensures fresh { IfOk result (λ get. get.checking ≡ None) }
@@ -76,6 +77,7 @@ impl<M: ManageConnection, T: Timer, K: Hooks<M>, R: AsyncRuntime> Pool<M, T, K, 
     /// `ErrorKind::Closed`, if the pool is closed; or `ErrorKind::QueueFull`, at once, if as many
     /// stand in line as `max_waiting` allows. The error of this call is lack of memory for a shared
     /// pointer: but for that text, nothing later takes any.
+    #[inline(always)]
     pub fn get_timeout(&self, timeout: Duration) -> Result<Get<M, T, K, R>, Error>
         ensures settings { IfOk result (λ get. settings_of get.closer ≡ Some self.now) }
         ensures fresh { IfOk result (λ get. get.checking ≡ None) }
