@@ -21,7 +21,8 @@ use std::time::Duration;
 #[derive(Drop)]
 pub struct PostgresConnection {
     rt: HostRuntime,
-    wire: Wire,
+    // (boxed, as each lending and each return moves a connection)
+    wire: Box<Wire>,
     timeouts: Timeouts,
     limits: Limits,
     standing: Standing,
@@ -46,7 +47,7 @@ impl PostgresConnection {
         wire.talk.allow(settings.limits.bytes);
         let mut connection = PostgresConnection {
             rt,
-            wire,
+            wire: Box::new(rt.alloc(), wire)?,
             timeouts: settings.timeouts,
             limits: settings.limits,
             standing: Standing::new(begun.session),

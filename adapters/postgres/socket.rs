@@ -1,7 +1,7 @@
 //! The socket: what waits, and for how long.
 
 use crate::error::PostgresError;
-use deadline::{Deadline, Place};
+use deadline::{Deadline, Place, is_quiet};
 use std::alloc::{AllocError, Global};
 use std::io;
 use std::io::{Read, Write};
@@ -83,20 +83,11 @@ impl Socket {
 
     /// Looks whether bytes came, or the end of the stream, and waits for neither.
     pub fn must_be_quiet(&mut self, deadline: Deadline) -> Result<(), PostgresError> {
-        match self.peeked() {
-            Err(error) if error.kind() == io::ErrorKind::WouldBlock => Ok(()),
+        match is_quiet(&self.stream) {
+            Ok(true) => Ok(()),
+            Ok(false) => Err(PostgresError::Unasked),
             Err(error) => Err(self.explained(deadline, error)),
-            Ok(0) => Err(self.explained(deadline, io::Error::from(io::ErrorKind::UnexpectedEof))),
-            Ok(_) => Err(PostgresError::Unasked),
         }
-    }
-
-    fn peeked(&mut self) -> io::Result<usize> {
-        let mut byte = [0; 1];
-        self.stream.set_nonblocking(true)?;
-        let seen = self.stream.peek(&mut byte);
-        self.stream.set_nonblocking(false)?;
-        seen
     }
 
     // A read waits for no longer than is left, but for a twentieth of the whole: so the system need
