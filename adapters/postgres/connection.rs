@@ -122,8 +122,34 @@ impl PostgresConnection {
     /// error the transaction is open, and has failed: roll it back, or let the connection go.
     pub fn each_row<F: FnMut(Row)>(&mut self, query: &str, mut each: F) -> Result<(), PostgresError>
         requires { F.IsAlwaysCallable each }
+        ensures { self.old.standing.session ≡ Session.Broken → IsErr result }
     {
         let is_within = self.session() == Session::InTransaction;
+        self.open_cursor(is_within, query)?;
+        let mut rows = Vec::new(self.rt.alloc()).into_iter();
+        for _ in 0..u64::MAX {
+            if let Some(row) = rows.next() {
+                each(row);
+                continue;
+            }
+            let more = self.query("FETCH 100 FROM each_row")?;
+            if more.is_empty() {
+                break;
+            }
+            rows = more.into_iter();
+        }
+        self.execute(if is_within {
+            "CLOSE each_row"
+        } else {
+            "COMMIT"
+        })?;
+        Ok(())
+    }
+
+    // Opens the cursor of `each_row`.
+    fn open_cursor(&mut self, is_within: bool, query: &str) -> Result<(), PostgresError>
+        ensures { self.old.standing.session ≡ Session.Broken → IsErr result }
+    {
         if !is_within {
             self.execute("BEGIN")?;
         }
@@ -131,18 +157,6 @@ impl PostgresConnection {
         // (with values it takes no second statement)
         let declare = Query::with(self.rt.alloc(), declare.as_str(), &[])?;
         self.counted(declare)?;
-        for _ in 0..u64::MAX {
-            let rows = self.query("FETCH 100 FROM each_row")?;
-            if rows.is_empty() {
-                break;
-            }
-            rows.into_iter().for_each(&mut each);
-        }
-        self.execute(if is_within {
-            "CLOSE each_row"
-        } else {
-            "COMMIT"
-        })?;
         Ok(())
     }
 
