@@ -179,14 +179,16 @@ impl PostgresConnection {
 
     /// Asks for a row that has no other use.
     pub fn check(&mut self) -> Result<(), PostgresError>
-        ensures { self.old.standing.session ≡ Session.Broken → IsErr result }
+        ensures err { self.old.standing.session ≡ Session.Broken → IsErr result }
+        ensures ok { IsOk result → self.new.standing.session ≢ Session.Broken }
     {
         self.check_by(Probe::Alive)
     }
 
     /// Asks for that, or whether transactions may write.
     pub(crate) fn check_by(&mut self, probe: Probe) -> Result<(), PostgresError>
-        ensures { self.old.standing.session ≡ Session.Broken → IsErr result }
+        ensures err { self.old.standing.session ≡ Session.Broken → IsErr result }
+        ensures ok { IsOk result → self.new.standing.session ≢ Session.Broken }
     {
         self.must_pass(probe, Deadline::new(self.rt, self.timeouts.check))
     }

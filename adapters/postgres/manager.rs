@@ -1,7 +1,9 @@
 //! Opens connections to PostgreSQL, and checks them.
 
-ghost use Rattle.std.specs.Prelude.{◌≡◌, ◌<◌, ◌⊎◌, IsFalse, IsTrue};
+ghost use Rattle.std.specs.Prelude.{◌≡◌, ◌≢◌, ◌<◌, ◌⊎◌, IfOk, IsFalse, IsOk, IsSomeAnd, IsTrue};
+ghost use Rattle.std.specs.Prelude.{None, true};
 ghost use Rattle.std.specs.Duration.{as_nanos};
+ghost use Rattle.std.specs.String.{string_bytes};
 
 use crate::answer::{Limits, Session};
 use crate::connection::PostgresConnection;
@@ -38,6 +40,20 @@ impl PostgresConnectionManager {
         timeout: Duration,
     ) -> Result<Self, AllocError>
         requires { 0 < as_nanos timeout }
+        ensures address { IfOk result (λ manager.
+            string_bytes manager.settings.address ≡ address.now) }
+        ensures user { IfOk result (λ manager.
+            string_bytes manager.settings.login.user ≡ user.now) }
+        ensures database { IfOk result (λ manager.
+            string_bytes manager.settings.login.database ≡ database.now) }
+        ensures strict { IfOk result (λ manager. (manager.settings.login.password ≡ None)
+            × IsFalse manager.settings.login.is_lenient
+            × IsFalse manager.settings.login.takes_md5) }
+        ensures timeouts { IfOk result (λ manager. manager.settings.timeouts
+            ≡ record { connect = timeout; check = timeout; command = timeout }) }
+        ensures reset { IfOk result (λ manager. manager.settings.reset ≡ Reset.IfMarked) }
+        ensures probe { IfOk result (λ manager. manager.settings.probe ≡ Probe.Alive) }
+        ensures statements { IfOk result (λ manager. manager.settings.statements ≡ 0) }
     {
         let settings = Settings {
             address: String::from_str(rt.alloc(), address)?,
@@ -66,14 +82,24 @@ impl PostgresConnectionManager {
 
     /// Logs in with a password, by SCRAM-SHA-256, by which the server proves that it knows it too.
     /// It is never sent. A server that asks for less is refused.
-    pub fn with_password(mut self, password: &str) -> Result<Self, AllocError> {
+    pub fn with_password(mut self, password: &str) -> Result<Self, AllocError>
+        ensures password { IfOk result (λ manager. IsSomeAnd manager.settings.login.password
+            (λ text. string_bytes text ≡ password.now)) }
+        ensures rest { IfOk result (λ manager. manager.settings ≡ record self.settings {
+          login = record self.settings.login { password = manager.settings.login.password };
+        }) }
+    {
         self.settings.login.password = Some(String::from_str(self.rt.alloc(), password)?);
         Ok(self)
     }
 
     /// The same, but that a server is taken too which asks for none: who answers there need not be
     /// the server that knows the password.
-    pub fn with_password_if_asked(self, password: &str) -> Result<Self, AllocError> {
+    pub fn with_password_if_asked(self, password: &str) -> Result<Self, AllocError>
+        ensures password { IfOk result (λ manager. IsSomeAnd manager.settings.login.password
+            (λ text. string_bytes text ≡ password.now)) }
+        ensures lenient { IfOk result (λ manager. IsTrue manager.settings.login.is_lenient) }
+    {
         let mut manager = self.with_password(password)?;
         manager.settings.login.is_lenient = true;
         Ok(manager)
@@ -81,7 +107,11 @@ impl PostgresConnectionManager {
 
     /// A server is taken too that asks for the password by MD5. It proves nothing itself, and may
     /// find out a weak password by what it is sent.
-    pub fn with_md5(mut self) -> Self {
+    pub fn with_md5(mut self) -> Self
+        ensures { result.settings ≡ record self.settings {
+          login = record self.settings.login { takes_md5 = true };
+        } }
+    {
         self.settings.login.takes_md5 = true;
         self
     }
@@ -89,21 +119,29 @@ impl PostgresConnectionManager {
     /// An opening and a check fail at a server that takes no writes. So where the primary moves,
     /// the setting `evict_idle_on_failed_check` of the pool closes all that were opened before. Of
     /// connections for tasks a check alone does.
-    pub fn with_primary_only(mut self) -> Self {
+    pub fn with_primary_only(mut self) -> Self
+        ensures { result.settings ≡ record self.settings { probe = Probe.ReadWrite } }
+    {
         self.settings.probe = Probe::ReadWrite;
         self
     }
 
     /// When a connection that comes back is reset: where its session may differ from how it began,
     /// until another mode is set.
-    pub fn with_reset(mut self, reset: Reset) -> Self {
+    pub fn with_reset(mut self, reset: Reset) -> Self
+        ensures { result.settings ≡ record self.settings { reset = reset } }
+    {
         self.settings.reset = reset;
         self
     }
 
     /// How long an opening, a check and a query may take. A query is overrun by no more than a
     /// tenth, in which it is cancelled; where the server can't be reached for that, by 200 ms more.
-    pub fn with_timeouts(mut self, connect: Duration, check: Duration, command: Duration) -> Self {
+    pub fn with_timeouts(mut self, connect: Duration, check: Duration, command: Duration) -> Self
+        ensures { result.settings ≡ record self.settings {
+          timeouts = record { connect = connect; check = check; command = command };
+        } }
+    {
         self.settings.timeouts = Timeouts {
             connect,
             check,
@@ -113,7 +151,9 @@ impl PostgresConnectionManager {
     }
 
     /// How much one answer may have: 16 MiB, and 1,048,576 rows, until another limit is set.
-    pub fn with_limits(mut self, limits: Limits) -> Self {
+    pub fn with_limits(mut self, limits: Limits) -> Self
+        ensures { result.settings ≡ record self.settings { limits = limits } }
+    {
         self.settings.limits = limits;
         self
     }
@@ -131,7 +171,9 @@ impl PostgresConnectionManager {
     }
 
     /// What was set, for a manager of connections that wait in another way, and the runtime.
-    pub fn into_settings(self) -> (HostRuntime, Settings) {
+    pub fn into_settings(self) -> (HostRuntime, Settings)
+        ensures { result.1 ≡ self.settings }
+    {
         (self.rt, self.settings)
     }
 }
@@ -147,7 +189,9 @@ impl ManageConnection for PostgresConnectionManager {
         PostgresConnection::open(self.rt, &self.settings)
     }
 
-    fn is_valid(&self, connection: &mut PostgresConnection) -> Result<(), PostgresError> {
+    fn is_valid(&self, connection: &mut PostgresConnection) -> Result<(), PostgresError>
+        ensures { IsOk result → connection.new.standing.session ≢ Session.Broken }
+    {
         connection.check_by(self.settings.probe)
     }
 

@@ -1,7 +1,8 @@
 //! Opens connections to Redis, and checks them.
 
-ghost use Rattle.std.specs.Prelude.{◌≡◌, ◌<◌, ◌⊎◌, IsFalse, IsOk, IsTrue};
+ghost use Rattle.std.specs.Prelude.{◌≡◌, ◌<◌, ◌⊎◌, IfOk, IsFalse, IsOk, IsSomeAnd, IsTrue, None};
 ghost use Rattle.std.specs.Duration.{as_nanos};
+ghost use Rattle.std.specs.String.{string_bytes};
 ghost use Rattle.redis_codec.specs.Sessions.{plain};
 
 use crate::connection::RedisConnection;
@@ -29,6 +30,14 @@ impl RedisConnectionManager {
     /// of an opening, of a check and of a command, each from its beginning to its end.
     pub fn new(rt: HostRuntime, address: &str, timeout: Duration) -> Result<Self, AllocError>
         requires { 0 < as_nanos timeout }
+        ensures address { IfOk result (λ manager.
+            string_bytes manager.settings.address ≡ address.now) }
+        ensures login { IfOk result (λ manager. manager.settings.login
+            ≡ record { user = None; password = None; database = 0 }) }
+        ensures timeouts { IfOk result (λ manager. manager.settings.timeouts
+            ≡ record { connect = timeout; check = timeout; command = timeout }) }
+        ensures reset { IfOk result (λ manager. manager.settings.reset ≡ Reset.IfMarked) }
+        ensures probe { IfOk result (λ manager. manager.settings.probe ≡ Probe.Alive) }
     {
         let settings = Settings {
             address: String::from_str(rt.alloc(), address)?,
@@ -54,13 +63,27 @@ impl RedisConnectionManager {
     }
 
     /// Each connection begins with `AUTH password`.
-    pub fn with_password(mut self, password: &str) -> Result<Self, AllocError> {
+    pub fn with_password(mut self, password: &str) -> Result<Self, AllocError>
+        ensures password { IfOk result (λ manager. IsSomeAnd manager.settings.login.password
+            (λ text. string_bytes text ≡ password.now)) }
+        ensures rest { IfOk result (λ manager. manager.settings ≡ record self.settings {
+          login = record self.settings.login { password = manager.settings.login.password };
+        }) }
+    {
         self.settings.login.password = Some(String::from_str(self.rt.alloc(), password)?);
         Ok(self)
     }
 
     /// The user of an access control list, with the password.
-    pub fn with_user(mut self, user: &str, password: &str) -> Result<Self, AllocError> {
+    pub fn with_user(mut self, user: &str, password: &str) -> Result<Self, AllocError>
+        ensures user { IfOk result (λ manager. IsSomeAnd manager.settings.login.user
+            (λ text. string_bytes text ≡ user.now)) }
+        ensures password { IfOk result (λ manager. IsSomeAnd manager.settings.login.password
+            (λ text. string_bytes text ≡ password.now)) }
+        ensures rest { IfOk result (λ manager. manager.settings ≡ record self.settings {
+          login = record manager.settings.login { database = self.settings.login.database };
+        }) }
+    {
         self.settings.login.user = Some(String::from_str(self.rt.alloc(), user)?);
         self.with_password(password)
     }
