@@ -17,7 +17,7 @@ mod settings;
 mod socket;
 mod standing;
 mod statements;
-mod url;
+mod urls;
 mod wire;
 
 pub use answer::{Answer, Limits, Reading, Row, Rows, Session};

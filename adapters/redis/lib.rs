@@ -12,7 +12,7 @@ mod reset;
 mod settings;
 mod socket;
 mod standing;
-mod url;
+mod urls;
 mod wire;
 
 pub use connection::RedisConnection;

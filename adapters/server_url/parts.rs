@@ -1,8 +1,12 @@
 //! The parts of a server's URL, with what is escaped in them decoded.
 
-ghost use Rattle.std.specs.Prelude.{◌≡◌, IfOk, IfSome, unwrap_or};
+ghost use Rattle.std.specs.Prelude.{◌≡◌, ◌++◌, IfOk, IfSome, IsSomeAnd, None, Ok, codes, decimal};
+ghost use Rattle.std.specs.Prelude.{option_map, unwrap_or};
 ghost use Rattle.std.specs.String.{string_bytes};
 ghost use Rattle.percent_encoding.specs.Percent.{percent_decode};
+ghost use Rattle.url.specs.Host.{host_text};
+ghost use Rattle.url.specs.Parser.{parse_url};
+ghost use Rattle.url.specs.Parts.{nonempty_host};
 
 use crate::error::UrlError;
 use percent_encoding::percent_decode;
@@ -25,7 +29,10 @@ pub struct Login {
 
 impl ServerUrl {
     /// Reads a text. One with a fragment is refused.
-    pub fn parse(alloc: Global, text: &str) -> Result<ServerUrl, UrlError> {
+    pub fn parse(alloc: Global, text: &str) -> Result<ServerUrl, UrlError>
+        ensures parts { IfOk result (λ it. parse_url None text.now ≡ Ok it.url) }
+        ensures fragment { IfOk result (λ it. it.url.fragment ≡ None) }
+    {
         let url = match Url::parse(alloc, text) {
             Ok(url) => url,
             Err(ParseError::OutOfMemory) => return Err(UrlError::Memory(AllocError)),
@@ -45,7 +52,11 @@ impl ServerUrl {
     }
 
     /// The host, where it names one.
-    pub fn host(&self) -> Result<Option<String>, UrlError> {
+    pub fn host(&self) -> Result<Option<String>, UrlError>
+        ensures { IfOk result (λ found. IfSome found (λ host.
+            IsSomeAnd (option_map host_text (nonempty_host self.now.url)) (λ text.
+            string_bytes host ≡ percent_decode text))) }
+    {
         match self.url.host_str() {
             None | Some("") => Ok(None),
             Some(host) => Ok(Some(decoded(self.alloc, host)?.ok_or(UrlError::Host)?)),
@@ -60,7 +71,12 @@ impl ServerUrl {
     }
 
     /// The host with the port, or with this one.
-    pub fn address(&self, default_port: u16) -> Result<String, UrlError> {
+    pub fn address(&self, default_port: u16) -> Result<String, UrlError>
+        ensures { IfOk result (λ address.
+            IsSomeAnd (option_map host_text (nonempty_host self.now.url)) (λ text.
+            string_bytes address ≡ percent_decode text ++ codes ":"
+            ++ decimal (unwrap_or self.now.url.port default_port))) }
+    {
         let host = self.host()?.ok_or(UrlError::Host)?;
         Ok(at_port(self.alloc, host.as_str(), self.port(default_port))?)
     }
@@ -119,7 +135,10 @@ impl ServerUrl {
 }
 
 /// A host with a port.
-pub fn at_port(alloc: Global, host: &str, port: u16) -> Result<String, AllocError> {
+pub fn at_port(alloc: Global, host: &str, port: u16) -> Result<String, AllocError>
+    ensures { IfOk result (λ text.
+        string_bytes text ≡ host.now ++ codes ":" ++ decimal port) }
+{
     format!(in alloc; "{host}:{port}")
 }
 

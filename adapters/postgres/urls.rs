@@ -1,10 +1,15 @@
 //! A manager by the URL of its server.
 
-ghost use Rattle.std.specs.Prelude.{◌<◌};
+ghost use Rattle.std.specs.Prelude.{◌≡◌, ◌<◌, ◌++◌, ℕ, List, IfOk, None, Ok, codes, decimal};
+ghost use Rattle.std.specs.Prelude.{unwrap_or};
 ghost use Rattle.std.specs.Duration.{as_nanos};
+ghost use Rattle.std.specs.String.{string_bytes};
+ghost use Rattle.url.specs.Parser.{parse_url};
+ghost use Rattle.url.specs.Parts.{Parts};
 
 use crate::manager::PostgresConnectionManager;
 use server_url::{Login, ServerUrl, UrlError, at_port, number};
+use std::alloc::{AllocError, Global};
 use std::time::Duration;
 
 const PORT: u16 = 5432;
@@ -30,6 +35,10 @@ impl PostgresConnectionManager {
     /// else is refused, by the part that it is in.
     pub fn from_url(rt: HostRuntime, url: &str, timeout: Duration) -> Result<Self, UrlError>
         requires { 0 < as_nanos timeout }
+        ensures address { IfOk result (λ manager. (parts : Parts) × (host : List ℕ)
+            × (parse_url None url.now ≡ Ok parts)
+            × (string_bytes manager.settings.address ≡ host ++ codes ":"
+            ++ decimal (unwrap_or parts.port 5432))) }
     {
         let url = ServerUrl::parse(rt.alloc(), url)?;
         if url.scheme() != "postgresql" && url.scheme() != "postgres" {
@@ -37,8 +46,9 @@ impl PostgresConnectionManager {
         }
         let wanted = Wanted::of(&url, timeout)?;
         let host = wanted.host.ok_or(UrlError::Host)?;
-        let address = at_port(rt.alloc(), host.as_str(), url.port(PORT))?;
-        let user = wanted.login.user.ok_or(UrlError::Login)?;
+        let address = address_of(rt.alloc(), host.as_str(), &url)?;
+        let Login { user, password } = wanted.login;
+        let user = user.ok_or(UrlError::Login)?;
         let database = url.database()?;
         let database = match &database {
             Some(name) => name.as_str(),
@@ -46,7 +56,7 @@ impl PostgresConnectionManager {
         };
         let manager = Self::new(rt, address.as_str(), user.as_str(), database, timeout)?;
         let mut manager = manager.with_timeouts(wanted.connect, timeout, timeout);
-        if let Some(password) = wanted.login.password {
+        if let Some(password) = password {
             manager = manager.with_password(password.as_str())?;
         }
         if wanted.is_for_writes {
@@ -54,6 +64,13 @@ impl PostgresConnectionManager {
         }
         Ok(manager)
     }
+}
+
+fn address_of(alloc: Global, host: &str, url: &ServerUrl) -> Result<String, AllocError>
+    ensures { IfOk result (λ address. string_bytes address
+        ≡ host.now ++ codes ":" ++ decimal (unwrap_or url.now.url.port 5432)) }
+{
+    at_port(alloc, host, url.port(PORT))
 }
 
 impl Wanted {

@@ -1,7 +1,13 @@
 //! A manager by the URL of its server.
 
-ghost use Rattle.std.specs.Prelude.{◌<◌};
+ghost use Rattle.std.specs.Prelude.{◌≡◌, ◌<◌, ◌++◌, IfOk, IsSomeAnd, None, Ok, codes, decimal};
+ghost use Rattle.std.specs.Prelude.{option_map, unwrap_or};
 ghost use Rattle.std.specs.Duration.{as_nanos};
+ghost use Rattle.std.specs.String.{string_bytes};
+ghost use Rattle.percent_encoding.specs.Percent.{percent_decode};
+ghost use Rattle.url.specs.Host.{host_text};
+ghost use Rattle.url.specs.Parser.{parse_url};
+ghost use Rattle.url.specs.Parts.{Parts, nonempty_host};
 
 use crate::manager::RedisConnectionManager;
 use server_url::{Login, ServerUrl, UrlError, number};
@@ -17,6 +23,12 @@ impl RedisConnectionManager {
     /// that it is in: so is `rediss://`, since there is no TLS.
     pub fn from_url(rt: HostRuntime, url: &str, timeout: Duration) -> Result<Self, UrlError>
         requires { 0 < as_nanos timeout }
+        ensures address { IfOk result (λ manager. (parts : Parts)
+            × (parse_url None url.now ≡ Ok parts)
+            × (parts.scheme ≡ codes "redis" →
+            IsSomeAnd (option_map host_text (nonempty_host parts)) (λ host.
+            string_bytes manager.settings.address ≡ percent_decode host ++ codes ":"
+            ++ decimal (unwrap_or parts.port 6379)))) }
     {
         let url = ServerUrl::parse(rt.alloc(), url)?;
         match url.scheme() {
@@ -34,6 +46,10 @@ fn at_host(
     timeout: Duration,
 ) -> Result<RedisConnectionManager, UrlError>
     requires { 0 < as_nanos timeout }
+    ensures { IfOk result (λ manager.
+        IsSomeAnd (option_map host_text (nonempty_host url.now.url)) (λ host.
+        string_bytes manager.settings.address ≡ percent_decode host ++ codes ":"
+        ++ decimal (unwrap_or url.now.url.port 6379))) }
 {
     let address = url.address(PORT)?;
     if let Some((name, _)) = url.parameters()?.pop() {
@@ -78,14 +94,18 @@ fn at_database(
     manager: RedisConnectionManager,
     text: &str,
     error: UrlError,
-) -> Result<RedisConnectionManager, UrlError> {
+) -> Result<RedisConnectionManager, UrlError>
+    ensures { IfOk result (λ at. at.settings.address ≡ manager.settings.address) }
+{
     Ok(manager.with_database(number(text).ok_or(error)?))
 }
 
 fn logged_in(
     manager: RedisConnectionManager,
     login: Login,
-) -> Result<RedisConnectionManager, UrlError> {
+) -> Result<RedisConnectionManager, UrlError>
+    ensures { IfOk result (λ made. made.settings.address ≡ manager.settings.address) }
+{
     match (login.user, login.password) {
         (None, None) => Ok(manager),
         (None, Some(password)) => Ok(manager.with_password(password.as_str())?),
