@@ -145,7 +145,7 @@ impl Socket {
 
     fn quiet(&self, seen: io::Result<bool>, deadline: Deadline) -> Result<(), PostgresError> {
         match seen {
-            Ok(true) if self.talk.is_settled() => Ok(()),
+            Ok(is_quiet) if is_quiet && self.talk.is_settled() => Ok(()),
             Ok(_) => Err(PostgresError::Unasked),
             Err(error) => Err(self.explained(deadline, error)),
         }
