@@ -1,6 +1,6 @@
 //! A connection to Redis: a command, then its reply.
 
-ghost use Rattle.std.specs.Prelude.{◌≡◌, ◌↔◌, ◌<◌, ◌⊎◌, IsErr, IsFalse, IsOk, IsTrue};
+ghost use Rattle.std.specs.Prelude.{◌≡◌, ◌↔◌, ◌<◌, ◌⊎◌, IfOk, IsErr, IsFalse, IsOk, IsTrue, length};
 ghost use Rattle.redis_codec.specs.Sessions.{plain};
 
 use crate::error::RedisError;
@@ -88,6 +88,8 @@ impl RedisConnection {
     /// command; the limits are those of each answer. After an error some, or all, may have been
     /// carried out.
     pub fn run_all(&mut self, pipeline: &Pipeline) -> Result<Vec<Reply>, RedisError>
+        ensures count { IfOk result (λ replies.
+            length replies.items ≡ length pipeline.now.commands.items) }
         ensures err { IsErr result → IsTrue self.new.standing.is_broken }
         ensures stays { IsTrue self.old.standing.is_broken →
             IsErr result × IsTrue self.new.standing.is_broken }

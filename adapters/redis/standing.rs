@@ -1,6 +1,6 @@
 //! How a connection stands, whoever waits for it: whether it is sound, and what is still owed.
 
-ghost use Rattle.std.specs.Prelude.{◌≡◌, ◌<◌, ◌⊎◌, IsErr, IsFalse, IsOk, IsTrue};
+ghost use Rattle.std.specs.Prelude.{◌≡◌, ◌<◌, ◌⊎◌, IfOk, IsErr, IsFalse, IsOk, IsTrue, length};
 ghost use Rattle.redis_codec.specs.Sessions.{plain};
 
 use crate::error::RedisError;
@@ -61,6 +61,7 @@ impl Standing {
     ) -> Result<Vec<Reply>, RedisError>
         ensures broken { IsTrue self.old.is_broken → IsTrue self.new.is_broken }
         ensures err { IsErr result → IsTrue self.new.is_broken }
+        ensures count { IfOk result (λ replies. length replies.items ≡ length answers.items) }
     {
         let was_broken = self.is_broken;
         self.is_broken = true;
@@ -203,12 +204,14 @@ fn is_of_replica(items: &[Item]) -> bool {
     matches!(items, [Item::Refusal(text), ..] if text.starts_with(b"READONLY"))
 }
 
-fn all_of(alloc: Global, answers: Vec<Vec<Item>>) -> Result<Vec<Reply>, RedisError> {
-    let mut replies = Vec::new(alloc);
-    for items in answers {
-        replies.push(Reply::of(alloc, items)?)?;
-    }
-    Ok(replies)
+// One for each, in their order.
+fn all_of(alloc: Global, answers: Vec<Vec<Item>>) -> Result<Vec<Reply>, RedisError>
+    ensures { IfOk result (λ replies. length replies.items ≡ length answers.items) }
+{
+    answers
+        .into_iter()
+        .map(|items| Reply::of(alloc, items))
+        .try_collect(alloc)
 }
 
 /// An answer to a reset.

@@ -1,6 +1,6 @@
 //! What is said over the socket: requests, and their answers.
 
-ghost use Rattle.std.specs.Prelude.{◌≡◌, ◌<◌, OnOk};
+ghost use Rattle.std.specs.Prelude.{◌≡◌, ◌<◌, IfOk, OnOk, length};
 ghost use Rattle.redis_codec.specs.Sessions.{plain};
 
 use crate::error::RedisError;
@@ -75,12 +75,17 @@ impl Wire {
         alloc: Global,
         count: usize,
         deadline: Deadline,
-    ) -> Result<Vec<Vec<Item>>, RedisError> {
+    ) -> Result<Vec<Vec<Item>>, RedisError>
+        ensures { IfOk result (λ answers. length answers.items ≡ count) }
+    {
         let mut answers = Vec::new(alloc);
-        for _ in 0..count {
+        for _ in 0..u64::MAX {
+            if answers.len() == count {
+                return Ok(answers);
+            }
             answers.push(self.receive(deadline)?)?;
         }
-        Ok(answers)
+        Err(RedisError::Protocol)
     }
 
     /// Reads the answers to a reset, which are so many words.
